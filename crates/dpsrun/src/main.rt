@@ -1,0 +1,62 @@
+//! `dpsrun`: runs a program in the PostScript language.
+#![tactic(auto)]
+
+use ps_run::{FileSet, MOST_PROGRAM_BYTES, ReadFault, WriteFault, drive};
+use std::alloc::Global;
+use std::env;
+use std::fs::{self, File};
+use std::io::{self, Read};
+use std::process::ExitCode;
+
+/// The files of the system.
+#[derive(Drop)]
+struct SystemFiles<'a> {
+    rt: &'a HostRuntime,
+}
+
+impl FileSet for SystemFiles<'_> {
+    fn read(&mut self, alloc: Global, name: &str) -> Result<Vec<u8>, ReadFault> {
+        let mut bytes = Vec::new(alloc);
+        let Ok(file) = File::open(self.rt, name) else {
+            return Err(ReadFault::NoRead);
+        };
+        match file
+            .take(MOST_PROGRAM_BYTES as u64 + 1)
+            .read_to_end(&mut bytes)
+        {
+            Ok(_) if bytes.len() > MOST_PROGRAM_BYTES => Err(ReadFault::TooLong),
+            Ok(_) => Ok(bytes),
+            Err(error) if error.kind() == io::ErrorKind::OutOfMemory => Err(ReadFault::Memory),
+            Err(_) => Err(ReadFault::NoRead),
+        }
+    }
+
+    fn write(&mut self, name: &str, bytes: &[u8]) -> Result<(), WriteFault> {
+        fs::write(self.rt, name, bytes).map_err(|_| WriteFault::NoWrite)
+    }
+}
+
+/// Runs the program that the command line names, and gives the exit status. Fails where the command line can't be had.
+fn run(rt: &HostRuntime) -> io::Result<u8> {
+    let alloc = rt.alloc();
+    let arguments: Vec<String> = env::args(rt)?.skip(1).collect(alloc)?;
+    let words: Vec<&str> = arguments.iter().map(|word| word.as_str()).collect(alloc)?;
+    let mut files = SystemFiles { rt };
+    Ok(drive(
+        alloc,
+        words.as_slice(),
+        &mut files,
+        &mut rt.stdout(),
+        &mut rt.stderr(),
+    ))
+}
+
+fn main(rt: HostRuntime) -> ExitCode {
+    match run(&rt) {
+        Ok(status) => ExitCode::from(status),
+        Err(_) => {
+            let _ = eprintln!(rt; "dpsrun: out of memory");
+            ExitCode::from(5)
+        }
+    }
+}

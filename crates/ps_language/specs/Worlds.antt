@@ -1,0 +1,183 @@
+-- The world at the start of a program, and the world after a schedule (PLRM2, 3.7, 7.1).
+use Rattle.std.specs.Prelude.{ℕ, suc, Bool, true, false, not, ◌&&◌, ◌||◌, List, [], ◌∷◌, ◌++◌, map, nat_eq, IsTrue, codes}
+use Rattle.std.specs.List.{list_all}
+use Rattle.ps_language.specs.declared.access.Access.TheVariants.{Unlimited, ReadOnly}
+use Rattle.ps_language.specs.declared.operators.Operator.{Operator}
+use Rattle.ps_language.specs.declared.errors.ErrorName.{ErrorName}
+use Rattle.ps_language.specs.declared.errors.ErrorName.TheVariants.{DictStackOverflow, DictStackUnderflow, ExecStackOverflow, InvalidAccess, InvalidContext, InvalidExit, LimitCheck, RangeCheck, StackOverflow, StackUnderflow, SyntaxError, TypeCheck, Undefined, UndefinedResult, UnmatchedMark, VmError}
+use Rattle.ps_language.specs.Value.{operator_value, dictionary_value, Value, Dictionary, Object, dictionary_object}
+use Rattle.ps_language.specs.World.{from_program, text_frame, running, finished, ended, Status, Context, World}
+use Rattle.ps_language.specs.declared.schedules.Entry.{Entry}
+use Rattle.ps_language.specs.Schedules.{Move, moves, count_of}
+use Rattle.ps_language.specs.OperatorNames.{operator_name}
+use Rattle.ps_language.specs.OperatorList.{every_operator}
+use Rattle.ps_language.specs.Readers.{literal, executable, null, boolean, literal_name}
+use Rattle.ps_language.specs.StepErrors.{error_text}
+use Rattle.ps_language.specs.Contexts.{new_error_dictionary}
+use Rattle.ps_language.specs.Locks.{is_ready}
+use Rattle.ps_language.specs.Step.{step}
+
+-- the birth numbers of the first three objects
+abbrev pub systemdict : ℕ
+systemdict = 0
+
+-- where definitions go at first
+abbrev pub userdict : ℕ
+userdict = 1
+
+-- $error of the first context
+abbrev pub first_error_dictionary : ℕ
+first_error_dictionary = 2
+
+-- how a program sees the first
+abbrev pub system_value : Value
+system_value = literal (dictionary_value systemdict)
+
+-- and the second
+abbrev pub user_value : Value
+user_value = literal (dictionary_value userdict)
+
+-- an operator under its name
+abbrev pub operator_pair : Operator → Value × Value
+operator_pair operator = (literal_name (operator_name operator), executable (operator_value operator))
+
+-- the names that have values
+abbrev pub value_pairs : List (Value × Value)
+value_pairs =
+    (literal_name (codes "true"), boolean true) ∷
+    (literal_name (codes "false"), boolean false) ∷
+    (literal_name (codes "null"), null) ∷
+    (literal_name (codes "systemdict"), system_value) ∷
+    (literal_name (codes "userdict"), user_value) ∷ []
+
+-- the operators by number, then the values
+unfoldable pub system_pairs : List (Value × Value)
+system_pairs = map operator_pair every_operator ++ value_pairs
+
+-- systemdict
+abbrev pub system_dictionary : Dictionary
+system_dictionary = record { pairs = system_pairs; capacity = 128; access = ReadOnly }
+
+-- userdict
+abbrev pub user_dictionary : Dictionary
+user_dictionary = record { pairs = []; capacity = 32; access = Unlimited }
+
+-- these three
+abbrev pub first_store : List Object
+first_store = dictionary_object system_dictionary ∷ dictionary_object user_dictionary ∷ new_error_dictionary ∷ []
+
+-- the names of the values
+abbrev pub value_names : List (List ℕ)
+value_names = codes "true" ∷ codes "false" ∷ codes "null" ∷ codes "systemdict" ∷ codes "userdict" ∷ []
+
+-- the errors by the letter
+abbrev pub every_error : List ErrorName
+every_error =
+    DictStackOverflow ∷ DictStackUnderflow ∷ ExecStackOverflow ∷ InvalidAccess ∷ InvalidContext ∷ InvalidExit ∷
+    LimitCheck ∷ RangeCheck ∷ StackOverflow ∷ StackUnderflow ∷ SyntaxError ∷ TypeCheck ∷
+    Undefined ∷ UndefinedResult ∷ UnmatchedMark ∷ VmError ∷ []
+
+-- what type gives
+abbrev pub type_names : List (List ℕ)
+type_names =
+    codes "integertype" ∷ codes "booleantype" ∷ codes "nulltype" ∷ codes "marktype" ∷ codes "nametype" ∷ codes "operatortype" ∷
+    codes "arraytype" ∷ codes "stringtype" ∷ codes "dicttype" ∷ codes "locktype" ∷ codes "conditiontype" ∷ []
+
+-- the keys of $error
+abbrev pub error_keys : List (List ℕ)
+error_keys = codes "newerror" ∷ codes "errorname" ∷ codes "command" ∷ []
+
+-- The names met at the start, in this order: the keys of systemdict in theirs, the errors by the letter, the types of values, the keys of $error
+unfoldable pub first_names : List (List ℕ)
+first_names = map operator_name every_operator ++ value_names ++ map error_text every_error ++ type_names ++ error_keys
+
+-- the first context, about to scan the program
+abbrev pub first_context : Context
+first_context =
+    record {
+      operands = [];
+      dictionaries = user_value ∷ system_value ∷ [];
+      frames = text_frame from_program 0 ∷ [];
+      error_dictionary = first_error_dictionary;
+      is_detached = false;
+      status = running;
+    }
+
+-- the world before the first step
+unfoldable pub starting_world : (program : List ℕ) → World
+starting_world program =
+    record {
+      program = program;
+      store = first_store;
+      contexts = first_context ∷ [];
+      printed = [];
+      error_lines = 0;
+      names = first_names;
+    }
+
+-- one step
+abbrev pub after_move : World → Move → World
+after_move now move = step now move.context move.refused move.shown
+
+-- step after step
+unfoldable pub after_moves : World → List Move → World
+after_moves now [] = now
+after_moves now (move ∷ rest) = after_moves (after_move now move) rest
+
+-- the world of a program after a schedule
+unfoldable pub world : (program : List ℕ) → (schedule : List Entry) → World
+world program schedule = after_moves (starting_world program) (moves schedule)
+
+-- the bytes that it printed
+unfoldable pub printed : (program : List ℕ) → (schedule : List Entry) → List ℕ
+printed program schedule = (world program schedule).printed
+
+-- whether each step is one of a context that is ready just before it
+abbrev pub all_ready : World → List Move → Bool
+all_ready now [] = true
+all_ready now (move ∷ rest) = is_ready now move.context && all_ready (after_move now move) rest
+
+-- a schedule all of whose steps are made
+unfoldable pub IsProper : (program : List ℕ) → (schedule : List Entry) → Type 0
+IsProper program schedule = IsTrue (all_ready (starting_world program) (moves schedule))
+
+-- ---- outcomes
+
+-- by the status
+abbrev pub is_over_as : Status → Bool
+is_over_as finished = true
+is_over_as ended = true
+is_over_as _ = false
+
+-- a context that is finished or ended
+abbrev pub is_over : Context → Bool
+is_over context = is_over_as context.status
+
+-- each context is finished or ended
+unfoldable pub is_all_over : World → Bool
+is_all_over now = list_all is_over now.contexts
+
+-- whether one of the contexts from an identifier on is ready
+abbrev pub is_one_ready : World → ℕ → List Context → Bool
+is_one_ready now identifier [] = false
+is_one_ready now identifier (context ∷ contexts) = is_ready now identifier || is_one_ready now (suc identifier) contexts
+
+-- whether any context is ready
+unfoldable pub is_some_ready : World → Bool
+is_some_ready now = is_one_ready now 1 now.contexts
+
+-- all is over and no error line was printed
+abbrev pub IsFinished : World → Type 0
+IsFinished now = IsTrue (is_all_over now && nat_eq now.error_lines 0)
+
+-- all is over and an error line was printed
+abbrev pub IsFaulted : World → Type 0
+IsFaulted now = IsTrue (is_all_over now && not (nat_eq now.error_lines 0))
+
+-- a context is left, and none is ready
+abbrev pub IsAllWaiting : World → Type 0
+IsAllWaiting now = IsTrue (not (is_all_over now) && not (is_some_ready now))
+
+-- a context is ready, and the steps are used up
+abbrev pub IsStepsOut : World → (schedule : List Entry) → (budget : ℕ) → Type 0
+IsStepsOut now schedule budget = IsTrue (not (is_all_over now) && is_some_ready now && nat_eq (count_of schedule) budget)

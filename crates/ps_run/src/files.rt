@@ -1,0 +1,35 @@
+//! The files that the program reads and writes, by name.
+
+use std::alloc::Global;
+use thiserror::Error;
+
+/// The most bytes of a program file.
+pub const MOST_PROGRAM_BYTES: usize = 16_777_215;
+
+/// Why a file was not read.
+#[derive(Clone, Copy, Debug, PartialEq, Eq, Error)]
+pub enum ReadFault {
+    #[error("the file can't be read")]
+    NoRead,
+    /// It has more than 16,777,215 bytes.
+    #[error("the file is too long")]
+    TooLong,
+    #[error("out of memory")]
+    Memory,
+}
+
+/// Why a file was not written.
+#[derive(Clone, Copy, Debug, PartialEq, Eq, Error)]
+pub enum WriteFault {
+    #[error("the file can't be written")]
+    NoWrite,
+}
+
+/// Files by name.
+pub trait FileSet {
+    /// The bytes of a file of at most 16,777,215 bytes.
+    fn read(&mut self, alloc: Global, name: &str) -> Result<Vec<u8>, ReadFault>;
+
+    /// Makes a file of these bytes, in the place of any that has the name.
+    fn write(&mut self, name: &str, bytes: &[u8]) -> Result<(), WriteFault>;
+}

@@ -1,0 +1,15 @@
+-- Strings by their parts and their extent.
+use Rattle.std.specs.Prelude.{◌≡◌, ℕ, ◌+◌, List, length, drop, Option, Some, None, option_to_list}
+use Rattle.ps_language.specs.Reading.{Ending, string_end, unfinished, with_front}
+use Rattle.ps_language.specs.Scan.{string_from}
+use Rattle.ps_scan.specs.declared.strings.Part.{Part}
+
+-- how many bytes an ending has behind so many, and what is left behind it
+abbrev pub extent_of : (so_far : ℕ) → Ending → Option (ℕ × List ℕ)
+extent_of so_far (string_end value rest) = Some (so_far + length value, rest)
+extent_of so_far unfinished = None
+
+-- how a string goes on at any depth: with the byte of a part and what follows it, or to the end of the text
+abbrev pub PartReads : (text : List ℕ) → Option Part → (reading : ℕ → Ending) → Type 0
+PartReads text (Some part) reading = (depth : ℕ) → reading depth ≡ with_front (option_to_list part.byte) (string_from depth (drop part.next text))
+PartReads text None reading = (depth : ℕ) → reading depth ≡ unfinished

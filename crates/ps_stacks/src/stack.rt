@@ -1,0 +1,167 @@
+ghost use Rattle.std.specs.Prelude.{◌≡◌, ℕ, ◌+◌, ◌-◌, ◌<◌, ◌≤◌, ◌↔◌, IsTrue, List, [], ◌∷◌, ◌++◌, length, take, drop, slice_get, reverse, IfOk, IfSome, IfNone, OnOk, OnErr, Some, None, vec_len, vec_capacity, nat_le};
+ghost use Rattle.ps_stacks.specs.Tops.{first_of, first_two_of, rotated};
+
+use std::alloc::{AllocError, Global};
+use std::marker::Model;
+use thiserror::Error;
+
+/// A stack has no room for another item.
+#[derive(Clone, Copy, Debug, PartialEq, Eq, Error)]
+#[error("the stack is full")]
+pub struct StackFull;
+
+/// A stack of at most `LIMIT` items, seen as a list with the topmost first.
+///
+/// All of its room is reserved when it is made, so no later call takes memory.
+#[derive(Drop)]
+pub struct Stack<T: Copy, const LIMIT: usize> {
+    items: Vec<T>,
+}
+
+impl<T: Copy, const LIMIT: usize> Model for Stack<T, LIMIT> {
+    ghost use Rattle.std.specs.Prelude.{List, reverse, ◌≤◌, vec_len, vec_capacity};
+
+    ghost Value = { List T };
+
+    ghost view = { λ s. reverse s.items.items };
+
+    ghost invariant = { λ s. (vec_len s.items ≤ LIMIT) × (LIMIT ≤ vec_capacity s.items) };
+}
+
+impl<T: Copy, const LIMIT: usize> Stack<T, LIMIT> {
+    /// An empty stack. Fails where its room can't be had.
+    pub fn new(alloc: Global) -> Result<Self, AllocError>
+        ensures { IfOk result (λ stack. stack ≡ []) }
+    {
+        let items = Vec::with_capacity(alloc, LIMIT)?;
+        Ok(Stack { items })
+    }
+
+    /// How many items there are.
+    pub fn len(&self) -> usize
+        ensures count { result ≡ length self.now }
+        ensures within { result ≤ LIMIT }
+    {
+        self.items.len()
+    }
+
+    /// Whether there are none.
+    pub fn is_empty(&self) -> bool
+        ensures { IsTrue result ↔ (self.now ≡ []) }
+    {
+        self.items.is_empty()
+    }
+
+    /// Whether another item has no room.
+    pub fn is_full(&self) -> bool
+        ensures { result ≡ nat_le LIMIT (length self.now) }
+    {
+        self.items.len() >= LIMIT
+    }
+
+    /// The topmost item.
+    pub fn top(&self) -> Option<T>
+        ensures { result ≡ first_of self.now }
+    {
+        self.items.last().copied()
+    }
+
+    /// The two topmost items, the topmost first.
+    pub fn top_two(&self) -> Option<(T, T)>
+        ensures { result ≡ first_two_of self.now }
+    {
+        match self.items.as_slice() {
+            [.., second, first] => Some((*first, *second)),
+            _ => None,
+        }
+    }
+
+    /// The item below so many others.
+    pub fn peek(&self, depth: usize) -> Option<T>
+        ensures { result ≡ slice_get self.now depth }
+    {
+        let count = self.items.len();
+        if depth < count {
+            Some(self.items[count - 1 - depth])
+        } else {
+            None
+        }
+    }
+
+    /// Takes the topmost items off.
+    pub fn discard(&mut self, count: usize)
+        requires { count ≤ length self.old }
+        ensures { self.new ≡ drop count self.old }
+    {
+        let left = self.items.len() - count;
+        self.items.truncate(left);
+    }
+
+    /// Takes all items off.
+    pub fn clear(&mut self)
+        ensures { self.new ≡ [] }
+    {
+        self.items.clear();
+    }
+
+    /// Pushes an item, if there is room; else nothing changes. It takes no memory.
+    pub fn push(&mut self, item: T) -> Result<(), StackFull>
+        ensures pushed { OnOk result ((length self.old < LIMIT) × (self.new ≡ item ∷ self.old)) }
+        ensures full { OnErr result ((LIMIT ≤ length self.old) × (self.new ≡ self.old)) }
+    {
+        if self.items.len() >= LIMIT {
+            return Err(StackFull);
+        }
+        push_within(&mut self.items, item);
+        Ok(())
+    }
+
+    /// Puts an item in the place of the topmost ones.
+    pub fn replace(&mut self, count: usize, item: T)
+        requires some { 1 ≤ count }
+        requires within { count ≤ length self.old }
+        ensures { self.new ≡ item ∷ drop count self.old }
+    {
+        let left = self.items.len() - count;
+        self.items.truncate(left);
+        push_within(&mut self.items, item);
+    }
+
+    /// Moves the topmost items of a group behind the others of it.
+    pub fn rotate(&mut self, count: usize, places: usize)
+        requires within { count ≤ length self.old }
+        requires places { places ≤ count }
+        ensures { self.new ≡ rotated places (take count self.old) ++ drop count self.old }
+    {
+        let start = self.items.len() - count;
+        rotate_from(self.items.as_mut_slice(), start, places);
+    }
+
+    /// Pushes a copy of the topmost items.
+    pub fn repeat(&mut self, count: usize)
+        requires within { count ≤ length self.old }
+        requires room { length self.old + count ≤ LIMIT }
+        ensures { self.new ≡ take count self.old ++ self.old }
+    {
+        let end = self.items.len();
+        let _ = self.items.extend_from_within(end - count..end);
+    }
+}
+
+/// Moves the last items of a slice in front of those from a place on.
+fn rotate_from<T: Copy>(items: &mut [T], start: usize, places: usize)
+    requires within { start + places ≤ length items.old }
+    ensures { let rest = drop start items.old in let kept = length rest - places in items.new ≡ take start items.old ++ (drop kept rest ++ take kept rest) }
+{
+    items[start..].rotate_right(places);
+}
+
+/// Pushes an item for which the capacity has room.
+fn push_within<T: Copy>(items: &mut Vec<T>, item: T)
+    requires { vec_len items.old < vec_capacity items.old }
+    ensures items { items.new.items ≡ items.old.items ++ item ∷ [] }
+    ensures len { vec_len items.new ≡ vec_len items.old + 1 }
+    ensures capacity { vec_capacity items.old ≤ vec_capacity items.new }
+{
+    let _ = items.push(item);
+}

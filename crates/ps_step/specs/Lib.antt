@@ -1,0 +1,4 @@
+pub mod Scalars
+pub mod Commands
+pub mod Does
+pub mod Interpreting

@@ -1,0 +1,64 @@
+//! The operators that need no memory, by their names.
+
+ghost use Rattle.std.specs.Prelude.{◌≡◌, IsTrue};
+ghost use Rattle.ps_language.specs.Thin.{is_thin};
+ghost use Rattle.ps_step.specs.Does.{Operates, raised_of};
+
+use crate::failure::Failure;
+use crate::{Operands, arithmetic, output, relations, stack_operators};
+use ps_language::errors::ErrorName;
+use ps_language::operators::Operator;
+
+/// Does what an operator does to operands and output. Raises the errors of its row; not made where the growth of the output is refused.
+pub fn operate(
+    operator: Operator,
+    operands: &mut Operands,
+    printed: &mut Vec<u8>,
+) -> Result<(), Failure>
+    requires { IsTrue (is_thin operator) }
+    ensures { Operates operator result operands.old operands.new printed.old.items printed.new.items }
+{
+    match operator {
+        Operator::Pop => raised(stack_operators::pop(operands)),
+        Operator::Exch => raised(stack_operators::exch(operands)),
+        Operator::Dup => raised(stack_operators::dup(operands)),
+        Operator::Copy => raised(stack_operators::copy(operands)),
+        Operator::Index => raised(stack_operators::index(operands)),
+        Operator::Roll => raised(stack_operators::roll(operands)),
+        Operator::Clear => raised(stack_operators::clear(operands)),
+        Operator::Count => raised(stack_operators::count(operands)),
+        Operator::Mark => raised(stack_operators::mark(operands)),
+        Operator::ClearToMark => raised(stack_operators::cleartomark(operands)),
+        Operator::CountToMark => raised(stack_operators::counttomark(operands)),
+        Operator::Add => raised(arithmetic::add(operands)),
+        Operator::Sub => raised(arithmetic::sub(operands)),
+        Operator::Mul => raised(arithmetic::mul(operands)),
+        Operator::Idiv => raised(arithmetic::idiv(operands)),
+        Operator::Mod => raised(arithmetic::modulo(operands)),
+        Operator::Neg => raised(arithmetic::neg(operands)),
+        Operator::Abs => raised(arithmetic::abs(operands)),
+        Operator::Eq => raised(relations::eq(operands)),
+        Operator::Ne => raised(relations::ne(operands)),
+        Operator::Gt => raised(relations::gt(operands)),
+        Operator::Ge => raised(relations::ge(operands)),
+        Operator::Lt => raised(relations::lt(operands)),
+        Operator::Le => raised(relations::le(operands)),
+        Operator::And => raised(arithmetic::and(operands)),
+        Operator::Or => raised(arithmetic::or(operands)),
+        Operator::Xor => raised(arithmetic::xor(operands)),
+        Operator::Not => raised(arithmetic::not(operands)),
+        Operator::Bitshift => raised(arithmetic::bitshift(operands)),
+        Operator::Equals => output::equals(operands, printed),
+        _ => unreachable!(),
+    }
+}
+
+/// What an operator on operands alone came to.
+fn raised(outcome: Result<(), ErrorName>) -> Result<(), Failure>
+    ensures { result ≡ raised_of outcome }
+{
+    match outcome {
+        Ok(()) => Ok(()),
+        Err(error) => Err(Failure::Error(error)),
+    }
+}

@@ -1,0 +1,124 @@
+//! Runs under a schedule of their own and under one that is given.
+
+use ps_vault::{Config, Entry, Outcome, RunFault, replay, run_plain};
+use std::test::Fail;
+
+/// The numbers of a run with so many steps.
+fn config(steps: u32) -> Config {
+    Config {
+        space: 65536,
+        workers: 4,
+        quantum: 100,
+        steps,
+    }
+}
+
+/// So many steps of a context, of which the last may be refused.
+fn entry(context: u32, steps: u32, refused: bool) -> Entry {
+    Entry {
+        context,
+        steps,
+        refused,
+        shown: None,
+    }
+}
+
+#[test]
+fn a_run_has_its_schedule(rt: HostRuntime) -> Result<(), Fail> {
+    let rows: [(&str, u32, &str, Outcome, u32); 5] = [
+        ("", 10, "", Outcome::Finished, 1),
+        ("1 2 add =", 5, "3\n", Outcome::Finished, 5),
+        ("1 2 add =", 4, "3\n", Outcome::StepsOut, 4),
+        (
+            "1 0 idiv",
+            9,
+            "%%[ Error: undefinedresult; OffendingCommand: idiv ]%%\n",
+            Outcome::Faulted,
+            4,
+        ),
+        ("1 0 idiv", 3, "", Outcome::StepsOut, 3),
+    ];
+    for (program, steps, printed, outcome, made) in rows {
+        let report = run_plain(rt.alloc(), program.as_bytes(), config(steps))
+            .ok()
+            .ok_or("no report")?;
+        assert_eq!(rt;
+            report.printed.as_slice(),
+            printed.as_bytes(),
+            "printed by {program}"
+        );
+        assert!(rt; report.outcome == outcome, "the outcome of {program}");
+        assert!(rt;
+            report.schedule.as_slice() == [entry(1, made, false)].as_slice(),
+            "the schedule of {program}"
+        );
+        let again = replay(rt.alloc(), program.as_bytes(), report.schedule.as_slice())
+            .ok()
+            .ok_or("no report")?;
+        assert_eq!(rt;
+            again.printed.as_slice(),
+            printed.as_bytes(),
+            "printed again by {program}"
+        );
+        assert!(rt; again.outcome == outcome, "the outcome again of {program}");
+    }
+    Ok(())
+}
+
+#[test]
+fn a_given_schedule_is_followed(rt: HostRuntime) -> Result<(), Fail> {
+    let schedules: [&[Entry]; 5] = [
+        &[entry(1, 2, false), entry(9, 3, false), entry(1, 3, false)],
+        &[entry(1, 1, true), entry(1, 4, true)],
+        &[entry(1, 0, true), entry(1, 5, false)],
+        &[entry(1, 4294967295, false), entry(2, 4294967295, true)],
+        &[entry(7, 4294967295, false), entry(1, 5, false)],
+    ];
+    for schedule in schedules {
+        let report = replay(rt.alloc(), b"1 2 add =", schedule)
+            .ok()
+            .ok_or("no report")?;
+        assert_eq!(rt; report.printed.as_slice(), b"3\n".as_slice());
+        assert!(rt; report.outcome == Outcome::Finished);
+        assert!(rt; report.schedule.as_slice() == schedule);
+    }
+    let report = replay(rt.alloc(), b"1 2 add =", &[entry(1, 3, false)])
+        .ok()
+        .ok_or("no report")?;
+    assert!(rt; report.outcome == Outcome::StepsOut);
+    Ok(())
+}
+
+#[test]
+fn numbers_out_of_range_are_refused(rt: HostRuntime) -> Result<(), Fail> {
+    for wrong in [
+        Config {
+            space: 4095,
+            ..config(1)
+        },
+        Config {
+            space: 1048577,
+            ..config(1)
+        },
+        Config {
+            workers: 0,
+            ..config(1)
+        },
+        Config {
+            workers: 33,
+            ..config(1)
+        },
+        Config {
+            quantum: 0,
+            ..config(1)
+        },
+        Config {
+            quantum: 65536,
+            ..config(1)
+        },
+        config(0),
+    ] {
+        assert!(rt; matches!(run_plain(rt.alloc(), b"", wrong), Err(RunFault::Config)));
+    }
+    Ok(())
+}

@@ -1,0 +1,14 @@
+use Rattle.std.proofs.Common.{◌≡◌, ◌≤◌, take, length, vec_len, vec_capacity}
+use Rattle.ps_language.specs.Thin.{thin_world}
+use Rattle.ps_vault.specs.Stories.{world_at}
+use Rattle.ps_vault.proofs.replays.replay.Given as goal
+
+-- the entries so far were followed
+abbrev pub invariant-loop-entry : goal.invariant-loop-entry
+invariant-loop-entry l = record {
+  program : l.vault.program ≡ l.program;
+  followed : l.followed.items ≡ take l.entry-index l.schedule;
+  count : vec_len l.followed ≡ l.entry-index;
+  room : length l.schedule ≤ vec_capacity l.followed;
+  world : world_at l.vault ≡ thin_world l.program (take l.entry-index l.schedule);
+}

@@ -1,0 +1,43 @@
+-- What runs promise.
+use Rattle.std.specs.Prelude.{◌≡◌, ◌≢◌, ℕ, ◌≤◌, ◌==◌, Bool, true, false, not, List}
+use Rattle.ps_language.specs.declared.schedules.Entry.{Entry}
+use Rattle.ps_language.specs.Schedules.{count_of, is_longest}
+use Rattle.ps_language.specs.Thin.{ThinWorld, has_steps, thin_world, thin_printed, IsThinProper}
+use Rattle.ps_vault.specs.declared.reports.Config.{Config}
+use Rattle.ps_vault.specs.declared.reports.Outcome.{Outcome}
+use Rattle.ps_vault.specs.declared.reports.Outcome.TheVariants.{Finished, Faulted, AllWaiting, StepsOut, Memory}
+
+-- each number is in its range
+pub record IsWithin (config : Config) : Type 0 where
+  pub space_low : 4096 ≤ config.space
+  pub space_high : config.space ≤ 1048576
+  pub workers_low : 1 ≤ config.workers
+  pub workers_high : config.workers ≤ 32
+  pub quantum_low : 1 ≤ config.quantum
+  pub quantum_high : config.quantum ≤ 65535
+  pub steps_low : 1 ≤ config.steps
+
+-- the one context is finished
+abbrev pub is_over : ThinWorld → Bool
+is_over world = not (has_steps world.stage)
+
+-- how a run ended in this world; used up says that no step is left. The one context never waits, and want of memory comes only before any other end
+abbrev pub EndsAs : ThinWorld → (used_up : Bool) → Outcome → Type 0
+EndsAs world used_up Finished = (is_over world ≡ true) × (world.error_lines ≡ 0)
+EndsAs world used_up Faulted = (is_over world ≡ true) × (world.error_lines ≢ 0)
+EndsAs world used_up AllWaiting = ⊥
+EndsAs world used_up StepsOut = (is_over world ≡ false) × (used_up ≡ true)
+EndsAs world used_up Memory = (is_over world ≡ false) × (used_up ≡ false)
+
+-- a run of a program with a budget of steps: its bytes are those that its schedule prints, the schedule is proper and of the longest entries, and the outcome is that of its world
+pub record IsRunOf (program : List ℕ) (steps : ℕ) (printed : List ℕ) (schedule : List Entry) (outcome : Outcome) : Type 0 where
+  pub prints : printed ≡ thin_printed program schedule
+  pub proper : IsThinProper program schedule
+  pub longest : is_longest schedule ≡ true
+  pub within : count_of schedule ≤ steps
+  pub ends : EndsAs (thin_world program schedule) (count_of schedule == steps) outcome
+
+-- whether it is for want of memory
+abbrev pub is_memory : Outcome → Bool
+is_memory Memory = true
+is_memory _ = false

@@ -1,0 +1,101 @@
+//! A run under a given schedule.
+
+ghost use Rattle.std.specs.Prelude.{◌≡◌, ◌≢◌, ◌<◌, ◌≤◌, ◌++◌, vec_len, vec_capacity, [], true, false, not, replicate, IfOk, Err};
+ghost use Rattle.ps_language.specs.Schedules.{plain_move, moves_of, moves, Begins};
+ghost use Rattle.ps_language.specs.Thin as thin;
+ghost use Rattle.ps_vault.specs.Reports.{EndsAs, is_memory, is_over};
+ghost use Rattle.ps_vault.specs.Stories.{world_at};
+
+use crate::reports::{Outcome, Report, RunFault};
+use crate::schedules::push_within;
+use crate::vaults::Vault;
+use ps_language::schedules::Entry;
+use std::alloc::Global;
+
+/// Makes the steps of an entry, as far as memory goes, and tells how many were made; a step of a context that isn't ready is counted and changes nothing, nor do
+/// those behind it in the entry.
+#[tactic(auto, using(crate::proofs::Following::entry_lemmas))]
+fn follow_entry(vault: &mut Vault, entry: Entry) -> u32
+    ensures program { vault.new.program ≡ vault.old.program }
+    ensures within { result ≤ entry.steps }
+    ensures all { result ≡ entry.steps → world_at vault.new ≡ thin.after_thin_moves (world_at vault.old) (moves_of entry entry.steps) }
+    ensures part { result < entry.steps → world_at vault.new ≡ thin.after_thin_moves (world_at vault.old) (replicate result (plain_move entry.context)) }
+    ensures stopped { result < entry.steps → is_over (world_at vault.new) ≡ false }
+{
+    for made in 0..entry.steps {
+        if !vault.is_ready(entry.context) {
+            return entry.steps;
+        }
+        let Ok(()) = vault.step() else {
+            return made;
+        };
+    }
+    entry.steps
+}
+
+/// Runs the steps of a schedule, over memory that is never collected.
+///
+/// The report has the given schedule; where a growth was refused, the outcome is `Memory` and the report has the steps that were made. The fault is
+/// `Memory` where the room that the run starts with can't be had; there is no other.
+pub fn replay(alloc: Global, program: &[u8], schedule: &[Entry]) -> Result<Report, RunFault>
+    ensures fault { result ≢ Err RunFault.Config }
+    ensures prints { IfOk result (λ report. report.printed.items ≡ thin.thin_printed program.now report.schedule.items) }
+    ensures begins { IfOk result (λ report. Begins report.schedule.items schedule.now) }
+    ensures whole { IfOk result (λ report. is_memory report.outcome ≡ false → report.schedule.items ≡ schedule.now) }
+    ensures ends { IfOk result (λ report. EndsAs (thin.thin_world program.now report.schedule.items) (not (is_memory report.outcome)) report.outcome) }
+    ensures flips { IfOk result (λ report. report.flips ≡ 0) }
+    ensures taken { IfOk result (λ report. report.taken ≡ 0) }
+{
+    let Ok(mut vault) = Vault::new(alloc, program) else {
+        return Err(RunFault::Memory);
+    };
+    let Ok(mut followed) = Vec::with_capacity(alloc, schedule.len()) else {
+        return Err(RunFault::Memory);
+    };
+    for entry in schedule {
+        let made = follow_entry(&mut vault, *entry);
+        if made < entry.steps {
+            push_part(&mut followed, entry.context, made);
+            return Ok(report_of(vault, followed, Outcome::Memory));
+        }
+        push_within(&mut followed, *entry);
+    }
+    let outcome = vault.outcome_at_end(true);
+    Ok(report_of(vault, followed, outcome))
+}
+
+/// Pushes an entry of so many ordinary steps, if there are any.
+#[tactic(auto, using(crate::proofs::Following::part_lemmas))]
+fn push_part(schedule: &mut Vec<Entry>, context: u32, made: u32)
+    requires { vec_len schedule.old < vec_capacity schedule.old }
+    ensures { moves schedule.new.items ≡ moves schedule.old.items ++ replicate made (plain_move context) }
+{
+    if made > 0 {
+        push_within(
+            schedule,
+            Entry {
+                context,
+                steps: made,
+                refused: false,
+                shown: None,
+            },
+        );
+    }
+}
+
+/// A report with a vault's printed bytes.
+fn report_of(vault: Vault, schedule: Vec<Entry>, outcome: Outcome) -> Report
+    ensures printed { result.printed.items ≡ (world_at vault).printed }
+    ensures schedule { result.schedule ≡ schedule }
+    ensures outcome { result.outcome ≡ outcome }
+    ensures flips { result.flips ≡ 0 }
+    ensures taken { result.taken ≡ 0 }
+{
+    Report {
+        printed: vault.into_printed(),
+        schedule,
+        outcome,
+        flips: 0,
+        taken: 0,
+    }
+}

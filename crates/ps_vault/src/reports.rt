@@ -1,0 +1,89 @@
+//! What a run is given, and what it gives.
+
+ghost use Rattle.std.specs.Prelude.{◌≡◌, ◌↔◌, IsTrue};
+ghost use Rattle.ps_vault.specs.Reports.{IsWithin};
+
+use ps_language::schedules::Entry;
+use thiserror::Error;
+
+/// The numbers of a run.
+#[derive(Clone, Copy, Debug, PartialEq, Eq)]
+pub struct Config {
+    /// The words of a space of memory, from 4,096 to 1,048,576.
+    pub space: u32,
+    /// The threads that make steps, from 1 to 32.
+    pub workers: u32,
+    /// The most steps of a context's turn, from 1 to 65,535.
+    pub quantum: u32,
+    /// The most steps of the run, at least 1.
+    pub steps: u32,
+}
+
+impl Config {
+    /// The space where none is asked for, in words.
+    pub const DEFAULT_SPACE: u32 = 65536;
+
+    /// The least and the most words of a space.
+    pub const LEAST_SPACE: u32 = 4096;
+
+    pub const MOST_SPACE: u32 = 1_048_576;
+
+    /// The most threads that make steps.
+    pub const MOST_WORKERS: u32 = 32;
+
+    /// The most steps of a turn.
+    pub const MOST_QUANTUM: u32 = 65535;
+
+    /// Whether each number is in its range.
+    pub fn is_within(&self) -> bool
+        ensures { IsTrue result ↔ IsWithin self.now }
+    {
+        Self::LEAST_SPACE <= self.space
+            && self.space <= Self::MOST_SPACE
+            && 1 <= self.workers
+            && self.workers <= Self::MOST_WORKERS
+            && 1 <= self.quantum
+            && self.quantum <= Self::MOST_QUANTUM
+            && 1 <= self.steps
+    }
+}
+
+/// How a run ended, by the first of these that holds.
+#[derive(Clone, Copy, Debug, PartialEq, Eq)]
+pub enum Outcome {
+    /// Each context is finished, and no line of an error was printed.
+    Finished,
+    /// Each context is finished, and a line of an error was printed.
+    Faulted,
+    /// A context is left, and none is ready.
+    AllWaiting,
+    /// A context is ready, and the steps are used up.
+    StepsOut,
+    /// A growth was refused before any of these.
+    Memory,
+}
+
+/// What a run gives.
+#[derive(Debug, Drop)]
+pub struct Report {
+    /// The bytes that the program printed.
+    pub printed: Vec<u8>,
+    /// Which context made each step.
+    pub schedule: Vec<Entry>,
+    pub outcome: Outcome,
+    /// The collector's cycles; none without a collector.
+    pub flips: u32,
+    /// The records that the collector took; none without one.
+    pub taken: u64,
+}
+
+/// Why there is no report.
+#[derive(Clone, Copy, Debug, PartialEq, Eq, Error)]
+pub enum RunFault {
+    /// A number is out of its range.
+    #[error("a number of the run is out of its range")]
+    Config,
+    /// The room that a run starts with can't be had.
+    #[error("out of memory")]
+    Memory,
+}

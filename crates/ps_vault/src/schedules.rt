@@ -1,0 +1,61 @@
+//! Schedules of the longest entries.
+
+ghost use Rattle.std.specs.Prelude.{◌≡◌, ◌+◌, ◌<◌, ◌≤◌, ◌++◌, ◌∷◌, [], vec_len, vec_capacity};
+ghost use Rattle.ps_language.specs.Schedules as schedules;
+
+use ps_language::schedules::Entry;
+
+/// The identifier of the first context.
+pub const FIRST_CONTEXT: u32 = 1;
+
+/// Whether a further step of the first context joins an entry.
+fn joins(entry: &Entry) -> bool
+    ensures { result ≡ schedules.joins entry.now 1 }
+{
+    entry.context == FIRST_CONTEXT
+        && !entry.refused
+        && entry.shown.is_none()
+        && entry.steps < u32::MAX
+}
+
+/// Adds a step of the first context, for which the capacity has room.
+#[tactic(auto, using(crate::proofs::Notes::note_lemmas))]
+pub fn note(schedule: &mut Vec<Entry>)
+    requires { vec_len schedule.old < vec_capacity schedule.old }
+    ensures { schedule.new.items ≡ schedules.added schedule.old.items (schedules.plain_move 1) }
+{
+    let single = Entry {
+        context: FIRST_CONTEXT,
+        steps: 1,
+        refused: false,
+        shown: None,
+    };
+    let Some(last) = schedule.pop() else {
+        push_within(schedule, single);
+        return;
+    };
+    if joins(&last) {
+        push_within(
+            schedule,
+            Entry {
+                context: last.context,
+                steps: last.steps + 1,
+                refused: false,
+                shown: None,
+            },
+        );
+        return;
+    }
+    push_within(schedule, last);
+    push_within(schedule, single);
+}
+
+/// Pushes an entry for which the capacity has room.
+pub fn push_within(schedule: &mut Vec<Entry>, entry: Entry)
+    requires { vec_len schedule.old < vec_capacity schedule.old }
+    ensures items { schedule.new.items ≡ schedule.old.items ++ entry ∷ [] }
+    ensures len { vec_len schedule.new ≡ vec_len schedule.old + 1 }
+    ensures capacity { vec_capacity schedule.old ≤ vec_capacity schedule.new }
+{
+    let _ = schedule.push(entry);
+}

@@ -1,0 +1,4 @@
+pub mod Changes
+pub mod HeaderPlaces
+pub mod Packing
+pub mod Places

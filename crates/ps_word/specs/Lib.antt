@@ -1,0 +1,4 @@
+pub mod Format
+pub mod Headers
+pub mod OperatorNumbers
+pub mod Readers
