@@ -1,5 +1,7 @@
 //! The files that the program reads and writes, by name.
 
+ghost use Rattle.std.specs.Prelude.{◌≡◌, ◌≤◌, ℕ, List, Option, None, IfOk, IfSome, vec_len};
+
 use std::alloc::Global;
 use thiserror::Error;
 
@@ -27,8 +29,13 @@ pub enum WriteFault {
 
 /// Files by name.
 pub trait FileSet {
+    /// The bytes of the file of a name, where they are known: of the system's files they are not.
+    ghost contents: { Self → List ℕ → Option (List ℕ) } = { λ _ _. None };
+
     /// The bytes of a file of at most 16,777,215 bytes.
-    fn read(&mut self, alloc: Global, name: &str) -> Result<Vec<u8>, ReadFault>;
+    fn read(&mut self, alloc: Global, name: &str) -> Result<Vec<u8>, ReadFault>
+        ensures few { IfOk result (λ bytes. vec_len bytes ≤ 16777215) }
+        ensures bytes { IfOk result (λ bytes. IfSome (contents self.old name.now) (λ known. bytes.items ≡ known)) };
 
     /// Makes a file of these bytes, in the place of any that has the name.
     fn write(&mut self, name: &str, bytes: &[u8]) -> Result<(), WriteFault>;

@@ -1,6 +1,11 @@
 //! The command line.
 
-use clap::{Arg, ArgAction, Command, Error, value_parser};
+ghost use Rattle.std.specs.Prelude.{◌≡◌, Some, true, false, codes, map, IfOk};
+ghost use Rattle.clap.specs.Words.{app_of, rule_of, with_rule, fault_of, FailsBy};
+ghost use Rattle.ps_run.specs.CommandLine as spec;
+
+use clap::builder::ValueParser;
+use clap::{Arg, ArgAction, Command, Error};
 use ps_vault::Config;
 use std::alloc::{AllocError, Global};
 
@@ -15,7 +20,9 @@ pub struct Options<'a> {
 }
 
 /// The command line's form. Numbers out of their ranges are refused; an option may be given once.
-fn command<'a>(alloc: Global) -> Result<Command<'a>, AllocError> {
+fn command<'a>(alloc: Global) -> Result<Command<'a>, AllocError>
+    ensures { IfOk result (λ made. app_of made ≡ spec.command_line) }
+{
     let command = Command::new(alloc, "dpsrun")
         .about("Runs a program in the PostScript language.")
         .no_binary_name(true);
@@ -26,25 +33,31 @@ fn command<'a>(alloc: Global) -> Result<Command<'a>, AllocError> {
 }
 
 /// The numbers of memory and threads.
-fn with_sizes<'a>(alloc: Global, command: Command<'a>) -> Result<Command<'a>, AllocError> {
+fn with_sizes<'a>(alloc: Global, command: Command<'a>) -> Result<Command<'a>, AllocError>
+    ensures { IfOk result (λ made. app_of made ≡ spec.with_sizes (app_of command.entry)) }
+{
     let space = number(alloc, "space", "65536", "words of a space of memory");
     let workers = number(alloc, "workers", "4", "threads that make steps");
     command
-        .arg(space.value_parser(value_parser!(u64).range(4096..=1048576)))?
-        .arg(workers.value_parser(value_parser!(u64).range(1..=32)))
+        .arg(within(space, 4096, 1048576))?
+        .arg(within(workers, 1, 32))
 }
 
 /// The numbers of steps.
-fn with_limits<'a>(alloc: Global, command: Command<'a>) -> Result<Command<'a>, AllocError> {
+fn with_limits<'a>(alloc: Global, command: Command<'a>) -> Result<Command<'a>, AllocError>
+    ensures { IfOk result (λ made. app_of made ≡ spec.with_limits (app_of command.entry)) }
+{
     let quantum = number(alloc, "quantum", "100", "most steps of a turn");
     let steps = number(alloc, "steps", "1000000000", "most steps of the run");
     command
-        .arg(quantum.value_parser(value_parser!(u64).range(1..=65535)))?
-        .arg(steps.value_parser(value_parser!(u64).range(1..=4294967295)))
+        .arg(within(quantum, 1, 65535))?
+        .arg(within(steps, 1, 4294967295))
 }
 
 /// The options without a value.
-fn with_flags<'a>(alloc: Global, command: Command<'a>) -> Result<Command<'a>, AllocError> {
+fn with_flags<'a>(alloc: Global, command: Command<'a>) -> Result<Command<'a>, AllocError>
+    ensures { IfOk result (λ made. app_of made ≡ spec.with_flags (app_of command.entry)) }
+{
     command
         .arg(flag(alloc, "plain", "run over memory that is never collected"))?
         .arg(flag(
@@ -55,12 +68,17 @@ fn with_flags<'a>(alloc: Global, command: Command<'a>) -> Result<Command<'a>, Al
 }
 
 /// The program's file.
-fn with_file<'a>(alloc: Global, command: Command<'a>) -> Result<Command<'a>, AllocError> {
+fn with_file<'a>(alloc: Global, command: Command<'a>) -> Result<Command<'a>, AllocError>
+    ensures { IfOk result (λ made. app_of made ≡ with_rule (app_of command.entry) spec.file_rule) }
+{
     command.arg(Arg::new(alloc, "FILE").help("the program").required(true))
 }
 
-/// An option with a number.
-fn number<'a>(alloc: Global, name: &'a str, default: &'a str, help: &'a str) -> Arg<'a> {
+/// An option with a number, of any range.
+fn number<'a>(alloc: Global, name: &'a str, default: &'a str, help: &'a str) -> Arg<'a>
+    ensures rule { rule_of result ≡ spec.option_rule name.entry.now default.entry.now }
+    ensures local { result.global ≡ false }
+{
     Arg::new(alloc, name)
         .long(name)
         .value_name("N")
@@ -68,16 +86,32 @@ fn number<'a>(alloc: Global, name: &'a str, default: &'a str, help: &'a str) -> 
         .help(help)
 }
 
+/// The option, with a number from `least` to `most`.
+fn within<'a>(option: Arg<'a>, least: u64, most: u64) -> Arg<'a>
+    ensures rule { rule_of result ≡ spec.within (rule_of option.entry) least most }
+    ensures local { result.global ≡ option.entry.global }
+{
+    option.value_parser(ValueParser::unsigned(least, most))
+}
+
 /// An option without a value.
-fn flag<'a>(alloc: Global, name: &'a str, help: &'a str) -> Arg<'a> {
+fn flag<'a>(alloc: Global, name: &'a str, help: &'a str) -> Arg<'a>
+    ensures rule { rule_of result ≡ spec.flag_rule name.entry.now }
+    ensures local { result.global ≡ false }
+{
     Arg::new(alloc, name)
         .long(name)
         .action(ArgAction::SetTrue)
         .help(help)
 }
 
-/// Reads the words of a command line, without the program's name.
-pub fn parse<'a>(alloc: Global, words: &'a [&'a str]) -> Result<Options<'a>, Error> {
+/// Reads the words of a command line, without the program's name. The error is the first fault of the words by the rules of the command line, or want of memory.
+pub fn parse<'a>(alloc: Global, words: &'a [&'a str]) -> Result<Options<'a>, Error>
+    ensures fault { FailsBy (fault_of spec.command_line (map (λ word. word.now) words.entry.now)) result }
+    ensures file { IfOk result (λ options. options.file.now ≡ spec.file_in (map (λ word. word.now) words.entry.now)) }
+    ensures stats { IfOk result (λ options. spec.flag_in (codes "stats") (map (λ word. word.now) words.entry.now) ≡ Some (codes "true") → options.stats ≡ true) }
+    ensures no_stats { IfOk result (λ options. spec.flag_in (codes "stats") (map (λ word. word.now) words.entry.now) ≡ Some (codes "false") → options.stats ≡ false) }
+{
     let matches = command(alloc)?.try_get_matches_from(words)?;
     let config = Config {
         space: matches

@@ -1,23 +1,35 @@
 //! A scanner by the letter of the grammar: each run is looked for anew, a real is looked for at each of its splits, and procedures are gone through with a counter of open braces.
 
+ghost use Rattle.std.specs.Prelude.{◌≡◌, ◌≢◌, [], ◌∷◌, take, drop};
+ghost use Rattle.ps_language.specs.Bytes as bytes;
+
 use crate::shown::{show_end, show_fault, show_integer, show_name, show_string};
 use ps_scan::ScanFault;
 use std::alloc::{AllocError, Global};
 
-fn is_white(byte: u8) -> bool {
+fn is_white(byte: u8) -> bool
+    ensures { result ≡ bytes.is_white byte }
+{
     b"\0\t\n\x0c\r ".contains(&byte)
 }
 
-fn is_regular(byte: u8) -> bool {
+fn is_regular(byte: u8) -> bool
+    ensures { result ≡ bytes.is_regular byte }
+{
     !is_white(byte) && !b"()<>[]{}/%".contains(&byte)
 }
 
-/// The bytes from a place on, and up to one.
-fn left(text: &[u8], at: usize) -> &[u8] {
+/// The bytes from a place on.
+fn left(text: &[u8], at: usize) -> &[u8]
+    ensures { result.now ≡ drop at text.now }
+{
     text.get(at..).unwrap_or(&[])
 }
 
-fn cut(text: &[u8], end: usize) -> &[u8] {
+/// The bytes up to a place.
+fn cut(text: &[u8], end: usize) -> &[u8]
+    ensures { result.now ≡ take end text.now }
+{
     text.get(..end).unwrap_or(text)
 }
 
@@ -167,7 +179,10 @@ fn show_word(
 }
 
 /// A newline: a carriage return takes the line feed behind it.
-fn newline_size(text: &[u8]) -> usize {
+fn newline_size(text: &[u8]) -> usize
+    ensures two { take 2 text.now ≡ 13 ∷ 10 ∷ [] → result ≡ 2 }
+    ensures one { take 2 text.now ≢ 13 ∷ 10 ∷ [] → result ≡ 1 }
+{
     if cut(text, 2) == b"\r\n".as_slice() {
         2
     } else {

@@ -1,5 +1,7 @@
 //! Texts of a fixed generator, scanned from each of their places by the scanner and by the slow one.
 
+ghost use Rattle.std.specs.Prelude.{◌≡◌, ◌≢◌, ◌+◌, ◌*◌, ◌^◌, ◌<◌, ◌≤◌, IfOk, vec_len};
+
 use crate::shown::show_next;
 use crate::slow::show_slowly;
 use std::alloc::{AllocError, Global};
@@ -73,7 +75,9 @@ static PIECES: [&[u8]; 64] = [
 ];
 
 /// A text of up to 200 bytes.
-fn text_of(alloc: Global, state: &mut u32) -> Result<Vec<u8>, AllocError> {
+fn text_of(alloc: Global, state: &mut u32) -> Result<Vec<u8>, AllocError>
+    ensures { IfOk result (λ text. vec_len text ≤ 200) }
+{
     let mut text = Vec::new(alloc);
     *state = state.wrapping_mul(1664525).wrapping_add(1013904223);
     let count = (*state >> 16) % 90;
@@ -89,13 +93,35 @@ fn text_of(alloc: Global, state: &mut u32) -> Result<Vec<u8>, AllocError> {
 /// How many places of how many texts there are, and at how many the two scanners differ.
 #[derive(Clone, Copy)]
 pub struct Outcome {
-    pub texts: u64,
+    pub texts: u32,
     pub places: u64,
     pub differences: u64,
 }
 
-/// Scans the texts of the generator from each of their places.
-pub fn compared(alloc: Global, texts: u64) -> Result<Outcome, AllocError> {
+impl Outcome {
+    /// Counts a place, and a difference where the two scanners say otherwise there.
+    fn count(&mut self, fast: &[u8], slow: &[u8])
+        requires few { self.old.places + 1 < 2 ^ 64 }
+        requires some { self.old.differences ≤ self.old.places }
+        ensures place { self.new ≡ record self.old { places = self.old.places + 1; differences = self.new.differences } }
+        ensures some { self.new.differences ≤ self.new.places }
+        ensures same { fast.now ≡ slow.now → self.new ≡ record self.old { places = self.old.places + 1 } }
+        ensures differs { fast.now ≢ slow.now → self.new ≡ record self.old { places = self.old.places + 1; differences = self.old.differences + 1 } }
+    {
+        self.places += 1;
+        if fast != slow {
+            self.differences += 1;
+        }
+    }
+}
+
+/// Scans the texts of the generator from each of their places, of which a text has one at least.
+pub fn compared(alloc: Global, texts: u32) -> Result<Outcome, AllocError>
+    ensures texts { IfOk result (λ outcome. outcome.texts ≡ texts) }
+    ensures some { IfOk result (λ outcome. texts ≤ outcome.places) }
+    ensures few { IfOk result (λ outcome. outcome.places ≤ 201 * texts) }
+    ensures differences { IfOk result (λ outcome. outcome.differences ≤ outcome.places) }
+{
     let mut outcome = Outcome {
         texts,
         places: 0,
@@ -111,10 +137,7 @@ pub fn compared(alloc: Global, texts: u64) -> Result<Outcome, AllocError> {
             slow.clear();
             let _end = show_next(alloc, &mut fast, &text, at)?;
             show_slowly(alloc, &mut slow, &text, at)?;
-            outcome.places = outcome.places.wrapping_add(1);
-            if fast.as_slice() != slow.as_slice() {
-                outcome.differences = outcome.differences.wrapping_add(1);
-            }
+            outcome.count(&fast, &slow);
         }
     }
     Ok(outcome)

@@ -2,7 +2,7 @@
 use Rattle.std.proofs.Common.{◌≡◌, ℕ, ◌-◌, ◌≤◌, List, ◌++◌, length, drop, take, sym, ap, ◌∙◌, arith, length-drop, append-nil}
 use Rattle.std.specs.Prelude.{reverse, slice_range}
 use Rattle.std.proofs.lemmas.Slice.{between_to_end}
-use Rattle.std.proofs.lemmas.List.{reverse-append, length-reverse, take-append-drop}
+use Rattle.std.proofs.lemmas.List.{reverse-append, reverse-reverse, length-reverse, take-append-drop, take_all}
 use Rattle.std.proofs.Math.Seq.{drop-append_seam, take-append_seam, drop-length, take-length}
 use Rattle.ps_stacks.specs.Tops.{rotated}
 
@@ -64,3 +64,16 @@ repeated_buffer items new now from to count is end at h view =
 -- what a buffer holds behind a loan of all of it
 pub written_back : {A : Type 0} (old new : List A) (n : ℕ) → length new ≡ length old → n ≡ length old → take n (new ++ drop (length new) old) ≡ new
 written_back old new n same size = rw (size, same, drop-length, append-nil) (ap (λ k. take k new) (sym same) ∙ take-length new)
+
+-- the last items as they stand
+pub last_buffer : {A : Type 0} (items now : List A) (size count : ℕ)
+    → size ≡ length items → count ≤ length items → reverse items ≡ now
+    → take (length items - (size - count)) (drop (size - count) items) ≡ reverse (take count now)
+last_buffer items now size count at h view =
+    let all : take (length items - (size - count)) (drop (size - count) items) ≡ drop (size - count) items =
+    take_all (length items - (size - count)) (drop (size - count) items) (omega (arith, length-drop (size - count) items)) in
+    all
+    ∙ (ap (λ n. drop (n - count) items) at
+    ∙ (sym (reverse-reverse (drop (length items - count) items))
+    ∙ (ap reverse (reverse-drop items count h)
+    ∙ ap (λ xs. reverse (take count xs)) view)))

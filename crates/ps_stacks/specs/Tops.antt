@@ -12,6 +12,13 @@ first_two_of [] = None
 first_two_of (x ∷ []) = None
 first_two_of (x ∷ y ∷ rest) = Some (x, y)
 
+-- the three topmost
+abbrev pub first_three_of : {A : Type 0} → List A → Option (A × A × A)
+first_three_of [] = None
+first_three_of (x ∷ []) = None
+first_three_of (x ∷ y ∷ []) = None
+first_three_of (x ∷ y ∷ z ∷ rest) = Some (x, y, z)
+
 -- the first items behind the others
 abbrev pub rotated : {A : Type 0} → ℕ → List A → List A
 rotated places items = drop places items ++ take places items

@@ -1,5 +1,5 @@
 ghost use Rattle.std.specs.Prelude.{◌≡◌, ℕ, ◌+◌, ◌-◌, ◌<◌, ◌≤◌, ◌↔◌, IsTrue, List, [], ◌∷◌, ◌++◌, length, take, drop, slice_get, reverse, IfOk, IfSome, IfNone, OnOk, OnErr, Some, None, vec_len, vec_capacity, nat_le};
-ghost use Rattle.ps_stacks.specs.Tops.{first_of, first_two_of, rotated};
+ghost use Rattle.ps_stacks.specs.Tops.{first_of, first_two_of, first_three_of, rotated};
 
 use std::alloc::{AllocError, Global};
 use std::marker::Model;
@@ -74,6 +74,24 @@ impl<T: Copy, const LIMIT: usize> Stack<T, LIMIT> {
             [.., second, first] => Some((*first, *second)),
             _ => None,
         }
+    }
+
+    /// The three topmost items, the topmost first.
+    pub fn top_three(&self) -> Option<(T, T, T)>
+        ensures { result ≡ first_three_of self.now }
+    {
+        match self.items.as_slice() {
+            [.., third, second, first] => Some((*first, *second, *third)),
+            _ => None,
+        }
+    }
+
+    /// So many of the topmost items, the topmost last.
+    pub fn topmost(&self, count: usize) -> &[T]
+        requires { count ≤ length self.now }
+        ensures { result.now ≡ reverse (take count self.now) }
+    {
+        &self.items[self.items.len() - count..]
     }
 
     /// The item below so many others.

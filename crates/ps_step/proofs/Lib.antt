@@ -1,6 +1,6 @@
 pub mod Lines
-pub mod Marks
 pub mod NameLengths
-pub mod Operands
 pub mod Operating
-pub mod StackRows
+pub mod PlainOperands
+pub mod RelationRows
+pub mod PlainTexts

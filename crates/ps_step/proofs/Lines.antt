@@ -6,6 +6,7 @@ use Rattle.ps_language.specs.Value.{Value}
 use Rattle.ps_language.specs.StepErrors.{error_text}
 use Rattle.ps_language.specs.Texts.{plain_text}
 use Rattle.ps_language.specs.Thin.{thin_error_line}
+use Rattle.ps_word.specs.declared.words.Word.{Word}
 use Rattle.ps_step.specs.Interpreting.{IsSound}
 
 joined : (before a b c d e : List ℕ) → ((((before ++ a) ++ b) ++ c) ++ d) ++ e ≡ before ++ (a ++ b ++ c ++ d ++ e)
@@ -27,10 +28,11 @@ some_line error command =
     omega (arith, all)
 
 -- so there are no more lines than bytes
-pub sound_with_line : (program : List ℕ) (at : ℕ) (before after : List ℕ) (lines : ℕ) (error : ErrorName) (command : Value)
-    → IsSound program at before lines → after ≡ before ++ thin_error_line error command → IsSound program at after (lines + 1)
-sound_with_line program at before after lines error command sound is = record {
+pub sound_with_line : (program : List ℕ) (at : ℕ) (before after : List ℕ) (lines : ℕ) (operands : List Word) (error : ErrorName) (command : Value)
+    → IsSound program at before lines operands → after ≡ before ++ thin_error_line error command → IsSound program at after (lines + 1) operands
+sound_with_line program at before after lines operands error command sound is = record {
   within = sound.within;
+  plain = sound.plain;
   counted =
       let some = some_line error command in
       let all = ap length is ∙ length-append before (thin_error_line error command) in

@@ -4,17 +4,18 @@ ghost use Rattle.std.specs.Prelude.{◌≡◌, ◌≤◌, OnOk, OnErr, IfOk, IsT
 ghost use Rattle.ps_language.specs.Thin as thin;
 ghost use Rattle.ps_scan.specs.Shown.{token_of};
 ghost use Rattle.ps_step.specs.Commands.{command_value_of};
-ghost use Rattle.ps_step.specs.Scalars.{value_of};
+ghost use Rattle.ps_operands.specs.Plain.{IsPlain};
+ghost use Rattle.ps_step.specs.Thin.{thin_value};
 
-use crate::Operands;
 use crate::commands::{Command, append_error_line};
 use crate::failure::{Failure, NotMade};
 use crate::names::{Named, look_up};
 use crate::operators::operate;
-use crate::scalar::Scalar;
 use ps_language::errors::ErrorName;
 use ps_language::operators::Operator;
+use ps_operands::{Operands, plain};
 use ps_scan::{ScanFault, Span, Token, TokenKind, next_token};
+use ps_word::words::Word;
 use std::alloc::{AllocError, Global};
 use std::marker::Model;
 
@@ -42,20 +43,20 @@ pub struct Interpreter {
 impl Model for Interpreter {
     ghost use Rattle.ps_language.specs.Thin.{ThinWorld};
     ghost use Rattle.ps_step.specs.Interpreting.{stage_of, IsSound};
-    ghost use Rattle.ps_step.specs.Scalars.{values_of};
+    ghost use Rattle.ps_step.specs.Thin.{thin_values};
 
     ghost Value = { ThinWorld };
 
     ghost view = { λ i. record {
       program = i.program.items;
-      operands = values_of i.operands;
+      operands = thin_values i.operands;
       at = i.at;
       stage = stage_of i.program.items i.stage;
       printed = i.printed.items;
       error_lines = i.error_lines;
     } };
 
-    ghost invariant = { λ i. IsSound i.program.items i.at i.printed.items i.error_lines };
+    ghost invariant = { λ i. IsSound i.program.items i.at i.printed.items i.error_lines i.operands };
 }
 
 impl Interpreter {
@@ -158,9 +159,10 @@ impl Interpreter {
     }
 
     /// Pushes an operand, or raises `stackoverflow`.
-    #[tactic(auto, using(crate::proofs::Operands::push_lemmas), unfolding(ps_language::specs::Thin::thin_pushed))]
-    fn push(&mut self, operand: Scalar, command: Command)
-        ensures { self.new ≡ thin.thin_pushed (command_value_of self.old.program command) (value_of operand) self.old }
+    #[tactic(auto, using(crate::proofs::PlainOperands::push_lemmas), unfolding(ps_language::specs::Thin::thin_pushed))]
+    fn push(&mut self, operand: Word, command: Command)
+        requires { IsPlain operand }
+        ensures { self.new ≡ thin.thin_pushed (command_value_of self.old.program command) (thin_value operand) self.old }
     {
         if self.operands.push(operand).is_err() {
             self.raise(ErrorName::StackOverflow, command);
@@ -190,8 +192,12 @@ impl Interpreter {
     {
         match look_up(span.of(self.program.as_slice())) {
             Some(Named::Operator(operator)) => self.act(operator),
-            Some(Named::Value(value)) => {
-                self.push(value, Command::Name(span));
+            Some(Named::Boolean(truth)) => {
+                self.push(plain::boolean(truth), Command::Name(span));
+                Ok(())
+            }
+            Some(Named::Null) => {
+                self.push(plain::null(), Command::Name(span));
                 Ok(())
             }
             None => {
@@ -208,7 +214,7 @@ impl Interpreter {
     {
         match token {
             TokenKind::Integer(number) => {
-                self.push(Scalar::Integer(*number), Command::Integer(*number));
+                self.push(plain::integer(*number), Command::Integer(*number));
                 Ok(())
             }
             TokenKind::ExecutableName(span) => self.execute_name(*span),

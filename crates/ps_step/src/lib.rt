@@ -1,18 +1,11 @@
 //! One step of a context: the operators, the next token, errors and their lines (PLRM2, 3.5, 3.10, 8).
 #![tactic(auto)]
 
-pub mod arithmetic;
 pub mod commands;
 pub mod failure;
-pub mod integers;
 pub mod interpreter;
 pub mod names;
 pub mod operators;
 pub mod output;
 pub mod relations;
-pub mod scalar;
-pub mod stack_operators;
 pub mod texts;
-
-/// The operands, the topmost first.
-pub type Operands = ps_stacks::OperandStack<scalar::Scalar>;

@@ -4,9 +4,8 @@ ghost use Rattle.std.specs.Prelude.{◌≡◌, option_map, IfSome, IsTrue};
 ghost use Rattle.ps_language.specs.OperatorNames as operators;
 ghost use Rattle.ps_language.specs.StepErrors as errors;
 ghost use Rattle.ps_language.specs.Thin.{named};
-ghost use Rattle.ps_step.specs.Scalars.{named_value_of, is_thin_named};
+ghost use Rattle.ps_step.specs.Names.{named_value_of, is_thin_named};
 
-use crate::scalar::Scalar;
 use ps_language::errors::ErrorName;
 use ps_language::operators::Operator;
 
@@ -14,7 +13,8 @@ use ps_language::operators::Operator;
 #[derive(Clone, Copy, Debug, PartialEq, Eq)]
 pub enum Named {
     Operator(Operator),
-    Value(Scalar),
+    Boolean(bool),
+    Null,
 }
 
 /// The name of an error (PLRM2, 3.10).
@@ -185,9 +185,9 @@ pub fn look_up(text: &[u8]) -> Option<Named>
         b"not" => Some(Named::Operator(Operator::Not)),
         b"bitshift" => Some(Named::Operator(Operator::Bitshift)),
         b"=" => Some(Named::Operator(Operator::Equals)),
-        b"true" => Some(Named::Value(Scalar::Boolean(true))),
-        b"false" => Some(Named::Value(Scalar::Boolean(false))),
-        b"null" => Some(Named::Value(Scalar::Null)),
+        b"true" => Some(Named::Boolean(true)),
+        b"false" => Some(Named::Boolean(false)),
+        b"null" => Some(Named::Null),
         _ => None,
     }
 }

@@ -3,11 +3,13 @@
 ghost use Rattle.std.specs.Prelude.{◌≡◌, IsTrue};
 ghost use Rattle.ps_language.specs.Thin.{is_thin};
 ghost use Rattle.ps_step.specs.Does.{Operates, raised_of};
+ghost use Rattle.ps_step.specs.Thin.{ArePlain};
 
 use crate::failure::Failure;
-use crate::{Operands, arithmetic, output, relations, stack_operators};
+use crate::{output, relations};
 use ps_language::errors::ErrorName;
 use ps_language::operators::Operator;
+use ps_operands::{Operands, arithmetic, logic, stack_operators};
 
 /// Does what an operator does to operands and output. Raises the errors of its row; not made where the growth of the output is refused.
 pub fn operate(
@@ -15,14 +17,16 @@ pub fn operate(
     operands: &mut Operands,
     printed: &mut Vec<u8>,
 ) -> Result<(), Failure>
-    requires { IsTrue (is_thin operator) }
-    ensures { Operates operator result operands.old operands.new printed.old.items printed.new.items }
+    requires thin { IsTrue (is_thin operator) }
+    requires plain { ArePlain operands.old }
+    ensures plain { ArePlain operands.new }
+    ensures effect { Operates operator result operands.old operands.new printed.old.items printed.new.items }
 {
     match operator {
         Operator::Pop => raised(stack_operators::pop(operands)),
         Operator::Exch => raised(stack_operators::exch(operands)),
         Operator::Dup => raised(stack_operators::dup(operands)),
-        Operator::Copy => raised(stack_operators::copy(operands)),
+        Operator::Copy => raised(stack_operators::copy_count(operands)),
         Operator::Index => raised(stack_operators::index(operands)),
         Operator::Roll => raised(stack_operators::roll(operands)),
         Operator::Clear => raised(stack_operators::clear(operands)),
@@ -43,10 +47,10 @@ pub fn operate(
         Operator::Ge => raised(relations::ge(operands)),
         Operator::Lt => raised(relations::lt(operands)),
         Operator::Le => raised(relations::le(operands)),
-        Operator::And => raised(arithmetic::and(operands)),
-        Operator::Or => raised(arithmetic::or(operands)),
-        Operator::Xor => raised(arithmetic::xor(operands)),
-        Operator::Not => raised(arithmetic::not(operands)),
+        Operator::And => raised(logic::and(operands)),
+        Operator::Or => raised(logic::or(operands)),
+        Operator::Xor => raised(logic::xor(operands)),
+        Operator::Not => raised(logic::not(operands)),
         Operator::Bitshift => raised(arithmetic::bitshift(operands)),
         Operator::Equals => output::equals(operands, printed),
         _ => unreachable!(),

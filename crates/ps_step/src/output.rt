@@ -2,16 +2,21 @@
 
 ghost use Rattle.std.specs.Prelude.{◌≡◌, []};
 ghost use Rattle.ps_language.specs.RowsOutput as rows;
+ghost use Rattle.ps_operands.specs.Kept.{AreFrom};
 ghost use Rattle.ps_step.specs.Does.{Prints};
+ghost use Rattle.ps_step.specs.Thin.{ArePlain};
 
-use crate::Operands;
 use crate::failure::{Failure, NotMade};
 use crate::texts::append_line;
 use ps_language::errors::ErrorName;
+use ps_operands::Operands;
 
 /// `x =`: its text and the end of the line are printed. Raises `stackunderflow`; not made where the growth of the output is refused.
+#[tactic(auto, using(ps_operands::proofs::Sources::sources, crate::proofs::PlainOperands::top_lemmas))]
 pub fn equals(operands: &mut Operands, printed: &mut Vec<u8>) -> Result<(), Failure>
-    ensures { Prints (rows.equals_row []) result operands.old operands.new printed.old.items printed.new.items }
+    requires { ArePlain operands.old }
+    ensures effect { Prints (rows.equals_row []) result operands.old operands.new printed.old.items printed.new.items }
+    ensures kept { AreFrom operands.old operands.new }
 {
     let Some(top) = operands.top() else {
         return Err(Failure::Error(ErrorName::StackUnderflow));

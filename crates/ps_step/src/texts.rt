@@ -3,10 +3,11 @@
 ghost use Rattle.std.specs.Prelude.{◌≡◌, ◌++◌, ◌∷◌, [], OnOk, OnErr};
 ghost use Rattle.std.specs.Fmt.{signed_decimal};
 ghost use Rattle.ps_language.specs.Texts as texts;
-ghost use Rattle.ps_step.specs.Scalars.{value_of};
+ghost use Rattle.ps_operands.specs.Plain.{IsPlain};
+ghost use Rattle.ps_step.specs.Thin.{thin_value};
 
-use crate::scalar::Scalar;
 use itoa::Buffer;
+use ps_word::words::Word;
 use std::alloc::AllocError;
 
 /// The text of what has none.
@@ -30,22 +31,26 @@ pub fn append_integer(output: &mut Vec<u8>, number: i32) -> Result<(), AllocErro
 }
 
 /// Appends the text of an operand; nothing changes where the growth is refused.
-#[tactic(auto, unfolding(ps_language::specs::Texts::plain_text))]
-pub fn append_text(output: &mut Vec<u8>, operand: Scalar) -> Result<(), AllocError>
-    ensures ok { OnOk result (output.new.items ≡ output.old.items ++ texts.plain_text [] (value_of operand)) }
+#[tactic(auto, using(crate::proofs::PlainTexts::text_lemmas))]
+pub fn append_text(output: &mut Vec<u8>, operand: Word) -> Result<(), AllocError>
+    requires { IsPlain operand }
+    ensures ok { OnOk result (output.new.items ≡ output.old.items ++ texts.plain_text [] (thin_value operand)) }
     ensures err { OnErr result (output.new.items ≡ output.old.items) }
 {
-    match operand {
-        Scalar::Integer(number) => append_integer(output, number),
-        Scalar::Boolean(true) => append(output, b"true"),
-        Scalar::Boolean(false) => append(output, b"false"),
-        Scalar::Null | Scalar::Mark => append(output, NO_TEXT),
+    if let Some(number) = operand.as_integer() {
+        return append_integer(output, number);
+    }
+    match operand.as_boolean() {
+        Some(true) => append(output, b"true"),
+        Some(false) => append(output, b"false"),
+        None => append(output, NO_TEXT),
     }
 }
 
 /// Appends the text of an operand and the end of the line; nothing changes where the growth is refused.
-pub fn append_line(output: &mut Vec<u8>, operand: Scalar) -> Result<(), AllocError>
-    ensures ok { OnOk result (output.new.items ≡ output.old.items ++ (texts.plain_text [] (value_of operand) ++ 10 ∷ [])) }
+pub fn append_line(output: &mut Vec<u8>, operand: Word) -> Result<(), AllocError>
+    requires { IsPlain operand }
+    ensures ok { OnOk result (output.new.items ≡ output.old.items ++ (texts.plain_text [] (thin_value operand) ++ 10 ∷ [])) }
     ensures err { OnErr result (output.new.items ≡ output.old.items) }
 {
     let start = output.len();

@@ -1,31 +1,39 @@
 //! Files and outputs in memory.
 
-ghost use Rattle.std.specs.Prelude.{◌≡◌};
+ghost use Rattle.std.specs.Prelude.{◌≡◌, ◌+◌, [], Some, Err, OnOk, OnErr, IsErr, IfOk, length};
+ghost use Rattle.std.specs.Io.{WritesAtMost};
+ghost use Rattle.std.specs.Io.KnownBytes.{WriteAppends, Keeps};
+ghost use Rattle.ps_tests.specs.Fakes.{bytes_in};
 
-use ps_run::{FileSet, ReadFault, WriteFault};
+use ps_run::{FileSet, MOST_PROGRAM_BYTES, ReadFault, WriteFault};
 use std::alloc::Global;
 use std::io::{self, ErrorKind, Write};
 
-/// One file that can be read, or a fault in its place; nothing can be written.
+/// One file that can be read, whatever its name, or a fault in its place; nothing can be written.
 #[derive(Drop)]
 pub struct OneFile<'a> {
     pub bytes: Result<&'a [u8], ReadFault>,
 }
 
 impl FileSet for OneFile<'_> {
+    ghost contents = { λ file name. bytes_in file.bytes };
+
     fn read(&mut self, alloc: Global, _name: &str) -> Result<Vec<u8>, ReadFault> {
         match self.bytes {
+            Ok(bytes) if bytes.len() > MOST_PROGRAM_BYTES => Err(ReadFault::TooLong),
             Ok(bytes) => Vec::from_slice(alloc, bytes).map_err(|_| ReadFault::Memory),
             Err(fault) => Err(fault),
         }
     }
 
-    fn write(&mut self, _name: &str, _bytes: &[u8]) -> Result<(), WriteFault> {
+    fn write(&mut self, _name: &str, _bytes: &[u8]) -> Result<(), WriteFault>
+        ensures { result ≡ Err WriteFault.NoWrite }
+    {
         Err(WriteFault::NoWrite)
     }
 }
 
-/// An output that takes so many writes, and refuses those after them.
+/// An output that takes so many writes and flushes, and refuses those after them.
 #[derive(Drop)]
 pub struct Output {
     pub bytes: Vec<u8>,
@@ -33,14 +41,24 @@ pub struct Output {
 }
 
 impl Output {
-    pub fn new(alloc: Global, writes_left: u32) -> Output {
+    /// An output with nothing in it.
+    pub fn new(alloc: Global, writes_left: u32) -> Output
+        ensures bytes { result.bytes.items ≡ [] }
+        ensures writes { result.writes_left ≡ writes_left }
+    {
         Output {
             bytes: Vec::new(alloc),
             writes_left,
         }
     }
 
-    fn spend(&mut self) -> io::Result<()> {
+    /// Counts a write or a flush. Fails, with nothing changed, where none is left.
+    fn spend(&mut self) -> io::Result<()>
+        ensures left { OnOk result (self.new.writes_left + 1 ≡ self.old.writes_left) }
+        ensures bytes { self.new.bytes ≡ self.old.bytes }
+        ensures none { self.old.writes_left ≡ 0 → IsErr result }
+        ensures refused { OnErr result (self.old.writes_left ≡ 0) }
+    {
         if self.writes_left == 0 {
             return Err(io::Error::from(ErrorKind::BrokenPipe));
         }
@@ -50,7 +68,17 @@ impl Output {
 }
 
 impl Write for Output {
-    fn write(&mut self, bytes: &[u8]) -> io::Result<usize> {
+    ghost contents = { λ output. Some output.bytes.items };
+
+    fn write(&mut self, bytes: &[u8]) -> io::Result<usize>
+        ensures bound { WritesAtMost result bytes.now }
+        ensures bytes { WriteAppends (Some self.old.bytes.items) (Some self.new.bytes.items) result bytes.now }
+
+        // It takes all that it is given, as long as a write is left.
+        ensures whole { IfOk result (λ taken. taken ≡ length bytes.now) }
+        ensures left { OnOk result (self.new.writes_left + 1 ≡ self.old.writes_left) }
+        ensures none { self.old.writes_left ≡ 0 → IsErr result }
+    {
         self.spend()?;
         if self.bytes.extend_from_slice(bytes).is_err() {
             return Err(io::Error::from(ErrorKind::OutOfMemory));
@@ -58,7 +86,12 @@ impl Write for Output {
         Ok(bytes.len())
     }
 
-    fn flush(&mut self) -> io::Result<()> {
+    fn flush(&mut self) -> io::Result<()>
+        ensures bytes { Keeps (Some self.old.bytes.items) (Some self.new.bytes.items) }
+        ensures left { OnOk result (self.new.writes_left + 1 ≡ self.old.writes_left) }
+        ensures none { self.old.writes_left ≡ 0 → IsErr result }
+        ensures refused { OnErr result (self.old.writes_left ≡ 0) }
+    {
         self.spend()
     }
 }

@@ -1,12 +1,14 @@
 -- The world after the steps of entries.
-use Rattle.std.proofs.Common.{◌≡◌, ℕ, zero, suc, ◌+◌, ◌-◌, ◌<◌, ◌≤◌, Bool, true, false, None, List, [], ◌∷◌, ◌++◌, length, take, drop, get_or, refl, sym, ◌∙◌, ap, arith, add-one, append-nil, drop-cons}
+use Rattle.std.proofs.Common.{◌≡◌, ℕ, zero, suc, ◌+◌, ◌-◌, ◌<◌, ◌≤◌, Bool, true, false, None, List, [], ◌∷◌, ◌++◌, length, take, drop, get_or, refl, sym, ◌∙◌, ap, arith, add-one, append-nil, drop-cons, length-append}
 use Rattle.std.specs.Prelude.{◌==◌, ◌&&◌, not, replicate}
-use Rattle.std.proofs.lemmas.List.{replicate_more, replicate-append-replicate, take-append-drop, take_more}
+use Rattle.std.proofs.lemmas.List.{length-replicate, replicate_more, replicate-append-replicate, take-append-drop, take_more}
 use Rattle.std.proofs.lemmas.Bool.Decides.{nat_tests}
 use Rattle.ps_language.specs.declared.schedules.Entry.{Entry}
-use Rattle.ps_language.specs.Schedules.{Move, plain_move, last_move, moves_of, moves, Begins}
+use Rattle.ps_language.specs.Schedules.{Move, plain_move, last_move, moves_of, moves, count_of, Begins}
 use Rattle.ps_language.specs.Thin.{has_steps, starting_thin_world, ThinWorld, is_thin_ready, after_thin_move, after_thin_moves, thin_world}
-use Rattle.ps_vault.specs.Reports.{is_over}
+use Rattle.ps_vault.specs.declared.reports.Outcome.{Outcome}
+use Rattle.ps_vault.specs.declared.reports.Outcome.TheVariants.{Finished, Faulted, AllWaiting, StepsOut, Memory}
+use Rattle.ps_vault.specs.Reports.{EndsAs, is_memory, is_over}
 use Rattle.ps_language.proofs.ScheduleLaws.{moves-single, moves-append, plain_entry, begins-part}
 use Rattle.ps_language.proofs.ThinLaws.{unready_move, after_thin_moves-append, after_thin_moves-single, thin_world-append}
 
@@ -103,6 +105,46 @@ begins_with_part given schedule i few d lt less steps =
     let p = begins-part (take i given) (drop (i + 1) given) entry few (part ∷ []) alone less in
     let same : moves schedule ≡ moves (take i given ++ part ∷ []) = steps ∙ sym (moves-append (take i given) (part ∷ []) ∙ ap {B = List Move} (λ rest. moves (take i given) ++ rest) alone) in
     (p.0, ap {B = List Move} (λ front. front ++ p.0) same ∙ (p.1 ∙ ap moves cut))
+
+-- an entry has as many steps as it says
+length_moves_of : (entry : Entry) (n : ℕ) → length (moves_of entry n) ≡ n
+length_moves_of entry zero = refl
+length_moves_of entry (suc n) =
+    length-append (replicate n (plain_move entry.context)) (last_move entry ∷ [])
+    ∙ (ap (λ k. k + 1) (length-replicate n (plain_move entry.context)) ∙ add-one n)
+
+-- the steps of the first entry and of those behind it
+length_head : (entry : Entry) (rest : List Entry) → length (moves (entry ∷ rest)) ≡ entry.steps + length (moves rest)
+length_head entry rest =
+    ap {B = ℕ} (λ (steps : List Move). length steps) (moves-append (entry ∷ []) rest)
+    ∙ (length-append (moves (entry ∷ [])) (moves rest)
+    ∙ ap (λ k. k + length (moves rest)) (ap {B = ℕ} (λ (steps : List Move). length steps) (moves-single entry) ∙ length_moves_of entry entry.steps))
+
+-- a part of an entry behind those before it has fewer steps than all
+pub fewer_with_part : (given schedule : List Entry) (i few : ℕ) (d : Entry) → i < length given → few < (get_or given i d).steps
+    → moves schedule ≡ moves (take i given) ++ replicate few (plain_move (get_or given i d).context) → count_of schedule < count_of given
+unfolding count_of
+fewer_with_part given schedule i few d lt less steps =
+    let entry : Entry = get_or given i d in
+    let rest : List Entry = drop (i + 1) given in
+    let front : ℕ = length (moves (take i given)) in
+    let cut : take i given ++ (entry ∷ rest) ≡ given = rw (add-one, ← drop-cons given i d) (take-append-drop i given) in
+    let made : length (moves schedule) ≡ front + few =
+    ap {B = ℕ} (λ (m : List Move). length m) steps
+    ∙ (length-append (moves (take i given)) (replicate few (plain_move entry.context)) ∙ ap (λ k. front + k) (length-replicate few (plain_move entry.context))) in
+    let all : length (moves given) ≡ front + (entry.steps + length (moves rest)) =
+    ap {B = ℕ} (λ (entries : List Entry). length (moves entries)) (sym cut)
+    ∙ (ap {B = ℕ} (λ (m : List Move). length m) (moves-append (take i given) (entry ∷ rest))
+    ∙ (length-append (moves (take i given)) (moves (entry ∷ rest)) ∙ ap (λ k. front + k) (length_head entry rest))) in
+    omega (arith, made, all, less)
+
+-- a run that used up its steps doesn't end for want of memory
+pub never_memory : (world : ThinWorld) (outcome : Outcome) → EndsAs world true outcome → is_memory outcome ≡ false
+never_memory world Finished ends = refl
+never_memory world Faulted ends = refl
+never_memory world AllWaiting ends = refl
+never_memory world StepsOut ends = refl
+never_memory world Memory ends = ends.1
 
 -- an entry of ordinary steps at the end
 pub moves_with_part : (old new : List Entry) (context made : ℕ) → new ≡ old ++ record { context = context; steps = made; refused = false; shown = None } ∷ []

@@ -1,7 +1,7 @@
 //! A run under a given schedule.
 
 ghost use Rattle.std.specs.Prelude.{◌≡◌, ◌≢◌, ◌<◌, ◌≤◌, ◌++◌, vec_len, vec_capacity, [], true, false, not, replicate, IfOk, Err};
-ghost use Rattle.ps_language.specs.Schedules.{plain_move, moves_of, moves, Begins};
+ghost use Rattle.ps_language.specs.Schedules.{plain_move, moves_of, moves, count_of, Begins};
 ghost use Rattle.ps_language.specs.Thin as thin;
 ghost use Rattle.ps_vault.specs.Reports.{EndsAs, is_memory, is_over};
 ghost use Rattle.ps_vault.specs.Stories.{world_at};
@@ -35,13 +35,14 @@ fn follow_entry(vault: &mut Vault, entry: Entry) -> u32
 
 /// Runs the steps of a schedule, over memory that is never collected.
 ///
-/// The report has the given schedule; where a growth was refused, the outcome is `Memory` and the report has the steps that were made. The fault is
+/// The report has the given schedule; where a growth was refused, the outcome is `Memory` and the report has the steps that were made, fewer than the given ones. The fault is
 /// `Memory` where the room that the run starts with can't be had; there is no other.
 pub fn replay(alloc: Global, program: &[u8], schedule: &[Entry]) -> Result<Report, RunFault>
     ensures fault { result ≢ Err RunFault.Config }
     ensures prints { IfOk result (λ report. report.printed.items ≡ thin.thin_printed program.now report.schedule.items) }
     ensures begins { IfOk result (λ report. Begins report.schedule.items schedule.now) }
     ensures whole { IfOk result (λ report. is_memory report.outcome ≡ false → report.schedule.items ≡ schedule.now) }
+    ensures refused { IfOk result (λ report. is_memory report.outcome ≡ true → count_of report.schedule.items < count_of schedule.now) }
     ensures ends { IfOk result (λ report. EndsAs (thin.thin_world program.now report.schedule.items) (not (is_memory report.outcome)) report.outcome) }
     ensures flips { IfOk result (λ report. report.flips ≡ 0) }
     ensures taken { IfOk result (λ report. report.taken ≡ 0) }

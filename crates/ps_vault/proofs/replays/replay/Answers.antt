@@ -2,12 +2,13 @@
 use Rattle.std.proofs.Common.{◌≡◌, ◌<◌, ◌+◌, ◌++◌, List, [], ◌∷◌, take, length, get_or, false, None, refl, sym, ◌∙◌, ap, arith}
 use Rattle.std.specs.Prelude.{replicate}
 use Rattle.std.proofs.lemmas.List.{take_more}
+use Rattle.std.proofs.lemmas.Bool.{true≢false}
 use Rattle.ps_language.specs.declared.schedules.Entry.{Entry}
 use Rattle.ps_language.specs.Schedules.{plain_move, moves_of, moves}
 use Rattle.ps_language.specs.Thin.{ThinWorld, thin_world, thin_printed, after_thin_moves}
 use Rattle.ps_vault.specs.Stories.{world_at}
-use Rattle.ps_vault.specs.Reports.{is_over}
-use Rattle.ps_vault.proofs.Following.{after_next, after_part, begins_with_part}
+use Rattle.ps_vault.specs.Reports.{is_memory, is_over}
+use Rattle.ps_vault.proofs.Following.{after_next, after_part, begins_with_part, fewer_with_part, never_memory}
 use Rattle.ps_vault.proofs.replays.replay.Goals as goal
 
 -- what is past the end
@@ -60,6 +61,10 @@ pub returns-then-made-entry-clause-begins : goal.returns-then-made-entry-clause-
 returns-then-made-entry-clause-begins c =
     begins_with_part c.args.schedule.now c.report_of.result.schedule.items c.loop-entry.entry-index c.follow_entry-made.result none c.loop-entry-test.true c.if-made-entry.true (stopped_moves c)
 
+pub returns-then-made-entry-clause-refused : goal.returns-then-made-entry-clause-refused
+returns-then-made-entry-clause-refused c told =
+    fewer_with_part c.args.schedule.now c.report_of.result.schedule.items c.loop-entry.entry-index c.follow_entry-made.result none c.loop-entry-test.true c.if-made-entry.true (stopped_moves c)
+
 pub returns-then-made-entry-clause-ends : goal.returns-then-made-entry-clause-ends
 returns-then-made-entry-clause-ends c =
     rw c.report_of.ensures.outcome (ap is_over (sym (stopped_world c)) ∙ c.follow_entry-made.ensures.stopped c.if-made-entry.true, refl)
@@ -67,3 +72,8 @@ returns-then-made-entry-clause-ends c =
 pub returns-clause-prints : goal.returns-clause-prints
 unfolding thin_printed
 returns-clause-prints c = c.report_of-2.ensures.printed ∙ ap (λ (w : ThinWorld). w.printed) (finished_world c)
+
+pub returns-clause-refused : goal.returns-clause-refused
+returns-clause-refused c told =
+    let not_memory : is_memory c.report_of-2.result.outcome ≡ false = ap is_memory c.report_of-2.ensures.outcome ∙ never_memory (world_at c.loop-entry.vault) _ c.outcome_at_end-outcome.ensures in
+    absurd (true≢false (sym told ∙ not_memory))

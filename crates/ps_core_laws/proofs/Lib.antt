@@ -1,0 +1,17 @@
+pub mod Bases
+pub mod Closed
+pub mod Copies
+pub mod Heap
+pub mod HeapKept
+pub mod HeapTests
+pub mod Keeping
+pub mod Kept
+pub mod LawFacts
+pub mod Lists
+pub mod Lookups
+pub mod Rings
+pub mod RunFacts
+pub mod Seconds
+pub mod Shown
+pub mod Sizes
+pub mod Views

@@ -1,0 +1,24 @@
+-- Runs: lists of events from two empty spaces, the newest event first.
+use Rattle.std.specs.Prelude.{ℕ, ◌≤◌, List, [], ◌∷◌}
+use Rattle.ps_core_parts.specs.declared.events.Event.{Event}
+use Rattle.ps_core_parts.specs.Steps.{State, start, happens}
+use Rattle.ps_core_parts.specs.Conditions.{Permitted}
+
+-- the state after them
+abbrev pub run : ℕ → List Event → State
+run space [] = start space
+run space (e ∷ es) = happens (run space es) e
+
+-- each was permitted where it happened
+abbrev pub IsRun : ℕ → List Event → Type 0
+IsRun space [] = Unit {0}
+IsRun space (e ∷ es) = IsRun space es × Permitted (run space es) e
+
+-- the sizes of a space
+abbrev pub IsSpace : ℕ → Type 0
+IsSpace space = (4096 ≤ space) × (space ≤ 1048576)
+
+-- a run with the size of its spaces
+pub record History : Type 0 where
+  pub space : ℕ
+  pub events : List Event

@@ -1,0 +1,4 @@
+pub mod Bounds
+pub mod Conditions
+pub mod Objects
+pub mod Steps

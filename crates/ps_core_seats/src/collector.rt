@@ -1,0 +1,569 @@
+// The collector's part of a state, and when it may make an event.
+#![tactic(auto)]
+
+ghost use Rattle.std.specs.Prelude.{◌≡◌, ◌+◌, ◌<◌, ◌++◌, ◌&&◌, if◌then◌else◌, ◌^◌, IfOk, OnOk, MatchBool, MatchOption, None, [], length, not, true, option_copied};
+ghost use Rattle.std.specs.Option.{option_map};
+ghost use Rattle.ps_core_parts.specs.Bounds.{AllLow, GcBounded, IsSlot, any_vm, copied_pairs, target_of};
+ghost use Rattle.ps_core_parts.specs.declared.events.Event.TheVariants.{GcLoad, TakeLoad, CopyLoad, ReplicaHeaderStore, ReplicaFieldStore, ForwardStore, HeadStore, CycleStore};
+ghost use Rattle.ps_record.specs.Format as layout;
+ghost use Rattle.ps_core_parts.specs.Conditions as conditions;
+ghost use Rattle.ps_core_parts.specs.Conditions.{GcMay};
+ghost use Rattle.ps_core_parts.specs.Objects as objects;
+ghost use Rattle.ps_core_parts.specs.Steps as steps;
+
+use crate::values::{
+    address_in, addresses_named, holds_values, is_reference, renamed, values_have_replicas,
+    word_has_replica,
+};
+use ps_core_parts::events::{Carried, Event, Half, Seen, Target};
+use ps_core_parts::parts::{
+    Log, Replica, all_filled, among, copy_logs, copy_pairs, empty_logs, fields_in, is_in_replica,
+    meets_replica, pair_of, seen_at, with_copy, with_front,
+};
+use ps_record::{PackedRecord, Record};
+use std::alloc::{AllocError, Global};
+use std::marker::Model;
+use std::mem;
+
+/// The collector's part.
+#[derive(Drop)]
+pub struct Collector {
+    space: u64,
+    cycle: u64,
+    epoch: u64,
+    taken: Vec<Log, Global>,
+    taking: Option<Half>,
+    copying: Option<Carried>,
+    pairs: Vec<Replica, Global>,
+    headers: Vec<Seen, Global>,
+    placed: Vec<Seen, Global>,
+    known: Vec<u64, Global>,
+    handed: Vec<u64, Global>,
+}
+
+impl Model for Collector {
+    ghost use Rattle.ps_core_parts.specs.declared.events.Gc.{Gc};
+
+    ghost Value = { Gc };
+
+    ghost view = { λ m. record {
+      space = m.space;
+      cycle = m.cycle;
+      epoch = m.epoch;
+      taken = m.taken.items;
+      taking = m.taking;
+      copying = m.copying;
+      pairs = m.pairs.items;
+      headers = m.headers.items;
+      placed = m.placed.items;
+      known = m.known.items;
+      handed = m.handed.items;
+    } };
+}
+
+/// Whether all fields of a record were loaded, where so many were.
+fn is_loaded(logged: Record, loaded: u64) -> bool
+    ensures { result ≡ objects.is_loaded logged loaded }
+{
+    match logged {
+        Record::Place { count, .. } => count as u64 <= loaded,
+        Record::Close => true,
+    }
+}
+
+/// Whether a record names the place.
+fn names(logged: Record, place: u64, field: u64) -> bool
+    ensures { result ≡ objects.names logged place field }
+{
+    match logged {
+        Record::Place {
+            address,
+            first,
+            count,
+        } => place == address as u64
+            && first as u64 <= field
+            && field < first as u64 + count as u64,
+        Record::Close => false,
+    }
+}
+
+/// Whether a place that a record names is being copied.
+fn is_copied_from(logged: Record, copying: Option<Carried>) -> bool
+    ensures { result ≡ objects.is_copied_from logged copying }
+{
+    match copying {
+        None => false,
+        Some(k) => names(logged, k.address, k.field),
+    }
+}
+
+/// Whether a record names an object that has no replica.
+fn lacks_replica(pairs: &[Replica], logged: Record) -> bool
+    ensures { result ≡ objects.lacks_replica pairs.now logged }
+{
+    match logged {
+        Record::Place { address, .. } => pair_of(pairs, address as u64).is_none(),
+        Record::Close => false,
+    }
+}
+
+/// The header of a pair, where there is one.
+fn header_of(pair: Option<&Replica>) -> u64
+    ensures { result ≡ steps.header_of (option_copied pair.entry) }
+{
+    match pair {
+        None => 0,
+        Some(p) => p.header(),
+    }
+}
+
+/// Whether the word was seen at the place.
+fn is_seen(list: &[Seen], place: u64, word: u64) -> bool
+    ensures { MatchBool result (objects.seen_at list.now place ≡ Some word) (objects.seen_at list.now place ≡ Some word → ⊥) }
+{
+    match seen_at(list, place) {
+        None => false,
+        Some(w) => w == word,
+    }
+}
+
+/// Whether the word that was seen at the place leads to this address in this cycle.
+#[tactic(auto, unfolding(ps_word::specs::Headers::forward_packed))]
+fn leads_back(list: &[Seen], place: u64, cycle: u64, address: u64) -> bool
+    requires { cycle < 2 ^ 33 }
+    ensures { MatchBool result (objects.seen_at list.now place ≡ Some (steps.forwarding cycle address)) (objects.seen_at list.now place ≡ Some (steps.forwarding cycle address) → ⊥) }
+{
+    match seen_at(list, place) {
+        None => false,
+        Some(w) => w >= cycle * (1 << 24) && w - cycle * (1 << 24) == address,
+    }
+}
+
+/// Whether nothing of the record being taken is left to load or to store.
+fn is_spent(half: Half, copying: Option<Carried>) -> bool
+    ensures { result ≡ (objects.is_loaded half.what half.loaded && not (objects.is_copied_from half.what copying)) }
+{
+    is_loaded(half.what, half.loaded) && !is_copied_from(half.what, copying)
+}
+
+/// What is being taken after a load of the ring place where record `number` of the slot is to stand.
+fn taken_up(slot: u64, number: u64, word: u64) -> Option<Half>
+    ensures { result ≡ steps.taken_up slot (layout.read_record number word) }
+{
+    match PackedRecord(word).read(number) {
+        None => None,
+        Some(what) => Some(Half {
+            slot,
+            what,
+            loaded: 0,
+        }),
+    }
+}
+
+impl Collector {
+    /// The part at the start, over spaces of so many words.
+    pub fn start(alloc: Global, space: u64) -> Result<Collector, AllocError>
+        ensures { IfOk result (λ m. m ≡ (steps.start space).gc) }
+    {
+        Ok(Collector {
+            space,
+            cycle: 0,
+            epoch: 0,
+            taken: empty_logs(alloc)?,
+            taking: None,
+            copying: None,
+            pairs: Vec::new(alloc),
+            headers: Vec::new(alloc),
+            placed: Vec::new(alloc),
+            known: Vec::new(alloc),
+            handed: Vec::new(alloc),
+        })
+    }
+
+    fn is_done(&self) -> bool
+        ensures { result ≡ objects.is_done self.now.pairs self.now.copying self.now.taking }
+    {
+        match self.taking {
+            None => false,
+            Some(h) => is_spent(h, self.copying) || lacks_replica(self.pairs.as_slice(), h.what),
+        }
+    }
+
+    fn can_store(&self) -> bool
+        ensures { MatchBool result (conditions.CanStore self.now self.now.copying) (conditions.CanStore self.now self.now.copying → ⊥) }
+    {
+        match self.copying {
+            None => false,
+            Some(k) => word_has_replica(
+                self.pairs.as_slice(),
+                header_of(pair_of(self.pairs.as_slice(), k.address)),
+                k.word,
+            ),
+        }
+    }
+
+    fn is_pair_field(&self, address: u64, field: u64) -> bool
+        ensures { MatchBool result (conditions.IsPairField self.now address field) (conditions.IsPairField self.now address field → ⊥) }
+    {
+        match pair_of(self.pairs.as_slice(), address) {
+            None => false,
+            Some(p) => field < p.len(),
+        }
+    }
+
+    fn other_base(&self) -> u64
+        requires { GcBounded self.now }
+        ensures { result ≡ steps.other_base self.now.space self.now.cycle }
+    {
+        8256 + ((self.cycle + 1) % 2) * self.space
+    }
+
+    fn knows_open(&self) -> bool
+        ensures { result ≡ steps.knows_open self.now }
+    {
+        self.epoch > 0 && self.epoch - 1 == self.cycle
+    }
+
+    fn is_ready(&self, original: u64, replica: u64, header: u64) -> bool
+        requires { GcBounded self.now }
+        ensures { MatchBool result (conditions.IsReady self.now original replica header) (conditions.IsReady self.now original replica header → ⊥) }
+    {
+        let low = self.other_base();
+        let high = low + self.space;
+        let count = fields_in(header);
+        if replica < low || replica > high || high - replica < count + 2 {
+            return false;
+        }
+        let first = is_seen(self.placed.as_slice(), replica, header);
+        let second = leads_back(self.placed.as_slice(), replica + 1, self.epoch, original);
+        let meets = meets_replica(self.pairs.as_slice(), replica, replica + 2 + count);
+        first && second && !meets
+    }
+
+    /// Whether the object has no replica yet.
+    fn is_single(&self, original: u64) -> bool
+        ensures { MatchBool result (objects.pair_of self.now.pairs original ≡ None) (objects.pair_of self.now.pairs original ≡ None → ⊥) }
+    {
+        pair_of(self.pairs.as_slice(), original).is_none()
+    }
+
+    /// Whether the object's first header was loaded, and a replica of it may stand there.
+    fn is_headed(&self, original: u64, replica: u64) -> bool
+        requires { GcBounded self.now }
+        ensures { MatchBool result (MatchOption (objects.seen_at self.now.headers original) ⊥ (conditions.IsReady self.now original replica)) (MatchOption (objects.seen_at self.now.headers original) ⊥ (conditions.IsReady self.now original replica) → ⊥) }
+    {
+        match seen_at(self.headers.as_slice(), original) {
+            None => false,
+            Some(header) => self.is_ready(original, replica, header),
+        }
+    }
+
+    fn can_forward(&self, original: u64, replica: u64) -> bool
+        requires { GcBounded self.now }
+        ensures { MatchBool result (conditions.CanForward self.now original replica) (conditions.CanForward self.now original replica → ⊥) }
+    {
+        self.knows_open()
+            && self.is_single(original)
+            && among(self.known.as_slice(), original)
+            && self.is_headed(original, replica)
+    }
+
+    /// Whether the word at the place is free for a header of a replica to be.
+    fn can_place(&self, place: u64) -> bool
+        requires { GcBounded self.now }
+        ensures { MatchBool result (GcMay self.now (ReplicaHeaderStore place 0)) (GcMay self.now (ReplicaHeaderStore place 0) → ⊥) }
+    {
+        let low = self.other_base();
+        low <= place && place < low + self.space && !is_in_replica(self.pairs.as_slice(), place)
+    }
+
+    /// Whether each of the roots that a flip carries has a replica.
+    fn carries(&self, roots: &[u64]) -> bool
+        ensures { result ≡ objects.values_have_replicas self.now.pairs roots.now }
+    {
+        values_have_replicas(self.pairs.as_slice(), roots)
+    }
+
+    /// Whether the replicas may become the standing objects.
+    fn can_flip(&self, roots: &[u64]) -> bool
+        ensures { MatchBool result (GcMay self.now (CycleStore roots.now)) (GcMay self.now (CycleStore roots.now) → ⊥) }
+    {
+        self.taking.is_none()
+            && self.copying.is_none()
+            && all_filled(self.pairs.as_slice())
+            && self.carries(roots)
+    }
+
+    /// Whether the condition on this part holds; events of the other seat alone have none.
+    pub fn may(&self, event: &Event) -> bool
+        requires { GcBounded self.now }
+        ensures { MatchBool result (GcMay self.now event.now) (GcMay self.now event.now → ⊥) }
+    {
+        match event {
+            Event::GcLoad { place, .. } => *place < 8256 + 2 * self.space,
+            Event::TakeLoad { slot, .. } => *slot < 32 && self.taking.is_none(),
+            Event::CopyLoad { address, field, .. } => self.copying.is_none()
+                && self.is_pair_field(*address, *field),
+            Event::ReplicaHeaderStore { place, .. } => self.can_place(*place),
+            Event::ReplicaFieldStore { .. } => self.can_store(),
+            Event::ForwardStore { original, replica } => self.can_forward(*original, *replica),
+            Event::HeadStore => self.is_done(),
+            Event::CycleStore { roots } => self.can_flip(roots.words.as_slice()),
+            _ => true,
+        }
+    }
+
+    /// The same part once more; memory may be short.
+    pub fn copy(&self) -> Result<Collector, AllocError>
+        ensures { IfOk result (λ m. m ≡ self.now) }
+    {
+        let alloc = *self.known.allocator();
+        Ok(Collector {
+            space: self.space,
+            cycle: self.cycle,
+            epoch: self.epoch,
+            taken: copy_logs(alloc, self.taken.as_slice())?,
+            taking: self.taking,
+            copying: self.copying,
+            pairs: copy_pairs(alloc, self.pairs.as_slice())?,
+            headers: self.headers.clone()?,
+            placed: self.placed.clone()?,
+            known: self.known.clone()?,
+            handed: self.handed.clone()?,
+        })
+    }
+
+    /// The logs by slot, as far as this part knows them.
+    pub fn taken(&self) -> &[Log]
+        ensures { result.now ≡ self.now.taken }
+    {
+        self.taken.as_slice()
+    }
+
+    /// The number of flips.
+    pub fn cycle(&self) -> u64
+        ensures { result ≡ self.now.cycle }
+    {
+        self.cycle
+    }
+
+    /// The epoch as it was last loaded.
+    pub fn epoch(&self) -> u64
+        ensures { result ≡ self.now.epoch }
+    {
+        self.epoch
+    }
+
+    /// How many records of the slot were taken.
+    pub fn length_of(&self, slot: u64) -> u64
+        ensures value { result ≡ length (objects.log_of self.now.taken slot) }
+        ensures small { result < 2 ^ 63 }
+    {
+        if slot < self.taken.len() as u64 {
+            self.taken[slot as usize].len()
+        } else {
+            0
+        }
+    }
+
+    /// The slot of the record being taken.
+    pub fn taking_slot(&self) -> Option<u64>
+        ensures { result ≡ option_map (λ h. h.slot) self.now.taking }
+    {
+        match self.taking {
+            None => None,
+            Some(h) => Some(h.slot),
+        }
+    }
+
+    /// Where the word being copied is put, and the word.
+    pub fn copy_target(&self) -> Option<Target>
+        requires { GcBounded self.now }
+        ensures { result ≡ option_map (target_of self.now) self.now.copying }
+    {
+        let k = self.copying?;
+        let pair = pair_of(self.pairs.as_slice(), k.address);
+        let word = renamed(self.pairs.as_slice(), header_of(pair), k.word);
+        Some(Target {
+            replica: replica_of(pair),
+            field: k.field,
+            word,
+        })
+    }
+
+    /// After a load to look.
+    pub fn look(&mut self, place: u64, word: u64) -> Result<(), AllocError>
+        ensures { OnOk result (self.new ≡ steps.gc_after self.old any_vm (GcLoad place word)) }
+    {
+        if place == 1 {
+            self.epoch = word;
+        }
+        if among(self.known.as_slice(), place) {
+            self.headers.insert(0, Seen { place, word })?;
+        }
+        Ok(())
+    }
+
+    /// After a load of the ring place of the slot's next record.
+    pub fn take_up(&mut self, slot: u64, word: u64)
+        ensures { self.new ≡ steps.gc_after self.old any_vm (TakeLoad slot word) }
+    {
+        self.taking = taken_up(slot, self.length_of(slot), word);
+    }
+
+    /// After a load of a field of an original.
+    pub fn copy_from(&mut self, address: u64, field: u64, word: u64) -> Result<(), AllocError>
+        ensures { OnOk result (self.new ≡ steps.gc_after self.old any_vm (CopyLoad address field word)) }
+    {
+        self.taking = with_load(self.taking, address, field);
+        self.copying = Some(Carried {
+            address,
+            field,
+            word,
+        });
+        if holds_values(header_of(pair_of(self.pairs.as_slice(), address))) && is_reference(word) {
+            self.known.insert(0, address_in(word))?;
+        }
+        Ok(())
+    }
+
+    /// After roots were handed over.
+    pub fn hand_over(&mut self, epoch: u64, opened: bool, roots: &[u64]) -> Result<(), AllocError>
+        ensures { OnOk result (self.new ≡ record self.old { epoch = epoch; known = (if opened then objects.addresses_named roots.now else []) ++ self.old.known; handed = (if opened then roots.now else []) ++ self.old.handed }) }
+    {
+        let alloc = *self.known.allocator();
+        self.epoch = epoch;
+        if opened {
+            self.known = with_front(addresses_named(alloc, roots)?, self.known.as_slice())?;
+            self.handed = with_front(Vec::from_slice(alloc, roots)?, self.handed.as_slice())?;
+        }
+        Ok(())
+    }
+
+    /// After a store of a header of a replica to be.
+    pub fn place(&mut self, place: u64, word: u64) -> Result<(), AllocError>
+        ensures { OnOk result (self.new ≡ steps.gc_after self.old any_vm (ReplicaHeaderStore place word)) }
+    {
+        self.placed.insert(0, Seen { place, word })?;
+        Ok(())
+    }
+
+    /// After the store of the word being copied.
+    pub fn store_copy(&mut self, scans: bool) -> Result<(), AllocError>
+        requires { GcBounded self.old }
+        ensures { OnOk result (self.new ≡ steps.gc_after self.old any_vm (ReplicaFieldStore scans)) }
+    {
+        match self.copying {
+            None => Ok(()),
+            Some(k) => {
+                let alloc = *self.known.allocator();
+                let pairs = mem::replace(&mut self.pairs, Vec::new(alloc));
+                self.pairs = copied(alloc, pairs, k, scans)?;
+                self.copying = None;
+                Ok(())
+            }
+        }
+    }
+
+    /// After a forwarding store.
+    pub fn forward(&mut self, original: u64, replica: u64) -> Result<(), AllocError>
+        ensures { OnOk result (self.new ≡ steps.gc_after self.old any_vm (ForwardStore original replica)) }
+    {
+        let alloc = *self.known.allocator();
+        let header = seen_at(self.headers.as_slice(), original).unwrap_or(0);
+        self.pairs
+            .insert(0, Replica::new(alloc, original, replica, header)?)?;
+        Ok(())
+    }
+
+    /// After a head store.
+    pub fn take(&mut self) -> Result<(), AllocError>
+        requires { IsSlot self.old }
+        ensures { OnOk result (self.new ≡ steps.gc_after self.old any_vm HeadStore) }
+    {
+        if let Some(h) = self.taking {
+            self.taken[h.slot as usize].push(h.what)?;
+        }
+        self.taking = None;
+        Ok(())
+    }
+
+    /// After a cycle store; what is given back are the pairs.
+    pub fn flip(&mut self, epoch: u64) -> Vec<Replica, Global>
+        requires { GcBounded self.old }
+        ensures pairs { result.items ≡ self.old.pairs }
+        ensures flipped { self.new ≡ steps.gc_after self.old (record any_vm { epoch = epoch }) (CycleStore []) }
+    {
+        let alloc = *self.known.allocator();
+        self.cycle += 1;
+        self.epoch = epoch;
+        self.headers.clear();
+        self.placed.clear();
+        self.known.clear();
+        self.handed.clear();
+        mem::replace(&mut self.pairs, Vec::new(alloc))
+    }
+}
+
+/// The pairs after the store of the word being copied.
+fn copied(
+    alloc: Global,
+    pairs: Vec<Replica, Global>,
+    k: Carried,
+    scans: bool,
+) -> Result<Vec<Replica, Global>, AllocError>
+    requires { AllLow pairs.items }
+    ensures { IfOk result (λ v. v.items ≡ copied_pairs pairs.items k scans) }
+{
+    let word = renamed(
+        pairs.as_slice(),
+        header_of(pair_of(pairs.as_slice(), k.address)),
+        k.word,
+    );
+    with_copy(alloc, pairs, k.address, k.field, word, scans)
+}
+
+/// The replica of a pair, where there is one.
+fn replica_of(pair: Option<&Replica>) -> u64
+    ensures { result ≡ steps.replica_of (option_copied pair.entry) }
+{
+    match pair {
+        None => 0,
+        Some(p) => p.replica(),
+    }
+}
+
+/// Whether this field of a record is the next one to be loaded.
+fn is_next(logged: Record, loaded: u64, place: u64, field: u64) -> bool
+    ensures { result ≡ objects.is_next logged loaded place field }
+{
+    match logged {
+        Record::Place {
+            address,
+            first,
+            count,
+        } => place == address as u64 && loaded < count as u64 && field == first as u64 + loaded,
+        Record::Close => false,
+    }
+}
+
+/// The record being taken after a load.
+fn with_load(taking: Option<Half>, place: u64, field: u64) -> Option<Half>
+    ensures { result ≡ objects.with_load taking place field }
+{
+    match taking {
+        None => None,
+        Some(h) => {
+            let loaded = if is_next(h.what, h.loaded, place, field) {
+                h.loaded + 1
+            } else {
+                h.loaded
+            };
+            Some(Half {
+                slot: h.slot,
+                what: h.what,
+                loaded,
+            })
+        }
+    }
+}

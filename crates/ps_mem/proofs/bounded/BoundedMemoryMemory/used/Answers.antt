@@ -1,0 +1,7 @@
+use Rattle.std.proofs.Common.{sym, ◌∙◌}
+use Rattle.ps_mem.proofs.SpaceLemmas.{used-plain}
+use Rattle.ps_mem.specs.Bounded.{bounded_space}
+use Rattle.ps_mem.proofs.bounded.BoundedMemoryMemory.used.Goals as goal
+
+pub returns-clause-answer : goal.returns-clause-answer
+returns-clause-answer c = let r = c.args.self.now.region in c.used.ensures ∙ sym (used-plain r.words r.used r.next (bounded_space c.args.self.now.size))

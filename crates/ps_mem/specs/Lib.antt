@@ -1,0 +1,9 @@
+pub mod Bounded
+pub mod Heap
+pub mod Keeps
+pub mod Meaning
+pub mod Objects
+pub mod Plain
+pub mod References
+pub mod Shows
+pub mod Strings

@@ -1,0 +1,17 @@
+-- The space of a memory that grows, and what it grants.
+use Rattle.std.specs.Prelude.{ℕ, ◌-◌, ◌^◌, true, false}
+use Rattle.ps_mem.specs.Heap.{Space, Grants, birth_limit}
+
+-- at most so many words
+abbrev pub plain_space : Space
+plain_space = record { size = 16777215; grows = true }
+
+-- where there are so many words, of which so many stand, and this is the next birth number: no object ceases to be fresh, and no log is kept
+abbrev pub plain_grants : ℕ → ℕ → ℕ → Grants
+plain_grants size used next = record {
+  fresh = λ address. true;
+  words = size - used;
+  births = birth_limit - next;
+  records = λ slot. 2 ^ 64;
+  closed = λ slot. false;
+}

@@ -1,0 +1,5 @@
+pub mod Plain
+pub mod Kept
+pub mod Does
+pub mod Marks
+pub mod Truths

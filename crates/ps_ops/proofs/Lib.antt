@@ -1,0 +1,12 @@
+pub mod ArrayReads
+pub mod AstoreLemmas
+pub mod Changed
+pub mod Held
+pub mod IntervalLemmas
+pub mod Made
+pub mod Makers
+pub mod Reading
+pub mod Operands
+pub mod PutLemmas
+pub mod Ready
+pub mod Tops

@@ -1,0 +1,127 @@
+-- What the operators that make arrays leave.
+use Rattle.std.proofs.Common.{◌≡◌, ℕ, ◌+◌, ◌≤◌, List, [], ◌∷◌, ◌++◌, drop, take, length, replicate, Bool, true, false, Ok, Some, refl, sym, ap, subst, arith, ◌∙◌}
+use Rattle.std.specs.Prelude.{ℤ, reverse, nat_le}
+use Rattle.std.proofs.lemmas.Bool.Decides.{nat_tests}
+use Rattle.std.proofs.lemmas.List.{length-replicate, length-map, length-reverse, length-take-le, drop-map}
+use Rattle.ps_language.specs.declared.access.Access.TheVariants.{Unlimited}
+use Rattle.ps_language.specs.declared.kinds.Kind.TheVariants.{Array as ArrayKind}
+use Rattle.ps_language.specs.Value.{Value, Store, array_value, array_object}
+use Rattle.ps_language.specs.Outcome.{Outcome, Change}
+use Rattle.ps_language.specs.Objects.{making}
+use Rattle.ps_language.specs.Readers.{null, as_integer, count_of}
+use Rattle.ps_language.specs.RowsSequences.{array_row, end_array_row}
+use Rattle.ps_language.specs.RowsStack.{split_at_mark}
+use Rattle.ps_stacks.specs.Tops.{first_of}
+use Rattle.ps_word.specs.declared.words.Word.{Word}
+use Rattle.ps_word.specs.declared.values.Part.{Part}
+use Rattle.ps_mem.specs.Heap.{Heap, Grants, birth_at}
+use Rattle.ps_mem.specs.Keeps.{Keeps}
+use Rattle.ps_mem.specs.References.{StandsAs}
+use Rattle.ps_mem.specs.Meaning.{value_of, part_of}
+use Rattle.ps_mem.specs.Shows.{IsValue, AreValues, IsSound, IsReady, IsWithin, AreWithin, Shows}
+use Rattle.ps_mem.proofs.KeepsLemmas.{AreValues-kept, AreWithin-kept, values_of-kept, known_values}
+use Rattle.ps_mem.proofs.NewShows.{longer}
+use Rattle.ps_operands.specs.Marks.{IsMarkAt}
+use Rattle.ps_ops.specs.Does.{values_in, IsLeft, refusing, Agrees, Does}
+use Rattle.ps_ops.proofs.Operands.{first_split}
+use Rattle.ps_ops.proofs.Held.{rest_held}
+
+-- the row made an array of these elements above these operands
+pub record Makes (row : Store → List Value → Outcome Change) (h now : Heap) (count : ℕ) (old rest : List Word) (names : List (List ℕ)) (s : Store) : Type 0 where
+  pub elements : List Value
+  pub is : row s (values_in h names old) ≡ making (array_object elements) (values_in h names rest) s
+  pub count_is : length elements ≡ count
+  pub within : AreWithin h names s rest
+  pub shows : Shows now names (s ++ array_object elements ∷ [])
+
+-- all of a new array
+abbrev pub whole_part : (address count : ℕ) → Part
+whole_part address count = record { address = address; offset = 0; length = count; access = Unlimited }
+
+-- all of an array that stands
+pub stands_whole : (now : Heap) (part : Part) (count : ℕ) → part ≡ whole_part part.address count → StandsAs now ArrayKind part.address count → StandsAs now ArrayKind part.address (part.offset + part.length)
+stands_whole now part count is stands =
+    let end : part.offset + part.length ≡ count = omega (arith, ap (λ (p : Part). p.offset) is, ap (λ (p : Part). p.length) is) in
+    subst (StandsAs now ArrayKind part.address) (sym end) stands
+
+module _ (h now : Heap) (old new rest : List Word) (keeps : Keeps h now) (values : AreValues h rest) (w : Word) (is : new ≡ w ∷ rest) where
+  pub made_ready : IsSound now → IsValue now w → IsReady now new
+  made_ready sound held = record { sound = sound; values = subst (AreValues now) (sym is) (held, AreValues-kept h now keeps rest values) }
+
+  module _ (part : Part) (count : ℕ) (part_is : part ≡ whole_part part.address count) (birth : birth_at now part.address ≡ h.next)
+      (value_is : (births : ℕ → ℕ) (names : List (List ℕ)) → value_of births names w ≡ record { what = array_value (part_of births part); executable = false })
+      (word_within : (births : ℕ → ℕ) (names : List (List ℕ)) (s : Store) → IsWithin births names s w) where
+    reference : (names : List (List ℕ)) (s : Store) → Shows h names s → value_of (birth_at now) names w ≡ record { what = array_value (record { birth = length s; offset = 0; count = count; access = Unlimited }); executable = false }
+    reference names s shows =
+        value_is (birth_at now) names
+        ∙ (ap (λ (p : Part). record { what = array_value (record { birth = birth_at now part.address; offset = p.offset; count = p.length; access = p.access }); executable = false }) part_is
+        ∙ ap (λ b. record { what = array_value (record { birth = b; offset = 0; count = count; access = Unlimited }); executable = false }) (birth ∙ shows.next))
+
+    pub does_makes : (row : Store → List Value → Outcome Change) (refused : Bool) (slot : ℕ) (grants : Grants) → refused ≡ false
+        → ((names : List (List ℕ)) (s : Store) → Shows h names s → AreWithin h names s old → Makes row h now count old rest names s)
+        → Does row refused (Ok tt) slot grants h now old new
+    does_makes row refused slot grants made makes = record {
+      meets = λ names s shows within.
+          let m = makes names s shows within in
+          let change : Change = record {
+            operands = record { what = array_value (record { birth = length s; offset = 0; count = length m.elements; access = Unlimited }); executable = false } ∷ values_in h names rest;
+            store = s ++ array_object m.elements ∷ [];
+            asked = record { words = 2 + length m.elements; births = 1 };
+          } in
+          let left : IsLeft change names now new = record {
+            operands =
+                ap (values_in now names) is
+                ∙ (ap (λ v. v ∷ values_in now names rest) (reference names s shows)
+                ∙ (ap (λ n. record { what = array_value (record { birth = length s; offset = 0; count = n; access = Unlimited }); executable = false } ∷ values_in now names rest) (sym m.count_is)
+                ∙ ap (λ vs. record { what = array_value (record { birth = length s; offset = 0; count = length m.elements; access = Unlimited }); executable = false } ∷ vs) (values_of-kept h now keeps names rest (known_values h rest values))));
+            store = m.shows;
+            within = subst (AreWithin now names (s ++ array_object m.elements ∷ [])) (sym is) (
+              word_within (birth_at now) names (s ++ array_object m.elements ∷ []),
+              AreWithin-kept h now keeps names s (s ++ array_object m.elements ∷ []) (longer s (array_object m.elements ∷ [])) rest (known_values h rest values) m.within,
+            );
+          } in
+          subst (λ outcome. Agrees (Ok tt) (refusing refused outcome) names slot grants h now old new) (sym m.is)
+          (subst (λ r. Agrees (Ok tt) (refusing r (making (array_object m.elements) (values_in h names rest) s)) names slot grants h now old new) (sym made) left);
+    }
+
+-- ---- array
+
+array_row-is : (s : Store) (k : Value) (rest : List Value) (i : ℤ) (n : ℕ) → as_integer k ≡ Some i → count_of i ≡ Some n → nat_le n 65535 ≡ true
+    → array_row s (k ∷ rest) ≡ making (array_object (replicate n null)) rest s
+array_row-is s k rest i n number count limit = rw (number, count, limit) refl
+
+pub array_makes : (h now : Heap) (old : List Word) (top : Word) (number : ℤ) (n : ℕ) → Some top ≡ first_of old
+    → ((births : ℕ → ℕ) (names : List (List ℕ)) → as_integer (value_of births names top) ≡ Some number) → Some n ≡ count_of number → n ≤ 65535
+    → ((names : List (List ℕ)) (s : Store) → Shows h names s → Shows now names (s ++ array_object (replicate n null) ∷ []))
+    → (names : List (List ℕ)) (s : Store) → Shows h names s → AreWithin h names s old → Makes array_row h now n old (drop 1 old) names s
+array_makes h now old top number n first number_is count limit shows names s shown within =
+    let few : nat_le n 65535 ≡ true = grind (arith, nat_tests) in
+    record {
+      elements = replicate n null;
+      is =
+          ap (λ ws. array_row s (values_in h names ws)) (first_split old top first)
+          ∙ array_row-is s (value_of (birth_at h) names top) (values_in h names (drop 1 old)) number n (number_is (birth_at h) names) (sym count) few;
+      count_is = length-replicate n null;
+      within = rest_held (IsWithin (birth_at h) names s) old within 1;
+      shows = shows names s shown;
+    }
+
+-- ---- `]`
+
+end_row-is : (s : Store) (operands above below : List Value) → split_at_mark operands ≡ Some (above, below) → end_array_row s operands ≡ making (array_object (reverse above)) below s
+end_row-is s operands above below split = rw split refl
+
+pub end_makes : (h now : Heap) (old : List Word) (depth : ℕ) → IsMarkAt old depth → depth ≤ length old
+    → ((names : List (List ℕ)) (s : Store) → Shows h names s → AreWithin h names s old → Shows now names (s ++ array_object (reverse (take depth (values_in h names old))) ∷ []))
+    → (names : List (List ℕ)) (s : Store) → Shows h names s → AreWithin h names s old → Makes end_array_row h now depth old (drop (depth + 1) old) names s
+end_makes h now old depth mark few shows names s shown within =
+    let values : List Value = values_in h names old in
+    record {
+      elements = reverse (take depth values);
+      is =
+          end_row-is s values (take depth values) (drop (depth + 1) values) (mark.splits (birth_at h) names)
+          ∙ ap (λ vs. making (array_object (reverse (take depth values))) vs s) (drop-map (value_of (birth_at h) names) (depth + 1) old);
+      count_is = length-reverse (take depth values) ∙ length-take-le depth values (omega (arith, few, length-map old (value_of (birth_at h) names)));
+      within = rest_held (IsWithin (birth_at h) names s) old within (depth + 1);
+      shows = shows names s shown within;
+    }

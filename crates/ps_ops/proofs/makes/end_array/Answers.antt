@@ -1,0 +1,40 @@
+use Rattle.std.proofs.Common.{◌+◌, ◌≡◌, [], ◌∷◌, ◌++◌, length, take, drop, sym, ap, subst, ◌∙◌, Ok, arith}
+use Rattle.std.proofs.lemmas.List.{length-reverse, length-take-le}
+use Rattle.ps_language.specs.RowsSequences.{end_array_row}
+use Rattle.ps_language.specs.Value.{array_object}
+use Rattle.ps_mem.specs.Heap.{Heap}
+use Rattle.ps_mem.specs.Shows.{IsValue, IsReady, Shows}
+use Rattle.ps_mem.proofs.KeepsLemmas.{Keeps-Extends}
+use Rattle.ps_ops.specs.Does.{Does}
+use Rattle.ps_ops.proofs.Held.{rest_held}
+use Rattle.ps_ops.proofs.Made.{made_ready, does_makes, end_makes, whole_part, stands_whole}
+use Rattle.ps_ops.proofs.Tops.{top_elements, top_within}
+use Rattle.ps_ops.proofs.makes.end_array.Goals as goal
+
+pub returns-clause-does : goal.returns-clause-does
+returns-clause-does g c =
+    let h = g.M.Memory.heap c.granted.new.memory in
+    let now = g.M.Memory.heap c.make_array-part.new.memory in
+    let old = c.args.operands.now in
+    let ready = subst (λ (k : Heap). IsReady k old) (sym c.granted.ensures.heap) c.requires.ready in
+    let depth = c.in-Some.depth in
+    let keeps = Keeps-Extends h now c.make_array-part.ensures.extends in
+    let size : length c.topmost.result.now ≡ depth = ap length c.topmost.ensures ∙ (length-reverse (take depth old) ∙ length-take-le depth old (omega (arith, c.in-Some.ensures.bound))) in
+    subst (λ (k : Heap). Does end_array_row c.args.refused (Ok tt) c.args.slot (g.M.Memory.grants c.args.memory.now) k now old c.replace.new.self) c.granted.ensures.heap
+    (does_makes h now old _ (drop (depth + 1) old) keeps (rest_held (IsValue h) old ready.values (depth + 1)) c.array_word.result c.replace.ensures c.make_array-part.result depth
+    (c.make_array-part.ensures.part ∙ ap (λ n. whole_part c.make_array-part.result.address n) size) c.make_array-part.ensures.birth (λ births names. c.array_word.ensures.value births names) (λ births names s. c.array_word.ensures.within births names s)
+    end_array_row c.args.refused c.args.slot (g.M.Memory.grants c.args.memory.now) c.if-refused.false
+    (end_makes h now old depth c.in-Some.ensures.found (omega (arith, c.in-Some.ensures.bound))
+    (λ names s shows within.
+    subst (λ vs. Shows now names (s ++ array_object vs ∷ [])) (top_elements h names old depth c.topmost.result.now c.topmost.ensures)
+    (c.make_array-part.ensures.shows names s shows (top_within h names s old depth c.topmost.result.now within c.topmost.ensures)))))
+
+pub returns-clause-ready : goal.returns-clause-ready
+returns-clause-ready g c =
+    let h = g.M.Memory.heap c.granted.new.memory in
+    let now = g.M.Memory.heap c.make_array-part.new.memory in
+    let old = c.args.operands.now in
+    let ready = subst (λ (k : Heap). IsReady k old) (sym c.granted.ensures.heap) c.requires.ready in
+    let depth = c.in-Some.depth in
+    let keeps = Keeps-Extends h now c.make_array-part.ensures.extends in
+    made_ready h now old _ (drop (depth + 1) old) keeps (rest_held (IsValue h) old ready.values (depth + 1)) c.array_word.result c.replace.ensures c.make_array-part.ensures.sound (c.array_word.ensures.held now (stands_whole now c.make_array-part.result _ c.make_array-part.ensures.part c.make_array-part.ensures.known))

@@ -1,0 +1,61 @@
+-- The rows of the operators on arrays, strings and dictionaries, as far as the operands are arrays (PLRM2, 8 'Operators': Array). Each is a part of
+-- the whole language's row: an operand that is no array is a typecheck here.
+use Rattle.std.specs.Prelude.{List, ◌∷◌, ◌&&◌, nat_le}
+use Rattle.ps_language.specs.declared.errors.ErrorName.TheVariants.{InvalidAccess, RangeCheck, StackUnderflow, TypeCheck}
+use Rattle.ps_language.specs.Value.{Value, Store}
+use Rattle.ps_language.specs.Outcome.{Outcome, leaves, fails, given, given_that, Change}
+use Rattle.ps_language.specs.Readers.{natural, as_integer, as_array, count_of, part_at, with_part}
+use Rattle.ps_language.specs.Access.{is_readable, is_writable, part_elements, with_part_elements}
+use Rattle.ps_language.specs.Objects.{changing}
+use Rattle.ps_language.specs.RowsSequences.{get_element, put_element, interval_within}
+
+-- A length n
+abbrev pub array_length_row : List Value → Outcome (List Value)
+array_length_row (x ∷ rest) =
+    given (as_array x) TypeCheck λ part.
+    given_that (is_readable part.access) InvalidAccess
+    (leaves (natural part.count ∷ rest))
+array_length_row _ = fails StackUnderflow
+
+-- A i get x
+abbrev pub array_get_row : Store → List Value → Outcome (List Value)
+array_get_row store (k ∷ x ∷ rest) = given (as_array x) TypeCheck λ part. get_element store part k rest
+array_get_row store _ = fails StackUnderflow
+
+-- A i x put
+abbrev pub array_put_row : Store → List Value → Outcome Change
+array_put_row store (y ∷ k ∷ x ∷ rest) = given (as_array x) TypeCheck λ part. put_element store part k y rest
+array_put_row store _ = fails StackUnderflow
+
+-- A i n getinterval B, with the access and attribute of A
+abbrev pub array_getinterval_row : List Value → Outcome (List Value)
+array_getinterval_row (y ∷ k ∷ x ∷ rest) =
+    given (as_integer y) TypeCheck λ j.
+    given (as_integer k) TypeCheck λ i.
+    given (as_array x) TypeCheck λ part.
+    given_that (is_readable part.access) InvalidAccess
+    (given (count_of j) RangeCheck λ n.
+    given (interval_within i n part.count) RangeCheck λ place.
+    leaves (with_part x (part_at part place n) ∷ rest))
+array_getinterval_row _ = fails StackUnderflow
+
+-- A i B putinterval
+abbrev pub array_putinterval_row : Store → List Value → Outcome Change
+array_putinterval_row store (y ∷ k ∷ x ∷ rest) =
+    given (as_integer k) TypeCheck λ i.
+    given (as_array y) TypeCheck λ from.
+    given (as_array x) TypeCheck λ to.
+    given_that (is_readable from.access && is_writable to.access) InvalidAccess
+    (given (interval_within i from.count to.count) RangeCheck λ place.
+    changing rest (with_part_elements store to place (part_elements store from)))
+array_putinterval_row store _ = fails StackUnderflow
+
+-- A B copy C
+abbrev pub array_copy_row : Store → List Value → Outcome Change
+array_copy_row store (y ∷ x ∷ rest) =
+    given (as_array x) TypeCheck λ from.
+    given (as_array y) TypeCheck λ to.
+    given_that (is_readable from.access && is_writable to.access) InvalidAccess
+    (given_that (nat_le from.count to.count) RangeCheck
+    (changing (with_part y (part_at to 0 from.count) ∷ rest) (with_part_elements store to 0 (part_elements store from))))
+array_copy_row store _ = fails StackUnderflow

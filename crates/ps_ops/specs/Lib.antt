@@ -1,0 +1,2 @@
+pub mod ArrayRows
+pub mod Does

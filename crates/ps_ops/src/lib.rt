@@ -1,0 +1,12 @@
+//! The operators that read and change memory (PLRM2, 8).
+#![tactic(auto)]
+
+pub mod arrays;
+pub mod changes;
+pub mod failure;
+pub mod makes;
+pub mod readers;
+#[cfg(test)]
+mod tests;
+
+pub use ps_operands::Operands;

@@ -1,0 +1,99 @@
+//! The operators that make arrays (PLRM2, 8 'Operators': Array).
+
+ghost use Rattle.std.specs.Prelude.{◌≡◌, ◌≤◌, OnOk, IfErr};
+ghost use Rattle.ps_language.specs.RowsSequences as sequences;
+ghost use Rattle.ps_mem.specs.Heap.{Heap};
+ghost use Rattle.ps_mem.specs.Keeps.{Keeps};
+ghost use Rattle.ps_mem.specs.Shows.{IsReady};
+ghost use Rattle.ps_ops.specs.Does.{Does, KeepsLogs, IsRoomReason};
+
+use crate::Operands;
+use crate::arrays::count_of;
+use crate::failure::{Failure, NotMade};
+use crate::readers::{array_word, integer_of};
+use ps_language::errors::ErrorName;
+use ps_mem::{Memory, NeedFault};
+use ps_operands::stack_operators::mark_depth;
+use ps_seq::arrays::{make_array, new_array};
+
+/// The most elements of an array.
+pub const SEQUENCE_LIMIT: u32 = 65_535;
+
+/// Asks for room for new objects. `NeedSpace`, of the words asked: they don't fit. `Memory`: a growth was refused.
+pub fn granted<M: Memory>(memory: &mut M, words: u32, births: u32) -> Result<(), NotMade>
+    ensures heap { M.heap memory.new ≡ M.heap memory.old }
+    ensures kept { M.grants memory.new ≡ record (M.grants memory.old) { words = (M.grants memory.new).words; births = (M.grants memory.new).births } }
+    ensures granted { OnOk result ((words ≤ (M.grants memory.new).words) × (births ≤ (M.grants memory.new).births)) }
+    ensures reason { IfErr result (λ reason. IsRoomReason reason (M.heap memory.old) words births) }
+{
+    match memory.need(words, births) {
+        Ok(()) => Ok(()),
+        Err(NeedFault::NeedSpace(asked)) => Err(NotMade::NeedSpace(asked)),
+        Err(NeedFault::Memory) => Err(NotMade::Memory),
+    }
+}
+
+/// `n array A`, of nulls. Raises `stackunderflow`, `typecheck`, `rangecheck` where `n` is negative, `limitcheck` over `SEQUENCE_LIMIT`, and
+/// `VMerror` in a refused step. Not made where there is no room.
+pub fn array<M: Memory>(
+    operands: &mut Operands,
+    memory: &mut M,
+    slot: u32,
+    refused: bool,
+) -> Result<(), Failure>
+    requires ready { IsReady (M.heap memory.old) operands.old }
+    ensures does { Does sequences.array_row refused result slot (M.grants memory.old) (M.heap memory.old) (M.heap memory.new) operands.old operands.new }
+    ensures ready { IsReady (M.heap memory.new) operands.new }
+    ensures keeps { Keeps (M.heap memory.old) (M.heap memory.new) }
+    ensures logs { KeepsLogs (M.grants memory.old) (M.grants memory.new) slot }
+{
+    let Some(top) = operands.top() else {
+        return Err(Failure::Error(ErrorName::StackUnderflow));
+    };
+    let Some(number) = integer_of(top) else {
+        return Err(Failure::Error(ErrorName::TypeCheck));
+    };
+    let Some(count) = count_of(number) else {
+        return Err(Failure::Error(ErrorName::RangeCheck));
+    };
+    if count > SEQUENCE_LIMIT {
+        return Err(Failure::Error(ErrorName::LimitCheck));
+    }
+    if refused {
+        return Err(Failure::Error(ErrorName::VmError));
+    }
+    if let Err(reason) = granted(memory, 2 + count, 1) {
+        return Err(Failure::NotMade(reason));
+    }
+    let part = new_array(memory, count as u16);
+    operands.replace(1, array_word(part, false));
+    Ok(())
+}
+
+/// `mark x1 .. xn ]`: an array of what stands above the mark. Raises `unmatchedmark`, and `VMerror` in a refused step. Not made where there
+/// is no room.
+pub fn end_array<M: Memory>(
+    operands: &mut Operands,
+    memory: &mut M,
+    slot: u32,
+    refused: bool,
+) -> Result<(), Failure>
+    requires ready { IsReady (M.heap memory.old) operands.old }
+    ensures does { Does sequences.end_array_row refused result slot (M.grants memory.old) (M.heap memory.old) (M.heap memory.new) operands.old operands.new }
+    ensures ready { IsReady (M.heap memory.new) operands.new }
+    ensures keeps { Keeps (M.heap memory.old) (M.heap memory.new) }
+    ensures logs { KeepsLogs (M.grants memory.old) (M.grants memory.new) slot }
+{
+    let Some(depth) = mark_depth(operands) else {
+        return Err(Failure::Error(ErrorName::UnmatchedMark));
+    };
+    if refused {
+        return Err(Failure::Error(ErrorName::VmError));
+    }
+    if let Err(reason) = granted(memory, 2 + depth as u32, 1) {
+        return Err(Failure::NotMade(reason));
+    }
+    let part = make_array(memory, operands.topmost(depth));
+    operands.replace(depth + 1, array_word(part, false));
+    Ok(())
+}

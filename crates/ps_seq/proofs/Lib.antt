@@ -1,0 +1,2 @@
+pub mod ArrayLemmas
+pub mod MadeLemmas
