@@ -24,6 +24,8 @@ pub mod StringEnds
 pub mod StringLaw
 pub mod StringPlaces
 pub mod Strings
+mod SmallExamples
+pub mod SmallLaws
 mod ThinExamples
 pub mod ThinLaws
 pub mod WordForms

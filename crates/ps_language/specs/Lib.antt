@@ -1,5 +1,6 @@
 pub mod Access
 pub mod Acts
+pub mod ArrayRows
 pub mod Asked
 pub mod Bytes
 pub mod Contexts
@@ -28,6 +29,8 @@ pub mod RowsStack
 pub mod RowsTypes
 pub mod Scan
 pub mod Schedules
+pub mod Small
+pub mod SmallRows
 pub mod Step
 pub mod StepBind
 pub mod StepErrors

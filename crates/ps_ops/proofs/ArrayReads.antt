@@ -19,20 +19,20 @@ use Rattle.ps_mem.specs.References.{StandsAs}
 use Rattle.ps_mem.specs.Meaning.{value_of, part_of}
 use Rattle.ps_mem.specs.Shows.{IsValue, AreValues, IsReady, IsWithin, AreWithin, Shows}
 use Rattle.ps_seq.proofs.ArrayLemmas.{length_run, run_values, run_within, run_elements}
-use Rattle.ps_ops.specs.Does.{values_in, ReadsAs, Reads}
+use Rattle.ps_ops.specs.Does.{values_in, ObservesAs, Observes}
 use Rattle.ps_ops.proofs.Operands.{first_split, map-reverse}
 use Rattle.ps_ops.proofs.Held.{all_append, all_reverse, first_held, rest_held}
 
 -- the row raises this error
-pub reads_fails : (row : Store → List Value → Outcome (List Value)) (error : ErrorName) (h : Heap) (words : List Word)
-    → ((names : List (List ℕ)) (s : Store) → Shows h names s → AreWithin h names s words → row s (values_in h names words) ≡ fails error) → Reads row (Err error) h words words
-reads_fails row error h words is = record { meets = λ names s shows within. subst (λ outcome. ReadsAs (Err error) outcome names s h words words) (sym (is names s shows within)) (refl, refl) }
+pub observes_fails : (row : Store → List Value → Outcome (List Value)) (error : ErrorName) (h : Heap) (words : List Word)
+    → ((names : List (List ℕ)) (s : Store) → Shows h names s → AreWithin h names s words → row s (values_in h names words) ≡ fails error) → Observes row (Err error) h words words
+observes_fails row error h words is = record { meets = λ names s shows within. subst (λ outcome. ObservesAs (Err error) outcome names s h words words) (sym (is names s shows within)) (refl, refl) }
 
 -- the row leaves what these words stand for
-pub reads_leaves : (row : Store → List Value → Outcome (List Value)) (h : Heap) (old new : List Word)
-    → ((names : List (List ℕ)) (s : Store) → Shows h names s → AreWithin h names s old → (row s (values_in h names old) ≡ leaves (values_in h names new)) × AreWithin h names s new) → Reads row (Ok tt) h old new
-reads_leaves row h old new is = record {
-  meets = λ names s shows within. subst (λ outcome. ReadsAs (Ok tt) outcome names s h old new) (sym (is names s shows within).0) (refl, (is names s shows within).1);
+pub observes_leaves : (row : Store → List Value → Outcome (List Value)) (h : Heap) (old new : List Word)
+    → ((names : List (List ℕ)) (s : Store) → Shows h names s → AreWithin h names s old → (row s (values_in h names old) ≡ leaves (values_in h names new)) × AreWithin h names s new) → Observes row (Ok tt) h old new
+observes_leaves row h old new is = record {
+  meets = λ names s shows within. subst (λ outcome. ObservesAs (Ok tt) outcome names s h old new) (sym (is names s shows within).0) (refl, (is names s shows within).1);
 }
 
 aload_row-is : (s : Store) (v : Value) (rest : List Value) (p : PartValue) → as_array v ≡ Some p → is_readable p.access ≡ true
@@ -78,12 +78,12 @@ module _ (h : Heap) (old : List Word) (ready : IsReady h old) (array : Word) (to
           (rest_held (IsWithin (birth_at h) names s) old within 1),
     )
 
-  pub aload_overflows : 500 < part.length + length old → Reads aload_row (Err StackOverflow) h old old
-  aload_overflows many = reads_fails aload_row StackOverflow h old (λ names s shows within.
+  pub aload_overflows : 500 < part.length + length old → Observes aload_row (Err StackOverflow) h old old
+  aload_overflows many = observes_fails aload_row StackOverflow h old (λ names s shows within.
       row_is names s shows ∙ leaving_none (values_in h names loaded) (omega (arith, many, count_loaded, length-map loaded (value_of (birth_at h) names), ap length (first_split old array top))))
 
-  pub aload_done : (new : List Word) → part.length + length old ≤ 500 → new ≡ loaded → Reads aload_row (Ok tt) h old new
-  aload_done new few is = subst (Reads aload_row (Ok tt) h old) (sym is) (reads_leaves aload_row h old loaded (λ names s shows within. (
+  pub aload_done : (new : List Word) → part.length + length old ≤ 500 → new ≡ loaded → Observes aload_row (Ok tt) h old new
+  aload_done new few is = subst (Observes aload_row (Ok tt) h old) (sym is) (observes_leaves aload_row h old loaded (λ names s shows within. (
     row_is names s shows ∙ leaving_all (values_in h names loaded) (omega (arith, few, count_loaded, length-map loaded (value_of (birth_at h) names), ap length (first_split old array top))),
     within_loaded names s shows within,
   )))

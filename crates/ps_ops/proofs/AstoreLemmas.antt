@@ -1,5 +1,5 @@
 -- What astore leaves.
-use Rattle.std.proofs.Common.{◌≡◌, ℕ, ◌≤◌, List, ◌∷◌, drop, take, length, true, false, Ok, Some, sym, ap, subst, ◌∙◌, refl, arith}
+use Rattle.std.proofs.Common.{◌≡◌, ℕ, ◌≤◌, List, ◌∷◌, drop, take, length, true, Ok, Some, sym, ap, subst, ◌∙◌, refl, arith}
 use Rattle.std.specs.Prelude.{nat_le, reverse}
 use Rattle.std.proofs.lemmas.Bool.Decides.{nat_tests}
 use Rattle.std.proofs.lemmas.List.{length-map, drop-map}
@@ -18,7 +18,8 @@ use Rattle.ps_mem.specs.References.{StandsAs}
 use Rattle.ps_mem.specs.Meaning.{value_of, part_of}
 use Rattle.ps_mem.specs.Shows.{IsValue, AreValues, IsSound, IsReady, IsWithin, AreWithin, Shows}
 use Rattle.ps_mem.proofs.Lists.{all_drop}
-use Rattle.ps_ops.specs.Does.{values_in, Does}
+use Rattle.ps_language.specs.ArrayRows.{topmost_count}
+use Rattle.ps_ops.specs.Does.{values_in, Changes}
 use Rattle.ps_ops.proofs.Operands.{first_split}
 use Rattle.ps_ops.proofs.Held.{first_held, rest_held}
 use Rattle.ps_ops.proofs.Changed.{does_changes, ready_changed}
@@ -34,13 +35,13 @@ module _ (h now : Heap) (old new : List Word) (ready : IsReady h old) (array : W
   pub astore_ready : IsSound now → IsReady now new
   astore_ready sound = ready_changed h now new keeps sound astore_values
 
-  pub astore_does : (slot : ℕ) (grants : Grants) (n : ℕ) → StandsAs h ArrayKind part.address n → part.length ≤ length (drop 1 old)
+  pub astore_does : (slot : ℕ) (asked left : Grants) (n : ℕ) → StandsAs h ArrayKind part.address n → part.length ≤ length (drop 1 old)
       → ((births : ℕ → ℕ) (names : List (List ℕ)) → as_array (value_of births names array) ≡ Some (part_of births part))
       → is_writable part.access ≡ true → birth_at now ≡ birth_at h
       → ((names : List (List ℕ)) (s : Store) → Shows h names s → AreWithin h names s (drop 1 old) → Shows now names (with_part_elements s (part_of (birth_at h) part) 0 (reverse (take part.length (values_in h names (drop 1 old))))))
-      → Does astore_row false (Ok tt) slot grants h now old new
-  astore_does slot grants n stands enough array_is writable births shows =
-      does_changes astore_row slot grants h now old new part n 0 stands keeps births astore_values
+      → Changes astore_row topmost_count (Ok tt) slot asked left h now old new
+  astore_does slot asked left n stands enough array_is writable births shows =
+      does_changes astore_row topmost_count slot asked left h now old new part n 0 stands keeps births astore_values
       (λ names s shown within.
       let below : List Value = values_in h names (drop 1 old) in
       let count : nat_le part.length (length below) ≡ true = grind (arith, nat_tests, length-map (drop 1 old) (value_of (birth_at h) names)) in

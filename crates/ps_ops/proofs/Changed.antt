@@ -1,5 +1,5 @@
 -- What the operators that change arrays leave.
-use Rattle.std.proofs.Common.{◌≡◌, ℕ, ◌+◌, ◌≤◌, List, [], map, length, false, Ok, sym, ap, subst, arith, ◌∙◌, inl, inr}
+use Rattle.std.proofs.Common.{◌≡◌, ℕ, ◌+◌, ◌≤◌, List, [], map, length, Ok, sym, ap, subst, arith, ◌∙◌, inl, inr}
 use Rattle.std.specs.Prelude.{slice_get}
 use Rattle.std.proofs.lemmas.Bool.Decides.{eqb_tells}
 use Rattle.ps_language.specs.declared.kinds.Kind.TheVariants.{Array as ArrayKind}
@@ -18,7 +18,7 @@ use Rattle.ps_mem.proofs.Lists.{slice_get-set_other}
 use Rattle.ps_mem.proofs.KeepsLemmas.{AreValues-kept, AreWithin-kept, known_values}
 use Rattle.ps_mem.proofs.StoreShows.{array-shown}
 use Rattle.ps_seq.proofs.ArrayLemmas.{birth-array}
-use Rattle.ps_ops.specs.Does.{values_in, refusing, Agrees, Does}
+use Rattle.ps_ops.specs.Does.{values_in, Agrees, IsRecordReason, Changes}
 
 -- ---- bytes are as many as they were
 
@@ -42,20 +42,20 @@ module _ (h : Heap) (part : Part) (n : ℕ) (stands : StandsAs h ArrayKind part.
 
 -- ---- the row changed elements of a part
 
-pub record Changes (row : Store → List Value → Outcome Change) (h now : Heap) (part : Part) (place : ℕ) (old new : List Word) (names : List (List ℕ)) (s : Store) : Type 0 where
+pub record ChangesElements (row : Store → List Value → Outcome Change) (h now : Heap) (part : Part) (place : ℕ) (old new : List Word) (names : List (List ℕ)) (s : Store) : Type 0 where
   pub items : List Value
   pub is : row s (values_in h names old) ≡ changing (values_in h names new) (with_part_elements s (part_of (birth_at h) part) place items)
   pub within : AreWithin h names s new
   pub shows : Shows now names (with_part_elements s (part_of (birth_at h) part) place items)
 
-pub does_changes : (row : Store → List Value → Outcome Change) (slot : ℕ) (grants : Grants) (h now : Heap) (old new : List Word) (part : Part) (n place : ℕ)
+pub does_changes : (row : Store → List Value → Outcome Change) (stores : List Value → ℕ) (slot : ℕ) (asked left : Grants) (h now : Heap) (old new : List Word) (part : Part) (n place : ℕ)
     → StandsAs h ArrayKind part.address n → Keeps h now → birth_at now ≡ birth_at h → AreValues h new
-    → ((names : List (List ℕ)) (s : Store) → Shows h names s → AreWithin h names s old → Changes row h now part place old new names s)
-    → Does row false (Ok tt) slot grants h now old new
-does_changes row slot grants h now old new part n place stands keeps births values changes = record {
+    → ((names : List (List ℕ)) (s : Store) → Shows h names s → AreWithin h names s old → ChangesElements row h now part place old new names s)
+    → Changes row stores (Ok tt) slot asked left h now old new
+does_changes row stores slot asked left h now old new part n place stands keeps births values changes = record {
   meets = λ names s shows within.
       let c = changes names s shows within in
-      subst (λ outcome. Agrees (Ok tt) (refusing false outcome) names slot grants h now old new) (sym c.is) (record {
+      subst (λ outcome. Agrees (λ reason change. IsRecordReason reason (stores (values_in h names old)) slot asked left) (Ok tt) outcome names h now old new) (sym c.is) (record {
         operands = ap (λ b. map (value_of b names) new) births;
         store = c.shows;
         within = within_changed h part n stands names s shows now keeps place c.items new values c.within;

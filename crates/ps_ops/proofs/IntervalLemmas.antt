@@ -1,5 +1,5 @@
 -- What putinterval and copy leave.
-use Rattle.std.proofs.Common.{◌≡◌, ℕ, ◌≤◌, ◌&&◌, List, ◌∷◌, drop, true, false, Ok, Some, sym, ap, subst, ◌∙◌, refl, arith}
+use Rattle.std.proofs.Common.{◌≡◌, ℕ, ◌≤◌, ◌&&◌, List, ◌∷◌, drop, true, Ok, Some, sym, ap, subst, ◌∙◌, refl, arith}
 use Rattle.std.specs.Prelude.{ℤ, nat_le}
 use Rattle.std.proofs.lemmas.Bool.Decides.{nat_tests}
 use Rattle.ps_language.specs.declared.kinds.Kind.TheVariants.{Array as ArrayKind}
@@ -16,8 +16,8 @@ use Rattle.ps_mem.specs.Keeps.{Keeps}
 use Rattle.ps_mem.specs.References.{StandsAs}
 use Rattle.ps_mem.specs.Meaning.{value_of, part_of}
 use Rattle.ps_mem.specs.Shows.{IsValue, AreValues, IsReady, IsWithin, AreWithin, Shows}
-use Rattle.ps_ops.specs.ArrayRows.{array_putinterval_row, array_copy_row}
-use Rattle.ps_ops.specs.Does.{values_in, Does}
+use Rattle.ps_language.specs.ArrayRows.{array_putinterval_row, array_copy_row, topmost_count, second_count}
+use Rattle.ps_ops.specs.Does.{values_in, Changes}
 use Rattle.ps_ops.proofs.Operands.{first_two_split, first_three_split}
 use Rattle.ps_ops.proofs.Held.{rest_held}
 use Rattle.ps_ops.proofs.Changed.{does_changes}
@@ -32,7 +32,7 @@ copy_row-is : (s : Store) (y x : Value) (rest : List Value) (from to : PartValue
     → array_copy_row s (y ∷ x ∷ rest) ≡ changing (with_part y (part_at to 0 from.count) ∷ rest) (with_part_elements s to 0 (part_elements s from))
 copy_row-is s y x rest from to source target may within = rw (source, target, may, within) refl
 
-module _ (h now : Heap) (old new : List Word) (ready : IsReady h old) (keeps : Keeps h now) (births : birth_at now ≡ birth_at h) (slot : ℕ) (grants : Grants) (from to : Part)
+module _ (h now : Heap) (old new : List Word) (ready : IsReady h old) (keeps : Keeps h now) (births : birth_at now ≡ birth_at h) (slot : ℕ) (asked left : Grants) (from to : Part)
     (n : ℕ) (stands : StandsAs h ArrayKind to.address n) (may : (is_readable from.access && is_writable to.access) ≡ true) where
   module _ (source key target : Word) (tops : Some (source, key, target) ≡ first_three_of old) (rest : new ≡ drop 3 old)
       (source_is : (births : ℕ → ℕ) (names : List (List ℕ)) → as_array (value_of births names source) ≡ Some (part_of births from))
@@ -40,9 +40,9 @@ module _ (h now : Heap) (old new : List Word) (ready : IsReady h old) (keeps : K
       (number : ℤ) (number_is : (births : ℕ → ℕ) (names : List (List ℕ)) → as_integer (value_of births names key) ≡ Some number)
       (place : ℕ) (place_is : Some place ≡ interval_within number from.length to.length)
       (shows : (names : List (List ℕ)) (s : Store) → Shows h names s → Shows now names (with_part_elements s (part_of (birth_at h) to) place (part_elements s (part_of (birth_at h) from)))) where
-    pub putinterval_does : Does array_putinterval_row false (Ok tt) slot grants h now old new
+    pub putinterval_does : Changes array_putinterval_row topmost_count (Ok tt) slot asked left h now old new
     putinterval_does =
-        does_changes array_putinterval_row slot grants h now old new to n place stands keeps births (subst (AreValues h) (sym rest) (rest_held (IsValue h) old ready.values 3))
+        does_changes array_putinterval_row topmost_count slot asked left h now old new to n place stands keeps births (subst (AreValues h) (sym rest) (rest_held (IsValue h) old ready.values 3))
         (λ names s shown within. record {
           items = part_elements s (part_of (birth_at h) from);
           is =
@@ -64,10 +64,10 @@ module _ (h now : Heap) (old new : List Word) (ready : IsReady h old) (keeps : K
     copy_values : AreValues h new
     copy_values = subst (AreValues h) (sym rest) (held, rest_held (IsValue h) old ready.values 2)
 
-    pub copy_does : Does array_copy_row false (Ok tt) slot grants h now old new
+    pub copy_does : Changes array_copy_row second_count (Ok tt) slot asked left h now old new
     copy_does =
         let few : nat_le from.length to.length ≡ true = grind (arith, nat_tests) in
-        does_changes array_copy_row slot grants h now old new to n 0 stands keeps births copy_values
+        does_changes array_copy_row second_count slot asked left h now old new to n 0 stands keeps births copy_values
         (λ names s shown within. record {
           items = part_elements s (part_of (birth_at h) from);
           is =

@@ -14,7 +14,7 @@ use Rattle.ps_language.specs.RowsStack.{split_at_mark}
 use Rattle.ps_stacks.specs.Tops.{first_of}
 use Rattle.ps_word.specs.declared.words.Word.{Word}
 use Rattle.ps_word.specs.declared.values.Part.{Part}
-use Rattle.ps_mem.specs.Heap.{Heap, Grants, birth_at}
+use Rattle.ps_mem.specs.Heap.{Heap, birth_at}
 use Rattle.ps_mem.specs.Keeps.{Keeps}
 use Rattle.ps_mem.specs.References.{StandsAs}
 use Rattle.ps_mem.specs.Meaning.{value_of, part_of}
@@ -22,12 +22,12 @@ use Rattle.ps_mem.specs.Shows.{IsValue, AreValues, IsSound, IsReady, IsWithin, A
 use Rattle.ps_mem.proofs.KeepsLemmas.{AreValues-kept, AreWithin-kept, values_of-kept, known_values}
 use Rattle.ps_mem.proofs.NewShows.{longer}
 use Rattle.ps_operands.specs.Marks.{IsMarkAt}
-use Rattle.ps_ops.specs.Does.{values_in, IsLeft, refusing, Agrees, Does}
+use Rattle.ps_ops.specs.Does.{values_in, IsLeft, refusing, IsRoomReason, Agrees, Makes}
 use Rattle.ps_ops.proofs.Operands.{first_split}
 use Rattle.ps_ops.proofs.Held.{rest_held}
 
 -- the row made an array of these elements above these operands
-pub record Makes (row : Store → List Value → Outcome Change) (h now : Heap) (count : ℕ) (old rest : List Word) (names : List (List ℕ)) (s : Store) : Type 0 where
+pub record MakesArray (row : Store → List Value → Outcome Change) (h now : Heap) (count : ℕ) (old rest : List Word) (names : List (List ℕ)) (s : Store) : Type 0 where
   pub elements : List Value
   pub is : row s (values_in h names old) ≡ making (array_object elements) (values_in h names rest) s
   pub count_is : length elements ≡ count
@@ -57,10 +57,10 @@ module _ (h now : Heap) (old new rest : List Word) (keeps : Keeps h now) (values
         ∙ (ap (λ (p : Part). record { what = array_value (record { birth = birth_at now part.address; offset = p.offset; count = p.length; access = p.access }); executable = false }) part_is
         ∙ ap (λ b. record { what = array_value (record { birth = b; offset = 0; count = count; access = Unlimited }); executable = false }) (birth ∙ shows.next))
 
-    pub does_makes : (row : Store → List Value → Outcome Change) (refused : Bool) (slot : ℕ) (grants : Grants) → refused ≡ false
-        → ((names : List (List ℕ)) (s : Store) → Shows h names s → AreWithin h names s old → Makes row h now count old rest names s)
-        → Does row refused (Ok tt) slot grants h now old new
-    does_makes row refused slot grants made makes = record {
+    pub does_makes : (row : Store → List Value → Outcome Change) (refused : Bool) → refused ≡ false
+        → ((names : List (List ℕ)) (s : Store) → Shows h names s → AreWithin h names s old → MakesArray row h now count old rest names s)
+        → Makes row refused (Ok tt) h now old new
+    does_makes row refused made makes = record {
       meets = λ names s shows within.
           let m = makes names s shows within in
           let change : Change = record {
@@ -80,8 +80,8 @@ module _ (h now : Heap) (old new rest : List Word) (keeps : Keeps h now) (values
               AreWithin-kept h now keeps names s (s ++ array_object m.elements ∷ []) (longer s (array_object m.elements ∷ [])) rest (known_values h rest values) m.within,
             );
           } in
-          subst (λ outcome. Agrees (Ok tt) (refusing refused outcome) names slot grants h now old new) (sym m.is)
-          (subst (λ r. Agrees (Ok tt) (refusing r (making (array_object m.elements) (values_in h names rest) s)) names slot grants h now old new) (sym made) left);
+          subst (λ outcome. Agrees (λ reason change. IsRoomReason reason h change.asked.words change.asked.births) (Ok tt) (refusing refused outcome) names h now old new) (sym m.is)
+          (subst (λ r. Agrees (λ reason change. IsRoomReason reason h change.asked.words change.asked.births) (Ok tt) (refusing r (making (array_object m.elements) (values_in h names rest) s)) names h now old new) (sym made) left);
     }
 
 -- ---- array
@@ -93,7 +93,7 @@ array_row-is s k rest i n number count limit = rw (number, count, limit) refl
 pub array_makes : (h now : Heap) (old : List Word) (top : Word) (number : ℤ) (n : ℕ) → Some top ≡ first_of old
     → ((births : ℕ → ℕ) (names : List (List ℕ)) → as_integer (value_of births names top) ≡ Some number) → Some n ≡ count_of number → n ≤ 65535
     → ((names : List (List ℕ)) (s : Store) → Shows h names s → Shows now names (s ++ array_object (replicate n null) ∷ []))
-    → (names : List (List ℕ)) (s : Store) → Shows h names s → AreWithin h names s old → Makes array_row h now n old (drop 1 old) names s
+    → (names : List (List ℕ)) (s : Store) → Shows h names s → AreWithin h names s old → MakesArray array_row h now n old (drop 1 old) names s
 array_makes h now old top number n first number_is count limit shows names s shown within =
     let few : nat_le n 65535 ≡ true = grind (arith, nat_tests) in
     record {
@@ -113,7 +113,7 @@ end_row-is s operands above below split = rw split refl
 
 pub end_makes : (h now : Heap) (old : List Word) (depth : ℕ) → IsMarkAt old depth → depth ≤ length old
     → ((names : List (List ℕ)) (s : Store) → Shows h names s → AreWithin h names s old → Shows now names (s ++ array_object (reverse (take depth (values_in h names old))) ∷ []))
-    → (names : List (List ℕ)) (s : Store) → Shows h names s → AreWithin h names s old → Makes end_array_row h now depth old (drop (depth + 1) old) names s
+    → (names : List (List ℕ)) (s : Store) → Shows h names s → AreWithin h names s old → MakesArray end_array_row h now depth old (drop (depth + 1) old) names s
 end_makes h now old depth mark few shows names s shown within =
     let values : List Value = values_in h names old in
     record {

@@ -1,6 +1,5 @@
 -- Words that operators make, as values of the language and as what may stand in a memory.
-use Rattle.std.proofs.Common.{◌≡◌, ℕ, ◌+◌, List, Bool, Some, false, refl, sym, ap, subst}
-use Rattle.std.specs.Prelude.{ℤ}
+use Rattle.std.proofs.Common.{◌≡◌, ℕ, ◌+◌, List, Bool, Some, refl, sym, ap, subst}
 use Rattle.ps_language.specs.Value.{Part as PartValue, What, array_value, Store}
 use Rattle.ps_language.specs.Readers as language
 use Rattle.ps_language.specs.declared.kinds.Kind.TheVariants.{Array as ArrayKind}
@@ -15,24 +14,12 @@ use Rattle.ps_mem.specs.Heap.{Heap}
 use Rattle.ps_mem.specs.References.{StandsAs, IsKnown, IsKnownContent}
 use Rattle.ps_mem.specs.Meaning.{value_of, what_of, part_of}
 use Rattle.ps_mem.specs.Shows.{IsValue, IsWithin, IsWithinContent}
-use Rattle.ps_mem.proofs.ValueLemmas.{IsValue-integer}
 
 -- the value of a word whose fields are known
 pub value_of-is : (births : ℕ → ℕ) (names : List (List ℕ)) (w : Word) (content : Content) (executable : Bool) → value_in w.0 ≡ record { content = content; executable = executable }
     → value_of births names w ≡ record { what = what_of births names content; executable = executable }
 unfolding value_of
 value_of-is births names w content executable is = ap (λ (v : Value). record { what = what_of births names v.content; executable = v.executable }) is
-
-module _ (w : Word) (number : ℤ) (is : value_in w.0 ≡ record { content = Integer number; executable = false }) where
-  pub integer_value : (births : ℕ → ℕ) (names : List (List ℕ)) → value_of births names w ≡ language.integer number
-  integer_value births names = value_of-is births names w (Integer number) false is
-
-  pub integer_held : IsWord w.0 → (h : Heap) → IsValue h w
-  integer_held word h = IsValue-integer h w number is word
-
-  pub integer_within : (births : ℕ → ℕ) (names : List (List ℕ)) (store : Store) → IsWithin births names store w
-  unfolding IsWithin
-  integer_within births names store = subst (IsWithinContent births names store) (sym (ap (λ (v : Value). v.content) is)) tt
 
 module _ (w : Word) (part : Part) (executable : Bool) (is : value_in w.0 ≡ record { content = Array part; executable = executable }) where
   pub array_value_is : (births : ℕ → ℕ) (names : List (List ℕ)) → value_of births names w ≡ record { what = array_value (part_of births part); executable = executable }
@@ -72,6 +59,6 @@ with_part-is births names w part old is = ap (λ (what : What). record { what = 
 pub array_in_format : (part : Part) (executable : Bool) → IsPart part → IsInFormat (record { content = Array part; executable = executable })
 array_in_format part executable p = record { content = p; literal_body = refl }
 
-pub ruleset maker_lemmas = (integer_value, integer_held, integer_within, array_value_is, array_held, array_within, array_in_format)
+pub ruleset maker_lemmas = (array_value_is, array_held, array_within, array_in_format)
 
 pub ruleset part_lemmas = (with_part-is)

@@ -1,5 +1,5 @@
 -- What put leaves.
-use Rattle.std.proofs.Common.{◌≡◌, ℕ, List, [], ◌∷◌, drop, true, false, Ok, Some, sym, ap, subst, ◌∙◌, refl}
+use Rattle.std.proofs.Common.{◌≡◌, ℕ, List, [], ◌∷◌, drop, true, Ok, Some, sym, ap, subst, ◌∙◌, refl}
 use Rattle.std.specs.Prelude.{ℤ}
 use Rattle.ps_language.specs.declared.kinds.Kind.TheVariants.{Array as ArrayKind}
 use Rattle.ps_language.specs.Value.{Part as PartValue, Value, Store}
@@ -14,8 +14,8 @@ use Rattle.ps_mem.specs.Keeps.{Keeps}
 use Rattle.ps_mem.specs.References.{StandsAs}
 use Rattle.ps_mem.specs.Meaning.{value_of, part_of}
 use Rattle.ps_mem.specs.Shows.{IsValue, AreValues, IsSound, IsReady, IsWithin, AreWithin, Shows}
-use Rattle.ps_ops.specs.ArrayRows.{array_put_row}
-use Rattle.ps_ops.specs.Does.{values_in, Does}
+use Rattle.ps_language.specs.ArrayRows.{array_put_row, one_stored}
+use Rattle.ps_ops.specs.Does.{values_in, Changes}
 use Rattle.ps_ops.proofs.Operands.{first_three_split}
 use Rattle.ps_ops.proofs.Held.{first_of_three_held, rest_held}
 use Rattle.ps_ops.proofs.Changed.{does_changes, ready_changed}
@@ -30,15 +30,15 @@ module _ (h now : Heap) (old new : List Word) (ready : IsReady h old) (word key 
   pub put_ready : IsSound now → IsReady now new
   put_ready sound = ready_changed h now new keeps sound (subst (AreValues h) (sym rest) (rest_held (IsValue h) old ready.values 3))
 
-  pub put_does : (slot : ℕ) (grants : Grants) (part : Part) (n : ℕ) → StandsAs h ArrayKind part.address n
+  pub put_does : (slot : ℕ) (asked left : Grants) (part : Part) (n : ℕ) → StandsAs h ArrayKind part.address n
       → ((births : ℕ → ℕ) (names : List (List ℕ)) → as_array (value_of births names array) ≡ Some (part_of births part))
       → (number : ℤ) → ((births : ℕ → ℕ) (names : List (List ℕ)) → as_integer (value_of births names key) ≡ Some number)
       → is_writable part.access ≡ true → (index : ℕ) → Some index ≡ index_below number part.length
       → birth_at now ≡ birth_at h
       → ((names : List (List ℕ)) (s : Store) → Shows h names s → IsWithin (birth_at h) names s word → Shows now names (with_part_elements s (part_of (birth_at h) part) index (value_of (birth_at h) names word ∷ [])))
-      → Does array_put_row false (Ok tt) slot grants h now old new
-  put_does slot grants part n stands array_is number number_is writable index index_is births shows =
-      does_changes array_put_row slot grants h now old new part n index stands keeps births (subst (AreValues h) (sym rest) (rest_held (IsValue h) old ready.values 3))
+      → Changes array_put_row one_stored (Ok tt) slot asked left h now old new
+  put_does slot asked left part n stands array_is number number_is writable index index_is births shows =
+      does_changes array_put_row one_stored slot asked left h now old new part n index stands keeps births (subst (AreValues h) (sym rest) (rest_held (IsValue h) old ready.values 3))
       (λ names s shown within. record {
         items = value_of (birth_at h) names word ∷ [];
         is =

@@ -1,2 +1,1 @@
-pub mod ArrayRows
 pub mod Does

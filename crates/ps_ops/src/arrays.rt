@@ -7,15 +7,16 @@ ghost use Rattle.ps_language.specs.RowsSequences as sequences;
 ghost use Rattle.ps_mem.specs.Heap.{Heap, fields_at};
 ghost use Rattle.ps_mem.specs.References.{StandsAs};
 ghost use Rattle.ps_mem.specs.Shows.{IsReady};
-ghost use Rattle.ps_ops.specs.ArrayRows as rows;
-ghost use Rattle.ps_ops.specs.Does.{Reads};
+ghost use Rattle.ps_language.specs.ArrayRows as rows;
+ghost use Rattle.ps_ops.specs.Does.{Observes};
 
 use crate::Operands;
-use crate::readers::{array_of, integer_of, integer_word, with_part};
+use crate::readers::{array_of, integer_of, with_part};
 use ps_language::access::Access;
 use ps_language::errors::ErrorName;
 use ps_language::kinds::Kind;
 use ps_mem::Memory;
+use ps_operands::plain;
 use ps_seq::arrays::{element, interval};
 use ps_stacks::OPERAND_LIMIT;
 use ps_word::values::Part;
@@ -56,9 +57,10 @@ pub fn index_below(number: i32, count: u16) -> Option<u16>
 }
 
 /// `A length n`. Raises `stackunderflow`, `typecheck` where `A` is no array, and `invalidaccess`.
+#[tactic(auto, using(crate::proofs::Ready::plain_lemmas))]
 pub fn length<M: Memory>(operands: &mut Operands, memory: &M) -> Result<(), ErrorName>
     requires ready { IsReady (M.heap memory.now) operands.old }
-    ensures does { Reads (λ store. rows.array_length_row) result (M.heap memory.now) operands.old operands.new }
+    ensures does { Observes (λ store. rows.array_length_row) result (M.heap memory.now) operands.old operands.new }
     ensures ready { IsReady (M.heap memory.now) operands.new }
 {
     let Some(top) = operands.top() else {
@@ -70,7 +72,7 @@ pub fn length<M: Memory>(operands: &mut Operands, memory: &M) -> Result<(), Erro
     if !is_readable(part.access) {
         return Err(ErrorName::InvalidAccess);
     }
-    operands.replace(1, integer_word(part.length as i32));
+    operands.replace(1, plain::integer(part.length as i32));
     Ok(())
 }
 
@@ -79,7 +81,7 @@ pub fn get<M: Memory>(operands: &mut Operands, memory: &mut M) -> Result<(), Err
     requires ready { IsReady (M.heap memory.old) operands.old }
     ensures heap { M.heap memory.new ≡ M.heap memory.old }
     ensures grants { M.grants memory.new ≡ M.grants memory.old }
-    ensures does { Reads rows.array_get_row result (M.heap memory.old) operands.old operands.new }
+    ensures does { Observes rows.array_get_row result (M.heap memory.old) operands.old operands.new }
     ensures ready { IsReady (M.heap memory.old) operands.new }
 {
     let Some((key, array)) = operands.top_two() else {
@@ -118,7 +120,7 @@ pub fn interval_within(number: i32, count: u32, size: u16) -> Option<u16>
 /// `rangecheck`.
 pub fn getinterval<M: Memory>(operands: &mut Operands, memory: &M) -> Result<(), ErrorName>
     requires ready { IsReady (M.heap memory.now) operands.old }
-    ensures does { Reads (λ store. rows.array_getinterval_row) result (M.heap memory.now) operands.old operands.new }
+    ensures does { Observes (λ store. rows.array_getinterval_row) result (M.heap memory.now) operands.old operands.new }
     ensures ready { IsReady (M.heap memory.now) operands.new }
 {
     let Some((count, place, array)) = operands.top_three() else {
@@ -183,7 +185,7 @@ pub fn aload<M: Memory>(operands: &mut Operands, memory: &mut M) -> Result<(), E
     requires ready { IsReady (M.heap memory.old) operands.old }
     ensures heap { M.heap memory.new ≡ M.heap memory.old }
     ensures grants { M.grants memory.new ≡ M.grants memory.old }
-    ensures does { Reads sequences.aload_row result (M.heap memory.old) operands.old operands.new }
+    ensures does { Observes sequences.aload_row result (M.heap memory.old) operands.old operands.new }
     ensures ready { IsReady (M.heap memory.old) operands.new }
 {
     let Some(array) = operands.top() else {

@@ -10,8 +10,8 @@ ghost use Rattle.ps_mem.specs.References.{StandsAs};
 ghost use Rattle.ps_mem.specs.Meaning.{part_of};
 ghost use Rattle.ps_mem.specs.Keeps.{Keeps};
 ghost use Rattle.ps_mem.specs.Shows.{IsSound, IsReady, AreWithin, Shows};
-ghost use Rattle.ps_ops.specs.ArrayRows as rows;
-ghost use Rattle.ps_ops.specs.Does.{values_in, Does, KeepsLogs};
+ghost use Rattle.ps_language.specs.ArrayRows as rows;
+ghost use Rattle.ps_ops.specs.Does.{values_in, Changes, KeepsLogs};
 
 use crate::Operands;
 use crate::arrays::{index_below, interval_within, is_readable, is_writable, push_within};
@@ -32,6 +32,7 @@ pub fn permitted<M: Memory>(memory: &mut M, slot: u32, count: u32) -> Result<(),
     ensures others { (s : ℕ) → s ≢ slot → (M.grants memory.new).records s ≡ (M.grants memory.old).records s }
     ensures granted { OnOk result (count ≤ (M.grants memory.new).records slot) }
     ensures closed { (result ≡ Err NotMade.LogClosed) ↔ ((1 ≤ count) × IsTrue ((M.grants memory.old).closed slot)) }
+    ensures full { result ≡ Err NotMade.LogFull → (M.grants memory.new).records slot < count }
     ensures reason { IfErr result (λ reason. (reason ≡ NotMade.LogFull) ⊎ (reason ≡ NotMade.LogClosed)) }
 {
     match memory.permit(slot, count) {
@@ -46,7 +47,7 @@ pub fn permitted<M: Memory>(memory: &mut M, slot: u32, count: u32) -> Result<(),
 pub fn put<M: Memory>(operands: &mut Operands, memory: &mut M, slot: u32) -> Result<(), Failure>
     requires slot { slot < SLOTS }
     requires ready { IsReady (M.heap memory.old) operands.old }
-    ensures does { Does rows.array_put_row false result slot (M.grants memory.old) (M.heap memory.old) (M.heap memory.new) operands.old operands.new }
+    ensures does { Changes rows.array_put_row rows.one_stored result slot (M.grants memory.old) (M.grants memory.new) (M.heap memory.old) (M.heap memory.new) operands.old operands.new }
     ensures ready { IsReady (M.heap memory.new) operands.new }
     ensures keeps { Keeps (M.heap memory.old) (M.heap memory.new) }
     ensures logs { KeepsLogs (M.grants memory.old) (M.grants memory.new) slot }
@@ -91,7 +92,7 @@ pub fn putinterval<M: Memory>(
 ) -> Result<(), Failure>
     requires slot { slot < SLOTS }
     requires ready { IsReady (M.heap memory.old) operands.old }
-    ensures does { Does rows.array_putinterval_row false result slot (M.grants memory.old) (M.heap memory.old) (M.heap memory.new) operands.old operands.new }
+    ensures does { Changes rows.array_putinterval_row rows.topmost_count result slot (M.grants memory.old) (M.grants memory.new) (M.heap memory.old) (M.heap memory.new) operands.old operands.new }
     ensures ready { IsReady (M.heap memory.new) operands.new }
     ensures keeps { Keeps (M.heap memory.old) (M.heap memory.new) }
     ensures logs { KeepsLogs (M.grants memory.old) (M.grants memory.new) slot }
@@ -135,7 +136,7 @@ fn records_for(words: u16) -> u32
 pub fn copy<M: Memory>(operands: &mut Operands, memory: &mut M, slot: u32) -> Result<(), Failure>
     requires slot { slot < SLOTS }
     requires ready { IsReady (M.heap memory.old) operands.old }
-    ensures does { Does rows.array_copy_row false result slot (M.grants memory.old) (M.heap memory.old) (M.heap memory.new) operands.old operands.new }
+    ensures does { Changes rows.array_copy_row rows.second_count result slot (M.grants memory.old) (M.grants memory.new) (M.heap memory.old) (M.heap memory.new) operands.old operands.new }
     ensures ready { IsReady (M.heap memory.new) operands.new }
     ensures keeps { Keeps (M.heap memory.old) (M.heap memory.new) }
     ensures logs { KeepsLogs (M.grants memory.old) (M.grants memory.new) slot }
@@ -191,7 +192,7 @@ fn store_elements<M: Memory>(operands: &Operands, memory: &mut M, slot: u32, par
 pub fn astore<M: Memory>(operands: &mut Operands, memory: &mut M, slot: u32) -> Result<(), Failure>
     requires slot { slot < SLOTS }
     requires ready { IsReady (M.heap memory.old) operands.old }
-    ensures does { Does sequences.astore_row false result slot (M.grants memory.old) (M.heap memory.old) (M.heap memory.new) operands.old operands.new }
+    ensures does { Changes sequences.astore_row rows.topmost_count result slot (M.grants memory.old) (M.grants memory.new) (M.heap memory.old) (M.heap memory.new) operands.old operands.new }
     ensures ready { IsReady (M.heap memory.new) operands.new }
     ensures keeps { Keeps (M.heap memory.old) (M.heap memory.new) }
     ensures logs { KeepsLogs (M.grants memory.old) (M.grants memory.new) slot }

@@ -5,7 +5,7 @@ ghost use Rattle.ps_language.specs.RowsSequences as sequences;
 ghost use Rattle.ps_mem.specs.Heap.{Heap};
 ghost use Rattle.ps_mem.specs.Keeps.{Keeps};
 ghost use Rattle.ps_mem.specs.Shows.{IsReady};
-ghost use Rattle.ps_ops.specs.Does.{Does, KeepsLogs, IsRoomReason};
+ghost use Rattle.ps_ops.specs.Does.{Makes, KeepsLogs, IsRoomReason};
 
 use crate::Operands;
 use crate::arrays::count_of;
@@ -42,7 +42,7 @@ pub fn array<M: Memory>(
     refused: bool,
 ) -> Result<(), Failure>
     requires ready { IsReady (M.heap memory.old) operands.old }
-    ensures does { Does sequences.array_row refused result slot (M.grants memory.old) (M.heap memory.old) (M.heap memory.new) operands.old operands.new }
+    ensures does { Makes sequences.array_row refused result (M.heap memory.old) (M.heap memory.new) operands.old operands.new }
     ensures ready { IsReady (M.heap memory.new) operands.new }
     ensures keeps { Keeps (M.heap memory.old) (M.heap memory.new) }
     ensures logs { KeepsLogs (M.grants memory.old) (M.grants memory.new) slot }
@@ -79,7 +79,7 @@ pub fn end_array<M: Memory>(
     refused: bool,
 ) -> Result<(), Failure>
     requires ready { IsReady (M.heap memory.old) operands.old }
-    ensures does { Does sequences.end_array_row refused result slot (M.grants memory.old) (M.heap memory.old) (M.heap memory.new) operands.old operands.new }
+    ensures does { Makes sequences.end_array_row refused result (M.heap memory.old) (M.heap memory.new) operands.old operands.new }
     ensures ready { IsReady (M.heap memory.new) operands.new }
     ensures keeps { Keeps (M.heap memory.old) (M.heap memory.new) }
     ensures logs { KeepsLogs (M.grants memory.old) (M.grants memory.new) slot }

@@ -35,17 +35,6 @@ pub fn array_of(word: Word) -> Option<Part>
     word.as_array()
 }
 
-/// A literal integer.
-#[inline]
-#[tactic(auto, using(crate::proofs::Makers::maker_lemmas))]
-pub fn integer_word(number: i32) -> Word
-    ensures value { (births : ℕ → ℕ) (names : List (List ℕ)) → value_of births names result ≡ language.integer number }
-    ensures held { (h : Heap) → IsValue h result }
-    ensures within { (births : ℕ → ℕ) (names : List (List ℕ)) (store : Store) → IsWithin births names store result }
-{
-    Word::integer(number)
-}
-
 /// A part of an array, literal or executable.
 #[inline]
 #[tactic(auto, using(crate::proofs::Makers::maker_lemmas))]

@@ -7,11 +7,12 @@ use crate::arrays::{aload, get, getinterval, length};
 use crate::changes::{astore, copy, put, putinterval};
 use crate::failure::{Failure, NotMade};
 use crate::makes::{array, end_array};
-use crate::readers::{integer_of, integer_word};
+use crate::readers::integer_of;
 use ps_language::errors::ErrorName;
 use ps_mem::Memory;
 use ps_mem::bounded::BoundedMemory;
 use ps_mem::plain::PlainMemory;
+use ps_operands::plain;
 use ps_operands::stack_operators::{dup, exch, mark, pop};
 use std::process::Abort;
 use std::test::Fail;
@@ -22,7 +23,7 @@ fn number<M: Memory>(rt: &impl Abort, operands: &mut Operands, memory: &M, numbe
     requires ready { IsReady (M.heap memory.now) operands.old }
     ensures ready { IsReady (M.heap memory.now) operands.new }
 {
-    assert!(rt; operands.push(integer_word(number)).is_ok());
+    assert!(rt; operands.push(plain::integer(number)).is_ok());
 }
 
 /// Pushes the topmost operand again.

@@ -5,7 +5,7 @@ use Rattle.ps_language.specs.RowsSequences.{array_row}
 use Rattle.ps_mem.specs.Heap.{Heap}
 use Rattle.ps_mem.specs.Shows.{IsValue, IsReady}
 use Rattle.ps_mem.proofs.KeepsLemmas.{Keeps-Extends}
-use Rattle.ps_ops.specs.Does.{Does}
+use Rattle.ps_ops.specs.Does.{Makes}
 use Rattle.ps_ops.proofs.Held.{rest_held}
 use Rattle.ps_ops.proofs.Made.{made_ready, does_makes, array_makes, stands_whole}
 use Rattle.ps_ops.proofs.makes.array.Goals as goal
@@ -18,10 +18,10 @@ returns-clause-does g c =
     let ready = subst (λ (k : Heap). IsReady k old) (sym c.granted.ensures.heap) c.requires.ready in
     let fits : SFits w32 c.in-Some-integer_of.number = search rules in
     let keeps = Keeps-Extends h now c.new_array-part.ensures.extends in
-    subst (λ (k : Heap). Does array_row c.args.refused (Ok tt) c.args.slot (g.M.Memory.grants c.args.memory.now) k now old c.replace.new.self) c.granted.ensures.heap
+    subst (λ (k : Heap). Makes array_row c.args.refused (Ok tt) k now old c.replace.new.self) c.granted.ensures.heap
     (does_makes h now old _ (drop 1 old) keeps (rest_held (IsValue h) old ready.values 1) c.array_word.result c.replace.ensures c.new_array-part.result c.in-Some-count_of.count
     c.new_array-part.ensures.part c.new_array-part.ensures.birth (λ births names. c.array_word.ensures.value births names) (λ births names s. c.array_word.ensures.within births names s)
-    array_row c.args.refused c.args.slot (g.M.Memory.grants c.args.memory.now) c.if-refused.false
+    array_row c.args.refused c.if-refused.false
     (array_makes h now old c.in-Some.top c.in-Some-integer_of.number c.in-Some-count_of.count c.in-Some.ensures (λ births names. c.in-Some-integer_of.ensures births names)
     (simp to_z-of_z at c.in-Some-count_of.ensures) (omega arith)
     (λ names s shows. c.new_array-part.ensures.shows names s shows)))

@@ -5,7 +5,7 @@ use Rattle.ps_language.specs.Value.{array_object}
 use Rattle.ps_mem.specs.Heap.{Heap}
 use Rattle.ps_mem.specs.Shows.{IsValue, IsReady, Shows}
 use Rattle.ps_mem.proofs.KeepsLemmas.{Keeps-Extends}
-use Rattle.ps_ops.specs.Does.{Does}
+use Rattle.ps_ops.specs.Does.{Makes}
 use Rattle.ps_ops.proofs.Held.{rest_held}
 use Rattle.ps_ops.proofs.Made.{made_ready, does_makes, end_makes, whole_part, stands_whole}
 use Rattle.ps_ops.proofs.Tops.{top_elements, top_within}
@@ -20,10 +20,10 @@ returns-clause-does g c =
     let depth = c.in-Some.depth in
     let keeps = Keeps-Extends h now c.make_array-part.ensures.extends in
     let size : length c.topmost.result.now ≡ depth = ap length c.topmost.ensures ∙ (length-reverse (take depth old) ∙ length-take-le depth old (omega (arith, c.in-Some.ensures.bound))) in
-    subst (λ (k : Heap). Does end_array_row c.args.refused (Ok tt) c.args.slot (g.M.Memory.grants c.args.memory.now) k now old c.replace.new.self) c.granted.ensures.heap
+    subst (λ (k : Heap). Makes end_array_row c.args.refused (Ok tt) k now old c.replace.new.self) c.granted.ensures.heap
     (does_makes h now old _ (drop (depth + 1) old) keeps (rest_held (IsValue h) old ready.values (depth + 1)) c.array_word.result c.replace.ensures c.make_array-part.result depth
     (c.make_array-part.ensures.part ∙ ap (λ n. whole_part c.make_array-part.result.address n) size) c.make_array-part.ensures.birth (λ births names. c.array_word.ensures.value births names) (λ births names s. c.array_word.ensures.within births names s)
-    end_array_row c.args.refused c.args.slot (g.M.Memory.grants c.args.memory.now) c.if-refused.false
+    end_array_row c.args.refused c.if-refused.false
     (end_makes h now old depth c.in-Some.ensures.found (omega (arith, c.in-Some.ensures.bound))
     (λ names s shows within.
     subst (λ vs. Shows now names (s ++ array_object vs ∷ [])) (top_elements h names old depth c.topmost.result.now c.topmost.ensures)

@@ -1,8 +1,8 @@
 -- The rows of the operators on arrays, strings and dictionaries, as far as the operands are arrays (PLRM2, 8 'Operators': Array). Each is a part of
 -- the whole language's row: an operand that is no array is a typecheck here.
-use Rattle.std.specs.Prelude.{List, ◌∷◌, ◌&&◌, nat_le}
+use Rattle.std.specs.Prelude.{ℕ, List, ◌∷◌, ◌&&◌, nat_le, Option, Some, None}
 use Rattle.ps_language.specs.declared.errors.ErrorName.TheVariants.{InvalidAccess, RangeCheck, StackUnderflow, TypeCheck}
-use Rattle.ps_language.specs.Value.{Value, Store}
+use Rattle.ps_language.specs.Value.{Part, Value, Store}
 use Rattle.ps_language.specs.Outcome.{Outcome, leaves, fails, given, given_that, Change}
 use Rattle.ps_language.specs.Readers.{natural, as_integer, as_array, count_of, part_at, with_part}
 use Rattle.ps_language.specs.Access.{is_readable, is_writable, part_elements, with_part_elements}
@@ -59,3 +59,23 @@ array_copy_row store (y ∷ x ∷ rest) =
     (given_that (nat_le from.count to.count) RangeCheck
     (changing (with_part y (part_at to 0 from.count) ∷ rest) (with_part_elements store to 0 (part_elements store from))))
 array_copy_row store _ = fails StackUnderflow
+
+-- ---- how many elements the rows store
+
+-- put stores one
+abbrev pub one_stored : List Value → ℕ
+one_stored operands = 1
+
+abbrev pub count_in : Option Part → ℕ
+count_in (Some part) = part.count
+count_in None = 0
+
+-- putinterval and astore, as many as the topmost operand has
+abbrev pub topmost_count : List Value → ℕ
+topmost_count (x ∷ rest) = count_in (as_array x)
+topmost_count _ = 0
+
+-- copy, as many as the operand below the topmost one has
+abbrev pub second_count : List Value → ℕ
+second_count (y ∷ x ∷ rest) = count_in (as_array x)
+second_count _ = 0

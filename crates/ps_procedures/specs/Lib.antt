@@ -1,0 +1,2 @@
+pub mod Procedures
+pub mod Refused

@@ -1,0 +1,8 @@
+pub mod Copied
+pub mod EqualContents
+pub mod IntegerTests
+pub mod Measured
+pub mod NamesDiffer
+pub mod Printed
+pub mod Relating
+pub mod Worked
