@@ -26,8 +26,6 @@ pub mod StringPlaces
 pub mod Strings
 mod SmallExamples
 pub mod SmallLaws
-mod ThinExamples
-pub mod ThinLaws
 pub mod WordForms
 pub mod Words
 pub mod WorldLaws

@@ -39,7 +39,6 @@ pub mod StepTokens
 pub mod StepValues
 pub mod Syntax
 pub mod Texts
-pub mod Thin
 pub mod Token
 pub mod Value
 pub mod World

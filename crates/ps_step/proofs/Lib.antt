@@ -1,6 +1,10 @@
-pub mod Lines
-pub mod NameLengths
-pub mod Operating
-pub mod PlainOperands
-pub mod RelationRows
-pub mod PlainTexts
+pub mod Ending
+pub mod Going
+pub mod LineParts
+pub mod Looping
+pub mod NameWords
+pub mod Operated
+pub mod Procedural
+pub mod Standing
+pub mod Taking
+pub mod Turning

@@ -1,6 +1,3 @@
-pub mod Thin
-pub mod Names
-pub mod Commands
-pub mod Relations
-pub mod Does
-pub mod Interpreting
+pub mod Machine
+pub mod Goes
+pub mod Lines

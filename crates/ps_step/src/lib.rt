@@ -1,11 +1,7 @@
-//! One step of a context: the operators, the next token, errors and their lines (PLRM2, 3.5, 3.10, 8).
+//! The step of a context over any memory, and the bytes that it prints (PLRM2, 3.4, 3.5, 3.10).
 #![tactic(auto)]
 
 pub mod commands;
-pub mod failure;
+pub mod frames;
 pub mod interpreter;
-pub mod names;
-pub mod operators;
-pub mod output;
-pub mod relations;
-pub mod texts;
+pub mod readers;

@@ -6,17 +6,18 @@ use std::alloc::Global;
 use std::test::Fail;
 
 /// Ample writes.
-const AMPLE: u32 = 1000;
+pub const AMPLE: u32 = 1000;
 
 /// What a run gave: the status, and what stands on both outputs.
 #[derive(Drop)]
-struct Given {
-    status: u8,
-    out: Vec<u8>,
-    err: Vec<u8>,
+pub struct Given {
+    pub status: u8,
+    pub out: Vec<u8>,
+    pub err: Vec<u8>,
 }
 
-fn driven(
+/// What a run of these bytes gave, with so many writes to each output.
+pub fn driven(
     alloc: Global,
     words: &[&str],
     bytes: Result<&[u8], ReadFault>,
@@ -38,10 +39,10 @@ fn driven(
 
 /// A program, what it prints and how it ends.
 #[derive(Clone, Copy)]
-struct Row {
-    program: &'static str,
-    printed: &'static str,
-    status: u8,
+pub struct Row {
+    pub program: &'static str,
+    pub printed: &'static str,
+    pub status: u8,
 }
 
 const ROWS: [Row; 52] = [
@@ -552,6 +553,32 @@ fn operands_are_at_most_five_hundred(rt: HostRuntime) -> Result<(), Fail> {
             1,
         ),
         (500, "pop count =", "499\n", 0),
+        (
+            500,
+            "[",
+            "%%[ Error: stackoverflow; OffendingCommand: [ ]%%\n",
+            1,
+        ),
+        (
+            500,
+            "{1}",
+            "%%[ Error: stackoverflow; OffendingCommand: --nostringval-- ]%%\n",
+            1,
+        ),
+        (500, "pop 499 array astore aload length =", "499\n", 0),
+        (
+            500,
+            "pop 499 array astore dup aload",
+            "%%[ Error: stackoverflow; OffendingCommand: aload ]%%\n",
+            1,
+        ),
+        (490, "9 array {} forall count =", "499\n", 0),
+        (
+            490,
+            "11 array {} forall",
+            "%%[ Error: stackoverflow; OffendingCommand: forall ]%%\n",
+            1,
+        ),
         (
             251,
             "pop 250 copy count =",

@@ -25,7 +25,7 @@ fn entry(context: u32, steps: u32, refused: bool) -> Entry {
 
 #[test]
 fn a_run_has_its_schedule(rt: HostRuntime) -> Result<(), Fail> {
-    let rows: [(&str, u32, &str, Outcome, u32); 5] = [
+    let rows: [(&str, u32, &str, Outcome, u32); 9] = [
         ("", 10, "", Outcome::Finished, 1),
         ("1 2 add =", 5, "3\n", Outcome::Finished, 5),
         ("1 2 add =", 4, "3\n", Outcome::StepsOut, 4),
@@ -37,6 +37,28 @@ fn a_run_has_its_schedule(rt: HostRuntime) -> Result<(), Fail> {
             4,
         ),
         ("1 0 idiv", 3, "", Outcome::StepsOut, 3),
+        ("[7 8 9] 1 get =", 100, "8\n", Outcome::Finished, 9),
+        (
+            "[1 2] {dup add =} forall",
+            17,
+            "2\n4\n",
+            Outcome::Finished,
+            16,
+        ),
+        (
+            "[1 2] {dup add =} forall",
+            15,
+            "2\n4\n",
+            Outcome::StepsOut,
+            15,
+        ),
+        (
+            "[1] {pop pop} forall",
+            100,
+            "%%[ Error: stackunderflow; OffendingCommand: pop ]%%\n",
+            Outcome::Faulted,
+            10,
+        ),
     ];
     for (program, steps, printed, outcome, made) in rows {
         let report = run_plain(rt.alloc(), program.as_bytes(), config(steps))
@@ -86,6 +108,73 @@ fn a_given_schedule_is_followed(rt: HostRuntime) -> Result<(), Fail> {
         .ok()
         .ok_or("no report")?;
     assert!(rt; report.outcome == Outcome::StepsOut);
+    Ok(())
+}
+
+#[test]
+fn a_refused_step_makes_no_object(rt: HostRuntime) -> Result<(), Fail> {
+    let no_array = "%%[ Error: VMerror; OffendingCommand: array ]%%\n";
+    let no_end = "%%[ Error: VMerror; OffendingCommand: ] ]%%\n";
+    let no_procedure = "%%[ Error: VMerror; OffendingCommand: --nostringval-- ]%%\n";
+    let rows: [(&str, &[Entry], &str); 9] = [
+        (
+            "3 array",
+            &[entry(1, 2, true), entry(1, 1, false)],
+            no_array,
+        ),
+        (
+            "3 array length =",
+            &[entry(1, 1, false), entry(1, 1, true), entry(1, 9, false)],
+            no_array,
+        ),
+        (
+            "[1] length =",
+            &[entry(1, 3, true), entry(1, 9, false)],
+            no_end,
+        ),
+        (
+            "{1} length =",
+            &[entry(1, 1, true), entry(1, 9, false)],
+            no_procedure,
+        ),
+        // Of the steps of an entry the last alone is refused.
+        (
+            "3 array length =",
+            &[entry(1, 1, true), entry(1, 4, false)],
+            "3\n",
+        ),
+        (
+            "3 array length =",
+            &[entry(1, 3, true), entry(1, 2, false)],
+            "3\n",
+        ),
+        ("3 array length =", &[entry(1, 5, true)], "3\n"),
+        // No step of the first context is.
+        (
+            "3 array length =",
+            &[entry(1, 1, false), entry(2, 1, true), entry(1, 4, false)],
+            "3\n",
+        ),
+        (
+            "3 array length =",
+            &[entry(1, 1, false), entry(1, 0, true), entry(1, 4, false)],
+            "3\n",
+        ),
+    ];
+    for (program, schedule, printed) in rows {
+        let report = replay(rt.alloc(), program.as_bytes(), schedule)
+            .ok()
+            .ok_or("no report")?;
+        assert_eq!(rt;
+            report.printed.as_slice(),
+            printed.as_bytes(),
+            "printed by {program}"
+        );
+        assert!(rt;
+            report.schedule.as_slice() == schedule,
+            "the schedule of {program}"
+        );
+    }
     Ok(())
 }
 

@@ -1,58 +1,124 @@
 -- The world after the steps of entries.
-use Rattle.std.proofs.Common.{◌≡◌, ℕ, zero, suc, ◌+◌, ◌-◌, ◌<◌, ◌≤◌, Bool, true, false, None, List, [], ◌∷◌, ◌++◌, length, take, drop, get_or, refl, sym, ◌∙◌, ap, arith, add-one, append-nil, drop-cons, length-append}
+use Rattle.std.proofs.Common.{◌≡◌, ℕ, zero, suc, ◌+◌, ◌<◌, ◌≤◌, Bool, true, false, None, List, [], ◌∷◌, ◌++◌, length, take, drop, get_or, inl, inr, refl, sym, ◌∙◌, ap, arith, add-one, append-nil, drop-cons, length-append}
 use Rattle.std.specs.Prelude.{◌==◌, ◌&&◌, not, replicate}
-use Rattle.std.proofs.lemmas.List.{length-replicate, replicate_more, replicate-append-replicate, take-append-drop, take_more}
+use Rattle.std.proofs.lemmas.List.{length-replicate, replicate_more, take-append-drop, take_more, take_all, drop_all}
+use Rattle.std.proofs.lemmas.Bool.{cases_lt}
 use Rattle.std.proofs.lemmas.Bool.Decides.{nat_tests}
 use Rattle.ps_language.specs.declared.schedules.Entry.{Entry}
 use Rattle.ps_language.specs.Schedules.{Move, plain_move, last_move, moves_of, moves, count_of, Begins}
-use Rattle.ps_language.specs.Thin.{has_steps, starting_thin_world, ThinWorld, is_thin_ready, after_thin_move, after_thin_moves, thin_world}
+use Rattle.ps_language.specs.Small.{has_steps, starting_small_world, SmallWorld, is_small_ready, after_small_move, after_small_moves, small_world}
 use Rattle.ps_vault.specs.declared.reports.Outcome.{Outcome}
 use Rattle.ps_vault.specs.declared.reports.Outcome.TheVariants.{Finished, Faulted, AllWaiting, StepsOut, Memory}
 use Rattle.ps_vault.specs.Reports.{EndsAs, is_memory, is_over}
 use Rattle.ps_language.proofs.ScheduleLaws.{moves-single, moves-append, plain_entry, begins-part}
-use Rattle.ps_language.proofs.ThinLaws.{unready_move, after_thin_moves-append, after_thin_moves-single, thin_world-append}
+use Rattle.ps_language.proofs.SmallLaws.{unready_move, after_small_moves-append, after_small_moves-single, small_world-append}
 
--- nothing is refused or shown without memory, so a move is told by its context
-pub same_move : (world : ThinWorld) (first second : Move) → first.context ≡ second.context → after_thin_move world first ≡ after_thin_move world second
-unfolding after_thin_move
-same_move world first second same = rw same refl
+-- nothing in this language shows the pair of a vmstatus, so a move is told by its context and whether it is refused
+pub same_move : (world : SmallWorld) (first second : Move) → first.context ≡ second.context → first.refused ≡ second.refused → after_small_move world first ≡ after_small_move world second
+unfolding after_small_move
+same_move world first second context refused = rw (context, refused) refl
 
 -- one ordinary step more
-pub after_more : (world : ThinWorld) (context n : ℕ) → after_thin_moves world (replicate (n + 1) (plain_move context)) ≡ after_thin_move (after_thin_moves world (replicate n (plain_move context))) (plain_move context)
+after_more : (world : SmallWorld) (context n : ℕ) → after_small_moves world (replicate (n + 1) (plain_move context)) ≡ after_small_move (after_small_moves world (replicate n (plain_move context))) (plain_move context)
 after_more world context n =
-    ap (after_thin_moves world) (sym (replicate_more n (plain_move context)))
-    ∙ (after_thin_moves-append world (replicate n (plain_move context)) (plain_move context ∷ []) ∙ after_thin_moves-single (after_thin_moves world (replicate n (plain_move context))) (plain_move context))
+    ap (after_small_moves world) (sym (replicate_more n (plain_move context)))
+    ∙ (after_small_moves-append world (replicate n (plain_move context)) (plain_move context ∷ []) ∙ after_small_moves-single (after_small_moves world (replicate n (plain_move context))) (plain_move context))
 
--- none
-pub after_none : (world : ThinWorld) (context : ℕ) → world ≡ after_thin_moves world (replicate 0 (plain_move context))
-unfolding after_thin_moves
-after_none world context = refl
+-- ---- the first steps of an entry
 
--- all of an entry are as ordinary ones
-pub after_entry : (world : ThinWorld) (entry : Entry) (n : ℕ) → after_thin_moves world (moves_of entry n) ≡ after_thin_moves world (replicate n (plain_move entry.context))
-after_entry world entry zero = refl
-after_entry world entry (suc n) =
-    after_thin_moves-append world (replicate n (plain_move entry.context)) (last_move entry ∷ [])
-    ∙ (after_thin_moves-single (after_thin_moves world (replicate n (plain_move entry.context))) (last_move entry)
-    ∙ (same_move (after_thin_moves world (replicate n (plain_move entry.context))) (last_move entry) (plain_move entry.context) refl
-    ∙ (sym (after_more world entry.context n) ∙ ap (λ k. after_thin_moves world (replicate k (plain_move entry.context))) (add-one n))))
+-- an entry has as many steps as it says
+length_moves_of : (entry : Entry) (n : ℕ) → length (moves_of entry n) ≡ n
+length_moves_of entry zero = refl
+length_moves_of entry (suc n) =
+    length-append (replicate n (plain_move entry.context)) (last_move entry ∷ [])
+    ∙ (ap (λ k. k + 1) (length-replicate n (plain_move entry.context)) ∙ add-one n)
 
--- steps of a context that isn't ready change nothing
-idle : (world : ThinWorld) (context n : ℕ) → is_thin_ready world context ≡ false → after_thin_moves world (replicate n (plain_move context)) ≡ world
-unfolding after_thin_moves
-idle world context zero unready = refl
-idle world context (suc n) unready =
-    ap (λ (w : ThinWorld). after_thin_moves w (replicate n (plain_move context))) (unready_move world (plain_move context) unready) ∙ idle world context n unready
+-- all of them
+pub taken_all : (entry : Entry) (n : ℕ) → take n (moves_of entry n) ≡ moves_of entry n
+taken_all entry n = take_all n (moves_of entry n) (let all = length_moves_of entry n in omega (arith, all))
+
+taken_before : (few many : ℕ) (move : Move) (rest : List Move) → few ≤ many → take few (replicate many move ++ rest) ≡ replicate few move
+taken_before zero many move rest h = refl
+taken_before (suc few) zero move rest h = absurd (omega arith)
+taken_before (suc few) (suc many) move rest h = ap (λ (steps : List Move). move ∷ steps) (taken_before few many move rest (omega arith))
+
+-- those before the last are ordinary ones
+pub taken_part : (entry : Entry) (few n : ℕ) → few < n → take few (moves_of entry n) ≡ replicate few (plain_move entry.context)
+taken_part entry few zero h = absurd (omega arith)
+taken_part entry few (suc before) h = taken_before few before (plain_move entry.context) (last_move entry ∷ []) (omega arith)
+
+-- none were made
+pub after_none : (world : SmallWorld) (entry : Entry) → world ≡ after_small_moves world (take 0 (moves_of entry entry.steps))
+unfolding after_small_moves
+after_none world entry = refl
+
+-- the step behind some of an entry
+abbrev pub step_of : Entry → (refused : Bool) → Move
+step_of entry refused = record { context = entry.context; refused = refused; shown = None }
+
+after_last : (world : SmallWorld) (entry : Entry) (before : ℕ)
+    → after_small_moves world (moves_of entry (suc before)) ≡ after_small_move (after_small_moves world (replicate before (plain_move entry.context))) (last_move entry)
+after_last world entry before =
+    after_small_moves-append world (replicate before (plain_move entry.context)) (last_move entry ∷ [])
+    ∙ after_small_moves-single (after_small_moves world (replicate before (plain_move entry.context))) (last_move entry)
+
+and_false : (a b : Bool) → b ≡ false → false ≡ (a && b)
+and_false true b h = sym h
+and_false false b h = refl
+
+and_true : (a b : Bool) → b ≡ true → a ≡ (a && b)
+and_true true b h = sym h
+and_true false b h = refl
+
+-- one step more
+pub after_step : (world : SmallWorld) (entry : Entry) (made n : ℕ) → made < n
+    → after_small_moves world (take (made + 1) (moves_of entry n)) ≡ after_small_move (after_small_moves world (take made (moves_of entry n))) (step_of entry (entry.refused && (made + 1 == n)))
+after_step world entry made n h = elim (cases_lt (made + 1) n) [
+  | inl below ↦
+      let so_far : SmallWorld = after_small_moves world (replicate made (plain_move entry.context)) in
+      let ordinary : (made + 1 == n) ≡ false = grind (arith, nat_tests) in
+      rw (taken_part entry (made + 1) n below, taken_part entry made n h)
+      (after_more world entry.context made
+      ∙ same_move so_far (plain_move entry.context) (step_of entry (entry.refused && (made + 1 == n))) refl (and_false entry.refused (made + 1 == n) ordinary))
+  | inr past ↦
+      let so_far : SmallWorld = after_small_moves world (replicate made (plain_move entry.context)) in
+      let last : n ≡ suc made = omega arith in
+      let test : (made + 1 == n) ≡ true = grind (arith, nat_tests) in
+      let all : take (made + 1) (moves_of entry n) ≡ moves_of entry (suc made) =
+      ap (λ (k : ℕ). take k (moves_of entry n)) (let same : made + 1 ≡ n = omega arith in same) ∙ (taken_all entry n ∙ ap (moves_of entry) last) in
+      rw (all, taken_part entry made n h)
+      (after_last world entry made ∙ same_move so_far (last_move entry) (step_of entry (entry.refused && (made + 1 == n))) refl (and_true entry.refused (made + 1 == n) test))
+]
+
+-- ---- steps of a context that isn't ready
+
+idle_steps : (world : SmallWorld) (entry : Entry) (before : ℕ) → is_small_ready world entry.context ≡ false
+    → after_small_moves world (replicate before (plain_move entry.context) ++ last_move entry ∷ []) ≡ world
+unfolding after_small_moves
+idle_steps world entry zero unready = unready_move world (last_move entry) unready
+idle_steps world entry (suc before) unready =
+    ap (λ (w : SmallWorld). after_small_moves w (replicate before (plain_move entry.context) ++ last_move entry ∷ [])) (unready_move world (plain_move entry.context) unready)
+    ∙ idle_steps world entry before unready
+
+idle_behind : (world : SmallWorld) (entry : Entry) (made before : ℕ) → is_small_ready world entry.context ≡ false
+    → after_small_moves world (drop made (replicate before (plain_move entry.context) ++ last_move entry ∷ [])) ≡ world
+unfolding after_small_moves
+idle_behind world entry zero before unready = idle_steps world entry before unready
+idle_behind world entry (suc made) zero unready = ap (after_small_moves world) (drop_all made [] (omega arith))
+idle_behind world entry (suc made) (suc before) unready = idle_behind world entry made before unready
+
+idle : (world : SmallWorld) (entry : Entry) (made n : ℕ) → is_small_ready world entry.context ≡ false → after_small_moves world (drop made (moves_of entry n)) ≡ world
+unfolding after_small_moves
+idle world entry made zero unready = ap (after_small_moves world) (drop_all made [] (omega arith))
+idle world entry made (suc before) unready = idle_behind world entry made before unready
 
 -- so where it isn't ready after some, the others of the entry change nothing
-pub after_idle : (old new : ThinWorld) (context few many : ℕ) → new ≡ after_thin_moves old (replicate few (plain_move context)) → is_thin_ready new context ≡ false → few ≤ many
-    → new ≡ after_thin_moves old (replicate many (plain_move context))
-after_idle old new context few many is unready h =
-    sym (ap (λ k. after_thin_moves old (replicate k (plain_move context))) (let sum : many ≡ few + (many - few) = omega arith in sum)
-    ∙ (ap (after_thin_moves old) (sym (replicate-append-replicate few (many - few) (plain_move context)))
-    ∙ (after_thin_moves-append old (replicate few (plain_move context)) (replicate (many - few) (plain_move context))
-    ∙ (ap (λ (w : ThinWorld). after_thin_moves w (replicate (many - few) (plain_move context))) (sym is)
-    ∙ idle new context (many - few) unready))))
+pub after_idle : (old new : SmallWorld) (entry : Entry) (made n : ℕ) → new ≡ after_small_moves old (take made (moves_of entry n)) → is_small_ready new entry.context ≡ false
+    → new ≡ after_small_moves old (moves_of entry n)
+after_idle old new entry made n is unready =
+    sym (ap (after_small_moves old) (sym (take-append-drop made (moves_of entry n)))
+    ∙ (after_small_moves-append old (take made (moves_of entry n)) (drop made (moves_of entry n))
+    ∙ (ap (λ (w : SmallWorld). after_small_moves w (drop made (moves_of entry n))) (sym is) ∙ idle new entry made n unready)))
 
 second_true : (a b : Bool) → (a && b) ≡ true → not b ≡ false
 second_true true true h = refl
@@ -60,8 +126,8 @@ second_true true false h = cc
 second_true false b h = cc
 
 -- a ready context isn't over
-pub ready_not_over : (world : ThinWorld) (context : ℕ) → is_thin_ready world context ≡ true → is_over world ≡ false
-unfolding is_thin_ready
+pub ready_not_over : (world : SmallWorld) (context : ℕ) → is_small_ready world context ≡ true → is_over world ≡ false
+unfolding is_small_ready
 ready_not_over world context ready = second_true (context == 1) (has_steps world.stage) ready
 
 both_true : (a b : Bool) → (a && b) ≡ true → (a ≡ true) × (b ≡ true)
@@ -69,26 +135,26 @@ both_true true b h = (refl, h)
 both_true false b h = cc
 
 -- and is the first
-pub ready_first : (world : ThinWorld) (context : ℕ) → is_thin_ready world context ≡ true → context ≡ 1
-unfolding is_thin_ready
+pub ready_first : (world : SmallWorld) (context : ℕ) → is_small_ready world context ≡ true → context ≡ 1
+unfolding is_small_ready
 ready_first world context ready = let same = (both_true (context == 1) (has_steps world.stage) ready).0 in grind (arith, nat_tests)
 
 -- the world after the whole of the next entry
-pub after_next : (program : List ℕ) (given : List Entry) (i : ℕ) (d : Entry) (world : ThinWorld) → i < length given
-    → world ≡ after_thin_moves (thin_world program (take i given)) (moves_of (get_or given i d) (get_or given i d).steps) → world ≡ thin_world program (take (i + 1) given)
+pub after_next : (program : List ℕ) (given : List Entry) (i : ℕ) (d : Entry) (world : SmallWorld) → i < length given
+    → world ≡ after_small_moves (small_world program (take i given)) (moves_of (get_or given i d) (get_or given i d).steps) → world ≡ small_world program (take (i + 1) given)
 after_next program given i d world lt is =
     let entry : Entry = get_or given i d in
-    is ∙ sym (ap (thin_world program) (take_more given i d lt)
-    ∙ (thin_world-append program (take i given) (entry ∷ []) ∙ ap (after_thin_moves (thin_world program (take i given))) (moves-single entry)))
+    is ∙ sym (ap (small_world program) (take_more given i d lt)
+    ∙ (small_world-append program (take i given) (entry ∷ []) ∙ ap (after_small_moves (small_world program (take i given))) (moves-single entry)))
 
 -- the world after a part of the next entry
-pub after_part : (program : List ℕ) (before schedule : List Entry) (few context : ℕ) (old new : ThinWorld)
-    → old ≡ thin_world program before → new ≡ after_thin_moves old (replicate few (plain_move context))
-    → moves schedule ≡ moves before ++ replicate few (plain_move context) → new ≡ thin_world program schedule
-unfolding thin_world
+pub after_part : (program : List ℕ) (before schedule : List Entry) (few context : ℕ) (old new : SmallWorld)
+    → old ≡ small_world program before → new ≡ after_small_moves old (replicate few (plain_move context))
+    → moves schedule ≡ moves before ++ replicate few (plain_move context) → new ≡ small_world program schedule
+unfolding small_world
 after_part program before schedule few context old new was is steps =
-    is ∙ (ap (λ (w : ThinWorld). after_thin_moves w (replicate few (plain_move context))) was
-    ∙ sym (ap (after_thin_moves (starting_thin_world program)) steps ∙ after_thin_moves-append (starting_thin_world program) (moves before) (replicate few (plain_move context))))
+    is ∙ (ap (λ (w : SmallWorld). after_small_moves w (replicate few (plain_move context))) was
+    ∙ sym (ap (after_small_moves (starting_small_world program)) steps ∙ after_small_moves-append (starting_small_world program) (moves before) (replicate few (plain_move context))))
 
 -- entries are a beginning
 pub begins_front : (given : List Entry) (i : ℕ) → Begins (take i given) given
@@ -105,13 +171,6 @@ begins_with_part given schedule i few d lt less steps =
     let p = begins-part (take i given) (drop (i + 1) given) entry few (part ∷ []) alone less in
     let same : moves schedule ≡ moves (take i given ++ part ∷ []) = steps ∙ sym (moves-append (take i given) (part ∷ []) ∙ ap {B = List Move} (λ rest. moves (take i given) ++ rest) alone) in
     (p.0, ap {B = List Move} (λ front. front ++ p.0) same ∙ (p.1 ∙ ap moves cut))
-
--- an entry has as many steps as it says
-length_moves_of : (entry : Entry) (n : ℕ) → length (moves_of entry n) ≡ n
-length_moves_of entry zero = refl
-length_moves_of entry (suc n) =
-    length-append (replicate n (plain_move entry.context)) (last_move entry ∷ [])
-    ∙ (ap (λ k. k + 1) (length-replicate n (plain_move entry.context)) ∙ add-one n)
 
 -- the steps of the first entry and of those behind it
 length_head : (entry : Entry) (rest : List Entry) → length (moves (entry ∷ rest)) ≡ entry.steps + length (moves rest)
@@ -139,7 +198,7 @@ fewer_with_part given schedule i few d lt less steps =
     omega (arith, made, all, less)
 
 -- a run that used up its steps doesn't end for want of memory
-pub never_memory : (world : ThinWorld) (outcome : Outcome) → EndsAs world true outcome → is_memory outcome ≡ false
+pub never_memory : (world : SmallWorld) (outcome : Outcome) → EndsAs world true outcome → is_memory outcome ≡ false
 never_memory world Finished ends = refl
 never_memory world Faulted ends = refl
 never_memory world AllWaiting ends = refl
@@ -159,4 +218,4 @@ moves_without old context made none = let zeroed : made ≡ 0 = omega arith in r
 
 pub ruleset part_lemmas = (moves_with_part, moves_without)
 
-pub ruleset entry_lemmas = (after_more, after_none, after_entry, after_idle, ready_not_over)
+pub ruleset entry_lemmas = (after_none, after_step, after_idle, taken_all, taken_part, ready_not_over)

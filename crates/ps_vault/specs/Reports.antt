@@ -2,7 +2,7 @@
 use Rattle.std.specs.Prelude.{◌≡◌, ◌≢◌, ℕ, ◌≤◌, ◌==◌, Bool, true, false, not, List}
 use Rattle.ps_language.specs.declared.schedules.Entry.{Entry}
 use Rattle.ps_language.specs.Schedules.{count_of, is_longest}
-use Rattle.ps_language.specs.Thin.{ThinWorld, has_steps, thin_world, thin_printed, IsThinProper}
+use Rattle.ps_language.specs.Small.{SmallWorld, has_steps, small_world, small_printed, IsSmallProper}
 use Rattle.ps_vault.specs.declared.reports.Config.{Config}
 use Rattle.ps_vault.specs.declared.reports.Outcome.{Outcome}
 use Rattle.ps_vault.specs.declared.reports.Outcome.TheVariants.{Finished, Faulted, AllWaiting, StepsOut, Memory}
@@ -18,11 +18,11 @@ pub record IsWithin (config : Config) : Type 0 where
   pub steps_low : 1 ≤ config.steps
 
 -- the one context is finished
-abbrev pub is_over : ThinWorld → Bool
+abbrev pub is_over : SmallWorld → Bool
 is_over world = not (has_steps world.stage)
 
 -- how a run ended in this world; used up says that no step is left. The one context never waits, and want of memory comes only before any other end
-abbrev pub EndsAs : ThinWorld → (used_up : Bool) → Outcome → Type 0
+abbrev pub EndsAs : SmallWorld → (used_up : Bool) → Outcome → Type 0
 EndsAs world used_up Finished = (is_over world ≡ true) × (world.error_lines ≡ 0)
 EndsAs world used_up Faulted = (is_over world ≡ true) × (world.error_lines ≢ 0)
 EndsAs world used_up AllWaiting = ⊥
@@ -31,11 +31,11 @@ EndsAs world used_up Memory = (is_over world ≡ false) × (used_up ≡ false)
 
 -- a run of a program with a budget of steps: its bytes are those that its schedule prints, the schedule is proper and of the longest entries, and the outcome is that of its world
 pub record IsRunOf (program : List ℕ) (steps : ℕ) (printed : List ℕ) (schedule : List Entry) (outcome : Outcome) : Type 0 where
-  pub prints : printed ≡ thin_printed program schedule
-  pub proper : IsThinProper program schedule
+  pub prints : printed ≡ small_printed program schedule
+  pub proper : IsSmallProper program schedule
   pub longest : is_longest schedule ≡ true
   pub within : count_of schedule ≤ steps
-  pub ends : EndsAs (thin_world program schedule) (count_of schedule == steps) outcome
+  pub ends : EndsAs (small_world program schedule) (count_of schedule == steps) outcome
 
 -- whether it is for want of memory
 abbrev pub is_memory : Outcome → Bool

@@ -1,8 +1,10 @@
 -- What clauses see of a vault, and what it keeps.
-use Rattle.std.specs.Prelude.{◌≡◌, ℕ, true, List}
+use Rattle.std.specs.Prelude.{◌≡◌, ℕ, Bool, true, None, List}
 use Rattle.ps_language.specs.declared.schedules.Entry.{Entry}
-use Rattle.ps_language.specs.Schedules.{count_of, is_longest}
-use Rattle.ps_language.specs.Thin.{ThinWorld, thin_world, IsThinProper}
+use Rattle.ps_language.specs.Schedules.{Move, count_of, is_longest}
+use Rattle.ps_language.specs.Small.{SmallWorld, small_world, IsSmallProper}
+use Rattle.ps_mem.specs.Heap.{Heap}
+use Rattle.ps_step.specs.Machine.{Machine, IsShown, IsGood}
 
 -- the program, and the steps that were made
 pub record Story : Type 0 where
@@ -10,12 +12,17 @@ pub record Story : Type 0 where
   pub schedule : List Entry
 
 -- the world that they stand for
-abbrev pub world_at : Story → ThinWorld
-world_at story = thin_world story.program story.schedule
+abbrev pub world_at : Story → SmallWorld
+world_at story = small_world story.program story.schedule
 
--- the world that is kept is that of program and schedule, and the schedule is proper
-pub record Keeps (world : ThinWorld) (schedule : List Entry) (made : ℕ) : Type 0 where
-  pub shows : world ≡ thin_world world.program schedule
-  pub proper : IsThinProper world.program schedule
+-- a step of the first context
+abbrev pub first_move : (refused : Bool) → Move
+first_move refused = record { context = 1; refused = refused; shown = None }
+
+-- memory and context show the world of program and schedule, and the schedule is proper
+pub record Keeps (heap : Heap) (machine : Machine) (schedule : List Entry) (made : ℕ) : Type 0 where
+  pub good : IsGood heap machine
+  pub shows : IsShown heap machine (small_world machine.program schedule)
+  pub proper : IsSmallProper machine.program schedule
   pub longest : is_longest schedule ≡ true
   pub counted : made ≡ count_of schedule

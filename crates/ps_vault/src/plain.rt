@@ -26,7 +26,7 @@ pub fn run_plain(alloc: Global, program: &[u8], config: Config) -> Result<Report
         return Err(RunFault::Memory);
     };
     for _ in 0..config.steps {
-        if !vault.is_ready(FIRST_CONTEXT) || vault.step().is_err() {
+        if !vault.is_ready(FIRST_CONTEXT) || vault.step(false).is_err() {
             break;
         }
     }

@@ -1,8 +1,8 @@
 //! A run under a given schedule.
 
-ghost use Rattle.std.specs.Prelude.{◌≡◌, ◌≢◌, ◌<◌, ◌≤◌, ◌++◌, vec_len, vec_capacity, [], true, false, not, replicate, IfOk, Err};
+ghost use Rattle.std.specs.Prelude.{◌≡◌, ◌≢◌, ◌+◌, ◌<◌, ◌≤◌, ◌++◌, ◌&&◌, ◌==◌, vec_len, vec_capacity, [], true, false, not, replicate, IfOk, Err};
 ghost use Rattle.ps_language.specs.Schedules.{plain_move, moves_of, moves, count_of, Begins};
-ghost use Rattle.ps_language.specs.Thin as thin;
+ghost use Rattle.ps_language.specs.Small as small;
 ghost use Rattle.ps_vault.specs.Reports.{EndsAs, is_memory, is_over};
 ghost use Rattle.ps_vault.specs.Stories.{world_at};
 
@@ -12,25 +12,33 @@ use crate::vaults::Vault;
 use ps_language::schedules::Entry;
 use std::alloc::Global;
 
-/// Makes the steps of an entry, as far as memory goes, and tells how many were made; a step of a context that isn't ready is counted and changes nothing, nor do
-/// those behind it in the entry.
+/// Makes the steps of an entry, of which the last may be refused, as far as memory goes, and tells how many were made; a step of a context that isn't ready is counted
+/// and changes nothing, nor do those behind it in the entry.
 #[tactic(auto, using(crate::proofs::Following::entry_lemmas))]
 fn follow_entry(vault: &mut Vault, entry: Entry) -> u32
     ensures program { vault.new.program ≡ vault.old.program }
     ensures within { result ≤ entry.steps }
-    ensures all { result ≡ entry.steps → world_at vault.new ≡ thin.after_thin_moves (world_at vault.old) (moves_of entry entry.steps) }
-    ensures part { result < entry.steps → world_at vault.new ≡ thin.after_thin_moves (world_at vault.old) (replicate result (plain_move entry.context)) }
+    ensures all { result ≡ entry.steps → world_at vault.new ≡ small.after_small_moves (world_at vault.old) (moves_of entry entry.steps) }
+    ensures part { result < entry.steps → world_at vault.new ≡ small.after_small_moves (world_at vault.old) (replicate result (plain_move entry.context)) }
     ensures stopped { result < entry.steps → is_over (world_at vault.new) ≡ false }
 {
     for made in 0..entry.steps {
         if !vault.is_ready(entry.context) {
             return entry.steps;
         }
-        let Ok(()) = vault.step() else {
+        let Ok(()) = vault.step(is_refused(entry, made)) else {
             return made;
         };
     }
     entry.steps
+}
+
+/// Whether the step behind so many of an entry is refused: only the last may be.
+fn is_refused(entry: Entry, made: u32) -> bool
+    requires { made < entry.steps }
+    ensures { result ≡ (entry.refused && (made + 1 == entry.steps)) }
+{
+    entry.refused && made + 1 == entry.steps
 }
 
 /// Runs the steps of a schedule, over memory that is never collected.
@@ -39,11 +47,11 @@ fn follow_entry(vault: &mut Vault, entry: Entry) -> u32
 /// `Memory` where the room that the run starts with can't be had; there is no other.
 pub fn replay(alloc: Global, program: &[u8], schedule: &[Entry]) -> Result<Report, RunFault>
     ensures fault { result ≢ Err RunFault.Config }
-    ensures prints { IfOk result (λ report. report.printed.items ≡ thin.thin_printed program.now report.schedule.items) }
+    ensures prints { IfOk result (λ report. report.printed.items ≡ small.small_printed program.now report.schedule.items) }
     ensures begins { IfOk result (λ report. Begins report.schedule.items schedule.now) }
     ensures whole { IfOk result (λ report. is_memory report.outcome ≡ false → report.schedule.items ≡ schedule.now) }
     ensures refused { IfOk result (λ report. is_memory report.outcome ≡ true → count_of report.schedule.items < count_of schedule.now) }
-    ensures ends { IfOk result (λ report. EndsAs (thin.thin_world program.now report.schedule.items) (not (is_memory report.outcome)) report.outcome) }
+    ensures ends { IfOk result (λ report. EndsAs (small.small_world program.now report.schedule.items) (not (is_memory report.outcome)) report.outcome) }
     ensures flips { IfOk result (λ report. report.flips ≡ 0) }
     ensures taken { IfOk result (λ report. report.taken ≡ 0) }
 {

@@ -2,6 +2,7 @@
 
 ghost use Rattle.std.specs.Prelude.{◌≡◌, ◌+◌, ◌<◌, ◌≤◌, ◌++◌, ◌∷◌, [], vec_len, vec_capacity};
 ghost use Rattle.ps_language.specs.Schedules as schedules;
+ghost use Rattle.ps_vault.specs.Stories.{first_move};
 
 use ps_language::schedules::Entry;
 
@@ -20,14 +21,14 @@ fn joins(entry: &Entry) -> bool
 
 /// Adds a step of the first context, for which the capacity has room.
 #[tactic(auto, using(crate::proofs::Notes::note_lemmas))]
-pub fn note(schedule: &mut Vec<Entry>)
+pub fn note(schedule: &mut Vec<Entry>, refused: bool)
     requires { vec_len schedule.old < vec_capacity schedule.old }
-    ensures { schedule.new.items ≡ schedules.added schedule.old.items (schedules.plain_move 1) }
+    ensures { schedule.new.items ≡ schedules.added schedule.old.items (first_move refused) }
 {
     let single = Entry {
         context: FIRST_CONTEXT,
         steps: 1,
-        refused: false,
+        refused,
         shown: None,
     };
     let Some(last) = schedule.pop() else {
@@ -40,7 +41,7 @@ pub fn note(schedule: &mut Vec<Entry>)
             Entry {
                 context: last.context,
                 steps: last.steps + 1,
-                refused: false,
+                refused,
                 shown: None,
             },
         );

@@ -1,23 +1,29 @@
-//! A context with the program and the schedule that it stands for.
+//! A context and its memory, with the program and the schedule that they stand for.
 
-ghost use Rattle.std.specs.Prelude.{◌≡◌, ◌≤◌, OnOk, OnErr, IfOk, IfSome, IfNone, Some, None, [], true, ◌&&◌};
-ghost use Rattle.ps_language.specs.Schedules.{plain_move, added, count_of};
-ghost use Rattle.ps_language.specs.Thin as thin;
+ghost use Rattle.std.specs.Prelude.{◌≡◌, ◌≤◌, OnOk, OnErr, IfOk, IfErr, IfSome, IfNone, Some, None, [], true, ◌&&◌};
+ghost use Rattle.ps_language.specs.Schedules.{added, count_of};
+ghost use Rattle.ps_language.specs.Small as small;
 ghost use Rattle.ps_vault.specs.Reports.{EndsAs, IsRunOf, is_over};
-ghost use Rattle.ps_vault.specs.Stories.{Story, world_at};
+ghost use Rattle.ps_vault.specs.Stories.{Story, world_at, first_move};
 
 use crate::reports::{Outcome, Report};
 use crate::schedules::{FIRST_CONTEXT, note};
 use ps_language::schedules::Entry;
-use ps_step::failure::NotMade;
+use ps_mem::Memory;
+use ps_mem::plain::PlainMemory;
+use ps_ops::failure::NotMade;
 use ps_step::interpreter::Interpreter;
 use std::alloc::{AllocError, Global};
 use std::marker::Model;
 
-/// The context, and the steps that it made: seen as the program and the schedule.
+/// The slot of the steps; the memory keeps no log.
+const SLOT: u32 = 0;
+
+/// The context, its memory, and the steps that it made: seen as the program and the schedule.
 #[derive(Drop)]
 pub struct Vault {
     interpreter: Interpreter,
+    memory: PlainMemory,
     schedule: Vec<Entry>,
     made: u64,
 }
@@ -29,26 +35,26 @@ impl Model for Vault {
 
     ghost view = { λ v. record { program = v.interpreter.program; schedule = v.schedule.items } };
 
-    ghost invariant = { λ v. Keeps v.interpreter v.schedule.items v.made };
+    ghost invariant = { λ v. Keeps (⟦<PlainMemory as Memory>⟧.heap v.memory) v.interpreter v.schedule.items v.made };
 }
 
 impl Vault {
-    /// The context before its first step, and an empty schedule.
+    /// The context before its first step, over a memory in which nothing stands, and an empty schedule. Fails where the context's room can't be had.
     pub fn new(alloc: Global, program: &[u8]) -> Result<Vault, AllocError>
         ensures { IfOk result (λ vault. vault ≡ record { program = program.now; schedule = [] }) }
     {
         let interpreter = Interpreter::new(alloc, program)?;
         Ok(Vault {
             interpreter,
+            memory: PlainMemory::new(alloc),
             schedule: Vec::new(alloc),
             made: 0,
         })
     }
 
     /// Whether a context is ready.
-    #[tactic(auto, unfolding(ps_language::specs::Thin::is_thin_ready))]
     pub fn is_ready(&self, context: u32) -> bool
-        ensures { result ≡ thin.is_thin_ready (world_at self.now) context }
+        ensures { result ≡ small.is_small_ready (world_at self.now) context }
     {
         context == FIRST_CONTEXT && self.interpreter.has_steps()
     }
@@ -60,19 +66,23 @@ impl Vault {
         self.made
     }
 
-    /// Makes a step of the first context, which is ready. Not made, with nothing changed, where a growth was refused.
-    pub fn step(&mut self) -> Result<(), NotMade>
-        requires { thin.is_thin_ready (world_at self.old) 1 ≡ true }
-        ensures made { OnOk result (self.new ≡ record self.old { schedule = added self.old.schedule (plain_move 1) }) }
-        ensures world { OnOk result (world_at self.new ≡ thin.after_thin_move (world_at self.old) (plain_move 1)) }
+    /// Makes a step of the first context, which is ready; a refused one makes no object. Not made, with nothing changed, where a growth was refused: the reason
+    /// is `Memory`, and no other.
+    pub fn step(&mut self, refused: bool) -> Result<(), NotMade>
+        requires { small.is_small_ready (world_at self.old) 1 ≡ true }
+        ensures made { OnOk result (self.new ≡ record self.old { schedule = added self.old.schedule (first_move refused) }) }
+        ensures world { OnOk result (world_at self.new ≡ small.after_small_move (world_at self.old) (first_move refused)) }
+        ensures memory { IfErr result (λ reason. reason ≡ NotMade.Memory) }
         ensures not_made { OnErr result (self.new ≡ self.old) }
     {
-        self.schedule.reserve(1)?;
+        if self.schedule.reserve(1).is_err() {
+            return Err(NotMade::Memory);
+        }
         let Some(made) = self.made.checked_add(1) else {
             return Err(NotMade::Memory);
         };
-        self.interpreter.step()?;
-        note(&mut self.schedule);
+        self.interpreter.step(&mut self.memory, SLOT, refused)?;
+        note(&mut self.schedule, refused);
         self.made = made;
         Ok(())
     }

@@ -5,7 +5,7 @@ use Rattle.std.proofs.lemmas.List.{take_more}
 use Rattle.std.proofs.lemmas.Bool.{true≢false}
 use Rattle.ps_language.specs.declared.schedules.Entry.{Entry}
 use Rattle.ps_language.specs.Schedules.{plain_move, moves_of, moves}
-use Rattle.ps_language.specs.Thin.{ThinWorld, thin_world, thin_printed, after_thin_moves}
+use Rattle.ps_language.specs.Small.{SmallWorld, small_world, small_printed, after_small_moves}
 use Rattle.ps_vault.specs.Stories.{world_at}
 use Rattle.ps_vault.specs.Reports.{is_memory, is_over}
 use Rattle.ps_vault.proofs.Following.{after_next, after_part, begins_with_part, fewer_with_part, never_memory}
@@ -29,12 +29,12 @@ loop-entry-preserved c =
       count = c.push_within.ensures.len ∙ ap (λ n. n + 1) c.loop-entry.invariant.count;
       room = omega (arith, c.push_within.ensures.capacity, c.loop-entry.invariant.room);
       world = after_next c.args.program.now given i none _ lt
-          (c.follow_entry-made.ensures.all all ∙ ap (λ (w : ThinWorld). after_thin_moves w (moves_of entry entry.steps)) c.loop-entry.invariant.world);
+          (c.follow_entry-made.ensures.all all ∙ ap (λ (w : SmallWorld). after_small_moves w (moves_of entry entry.steps)) c.loop-entry.invariant.world);
     }
 
 -- the world at the end
-finished_world : (c : goal.After-report_of-2) → world_at c.loop-entry.vault ≡ thin_world c.args.program.now c.report_of-2.result.schedule.items
-finished_world c = c.loop-entry.invariant.world ∙ ap (thin_world c.args.program.now) (sym (ap (λ (v : _). v.items) c.report_of-2.ensures.schedule ∙ c.loop-entry.invariant.followed))
+finished_world : (c : goal.After-report_of-2) → world_at c.loop-entry.vault ≡ small_world c.args.program.now c.report_of-2.result.schedule.items
+finished_world c = c.loop-entry.invariant.world ∙ ap (small_world c.args.program.now) (sym (ap (λ (v : _). v.items) c.report_of-2.ensures.schedule ∙ c.loop-entry.invariant.followed))
 
 -- the steps where memory ran out
 stopped_moves : (c : goal.After-report_of)
@@ -45,7 +45,7 @@ stopped_moves c =
     (c.push_part.ensures ∙ ap (λ (entries : List Entry). moves entries ++ replicate c.follow_entry-made.result (plain_move entry.context)) c.loop-entry.invariant.followed)
 
 -- the world where memory ran out
-stopped_world : (c : goal.After-report_of) → world_at c.follow_entry-made.new.vault ≡ thin_world c.args.program.now c.report_of.result.schedule.items
+stopped_world : (c : goal.After-report_of) → world_at c.follow_entry-made.new.vault ≡ small_world c.args.program.now c.report_of.result.schedule.items
 stopped_world c =
     let given = c.args.schedule.now in
     let i = c.loop-entry.entry-index in
@@ -54,8 +54,8 @@ stopped_world c =
     c.loop-entry.invariant.world (c.follow_entry-made.ensures.part c.if-made-entry.true) (stopped_moves c)
 
 pub returns-then-made-entry-clause-prints : goal.returns-then-made-entry-clause-prints
-unfolding thin_printed
-returns-then-made-entry-clause-prints c = c.report_of.ensures.printed ∙ ap (λ (w : ThinWorld). w.printed) (stopped_world c)
+unfolding small_printed
+returns-then-made-entry-clause-prints c = c.report_of.ensures.printed ∙ ap (λ (w : SmallWorld). w.printed) (stopped_world c)
 
 pub returns-then-made-entry-clause-begins : goal.returns-then-made-entry-clause-begins
 returns-then-made-entry-clause-begins c =
@@ -70,8 +70,8 @@ returns-then-made-entry-clause-ends c =
     rw c.report_of.ensures.outcome (ap is_over (sym (stopped_world c)) ∙ c.follow_entry-made.ensures.stopped c.if-made-entry.true, refl)
 
 pub returns-clause-prints : goal.returns-clause-prints
-unfolding thin_printed
-returns-clause-prints c = c.report_of-2.ensures.printed ∙ ap (λ (w : ThinWorld). w.printed) (finished_world c)
+unfolding small_printed
+returns-clause-prints c = c.report_of-2.ensures.printed ∙ ap (λ (w : SmallWorld). w.printed) (finished_world c)
 
 pub returns-clause-refused : goal.returns-clause-refused
 returns-clause-refused c told =

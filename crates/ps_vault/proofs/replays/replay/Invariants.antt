@@ -1,5 +1,5 @@
 use Rattle.std.proofs.Common.{◌≡◌, ◌≤◌, take, length, vec_len, vec_capacity}
-use Rattle.ps_language.specs.Thin.{thin_world}
+use Rattle.ps_language.specs.Small.{small_world}
 use Rattle.ps_vault.specs.Stories.{world_at}
 use Rattle.ps_vault.proofs.replays.replay.Given as goal
 
@@ -10,5 +10,5 @@ invariant-loop-entry l = record {
   followed : l.followed.items ≡ take l.entry-index l.schedule;
   count : vec_len l.followed ≡ l.entry-index;
   room : length l.schedule ≤ vec_capacity l.followed;
-  world : world_at l.vault ≡ thin_world l.program (take l.entry-index l.schedule);
+  world : world_at l.vault ≡ small_world l.program (take l.entry-index l.schedule);
 }

@@ -1,0 +1,4 @@
+pub mod Chosen
+pub mod Asking
+pub mod Observing
+pub mod Operating

@@ -1,0 +1,2 @@
+pub mod Operates
+pub mod Reasons
