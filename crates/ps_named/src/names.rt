@@ -129,9 +129,9 @@ pub fn text_at(number: u32) -> &'static [u8]
 }
 
 /// The numbers of the names of so many bytes: from the first on, below the second.
-pub fn numbers_of_length(size: usize) -> (u32, u32)
-    ensures below { result.1 ≤ 44 }
-    ensures others { (n : ℕ) → n < 44 → (n < result.0) ⊎ (result.1 ≤ n) → length (text_of_name small_names n) ≢ size }
+fn numbers_of_length(size: usize) -> (u32, u32)
+    ensures below { result.1 ≤ NAMES }
+    ensures others { (n : ℕ) → n < NAMES → (n < result.0) ⊎ (result.1 ≤ n) → length (text_of_name small_names n) ≢ size }
 {
     match size {
         1 => (0, 3),
@@ -149,7 +149,7 @@ pub fn numbers_of_length(size: usize) -> (u32, u32)
 /// The number of a name, if it stands for anything.
 pub fn number_of(text: &[u8]) -> Option<u32>
     ensures found { IfSome result (λ number. slice_get small_names number ≡ Some text.now) }
-    ensures below { IfSome result (λ number. number < 44) }
+    ensures below { IfSome result (λ number. number < NAMES) }
     ensures unknown { IfNone result (named text.now ≡ None) }
 {
     let (first, end) = numbers_of_length(text.len());

@@ -15,7 +15,7 @@ use ps_language::errors::ErrorName;
 /// The two topmost operands as integers, the topmost second. Raises `stackunderflow` and `typecheck`.
 #[inline]
 #[tactic(auto, using(crate::proofs::Meanings::readers))]
-fn two_integers(operands: &Operands) -> Result<(i32, i32), ErrorName>
+pub fn two_integers(operands: &Operands) -> Result<(i32, i32), ErrorName>
     ensures read { Reads two_integers result operands.now }
     ensures two { OnOk result (2 ≤ length operands.now) }
 {

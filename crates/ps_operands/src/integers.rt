@@ -1,7 +1,17 @@
 //! Arithmetic on integers of 32 bits, where a result may not be defined (PLRM2, 8 'Operators').
 
-ghost use Rattle.std.specs.Prelude.{◌≡◌, ℤ, ◌+ℤ◌, ◌-ℤ◌, ◌*ℤ◌};
+ghost use Rattle.std.specs.Prelude.{◌≡◌, ◌<◌, ◌^◌, ℤ, ◌+ℤ◌, ◌-ℤ◌, ◌*ℤ◌, IfSome};
 ghost use Rattle.ps_language.specs.Integers as integers;
+ghost use Rattle.ps_language.specs.Readers as readers;
+
+/// A number as a count, if it isn't negative.
+#[inline]
+pub fn count_of(number: i32) -> Option<usize>
+    ensures count { result ≡ readers.count_of number }
+    ensures bound { IfSome result (λ count. count < 2 ^ 31) }
+{
+    usize::try_from(number).ok()
+}
 
 /// The integer of 32 bits that a wider one is, if it is one.
 pub fn as_result(wide: i64) -> Option<i32>

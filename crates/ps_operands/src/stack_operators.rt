@@ -2,12 +2,12 @@
 
 ghost use Rattle.std.specs.Prelude.{◌≡◌, ◌∷◌, ◌+◌, ◌^◌, ◌<◌, ◌≤◌, pos, length, IfSome, IfNone, OnOk, OnErr, unsigned_abs};
 ghost use Rattle.std.specs.Int.{int_rem_euclid};
-ghost use Rattle.ps_language.specs.Readers as readers;
 ghost use Rattle.ps_language.specs.RowsStack as rows;
 ghost use Rattle.ps_operands.specs.Does.{Does, Pushes, copy_number_row};
 ghost use Rattle.ps_operands.specs.Kept.{AreFrom};
 ghost use Rattle.ps_operands.specs.Marks.{IsMarkAt, HasNoMark};
 
+use crate::integers::count_of;
 use crate::{Operands, plain};
 use ps_language::errors::ErrorName;
 use ps_stacks::OPERAND_LIMIT;
@@ -195,14 +195,6 @@ pub fn counttomark(operands: &mut Operands) -> Result<(), ErrorName>
     };
     let number = depth as i32;
     push(operands, plain::integer(number))
-}
-
-/// A number as a count, if it isn't negative.
-fn count_of(number: i32) -> Option<usize>
-    ensures count { result ≡ readers.count_of number }
-    ensures bound { IfSome result (λ count. count < 2 ^ 31) }
-{
-    usize::try_from(number).ok()
 }
 
 /// By how many places a group is rotated.

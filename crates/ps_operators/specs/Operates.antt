@@ -18,30 +18,30 @@ use Rattle.ps_mem.specs.Shows.{AreWithin, Shows}
 use Rattle.ps_ops.specs.Does.{values_in, ObservesAs}
 use Rattle.ps_ops.specs.declared.failure.Failure.{Failure}
 use Rattle.ps_ops.specs.declared.failure.Failure.TheVariants.{Error, NotMade}
-use Rattle.ps_operators.specs.Reasons.{IsReason}
+use Rattle.ps_operators.specs.Reasons.{Needs, operator_needs, IsReason}
 
 -- nothing changed: memory, operands and output
 abbrev pub AreSame : (old new : Heap) → (before after : List Word) → (printed_before printed_after : List ℕ) → Type 0
 AreSame old new before after printed_before printed_after = (new ≡ old) × (after ≡ before) × (printed_after ≡ printed_before)
 
--- what the effect makes is shown, or its error was raised, or there is a reason why not; but for the first nothing changed
-abbrev pub OperatesAs : Result Unit Failure → Effect → (slot : ℕ) → (asked left : Grants) → (old new : Heap) → (before after : List Word) → (printed_before printed_after : List ℕ) → Store → Type 0
-OperatesAs (Ok _) (makes scene output) slot asked left old new before after printed_before printed_after store =
+-- of an operator that needs so much: what the effect makes is shown, or its error was raised, or there is a reason why not; but for the first nothing changed
+abbrev pub OperatesAs : Needs → Result Unit Failure → Effect → (slot : ℕ) → (asked left : Grants) → (old new : Heap) → (before after : List Word) → (printed_before printed_after : List ℕ) → Store → Type 0
+OperatesAs needs (Ok _) (makes scene output) slot asked left old new before after printed_before printed_after store =
     (values_in new small_names after ≡ scene.operands) × Shows new small_names scene.store × AreWithin new small_names scene.store after × (printed_after ≡ printed_before ++ output)
-OperatesAs (Ok _) _ slot asked left old new before after printed_before printed_after store = ⊥
-OperatesAs (Err (Error error)) (raises raised) slot asked left old new before after printed_before printed_after store =
+OperatesAs needs (Ok _) _ slot asked left old new before after printed_before printed_after store = ⊥
+OperatesAs needs (Err (Error error)) (raises raised) slot asked left old new before after printed_before printed_after store =
     (error ≡ raised) × AreSame old new before after printed_before printed_after
-OperatesAs (Err (Error error)) (starves names) slot asked left old new before after printed_before printed_after store =
+OperatesAs needs (Err (Error error)) (starves names) slot asked left old new before after printed_before printed_after store =
     (error ≡ VmError) × AreSame old new before after printed_before printed_after
-OperatesAs (Err (Error error)) _ slot asked left old new before after printed_before printed_after store = ⊥
-OperatesAs (Err (NotMade reason)) (makes scene output) slot asked left old new before after printed_before printed_after store =
-    IsReason reason old slot asked left store scene.store × AreSame old new before after printed_before printed_after
-OperatesAs (Err (NotMade reason)) _ slot asked left old new before after printed_before printed_after store = ⊥
+OperatesAs needs (Err (Error error)) _ slot asked left old new before after printed_before printed_after store = ⊥
+OperatesAs needs (Err (NotMade reason)) (makes scene output) slot asked left old new before after printed_before printed_after store =
+    IsReason needs reason old slot asked left store scene.store × AreSame old new before after printed_before printed_after
+OperatesAs needs (Err (NotMade reason)) _ slot asked left old new before after printed_before printed_after store = ⊥
 
 -- for every store that the memory shows
 pub record Operates (operator : Operator) (refused : Bool) (result : Result Unit Failure) (slot : ℕ) (asked left : Grants) (old new : Heap) (before after : List Word) (printed_before printed_after : List ℕ) : Type 0 where
   pub meets : (store : Store) → Shows old small_names store → AreWithin old small_names store before →
-      OperatesAs result (small_effect operator refused (values_in old small_names before) store) slot asked left old new before after printed_before printed_after store
+      OperatesAs (operator_needs operator (values_in old small_names before)) result (small_effect operator refused (values_in old small_names before) store) slot asked left old new before after printed_before printed_after store
 
 -- ---- operators that change nothing but operands
 

@@ -71,7 +71,6 @@ fn observe<M: Memory>(
     operands: &mut Operands,
     memory: &mut M,
 ) -> Result<(), ErrorName>
-    requires small { IsTrue (is_small operator) }
     requires observing { IsTrue (is_observing operator) }
     requires ready { IsReady (M.heap memory.old) operands.old }
     ensures heap { M.heap memory.new ≡ M.heap memory.old }

@@ -1,5 +1,5 @@
 -- When what an operator did to operands and memory is its row.
-use Rattle.std.specs.Prelude.{◌≡◌, ◌≢◌, ℕ, ◌<◌, ◌≤◌, ◌==◌, ◌&&◌, not, min, Bool, false, IsTrue, List, map, Result, Ok, Err, if◌then◌else◌}
+use Rattle.std.specs.Prelude.{◌≡◌, ◌≢◌, ℕ, ◌+◌, ◌<◌, ◌≤◌, ◌==◌, ◌&&◌, not, min, Bool, false, IsTrue, List, map, Result, Ok, Err, if◌then◌else◌}
 use Rattle.ps_language.specs.declared.errors.ErrorName.{ErrorName}
 use Rattle.ps_language.specs.declared.errors.ErrorName.TheVariants.{VmError}
 use Rattle.ps_language.specs.Value.{Value, Store}
@@ -48,10 +48,11 @@ Agrees IsReason (Err (Error error)) (leaves change) names old new before after =
 Agrees IsReason (Err (NotMadeOf reason)) (leaves change) names old new before after = IsReason reason change × (new ≡ old) × (after ≡ before)
 Agrees IsReason (Err (NotMadeOf reason)) (fails raised) names old new before after = ⊥
 
--- the logs of other slots are as they were, and no log was closed or opened
+-- the logs of other slots are as they were, no log was closed or opened, and at most one record of its own log was used up
 pub record KeepsLogs (old new : Grants) (slot : ℕ) : Type 0 where
   pub closed : new.closed ≡ old.closed
   pub others : (s : ℕ) → s ≢ slot → new.records s ≡ old.records s
+  pub used : old.records slot ≤ new.records slot + 1
 
 -- ---- those that store elements
 

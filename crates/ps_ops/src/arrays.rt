@@ -16,6 +16,7 @@ use ps_language::access::Access;
 use ps_language::errors::ErrorName;
 use ps_language::kinds::Kind;
 use ps_mem::Memory;
+use ps_operands::integers::count_of;
 use ps_operands::plain;
 use ps_seq::arrays::{element, interval};
 use ps_stacks::OPERAND_LIMIT;
@@ -141,20 +142,12 @@ pub fn getinterval<M: Memory>(operands: &mut Operands, memory: &M) -> Result<(),
     let Some(n) = count_of(j) else {
         return Err(ErrorName::RangeCheck);
     };
-    let Some(start) = interval_within(i, n, part.length) else {
+    let Some(start) = interval_within(i, n as u32, part.length) else {
         return Err(ErrorName::RangeCheck);
     };
     let found = with_part(array, part, interval(part, start, n as u16));
     operands.replace(3, found);
     Ok(())
-}
-
-/// A number as a count, if it isn't negative.
-#[inline]
-pub fn count_of(number: i32) -> Option<u32>
-    ensures { result ≡ readers.count_of number }
-{
-    u32::try_from(number).ok()
 }
 
 /// Pushes an operand for which there is room.

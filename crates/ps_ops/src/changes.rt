@@ -24,12 +24,14 @@ use ps_mem::{Memory, Permit, SLOTS};
 use ps_seq::arrays::{copy_elements, interval, set_element};
 use ps_word::values::Part;
 
-/// Asks for so many records in the log of a slot. `LogFull`: fewer can be put. `LogClosed`: one at least is asked for, and the log is closed.
+/// Asks for so many records in the log of a slot; nothing that was granted is lost. `LogFull`: fewer can be put. `LogClosed`: one at
+/// least is asked for, and the log is closed.
 pub fn permitted<M: Memory>(memory: &mut M, slot: u32, count: u32) -> Result<(), NotMade>
     requires slot { slot < SLOTS }
     ensures heap { M.heap memory.new ≡ M.heap memory.old }
     ensures kept { M.grants memory.new ≡ record (M.grants memory.old) { records = (M.grants memory.new).records } }
     ensures others { (s : ℕ) → s ≢ slot → (M.grants memory.new).records s ≡ (M.grants memory.old).records s }
+    ensures more { (M.grants memory.old).records slot ≤ (M.grants memory.new).records slot }
     ensures granted { OnOk result (count ≤ (M.grants memory.new).records slot) }
     ensures closed { (result ≡ Err NotMade.LogClosed) ↔ ((1 ≤ count) × IsTrue ((M.grants memory.old).closed slot)) }
     ensures full { result ≡ Err NotMade.LogFull → (M.grants memory.new).records slot < count }

@@ -8,16 +8,16 @@ ghost use Rattle.ps_mem.specs.Shows.{IsReady};
 ghost use Rattle.ps_ops.specs.Does.{Makes, KeepsLogs, IsRoomReason};
 
 use crate::Operands;
-use crate::arrays::count_of;
 use crate::failure::{Failure, NotMade};
 use crate::readers::{array_word, integer_of};
 use ps_language::errors::ErrorName;
 use ps_mem::{Memory, NeedFault};
+use ps_operands::integers::count_of;
 use ps_operands::stack_operators::mark_depth;
 use ps_seq::arrays::{make_array, new_array};
 
 /// The most elements of an array.
-pub const SEQUENCE_LIMIT: u32 = 65_535;
+pub const SEQUENCE_LIMIT: usize = 65_535;
 
 /// Asks for room for new objects. `NeedSpace`, of the words asked: they don't fit. `Memory`: a growth was refused.
 pub fn granted<M: Memory>(memory: &mut M, words: u32, births: u32) -> Result<(), NotMade>
@@ -62,7 +62,7 @@ pub fn array<M: Memory>(
     if refused {
         return Err(Failure::Error(ErrorName::VmError));
     }
-    if let Err(reason) = granted(memory, 2 + count, 1) {
+    if let Err(reason) = granted(memory, 2 + count as u32, 1) {
         return Err(Failure::NotMade(reason));
     }
     let part = new_array(memory, count as u16);

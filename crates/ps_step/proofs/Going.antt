@@ -1,34 +1,42 @@
 -- How a context goes from one world to the next.
-use Rattle.std.proofs.Common.{◌≡◌, ◌≢◌, ℕ, ◌+◌, ◌<◌, ◌≤◌, Bool, true, false, Option, Some, None, List, [], ◌∷◌, length, map, Result, Ok, Err, refl, sym, ◌∙◌, ap, subst, arith}
-use Rattle.std.specs.Prelude.{if◌then◌else◌, drop}
-use Rattle.std.specs.List.{AllByRecursion}
+use Rattle.std.proofs.Common.{◌≡◌, ℕ, Bool, true, false, Some, List, [], ◌∷◌, map, Result, Ok, Err, refl, sym, ◌∙◌, ap, subst, arith}
+use Rattle.std.specs.Prelude.{drop}
 use Rattle.std.proofs.lemmas.List.{length-map}
 use Rattle.ps_language.specs.declared.errors.ErrorName.{ErrorName}
 use Rattle.ps_language.specs.declared.errors.ErrorName.TheVariants.{StackOverflow}
-use Rattle.ps_language.specs.Value.{Value, Store}
+use Rattle.ps_language.specs.Value.{Store}
 use Rattle.ps_language.specs.Readers.{is_full}
 use Rattle.ps_language.specs.Small as small
 use Rattle.ps_language.specs.Small.{small_names, SmallFrame, SmallWorld, small_pushed, small_step, moved_as, frame_turn}
 use Rattle.ps_stacks.specs.Tops.{first_of}
 use Rattle.ps_word.specs.declared.words.Word.{Word}
 use Rattle.ps_mem.specs.Heap.{Heap, Grants, birth_at}
-use Rattle.ps_mem.specs.Keeps.{Keeps}
 use Rattle.ps_mem.specs.Meaning.{value_of}
-use Rattle.ps_mem.specs.Shows.{IsValue, IsReady, IsWithin, AreWithin, Shows}
+use Rattle.ps_mem.specs.Shows.{IsValue, IsWithin, Shows}
 use Rattle.ps_mem.proofs.KeepsLemmas.{Keeps-Extends, Extends-same}
 use Rattle.ps_ops.specs.Does.{KeepsLogs}
 use Rattle.ps_ops.specs.declared.failure.NotMade.{NotMade}
+use Rattle.ps_ops.specs.declared.failure.NotMade.TheVariants.{LogFull, LogClosed, NeedSpace, Memory}
 use Rattle.ps_step.specs.declared.commands.Command.{Command}
 use Rattle.ps_step.specs.declared.frames.Frame.{Frame}
-use Rattle.ps_step.specs.declared.interpreter.Stage.{Stage}
-use Rattle.ps_step.specs.declared.interpreter.Stage.TheVariants.{Running, Unwinding, Finished}
-use Rattle.ps_step.specs.Machine.{Machine, frame_of, command_of, stage_of, world_of, IsShown, IsGood, IsFrame, raised, pushed, has_steps}
-use Rattle.ps_step.specs.Goes.{GoesTo, Goes, GoesAlone}
+use Rattle.ps_step.specs.declared.interpreter.Stage.TheVariants.{Running}
+use Rattle.ps_step.specs.Machine.{Machine, frame_of, command_of, stage_of, world_of, IsGood, raised, pushed}
+use Rattle.ps_operators.specs.Reasons.{Needs}
+use Rattle.ps_step.specs.Needs.{frame_needs, stage_needs, step_needs}
+use Rattle.ps_step.specs.Goes.{IsBehindErrors, GoesTo, Goes, GoesAlone}
 
 -- ---- without memory
 
+-- no record was put
+pub same_records : (old new : Grants) (slot : ℕ) → new.closed ≡ old.closed → new.records ≡ old.records → KeepsLogs old new slot
+same_records old new slot closed records = record {
+  closed = closed;
+  others = λ s other. ap (λ (each : ℕ → ℕ). each s) records;
+  used = let same = ap (λ (each : ℕ → ℕ). each slot) records in omega (arith, same);
+}
+
 pub same_logs : (grants : Grants) (slot : ℕ) → KeepsLogs grants grants slot
-same_logs grants slot = record { closed = refl; others = λ s other. refl }
+same_logs grants slot = same_records grants grants slot refl refl
 
 pub full_values : (h : Heap) (words : List Word) → is_full (map (value_of (birth_at h) small_names) words) ≡ is_full words
 unfolding is_full
@@ -42,10 +50,10 @@ module _ (h : Heap) (m : Machine) (good : IsGood h m) (running : m.stage ≡ Run
   good_raised error command = record { ready = good.ready; frames = good.frames; counted = λ steps. counted }
 
   -- an error
-  pub goes_raised : (next : SmallWorld → SmallWorld) (error : ErrorName) (command : Command)
+  pub goes_raised : (needs : SmallWorld → Needs) (next : SmallWorld → SmallWorld) (error : ErrorName) (command : Command)
       → ((store : Store) → Shows h small_names store → next (world_of h m store) ≡ small.with_error error (command_of (birth_at h) m.program command) (world_of h m store))
-      → Goes next (Ok (tt {0})) slot grants grants h h m (raised error command m)
-  goes_raised next error command is = record {
+      → Goes needs next (Ok (tt {0})) slot grants grants h h m (raised error command m)
+  goes_raised needs next error command is = record {
     meets = λ store shows within. rw (is store shows) (record { is = refl; shows = shows; within = within });
     good = good_raised error command;
     keeps = Keeps-Extends h h (Extends-same h);
@@ -55,13 +63,13 @@ module _ (h : Heap) (m : Machine) (good : IsGood h m) (running : m.stage ≡ Run
   }
 
   -- a word more, or no room for it
-  pub goes_pushed : (next : SmallWorld → SmallWorld) (command : Command) (word : Word)
+  pub goes_pushed : (needs : SmallWorld → Needs) (next : SmallWorld → SmallWorld) (command : Command) (word : Word)
       → IsValue h word → ((store : Store) → Shows h small_names store → IsWithin (birth_at h) small_names store word)
       → ((store : Store) → Shows h small_names store → next (world_of h m store) ≡ small_pushed (command_of (birth_at h) m.program command) (value_of (birth_at h) small_names word) (world_of h m store))
-      → Goes next (Ok (tt {0})) slot grants grants h h m (pushed command word m)
+      → Goes needs next (Ok (tt {0})) slot grants grants h h m (pushed command word m)
   unfolding small_pushed
-  goes_pushed next command word held inside is = elim (is_full m.operands) as (λ b. is_full m.operands ≡ b → Goes next (Ok (tt {0})) slot grants grants h h m (pushed command word m)) [
-    | true ↦ λ full. rw full (goes_raised next StackOverflow command
+  goes_pushed needs next command word held inside is = elim (is_full m.operands) as (λ b. is_full m.operands ≡ b → Goes needs next (Ok (tt {0})) slot grants grants h h m (pushed command word m)) [
+    | true ↦ λ full. rw full (goes_raised needs next StackOverflow command
         (λ store shows. is store shows ∙ rw (full_values h m.operands, full) refl))
     | false ↦ λ free. rw free (record {
       meets = λ store shows within. rw (is store shows, full_values h m.operands, free) (record { is = refl; shows = shows; within = (inside store shows, within) });
@@ -91,12 +99,24 @@ step_by refused h m store frame running top =
     (ap (stage_of (birth_at h) m.program) running)
     (ap (map (frame_of (birth_at h))) (frames_top m.frames frame top))
 
+needs_running : (stage : small.Stage) (frames : List SmallFrame) (world : SmallWorld) (frame : SmallFrame) (below : List SmallFrame)
+    → stage ≡ small.running → frames ≡ frame ∷ below → stage_needs stage frames world ≡ frame_needs frame world
+needs_running stage frames world frame below running top = rw (running, top) refl
+
+pub needs_by : (h : Heap) (m : Machine) (store : Store) (frame : Frame) → m.stage ≡ Running → first_of m.frames ≡ Some frame
+    → step_needs (world_of h m store) ≡ frame_needs (frame_of (birth_at h) frame) (world_of h m store)
+unfolding step_needs
+needs_by h m store frame running top =
+    needs_running (stage_of (birth_at h) m.program m.stage) (map (frame_of (birth_at h)) m.frames) (world_of h m store) (frame_of (birth_at h) frame) (map (frame_of (birth_at h)) (drop 1 m.frames))
+    (ap (stage_of (birth_at h) m.program) running)
+    (ap (map (frame_of (birth_at h))) (frames_top m.frames frame top))
+
 -- what comes before a part of a step
-pub goes_made : (next inner : SmallWorld → SmallWorld) (slot : ℕ) (asked left : Grants) (old new : Heap) (m middle n : Machine)
-    → Goes inner (Ok (tt {0})) slot asked left old new middle n → middle.operands ≡ m.operands → middle.program ≡ m.program
+pub goes_made : (needs inner_needs : SmallWorld → Needs) (next inner : SmallWorld → SmallWorld) (slot : ℕ) (asked left : Grants) (old new : Heap) (m middle n : Machine)
+    → Goes inner_needs inner (Ok (tt {0})) slot asked left old new middle n → middle.operands ≡ m.operands → middle.program ≡ m.program
     → ((store : Store) → Shows old small_names store → next (world_of old m store) ≡ inner (world_of old middle store))
-    → Goes next (Ok (tt {0})) slot asked left old new m n
-goes_made next inner slot asked left old new m middle n went operands program is = record {
+    → Goes needs next (Ok (tt {0})) slot asked left old new m n
+goes_made needs inner_needs next inner slot asked left old new m middle n went operands program is = record {
   meets = λ store shows within. rw (is store shows) (went.meets store shows (rw operands within));
   good = went.good;
   keeps = went.keeps;
@@ -105,15 +125,23 @@ goes_made next inner slot asked left old new m middle n went operands program is
   framed = tt;
 }
 
-pub goes_unmade : (next inner : SmallWorld → SmallWorld) (reason : NotMade) (slot : ℕ) (asked left : Grants) (old new : Heap) (m middle n back : Machine)
-    → Goes inner (Err reason) slot asked left old new middle n → middle.operands ≡ m.operands → back.program ≡ m.program
+-- a step that goes on running
+pub behind_running : (reason : NotMade) (world : SmallWorld) → world.stage ≡ small.running → IsBehindErrors reason world
+behind_running LogFull world running = running
+behind_running LogClosed world running = running
+behind_running (NeedSpace words) world running = running
+behind_running Memory world running = tt
+
+pub goes_unmade : (needs inner_needs : SmallWorld → Needs) (next inner : SmallWorld → SmallWorld) (reason : NotMade) (slot : ℕ) (asked left : Grants) (old new : Heap) (m middle n back : Machine)
+    → Goes inner_needs inner (Err reason) slot asked left old new middle n → middle.operands ≡ m.operands → back.program ≡ m.program
+    → ((store : Store) → Shows old small_names store → needs (world_of old m store) ≡ inner_needs (world_of old middle store))
     → ((store : Store) → Shows old small_names store → next (world_of old m store) ≡ inner (world_of old middle store))
     → (n ≡ middle → back ≡ m) → (n.frames ≡ middle.frames → back.frames ≡ m.frames) → IsGood new back
-    → Goes next (Err reason) slot asked left old new m back
-goes_unmade next inner reason slot asked left old new m middle n back went operands program is restored put_back good = record {
+    → Goes needs next (Err reason) slot asked left old new m back
+goes_unmade needs inner_needs next inner reason slot asked left old new m middle n back went operands program needed is restored put_back good = record {
   meets = λ store shows within.
       let met = went.meets store shows (rw operands within) in
-      rw (is store shows) (met.0, met.1, restored met.2);
+      rw (needed store shows, is store shows) (met.0, met.1, met.2, restored met.3);
   good = good;
   keeps = went.keeps;
   logs = went.logs;
@@ -122,10 +150,14 @@ goes_unmade next inner reason slot asked left old new m middle n back went opera
 }
 
 -- the same step told otherwise
-pub goes_as : {next inner : SmallWorld → SmallWorld} {result : Result Unit NotMade} {slot : ℕ} {asked left : Grants} {old new : Heap} {m n : Machine}
-    → ((store : Store) → Shows old small_names store → next (world_of old m store) ≡ inner (world_of old m store)) → Goes inner result slot asked left old new m n → Goes next result slot asked left old new m n
-goes_as {next} {inner} {result} {slot} {asked} {left} {old} {new} {m} {n} is went = record {
-  meets = λ store shows within. subst (λ (w : SmallWorld). GoesTo w result slot asked left old new m n store) (sym (is store shows)) (went.meets store shows within);
+pub goes_as : {needs inner_needs : SmallWorld → Needs} {next inner : SmallWorld → SmallWorld} {result : Result Unit NotMade} {slot : ℕ} {asked left : Grants} {old new : Heap} {m n : Machine}
+    → ((store : Store) → Shows old small_names store → needs (world_of old m store) ≡ inner_needs (world_of old m store))
+    → ((store : Store) → Shows old small_names store → next (world_of old m store) ≡ inner (world_of old m store))
+    → Goes inner_needs inner result slot asked left old new m n → Goes needs next result slot asked left old new m n
+goes_as {needs} {inner_needs} {next} {inner} {result} {slot} {asked} {left} {old} {new} {m} {n} needed is went = record {
+  meets = λ store shows within.
+      subst (λ (w : SmallWorld). GoesTo (needs (world_of old m store)) w result slot asked left old new m n store) (sym (is store shows))
+      (subst (λ (some : Needs). GoesTo some (inner (world_of old m store)) result slot asked left old new m n store) (sym (needed store shows)) (went.meets store shows within));
   good = went.good;
   keeps = went.keeps;
   logs = went.logs;
@@ -135,9 +167,9 @@ goes_as {next} {inner} {result} {slot} {asked} {left} {old} {new} {m} {n} is wen
 
 -- ---- a context seen
 
-pub seen_goes : {next : SmallWorld → SmallWorld} {result : Result Unit NotMade} {slot : ℕ} {asked left : Grants} {old new : Heap} {view m n : Machine}
-    → view ≡ m → Goes next result slot asked left old new view n → Goes next result slot asked left old new m n
-seen_goes {next} {result} {slot} {asked} {left} {old} {new} {view} {m} {n} is went = subst (λ (x : Machine). Goes next result slot asked left old new x n) is went
+pub seen_goes : {needs : SmallWorld → Needs} {next : SmallWorld → SmallWorld} {result : Result Unit NotMade} {slot : ℕ} {asked left : Grants} {old new : Heap} {view m n : Machine}
+    → view ≡ m → Goes needs next result slot asked left old new view n → Goes needs next result slot asked left old new m n
+seen_goes {needs} {next} {result} {slot} {asked} {left} {old} {new} {view} {m} {n} is went = subst (λ (x : Machine). Goes needs next result slot asked left old new x n) is went
 
 pub seen_alone : {next : SmallWorld → SmallWorld} {view m n : Machine} → view ≡ m → GoesAlone next view n → GoesAlone next m n
 seen_alone {next} {view} {m} {n} is went = subst (λ (x : Machine). GoesAlone next x n) is went

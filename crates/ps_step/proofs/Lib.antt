@@ -6,5 +6,6 @@ pub mod NameWords
 pub mod Operated
 pub mod Procedural
 pub mod Standing
+pub mod Starting
 pub mod Taking
 pub mod Turning

@@ -1,9 +1,9 @@
 -- The array and the procedure of forall, read from words.
-use Rattle.std.proofs.Common.{◌≡◌, ℕ, ◌+◌, ◌<◌, ◌≤◌, ◌^◌, Bool, true, false, ◌&&◌, Option, Some, None, List, [], ◌∷◌, length, map, refl, sym, ◌∙◌, ap, subst, arith}
-use Rattle.std.specs.Prelude.{if◌then◌else◌, drop, option_map, IfSome}
+use Rattle.std.proofs.Common.{◌≡◌, ℕ, Bool, true, false, ◌&&◌, Option, Some, None, List, ◌∷◌, length, map, refl, arith}
+use Rattle.std.specs.Prelude.{if◌then◌else◌, drop}
 use Rattle.ps_language.specs.declared.errors.ErrorName.{ErrorName}
 use Rattle.ps_language.specs.declared.errors.ErrorName.TheVariants.{ExecStackOverflow, InvalidAccess, TypeCheck}
-use Rattle.ps_language.specs.Value.{Part as PartValue, Value}
+use Rattle.ps_language.specs.Value.{Part as PartValue}
 use Rattle.ps_language.specs.Outcome.{Outcome, leaves, fails, given, given_that}
 use Rattle.ps_language.specs.Access.{is_readable, is_executable}
 use Rattle.ps_language.specs.Control.{as_procedure}
@@ -58,7 +58,7 @@ module _ (refused : Bool) (m : Machine) (running : m.stage ≡ Running) where
       → GoesAlone (small_operated refused Forall) m (raised error (Blamed Forall) m)
   unfolding small_operated
   alone_failed error parts = record {
-    goes = λ h grants slot good. goes_raised h m good running grants slot (small_operated refused Forall) error (Blamed Forall)
+    goes = λ needs h grants slot good. goes_raised h m good running grants slot needs (small_operated refused Forall) error (Blamed Forall)
         (λ store shows. rw (parts (birth_at h) small_names) refl);
   }
 
@@ -66,7 +66,7 @@ module _ (refused : Bool) (m : Machine) (running : m.stage ≡ Running) where
     pub alone_full : nat_le 250 (length m.frames) ≡ true → GoesAlone (small_operated refused Forall) m (raised ExecStackOverflow (Blamed Forall) m)
     unfolding small_operated
     alone_full full = record {
-      goes = λ h grants slot good. goes_raised h m good running grants slot (small_operated refused Forall) ExecStackOverflow (Blamed Forall)
+      goes = λ needs h grants slot good. goes_raised h m good running grants slot needs (small_operated refused Forall) ExecStackOverflow (Blamed Forall)
           (λ store shows. rw (parts (birth_at h) small_names, room_left m.frames h true full) refl);
     }
 
@@ -74,7 +74,7 @@ module _ (refused : Bool) (m : Machine) (running : m.stage ≡ Running) where
         → GoesAlone (small_operated refused Forall) m (record m { operands = drop 2 m.operands; frames = Loop over 0 body ∷ m.frames })
     unfolding small_operated
     alone_begun room held = record {
-      goes = λ h grants slot good. record {
+      goes = λ needs h grants slot good. record {
         meets = λ store shows within. rw (parts (birth_at h) small_names, room_left m.frames h false room, drop-map (value_of (birth_at h) small_names) 2 m.operands)
             (record { is = refl; shows = shows; within = rest_held (IsWithin (birth_at h) small_names store) m.operands within 2 });
         good = record { ready = ready_drop h m.operands 2 good.ready; frames = (held h good.ready, good.frames); counted = good.counted };

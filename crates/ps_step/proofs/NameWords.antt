@@ -1,6 +1,5 @@
 -- Names as words.
-use Rattle.std.proofs.Common.{◌≡◌, ℕ, Bool, true, false, ◌&&◌, Option, Some, None, List, refl, sym, ◌∙◌, ap}
-use Rattle.std.specs.Prelude.{option_map}
+use Rattle.std.proofs.Common.{◌≡◌, ℕ, Bool, true, false, ◌&&◌, Some, None, List, refl}
 use Rattle.ps_language.specs.Value.{name_value}
 use Rattle.ps_language.specs.Readers.{executable_name}
 use Rattle.ps_language.specs.StepValues.{name_in, is_executable_name}

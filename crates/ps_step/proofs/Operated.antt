@@ -1,16 +1,13 @@
 -- What an operator leaves is the world that follows.
-use Rattle.std.proofs.Common.{◌≡◌, ◌≢◌, ℕ, ◌++◌, Bool, true, false, List, [], ◌∷◌, length, map, Result, Ok, Err, refl, sym, ◌∙◌, ap, subst}
+use Rattle.std.proofs.Common.{◌≡◌, ◌≢◌, ℕ, Bool, List, length, Ok, Err, refl, sym, ◌∙◌}
 use Rattle.ps_language.specs.declared.errors.ErrorName.{ErrorName}
-use Rattle.ps_language.specs.declared.errors.ErrorName.TheVariants.{VmError}
 use Rattle.ps_language.specs.declared.operators.Operator.{Operator}
 use Rattle.ps_language.specs.declared.operators.Operator.TheVariants.{Pop, Exch, Dup, Copy, Index, Roll, Clear, Count, Mark, ClearToMark, CountToMark, Add, Sub, Mul, Idiv, Mod, Neg, Abs, Eq, Ne, Gt, Ge, Lt, Le, And, Or, Xor, Not, Bitshift, Array, BeginArray, EndArray, MakeString, Length, Get, Put, GetInterval, PutInterval, Aload, Astore, Forall, Search, AnchorSearch, Dict, BeginDict, EndDict, MaxLength, Begin, End, Def, Load, Store, Undef, Known, Where, CurrentDict, CountDictStack, ClearDictStack, ErrorDict, Exec, If, IfElse, For, Repeat, Loop, Exit, Stop, Stopped, Quit, Bind, TypeOf, Cvlit, Cvx, Xcheck, ExecuteOnly, NoAccess, ReadOnly, Rcheck, Wcheck, Cvi, Cvn, Cvs, Equals, EqualsEquals, Stack, Pstack, Print, CurrentContext, Fork, Join, Detach, Lock, Monitor, Condition, Wait, Notify, Yield, VmStatus, VmReclaim}
 use Rattle.ps_language.specs.Value.{Store as StoreOf}
 use Rattle.ps_language.specs.Effect.{Effect, makes, unwinds, raises, starves}
-use Rattle.ps_language.specs.Small as small
 use Rattle.ps_language.specs.Small.{small_names, SmallWorld, small_effect, small_operated, after_effect}
-use Rattle.ps_language.specs.StepValues as steps
 use Rattle.ps_word.specs.declared.words.Word.{Word}
-use Rattle.ps_mem.specs.Heap.{Heap, Grants, birth_at}
+use Rattle.ps_mem.specs.Heap.{Heap, Grants}
 use Rattle.ps_mem.specs.Keeps.{Keeps}
 use Rattle.ps_mem.specs.Shows.{IsReady, AreWithin, Shows}
 use Rattle.ps_ops.specs.Does.{values_in, KeepsLogs}
@@ -18,10 +15,12 @@ use Rattle.ps_ops.specs.declared.failure.NotMade.{NotMade as Reason}
 use Rattle.ps_ops.specs.declared.failure.Failure.{Failure}
 use Rattle.ps_ops.specs.declared.failure.Failure.TheVariants.{Error, NotMade}
 use Rattle.ps_operators.specs.Operates.{OperatesAs, Operates}
+use Rattle.ps_operators.specs.Reasons.{Needs, operator_needs}
 use Rattle.ps_step.specs.declared.commands.Command.TheVariants.{Operator as Blamed}
 use Rattle.ps_step.specs.declared.interpreter.Stage.TheVariants.{Running}
-use Rattle.ps_step.specs.Machine.{Machine, frame_of, world_of, stage_of, IsShown, IsGood, IsFrame, raised}
+use Rattle.ps_step.specs.Machine.{Machine, world_of, IsShown, IsGood, raised}
 use Rattle.ps_step.specs.Goes.{GoesTo, Goes}
+use Rattle.ps_step.proofs.Going.{behind_running}
 use Rattle.ps_step.proofs.Standing.{frames_held, frames_kept}
 
 pub operated_other : (refused : Bool) (operator : Operator) (world : SmallWorld) → operator ≢ Forall
@@ -141,22 +140,22 @@ module _ (refused : Bool) (operator : Operator) (other : operator ≢ Forall) (s
       ≡ record (world_of old m store) { operands = values_in new small_names after; printed = printed }
   left_world store = rw (frames_kept old new keeps (length m.program) m.frames good.frames, running) refl
 
-  ok_shown : (store : StoreOf) (effect : Effect) → OperatesAs (Ok (tt {0})) effect slot asked left old new m.operands after m.printed printed store
+  ok_shown : (needs : Needs) (store : StoreOf) (effect : Effect) → OperatesAs needs (Ok (tt {0})) effect slot asked left old new m.operands after m.printed printed store
       → IsShown new (left_as m after printed) (after_effect operator (world_of old m store) effect)
-  ok_shown store (makes scene output) did = record {
+  ok_shown needs store (makes scene output) did = record {
     is = sym (left_world scene.store ∙ rw (did.0, did.3) refl);
     shows = did.1;
     within = did.2;
   }
-  ok_shown store (unwinds cause scene) did = absurd did
-  ok_shown store (raises error) did = absurd did
-  ok_shown store (starves names) did = absurd did
+  ok_shown needs store (unwinds cause scene) did = absurd did
+  ok_shown needs store (raises error) did = absurd did
+  ok_shown needs store (starves names) did = absurd did
 
   pub goes_operated : Operates operator refused (Ok (tt {0})) slot asked left old new m.operands after m.printed printed
-      → Goes (small_operated refused operator) (Ok (tt {0})) slot asked left old new m (left_as m after printed)
+      → Goes (λ world. operator_needs operator world.operands) (small_operated refused operator) (Ok (tt {0})) slot asked left old new m (left_as m after printed)
   goes_operated operates = record {
     meets = λ store shows within. rw (operated_other refused operator (world_of old m store) other)
-        (ok_shown store (small_effect operator refused (values_in old small_names m.operands) store) (operates.meets store shows within));
+        (ok_shown (operator_needs operator (values_in old small_names m.operands)) store (small_effect operator refused (values_in old small_names m.operands) store) (operates.meets store shows within));
     good = good_left;
     keeps = keeps;
     logs = logs;
@@ -164,27 +163,27 @@ module _ (refused : Bool) (operator : Operator) (other : operator ≢ Forall) (s
     framed = tt;
   }
 
-  error_shown : (error : ErrorName) (store : StoreOf) → Shows old small_names store → AreWithin old small_names store m.operands → (effect : Effect)
-      → OperatesAs (Err (Error error)) effect slot asked left old new m.operands after m.printed printed store
+  error_shown : (needs : Needs) (error : ErrorName) (store : StoreOf) → Shows old small_names store → AreWithin old small_names store m.operands → (effect : Effect)
+      → OperatesAs needs (Err (Error error)) effect slot asked left old new m.operands after m.printed printed store
       → IsShown new (raised error (Blamed operator) (left_as m after printed)) (after_effect operator (world_of old m store) effect)
-  error_shown error store shows within (makes scene output) did = absurd did
-  error_shown error store shows within (unwinds cause scene) did = absurd did
-  error_shown error store shows within (raises which) did = record {
+  error_shown needs error store shows within (makes scene output) did = absurd did
+  error_shown needs error store shows within (unwinds cause scene) did = absurd did
+  error_shown needs error store shows within (raises which) did = record {
     is = rw (did.1.0, did.1.1, did.1.2, did.0) refl;
     shows = rw did.1.0 shows;
     within = rw (did.1.0, did.1.1) within;
   }
-  error_shown error store shows within (starves names) did = record {
+  error_shown needs error store shows within (starves names) did = record {
     is = rw (did.1.0, did.1.1, did.1.2, did.0) refl;
     shows = rw did.1.0 shows;
     within = rw (did.1.0, did.1.1) within;
   }
 
   pub goes_failed : (error : ErrorName) (failure : Failure) → failure ≡ Error error → Operates operator refused (Err failure) slot asked left old new m.operands after m.printed printed
-      → Goes (small_operated refused operator) (Ok (tt {0})) slot asked left old new m (raised error (Blamed operator) (left_as m after printed))
+      → Goes (λ world. operator_needs operator world.operands) (small_operated refused operator) (Ok (tt {0})) slot asked left old new m (raised error (Blamed operator) (left_as m after printed))
   goes_failed error failure is did = let operates : Operates operator refused (Err (Error error)) slot asked left old new m.operands after m.printed printed = rw (← is) did in record {
     meets = λ store shows within. rw (operated_other refused operator (world_of old m store) other)
-        (error_shown error store shows within (small_effect operator refused (values_in old small_names m.operands) store) (operates.meets store shows within));
+        (error_shown (operator_needs operator (values_in old small_names m.operands)) error store shows within (small_effect operator refused (values_in old small_names m.operands) store) (operates.meets store shows within));
     good = record { ready = ready; frames = good_left.frames; counted = λ steps. good.counted (rw running refl) };
     keeps = keeps;
     logs = logs;
@@ -192,18 +191,18 @@ module _ (refused : Bool) (operator : Operator) (other : operator ≢ Forall) (s
     framed = tt;
   }
 
-  unmade_shown : (reason : Reason) (store : StoreOf) (effect : Effect) → OperatesAs (Err (NotMade reason)) effect slot asked left old new m.operands after m.printed printed store
-      → GoesTo (after_effect operator (world_of old m store) effect) (Err reason) slot asked left old new m (left_as m after printed) store
-  unmade_shown reason store (makes scene output) did = (did.0, did.1.0, rw (did.1.1, did.1.2) refl)
-  unmade_shown reason store (unwinds cause scene) did = absurd did
-  unmade_shown reason store (raises error) did = absurd did
-  unmade_shown reason store (starves names) did = absurd did
+  unmade_shown : (needs : Needs) (reason : Reason) (store : StoreOf) (effect : Effect) → OperatesAs needs (Err (NotMade reason)) effect slot asked left old new m.operands after m.printed printed store
+      → GoesTo needs (after_effect operator (world_of old m store) effect) (Err reason) slot asked left old new m (left_as m after printed) store
+  unmade_shown needs reason store (makes scene output) did = (did.0, behind_running reason _ (rw running refl), did.1.0, rw (did.1.1, did.1.2) refl)
+  unmade_shown needs reason store (unwinds cause scene) did = absurd did
+  unmade_shown needs reason store (raises error) did = absurd did
+  unmade_shown needs reason store (starves names) did = absurd did
 
   pub goes_not : (reason : Reason) (failure : Failure) → failure ≡ NotMade reason → Operates operator refused (Err failure) slot asked left old new m.operands after m.printed printed
-      → Goes (small_operated refused operator) (Err reason) slot asked left old new m (left_as m after printed)
+      → Goes (λ world. operator_needs operator world.operands) (small_operated refused operator) (Err reason) slot asked left old new m (left_as m after printed)
   goes_not reason failure is did = let operates : Operates operator refused (Err (NotMade reason)) slot asked left old new m.operands after m.printed printed = rw (← is) did in record {
     meets = λ store shows within. rw (operated_other refused operator (world_of old m store) other)
-        (unmade_shown reason store (small_effect operator refused (values_in old small_names m.operands) store) (operates.meets store shows within));
+        (unmade_shown (operator_needs operator (values_in old small_names m.operands)) reason store (small_effect operator refused (values_in old small_names m.operands) store) (operates.meets store shows within));
     good = good_left;
     keeps = keeps;
     logs = logs;

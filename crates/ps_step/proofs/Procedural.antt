@@ -1,30 +1,28 @@
 -- A procedure that is pushed.
-use Rattle.std.proofs.Common.{◌≡◌, ℕ, ◌+◌, ◌-◌, ◌≤◌, Bool, true, false, not, List, [], ◌∷◌, ◌++◌, length, map, Result, Ok, Err, refl, sym, ◌∙◌, ap, subst, arith, length-append}
-use Rattle.std.specs.Prelude.{if◌then◌else◌, sum_by}
+use Rattle.std.proofs.Common.{◌≡◌, ℕ, ◌-◌, Bool, true, false, List, [], ◌∷◌, ◌++◌, length, map, Ok, Err, refl, sym, ◌∙◌, ap, arith, length-append}
+use Rattle.std.specs.Prelude.{sum_by}
 use Rattle.ps_language.specs.declared.errors.ErrorName.TheVariants.{StackOverflow, LimitCheck, VmError}
 use Rattle.ps_language.specs.Value.{Value, Object, Store as StoreOf}
 use Rattle.ps_language.specs.Asked.{made_between, growth_of}
 use Rattle.ps_language.specs.Objects.{size_of}
 use Rattle.ps_language.specs.Token.{Tokens}
 use Rattle.ps_language.specs.Readers.{null, is_full}
-use Rattle.ps_language.specs.Small.{small_names, SmallWorld, with_error, are_small, small_procedure, procedure_pushed}
+use Rattle.ps_language.specs.Small.{small_names, with_error, are_small, small_procedure, procedure_pushed}
 use Rattle.ps_language.proofs.AskedLemmas.{made-same}
 use Rattle.ps_word.specs.declared.words.Word.{Word}
-use Rattle.ps_mem.specs.Heap.{Heap, Grants, birth_at, has_room}
-use Rattle.ps_mem.specs.Meaning.{value_of}
-use Rattle.ps_mem.specs.Shows.{IsSound, IsValue, IsReady, IsWithin, AreWithin, Shows}
+use Rattle.ps_mem.specs.Heap.{Heap, Grants, birth_at}
 use Rattle.ps_mem.proofs.KeepsLemmas.{Keeps-Extends, Extends-same, AreValues-kept, AreWithin-kept, values_of-kept, known_values}
 use Rattle.ps_mem.proofs.NewShows.{longer}
 use Rattle.ps_ops.specs.Does.{values_in, KeepsLogs}
 use Rattle.ps_ops.specs.declared.failure.NotMade.{NotMade}
 use Rattle.ps_ops.specs.declared.failure.NotMade.TheVariants.{LogFull, LogClosed, NeedSpace, Memory}
-use Rattle.ps_procedures.specs.Procedures.{AddsRoom, IsMade, procedure_words, procedure_births}
+use Rattle.ps_procedures.specs.Procedures.{AddsRoom, IsMade, procedure_births}
 use Rattle.ps_procedures.specs.Refused.{IsRefused}
-use Rattle.ps_operators.specs.Reasons.{IsReason}
+use Rattle.ps_operators.specs.Reasons.{growth_needed, IsReason}
 use Rattle.ps_step.specs.declared.interpreter.Stage.TheVariants.{Running}
-use Rattle.ps_step.specs.Machine.{Machine, frame_of, stage_of, world_of, IsShown, IsGood}
-use Rattle.ps_step.specs.Goes.{GoesTo, Goes}
-use Rattle.ps_step.proofs.Going.{full_values}
+use Rattle.ps_step.specs.Machine.{Machine, frame_of, stage_of, world_of, IsGood}
+use Rattle.ps_step.specs.Goes.{Goes}
+use Rattle.ps_step.proofs.Going.{full_values, behind_running}
 use Rattle.ps_step.proofs.Standing.{frames_held, frames_kept}
 
 same_growth : (o : Object) → growth_of o o ≡ 0
@@ -62,7 +60,7 @@ module _ (refused : Bool) (elements : Tokens) (slot : ℕ) (asked left : Grants)
   pushed_world store = rw (full_values old m.operands, free, small, made_now) refl
 
   pub goes_made_procedure : (word : Word) → IsMade (small_procedure elements) old new word → KeepsLogs asked left slot
-      → Goes (procedure_pushed refused elements) (Ok (tt {0})) slot asked left old new m (record m { operands = word ∷ m.operands })
+      → Goes (λ world. growth_needed) (procedure_pushed refused elements) (Ok (tt {0})) slot asked left old new m (record m { operands = word ∷ m.operands })
   goes_made_procedure word made logs =
       let keeps = Keeps-Extends old new made.extends in
       let known = known_values old m.operands good.ready.values in
@@ -98,7 +96,7 @@ module _ (refused : Bool) (elements : Tokens) (slot : ℕ) (asked left : Grants)
       }
 
   refused_reason : (reason : NotMade) (capacity : ℕ) → IsRefused reason elements old capacity → (store : StoreOf)
-      → IsReason reason old slot asked left store (small_procedure elements store).store
+      → IsReason growth_needed reason old slot asked left store (small_procedure elements store).store
   refused_reason LogFull capacity is store = absurd is
   refused_reason LogClosed capacity is store = absurd is
   refused_reason (NeedSpace words) capacity is store =
@@ -106,12 +104,12 @@ module _ (refused : Bool) (elements : Tokens) (slot : ℕ) (asked left : Grants)
       let count : length (small_procedure elements store).store - length store ≡ procedure_births elements =
       let all = ap length adds.store_is ∙ length-append store adds.added in omega (arith, all, adds.births) in
       (is.0 ∙ (sym adds.words ∙ (sym (made-added store adds.added) ∙ ap (made_between store) (sym adds.store_is))), rw (is.0, count) is.1)
-  refused_reason Memory capacity is store = tt
+  refused_reason Memory capacity is store = refl
 
   pub goes_no_procedure : (reason : NotMade) (capacity : ℕ) → IsRefused reason elements old capacity → new ≡ old → KeepsLogs asked left slot
-      → Goes (procedure_pushed refused elements) (Err reason) slot asked left old new m m
+      → Goes (λ world. growth_needed) (procedure_pushed refused elements) (Err reason) slot asked left old new m m
   goes_no_procedure reason capacity is same logs = record {
-    meets = λ store shows within. rw (pushed_world store) (refused_reason reason capacity is store, same, refl);
+    meets = λ store shows within. rw (pushed_world store) (refused_reason reason capacity is store, behind_running reason _ (rw running refl), same, refl);
     good = rw same good;
     keeps = rw same (Keeps-Extends old old (Extends-same old));
     logs = logs;

@@ -1,5 +1,5 @@
 -- Frames and what they refer to over a change of memory.
-use Rattle.std.proofs.Common.{◌≡◌, ℕ, ◌+◌, ◌≤◌, List, [], ◌∷◌, map, refl, sym, ◌∙◌, ap}
+use Rattle.std.proofs.Common.{◌≡◌, ℕ, ◌+◌, List, [], ◌∷◌, map, refl, ap}
 use Rattle.std.specs.List.{AllByRecursion}
 use Rattle.ps_language.specs.declared.kinds.Kind.TheVariants.{Array}
 use Rattle.ps_language.specs.Small as small

@@ -1,5 +1,5 @@
 -- A turn of forall.
-use Rattle.std.proofs.Common.{◌≡◌, ◌≢◌, ℕ, suc, ◌+◌, ◌-◌, ◌<◌, ◌≤◌, Bool, true, false, not, Option, Some, None, List, [], ◌∷◌, length, map, Result, Ok, Err, refl, sym, ◌∙◌, ap, subst, arith}
+use Rattle.std.proofs.Common.{◌≡◌, ◌≢◌, ℕ, suc, ◌+◌, ◌<◌, ◌≤◌, Bool, true, false, not, Some, List, ◌∷◌, length, map, Ok, refl, ◌∙◌, ap, arith}
 use Rattle.std.specs.Prelude.{if◌then◌else◌, drop, slice_get, nat_lt, nat_le, ◌==◌}
 use Rattle.std.proofs.lemmas.Bool.Decides.{nat_tests}
 use Rattle.std.proofs.lemmas.List.{length-map}
@@ -16,12 +16,13 @@ use Rattle.ps_word.specs.declared.words.Word.{Word}
 use Rattle.ps_word.specs.declared.values.Part.{Part}
 use Rattle.ps_mem.specs.Heap.{Heap, Grants, birth_at}
 use Rattle.ps_mem.specs.Meaning.{value_of, part_of}
-use Rattle.ps_mem.specs.Shows.{IsValue, IsWithin, AreWithin, Shows}
+use Rattle.ps_mem.specs.Shows.{IsValue, AreWithin, Shows}
 use Rattle.ps_mem.proofs.KeepsLemmas.{Keeps-Extends, Extends-same}
 use Rattle.ps_step.specs.declared.frames.Frame.{Frame}
-use Rattle.ps_step.specs.declared.frames.Frame.TheVariants.{Text, Procedure, Forall as Loop}
+use Rattle.ps_step.specs.declared.frames.Frame.TheVariants.{Procedure, Forall as Loop}
 use Rattle.ps_step.specs.declared.interpreter.Stage.TheVariants.{Running}
-use Rattle.ps_step.specs.Machine.{Machine, frame_of, world_of, IsGood, IsFrame}
+use Rattle.ps_step.specs.Machine.{Machine, frame_of, world_of, IsGood}
+use Rattle.ps_operators.specs.Reasons.{Needs}
 use Rattle.ps_step.specs.Goes.{Goes}
 use Rattle.ps_step.proofs.Going.{frames_top, step_by, full_values, same_logs}
 use Rattle.ps_step.proofs.Taking.{without_top, good_below, top_frame}
@@ -77,11 +78,11 @@ module _ (refused : Bool) (h : Heap) (m : Machine) (over : Part) (at : ℕ) (bod
             ∙ rw (test, full_values h m.operands, free, some, room_above h m.frames (Loop over at body) (small.forall_frame (part_of (birth_at h) over) (at + 1) (part_of (birth_at h) body)) false top room, value) refl
 
 -- a step that leaves a context in the same memory
-pub goes_seen : (next : SmallWorld → SmallWorld) (slot : ℕ) (grants : Grants) (h : Heap) (m n : Machine) → IsGood h n → n.program ≡ m.program
+pub goes_seen : (needs : SmallWorld → Needs) (next : SmallWorld → SmallWorld) (slot : ℕ) (grants : Grants) (h : Heap) (m n : Machine) → IsGood h n → n.program ≡ m.program
     → ((store : StoreOf) → Shows h small_names store → AreWithin h small_names store m.operands → AreWithin h small_names store n.operands)
     → ((store : StoreOf) → Shows h small_names store → next (world_of h m store) ≡ world_of h n store)
-    → Goes next (Ok (tt {0})) slot grants grants h h m n
-goes_seen next slot grants h m n good program inside is = record {
+    → Goes needs next (Ok (tt {0})) slot grants grants h h m n
+goes_seen needs next slot grants h m n good program inside is = record {
   meets = λ store shows within. rw (is store shows) (record { is = refl; shows = shows; within = inside store shows within });
   good = good;
   keeps = Keeps-Extends h h (Extends-same h);

@@ -1,3 +1,4 @@
 pub mod Machine
 pub mod Goes
 pub mod Lines
+pub mod Needs

@@ -8,16 +8,18 @@ ghost use Rattle.ps_language.specs.Small as small;
 ghost use Rattle.ps_language.specs.Small.{small_names, small_step};
 ghost use Rattle.ps_language.specs.Token.{Tokens, procedure_token, found};
 ghost use Rattle.ps_language.specs.Value.{Store};
-ghost use Rattle.ps_mem.specs.Heap.{Heap, Grants, birth_at};
+ghost use Rattle.ps_mem.specs.Heap.{Space, Heap, Grants, empty_heap, birth_at};
 ghost use Rattle.ps_mem.specs.Meaning.{value_of};
 ghost use Rattle.ps_mem.specs.Shows.{IsValue, IsWithin, Shows};
 ghost use Rattle.ps_named.specs.Names.{named_value_of, is_small_named};
+ghost use Rattle.ps_operators.specs.Reasons.{growth_needed, operator_needs};
 ghost use Rattle.ps_procedures.specs.Procedures.{tokens_in, IsShort};
 ghost use Rattle.ps_scan.specs.Shown.{token_of};
 ghost use Rattle.ps_stacks.specs.Tops.{first_of};
 ghost use Rattle.ps_step.specs.Goes.{Goes, GoesAlone};
 ghost use Rattle.ps_step.specs.Machine as machines;
 ghost use Rattle.ps_step.specs.Machine.{IsGood, command_of, EndsWithLine};
+ghost use Rattle.ps_step.specs.Needs.{name_needs, token_needs, element_needs, step_needs};
 
 use crate::commands::{Command, append_error_line};
 use crate::frames::{Frame, Frames, drop_top, push_within};
@@ -82,9 +84,10 @@ impl Model for Interpreter {
 }
 
 impl Interpreter {
-    /// A context about to scan the program. Fails where its room can't be had.
+    /// A context about to scan the program, which can make its first step in any memory where nothing stands. Fails where its room can't be had.
     pub fn new(alloc: Global, program: &[u8]) -> Result<Interpreter, AllocError>
-        ensures { IfOk result (λ interpreter. interpreter ≡ machines.starting_machine program.now) }
+        ensures starting { IfOk result (λ interpreter. interpreter ≡ machines.starting_machine program.now) }
+        ensures good { IfOk result (λ interpreter. (space : Space) → IsGood (empty_heap space) interpreter) }
     {
         let program = Vec::from_slice(alloc, program)?;
         let operands = Operands::new(alloc)?;
@@ -126,8 +129,9 @@ impl Interpreter {
 
     /// One step over a memory, whose records go into the log of a slot. A refused step makes no object: one that would raises `VMerror`.
     ///
-    /// Not made, with nothing changed: `NeedSpace`, of the words of all that the step would make, where they have no room; `LogClosed`, `LogFull`, where a
-    /// record is wanted; `Memory`, where a growth was refused.
+    /// Not made, with nothing changed: `NeedSpace`, of the words of all that the step would make, where they have no room; `LogClosed`, `LogFull`, where an
+    /// element is to be stored; `Memory`, where a growth was refused: of a memory that grows, for objects that the step would make, else of what a string, a
+    /// procedure or a fault takes while it is read, or of what is printed.
     pub fn step<M: Memory>(
         &mut self,
         memory: &mut M,
@@ -136,7 +140,7 @@ impl Interpreter {
     ) -> Result<(), NotMade>
         requires slot { slot < SLOTS }
         requires good { IsGood (M.heap memory.old) self.old }
-        ensures { Goes (small_step refused) result slot (M.grants memory.old) (M.grants memory.new) (M.heap memory.old) (M.heap memory.new) self.old self.new }
+        ensures { Goes step_needs (small_step refused) result slot (M.grants memory.old) (M.grants memory.new) (M.heap memory.old) (M.heap memory.new) self.old self.new }
     {
         match self.stage {
             Stage::Running => match self.frames.top() {
@@ -184,7 +188,7 @@ impl Interpreter {
         requires good { IsGood (M.heap memory.old) self.old }
         requires running { self.old.stage ≡ Stage.Running }
         requires top { first_of self.old.frames ≡ Some (Frame.Text at) }
-        ensures { Goes (small_step refused) result slot (M.grants memory.old) (M.grants memory.new) (M.heap memory.old) (M.heap memory.new) self.old self.new }
+        ensures { Goes step_needs (small_step refused) result slot (M.grants memory.old) (M.grants memory.new) (M.heap memory.old) (M.heap memory.new) self.old self.new }
     {
         match next_token(self.alloc, self.program.as_slice(), at) {
             Ok(Some(token)) => self.take_token(memory, slot, refused, at, &token),
@@ -230,7 +234,7 @@ impl Interpreter {
         requires top { first_of self.old.frames ≡ Some (Frame.Text at) }
         requires within { token.now.end ≤ length self.old.program }
         requires scanned { scan self.old.program at ≡ found (token_of self.old.program token.now.kind) token.now.end }
-        ensures { Goes (small_step refused) result slot (M.grants memory.old) (M.grants memory.new) (M.heap memory.old) (M.heap memory.new) self.old self.new }
+        ensures { Goes step_needs (small_step refused) result slot (M.grants memory.old) (M.grants memory.new) (M.heap memory.old) (M.heap memory.new) self.old self.new }
     {
         self.frames.replace(1, Frame::Text { at: token.end });
         match self.execute(memory, slot, refused, &token.kind) {
@@ -254,7 +258,7 @@ impl Interpreter {
         requires good { IsGood (M.heap memory.old) self.old }
         requires running { self.old.stage ≡ Stage.Running }
         requires short { (elements : Tokens) → token_of self.old.program token.now ≡ procedure_token elements → IsShort elements }
-        ensures { Goes (small.small_done refused (token_of self.old.program token.now)) result slot (M.grants memory.old) (M.grants memory.new) (M.heap memory.old) (M.heap memory.new) self.old self.new }
+        ensures { Goes (token_needs (token_of self.old.program token.now)) (small.small_done refused (token_of self.old.program token.now)) result slot (M.grants memory.old) (M.grants memory.new) (M.heap memory.old) (M.heap memory.new) self.old self.new }
     {
         match token {
             TokenKind::Integer(number) => {
@@ -288,7 +292,7 @@ impl Interpreter {
         requires good { IsGood (M.heap memory.old) self.old }
         requires running { self.old.stage ≡ Stage.Running }
         requires small { IfSome found (λ named. IsTrue (is_small_named named)) }
-        ensures { (text : List ℕ) → ((births : ℕ → ℕ) → command_of births self.old.program command ≡ executable_name text) → Goes (small.name_treated refused text (option_map named_value_of found)) result slot (M.grants memory.old) (M.grants memory.new) (M.heap memory.old) (M.heap memory.new) self.old self.new }
+        ensures { (text : List ℕ) → ((births : ℕ → ℕ) → command_of births self.old.program command ≡ executable_name text) → Goes (name_needs (option_map named_value_of found)) (small.name_treated refused text (option_map named_value_of found)) result slot (M.grants memory.old) (M.grants memory.new) (M.heap memory.old) (M.heap memory.new) self.old self.new }
     {
         match found {
             Some(named) => self.execute_named(memory, slot, refused, named, command),
@@ -312,7 +316,7 @@ impl Interpreter {
         requires good { IsGood (M.heap memory.old) self.old }
         requires running { self.old.stage ≡ Stage.Running }
         requires small { IsTrue (is_small_named named) }
-        ensures { (text : List ℕ) → ((births : ℕ → ℕ) → command_of births self.old.program command ≡ executable_name text) → Goes (small.name_treated refused text (Some (named_value_of named))) result slot (M.grants memory.old) (M.grants memory.new) (M.heap memory.old) (M.heap memory.new) self.old self.new }
+        ensures { (text : List ℕ) → ((births : ℕ → ℕ) → command_of births self.old.program command ≡ executable_name text) → Goes (name_needs (Some (named_value_of named))) (small.name_treated refused text (Some (named_value_of named))) result slot (M.grants memory.old) (M.grants memory.new) (M.heap memory.old) (M.heap memory.new) self.old self.new }
     {
         match named {
             Named::Operator(operator) => self.act(memory, slot, refused, operator),
@@ -339,7 +343,7 @@ impl Interpreter {
         requires good { IsGood (M.heap memory.old) self.old }
         requires running { self.old.stage ≡ Stage.Running }
         requires small { IsTrue (small.is_small operator) }
-        ensures { Goes (small.small_operated refused operator) result slot (M.grants memory.old) (M.grants memory.new) (M.heap memory.old) (M.heap memory.new) self.old self.new }
+        ensures { Goes (λ world. operator_needs operator world.operands) (small.small_operated refused operator) result slot (M.grants memory.old) (M.grants memory.new) (M.heap memory.old) (M.heap memory.new) self.old self.new }
     {
         match operator {
             Operator::Forall => {
@@ -363,7 +367,7 @@ impl Interpreter {
         requires running { self.old.stage ≡ Stage.Running }
         requires small { IsTrue (small.is_small operator) }
         requires other { operator ≢ Operator.Forall }
-        ensures { Goes (small.small_operated refused operator) result slot (M.grants memory.old) (M.grants memory.new) (M.heap memory.old) (M.heap memory.new) self.old self.new }
+        ensures { Goes (λ world. operator_needs operator world.operands) (small.small_operated refused operator) result slot (M.grants memory.old) (M.grants memory.new) (M.heap memory.old) (M.heap memory.new) self.old self.new }
     {
         match operate(
             operator,
@@ -394,7 +398,7 @@ impl Interpreter {
         requires good { IsGood (M.heap memory.old) self.old }
         requires running { self.old.stage ≡ Stage.Running }
         requires short { IsShort (tokens_in self.old.program elements.now) }
-        ensures { Goes (small.procedure_pushed refused (tokens_in self.old.program elements.now)) result slot (M.grants memory.old) (M.grants memory.new) (M.heap memory.old) (M.heap memory.new) self.old self.new }
+        ensures { Goes (λ world. growth_needed) (small.procedure_pushed refused (tokens_in self.old.program elements.now)) result slot (M.grants memory.old) (M.grants memory.new) (M.heap memory.old) (M.heap memory.new) self.old self.new }
     {
         let none = Command::Value(plain::null());
         if self.operands.is_full() {
@@ -431,7 +435,7 @@ impl Interpreter {
         requires good { IsGood (M.heap memory.old) self.old }
         requires running { self.old.stage ≡ Stage.Running }
         requires top { first_of self.old.frames ≡ Some (Frame.Procedure rest) }
-        ensures { Goes (small_step refused) result slot (M.grants memory.old) (M.grants memory.new) (M.heap memory.old) (M.heap memory.new) self.old self.new }
+        ensures { Goes step_needs (small_step refused) result slot (M.grants memory.old) (M.grants memory.new) (M.heap memory.old) (M.heap memory.new) self.old self.new }
     {
         let word = element(memory, rest, 0);
         if rest.length == 1 {
@@ -458,7 +462,7 @@ impl Interpreter {
         requires within { (names : List (List ℕ)) (s : Store) → Shows (M.heap memory.old) names s → IsWithin (birth_at (M.heap memory.old)) names s word }
         requires value { (names : List (List ℕ)) (s : Store) → Shows (M.heap memory.old) names s → slice_get (elements s (birth_at (M.heap memory.old) rest.address)) (rest.offset + 0) ≡ Some (value_of (birth_at (M.heap memory.old)) names word) }
         requires last { rest.length ≡ 1 }
-        ensures { Goes (small_step refused) result slot (M.grants memory.old) (M.grants memory.new) (M.heap memory.old) (M.heap memory.new) self.old self.new }
+        ensures { Goes step_needs (small_step refused) result slot (M.grants memory.old) (M.grants memory.new) (M.heap memory.old) (M.heap memory.new) self.old self.new }
     {
         drop_top(&mut self.frames);
         match self.execute_element(memory, slot, refused, word) {
@@ -487,7 +491,7 @@ impl Interpreter {
         requires within { (names : List (List ℕ)) (s : Store) → Shows (M.heap memory.old) names s → IsWithin (birth_at (M.heap memory.old)) names s word }
         requires value { (names : List (List ℕ)) (s : Store) → Shows (M.heap memory.old) names s → slice_get (elements s (birth_at (M.heap memory.old) rest.address)) (rest.offset + 0) ≡ Some (value_of (birth_at (M.heap memory.old)) names word) }
         requires more { 1 < rest.length }
-        ensures { Goes (small_step refused) result slot (M.grants memory.old) (M.grants memory.new) (M.heap memory.old) (M.heap memory.new) self.old self.new }
+        ensures { Goes step_needs (small_step refused) result slot (M.grants memory.old) (M.grants memory.new) (M.heap memory.old) (M.heap memory.new) self.old self.new }
     {
         let others = interval(rest, 1, rest.length - 1);
         self.frames.replace(1, Frame::Procedure { rest: others });
@@ -513,7 +517,7 @@ impl Interpreter {
         requires running { self.old.stage ≡ Stage.Running }
         requires held { IsValue (M.heap memory.old) word }
         requires within { (names : List (List ℕ)) (s : Store) → Shows (M.heap memory.old) names s → IsWithin (birth_at (M.heap memory.old)) names s word }
-        ensures { Goes (small.element_done refused (value_of (birth_at (M.heap memory.old)) small_names word)) result slot (M.grants memory.old) (M.grants memory.new) (M.heap memory.old) (M.heap memory.new) self.old self.new }
+        ensures { Goes (element_needs (value_of (birth_at (M.heap memory.old)) small_names word)) (small.element_done refused (value_of (birth_at (M.heap memory.old)) small_names word)) result slot (M.grants memory.old) (M.grants memory.new) (M.heap memory.old) (M.heap memory.new) self.old self.new }
     {
         match executable_name_of(word) {
             Some(number) => self.execute_name(
@@ -558,7 +562,7 @@ impl Interpreter {
         requires top { first_of self.old.frames ≡ Some (Frame.Forall over at body) }
         ensures heap { M.heap memory.new ≡ M.heap memory.old }
         ensures grants { M.grants memory.new ≡ M.grants memory.old }
-        ensures goes { (refused : Bool) (slot : ℕ) → Goes (small_step refused) (Ok (tt {0})) slot (M.grants memory.old) (M.grants memory.new) (M.heap memory.old) (M.heap memory.new) self.old self.new }
+        ensures goes { (refused : Bool) (slot : ℕ) → Goes step_needs (small_step refused) (Ok (tt {0})) slot (M.grants memory.old) (M.grants memory.new) (M.heap memory.old) (M.heap memory.new) self.old self.new }
     {
         if at >= over.length {
             self.frames.discard(1);
@@ -604,12 +608,14 @@ impl Interpreter {
         push_within(&mut self.frames, Frame::Procedure { rest: body });
     }
 
-    /// Takes a frame off for an error; the last goes with the error's line, and the context is finished.
+    /// Takes a frame off for an error; the last goes with the error's line, and the context is finished. Not made, with nothing changed: `Memory`, where the
+    /// growth of the output was refused.
     fn unwind(&mut self, error: ErrorName, command: Command) -> Result<(), NotMade>
         requires unwinding { self.old.stage ≡ Stage.Unwinding error command }
         requires counted { self.old.error_lines ≡ 0 }
         ensures made { OnOk result ((refused : Bool) → GoesAlone (small_step refused) self.old self.new) }
         ensures reason { IfErr result (λ reason. reason ≡ NotMade.Memory) }
+        ensures last { OnErr result (length self.old.frames ≡ 1) }
         ensures unmade { OnErr result (self.new ≡ self.old) }
     {
         match self.frames.len() {
@@ -622,7 +628,7 @@ impl Interpreter {
         }
     }
 
-    /// Prints the line of an error and ends.
+    /// Prints the line of an error and ends. Not made, with nothing changed: `Memory`, where the growth of the output was refused.
     fn end_with_line(&mut self, error: ErrorName, command: Command) -> Result<(), NotMade>
         requires counted { self.old.error_lines ≡ 0 }
         requires last { length self.old.frames ≡ 1 }

@@ -179,6 +179,31 @@ fn a_refused_step_makes_no_object(rt: HostRuntime) -> Result<(), Fail> {
 }
 
 #[test]
+fn memory_ends_at_its_last_word(rt: HostRuntime) -> Result<(), Fail> {
+    // An array of 255, a procedure of 4, and 255 arrays of 65,533 leave 65,527 of the 16,777,215 words.
+    let rows = [
+        ("65525 array length =", "65525\n", Outcome::Finished),
+        ("65525 array pop 0 array", "", Outcome::Memory),
+    ];
+    for (tail, printed, outcome) in rows {
+        let mut program = Vec::from_slice(rt.alloc(), b"255 array {pop 65533 array pop} forall ")?;
+        let tail: &str = tail;
+        program.extend_from_slice(tail.as_bytes())?;
+        let report = run_plain(rt.alloc(), program.as_slice(), config(10000))
+            .ok()
+            .ok_or("no report")?;
+        let printed: &str = printed;
+        assert_eq!(rt;
+            report.printed.as_slice(),
+            printed.as_bytes(),
+            "printed by {tail}"
+        );
+        assert!(rt; report.outcome == outcome, "the outcome of {tail}");
+    }
+    Ok(())
+}
+
+#[test]
 fn numbers_out_of_range_are_refused(rt: HostRuntime) -> Result<(), Fail> {
     for wrong in [
         Config {

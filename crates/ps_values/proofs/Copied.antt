@@ -23,6 +23,7 @@ use Rattle.ps_ops.specs.declared.failure.Failure.TheVariants.{Error}
 use Rattle.ps_ops.specs.Does.{values_in, IsRecordReason, Agrees, Changes}
 use Rattle.ps_ops.proofs.Operands.{first_split}
 use Rattle.ps_ops.proofs.Ready.{plain_within}
+use Rattle.ps_values.specs.Counts.{copied_by, copied_count}
 
 -- ---- by the topmost value
 
@@ -39,6 +40,15 @@ of_neither : (s : Store) (y : Value) (what : What) (rest : List Value) → is_so
 of_neither s y (integer_value i) rest first second = cc
 of_neither s y (array_value part) rest first second = cc
 of_neither s y what rest first second = refl
+
+-- an array is no integer
+copied_by-array : (what : What) (operands : List Value) → is_some (array_in what) ≡ true → copied_by what operands ≡ second_count operands
+copied_by-array (array_value part) operands is = refl
+copied_by-array what operands is = cc
+
+copied_count-array : (y : Value) (rest : List Value) → is_some (as_array y) ≡ true → copied_count (y ∷ rest) ≡ second_count (y ∷ rest)
+unfolding as_array
+copied_count-array y rest is = copied_by-array y.what (y ∷ rest) is
 
 module _ (y : Value) (s : Store) (rest : List Value) where
   number_row-is : is_some (as_integer y) ≡ true → small_copy_row s (y ∷ rest) ≡ unchanged s (copy_number_row (y ∷ rest))
@@ -85,31 +95,40 @@ module _ (slot : ℕ) (asked left : Grants) (h : Heap) (old : List Word) (top : 
   top_row names s outcome is = ap (λ ws. small_copy_row s (values_in h names ws)) (first_split old top is_top) ∙ is
 
   pub number_copied : (result : Result Unit ErrorName) (new : List Word) → ((births : ℕ → ℕ) (names : List (List ℕ)) → is_some (as_integer (value_of births names top)) ≡ true)
-      → Does copy_number_row result old new → AreFrom old new → Changes small_copy_row second_count (raised_of result) slot asked left h h old new
+      → Does copy_number_row result old new → AreFrom old new → Changes small_copy_row copied_count (raised_of result) slot asked left h h old new
   number_copied result new number does from = record {
     meets = λ names s shows within.
-        subst (λ outcome. Agrees (record_reason slot asked left (second_count (values_in h names old))) (raised_of result) outcome names h h old new)
+        subst (λ outcome. Agrees (record_reason slot asked left (copied_count (values_in h names old))) (raised_of result) outcome names h h old new)
         (sym (top_row names s (unchanged s (copy_number_row (values_in h names old)))
         (number_row-is (value_of (birth_at h) names top) s (values_in h names rest) (number (birth_at h) names) ∙ ap (λ ws. unchanged s (copy_number_row (values_in h names ws))) (sym (first_split old top is_top)))))
-        (agrees_unchanged slot asked left (second_count (values_in h names old)) h names s old new result (copy_number_row (values_in h names old)) (does.agrees (birth_at h) names) shows
+        (agrees_unchanged slot asked left (copied_count (values_in h names old)) h names s old new result (copy_number_row (values_in h names old)) (does.agrees (birth_at h) names) shows
         (have_from (IsWithin (birth_at h) names s) old new (plain_within (birth_at h) names s) within from));
   }
 
   pub neither_copied : ((births : ℕ → ℕ) (names : List (List ℕ)) → is_some (as_integer (value_of births names top)) ≡ false) → ((births : ℕ → ℕ) (names : List (List ℕ)) → is_some (as_array (value_of births names top)) ≡ false)
-      → Changes small_copy_row second_count (Err (Error TypeCheck)) slot asked left h h old old
+      → Changes small_copy_row copied_count (Err (Error TypeCheck)) slot asked left h h old old
   neither_copied number array = record {
     meets = λ names s shows within.
-        subst (λ outcome. Agrees (record_reason slot asked left (second_count (values_in h names old))) (Err (Error TypeCheck)) outcome names h h old old)
+        subst (λ outcome. Agrees (record_reason slot asked left (copied_count (values_in h names old))) (Err (Error TypeCheck)) outcome names h h old old)
         (sym (top_row names s (fails TypeCheck) (neither_row-is (value_of (birth_at h) names top) s (values_in h names rest) (number (birth_at h) names) (array (birth_at h) names))))
         (refl, refl, refl);
   }
 
+  array_count : (names : List (List ℕ)) → ((births : ℕ → ℕ) (names : List (List ℕ)) → is_some (as_array (value_of births names top)) ≡ true)
+      → copied_count (values_in h names old) ≡ second_count (values_in h names old)
+  array_count names array =
+      ap (λ ws. copied_count (values_in h names ws)) (first_split old top is_top)
+      ∙ (copied_count-array (value_of (birth_at h) names top) (values_in h names rest) (array (birth_at h) names)
+      ∙ ap (λ ws. second_count (values_in h names ws)) (sym (first_split old top is_top)))
+
   pub array_copied : (now : Heap) (result : Result Unit Failure) (new : List Word) → ((births : ℕ → ℕ) (names : List (List ℕ)) → is_some (as_array (value_of births names top)) ≡ true)
-      → Changes array_copy_row second_count result slot asked left h now old new → Changes small_copy_row second_count result slot asked left h now old new
+      → Changes array_copy_row second_count result slot asked left h now old new → Changes small_copy_row copied_count result slot asked left h now old new
   array_copied now result new array changes = record {
     meets = λ names s shows within.
-        subst (λ outcome. Agrees (record_reason slot asked left (second_count (values_in h names old))) result outcome names h now old new)
+        subst (λ outcome. Agrees (record_reason slot asked left (copied_count (values_in h names old))) result outcome names h now old new)
         (sym (top_row names s (array_copy_row s (values_in h names old))
         (array_row-is (value_of (birth_at h) names top) s (values_in h names rest) (array (birth_at h) names) ∙ ap (λ ws. array_copy_row s (values_in h names ws)) (sym (first_split old top is_top)))))
-        (changes.meets names s shows within);
+        (subst (λ count. Agrees (record_reason slot asked left count) result (array_copy_row s (values_in h names old)) names h now old new)
+        (sym (array_count names array))
+        (changes.meets names s shows within));
   }

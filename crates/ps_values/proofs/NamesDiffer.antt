@@ -1,5 +1,5 @@
 -- The names of the small language have different texts, none of them long.
-use Rattle.std.proofs.Common.{◌≡◌, ℕ, zero, suc, ◌<◌, ◌≤◌, Bool, true, false, not, ◌&&◌, List, [], ◌∷◌, length, refl, sym, ◌∙◌, arith}
+use Rattle.std.proofs.Common.{◌≡◌, ℕ, zero, suc, ◌<◌, Bool, true, false, not, ◌&&◌, List, [], ◌∷◌, length, refl, sym, ◌∙◌, arith}
 use Rattle.std.specs.Prelude.{◌==◌, nat_lt}
 use Rattle.std.specs.List.{list_all}
 use Rattle.std.specs.Str.{bytes_eq}
@@ -65,15 +65,3 @@ few_in (text ∷ texts) (suc n) few = few_in texts n (both (nat_lt (length text)
 pub few_bytes : (n : ℕ) → length (text_of_name small_names n) < 100
 unfolding small_names small_pairs
 few_bytes n = few_in small_names n refl
-
-beyond_all : (texts : List (List ℕ)) (n : ℕ) → length texts ≤ n → text_of_name texts n ≡ []
-beyond_all [] n high = refl
-beyond_all (text ∷ texts) zero high = absurd (omega arith)
-beyond_all (text ∷ texts) (suc n) high = beyond_all texts n (omega arith)
-
--- a number of none has no text
-pub beyond : (number : ℕ) → 44 ≤ number → text_of_name small_names number ≡ []
-unfolding small_names small_pairs
-beyond number high = beyond_all small_names number high
-
-pub ruleset name_lemmas = (few_bytes, beyond)

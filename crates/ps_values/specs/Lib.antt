@@ -1,2 +1,3 @@
 pub mod Contents
+pub mod Counts
 pub mod Does

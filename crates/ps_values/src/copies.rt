@@ -1,11 +1,11 @@
 //! Copies of operands and of arrays (PLRM2, 8 'copy').
 
 ghost use Rattle.std.specs.Prelude.{◌<◌};
-ghost use Rattle.ps_language.specs.ArrayRows.{second_count};
 ghost use Rattle.ps_language.specs.SmallRows as rows;
 ghost use Rattle.ps_mem.specs.Keeps.{Keeps};
 ghost use Rattle.ps_mem.specs.Shows.{IsReady};
 ghost use Rattle.ps_ops.specs.Does.{Changes, KeepsLogs};
+ghost use Rattle.ps_values.specs.Counts.{copied_count};
 
 use crate::Operands;
 use ps_language::errors::ErrorName;
@@ -20,7 +20,7 @@ use ps_ops::readers::{array_of, integer_of};
 pub fn copy<M: Memory>(operands: &mut Operands, memory: &mut M, slot: u32) -> Result<(), Failure>
     requires slot { slot < SLOTS }
     requires ready { IsReady (M.heap memory.old) operands.old }
-    ensures does { Changes rows.small_copy_row second_count result slot (M.grants memory.old) (M.grants memory.new) (M.heap memory.old) (M.heap memory.new) operands.old operands.new }
+    ensures does { Changes rows.small_copy_row copied_count result slot (M.grants memory.old) (M.grants memory.new) (M.heap memory.old) (M.heap memory.new) operands.old operands.new }
     ensures ready { IsReady (M.heap memory.new) operands.new }
     ensures keeps { Keeps (M.heap memory.old) (M.heap memory.new) }
     ensures logs { KeepsLogs (M.grants memory.old) (M.grants memory.new) slot }

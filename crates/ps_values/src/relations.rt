@@ -1,9 +1,8 @@
 //! The operators that compare (PLRM2, 8 'Operators': Relational, Boolean and Bitwise).
 
-ghost use Rattle.std.specs.Prelude.{◌≡◌, ◌≤◌, length, not, OnOk};
+ghost use Rattle.std.specs.Prelude.{◌≡◌, not};
 ghost use Rattle.std.specs.Ordering as ordering;
 ghost use Rattle.ps_language.specs.SmallRows as rows;
-ghost use Rattle.ps_operands.specs.Does.{Reads, two_integers};
 ghost use Rattle.ps_word.specs.Format.{IsWord, content_in};
 ghost use Rattle.ps_mem.specs.Shows.{IsReady};
 ghost use Rattle.ps_values.specs.Contents.{same_place, same_content};
@@ -12,6 +11,7 @@ ghost use Rattle.ps_values.specs.Does.{Relates};
 use crate::Operands;
 use ps_language::errors::ErrorName;
 use ps_mem::Memory;
+use ps_operands::arithmetic::two_integers;
 use ps_operands::plain;
 use ps_word::values::{Content, Part};
 use ps_word::words::Word;
@@ -74,25 +74,6 @@ pub fn ne<M: Memory>(operands: &mut Operands, memory: &M) -> Result<(), ErrorNam
     };
     operands.replace(2, plain::boolean(!are_equal(left, right)));
     Ok(())
-}
-
-/// The two topmost operands as integers, the topmost second. Raises `stackunderflow` and `typecheck`.
-#[inline]
-#[tactic(auto, using(ps_operands::proofs::Meanings::readers))]
-fn two_integers(operands: &Operands) -> Result<(i32, i32), ErrorName>
-    ensures read { Reads two_integers result operands.now }
-    ensures two { OnOk result (2 ≤ length operands.now) }
-{
-    let Some((right, left)) = operands.top_two() else {
-        return Err(ErrorName::StackUnderflow);
-    };
-    let Some(j) = right.as_integer() else {
-        return Err(ErrorName::TypeCheck);
-    };
-    let Some(i) = left.as_integer() else {
-        return Err(ErrorName::TypeCheck);
-    };
-    Ok((i, j))
 }
 
 /// `i j gt t`. Raises `stackunderflow` and `typecheck`.

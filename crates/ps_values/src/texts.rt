@@ -8,7 +8,7 @@ ghost use Rattle.ps_language.specs.Texts as texts;
 ghost use Rattle.ps_mem.specs.Meaning.{value_of, text_of_name};
 
 use itoa::Buffer;
-use ps_named::names::{NAMES, text_at};
+use ps_named::names::text_at;
 use ps_named::texts::operator_name;
 use ps_word::values::Content;
 use ps_word::words::Word;
@@ -19,16 +19,12 @@ pub const NO_TEXT: &[u8] = b"--nostringval--";
 
 /// The text of the name of a number; empty where no name has the number.
 #[inline]
-#[tactic(auto, using(crate::proofs::NamesDiffer::name_lemmas))]
+#[tactic(auto, using(crate::proofs::NamesDiffer::few_bytes))]
 pub fn name_text(number: u16) -> &'static [u8]
     ensures text { result.now ≡ text_of_name small_names number }
     ensures few { length result.now < 100 }
 {
-    if (number as u32) < NAMES {
-        text_at(number as u32)
-    } else {
-        b""
-    }
+    text_at(number as u32)
 }
 
 /// The text of a boolean.

@@ -1,17 +1,18 @@
 -- What a vault keeps, over its steps.
-use Rattle.std.proofs.Common.{◌≡◌, ◌≢◌, ℕ, ◌+◌, ◌≤◌, Bool, true, false, ◌&&◌, List, [], subst, refl, sym, ◌∙◌, ap, arith}
-use Rattle.std.specs.Prelude.{◌==◌, Result, Ok, Err}
+use Rattle.std.proofs.Common.{◌≡◌, ◌≢◌, ℕ, ◌+◌, ◌≤◌, Bool, true, false, ◌&&◌, List, [], ◌∷◌, ◌++◌, subst, refl, sym, ◌∙◌, ap, arith}
+use Rattle.std.specs.Prelude.{◌==◌, Result, Ok, Err, replicate}
 use Rattle.std.proofs.lemmas.Bool.{true≢false}
 use Rattle.std.proofs.lemmas.Bool.Decides.{nat_tests}
+use Rattle.std.proofs.lemmas.List.{replicate_more}
 use Rattle.ps_language.specs.declared.schedules.Entry.{Entry}
-use Rattle.ps_language.specs.Schedules.{added, count_of}
+use Rattle.ps_language.specs.Schedules.{Move, added, moves, count_of, plain_move}
 use Rattle.ps_language.specs.Small as small
 use Rattle.ps_language.specs.Small.{SmallWorld, small_names, small_step, is_small_ready, small_world, small_printed, IsSmallProper}
-use Rattle.ps_language.proofs.ScheduleLaws.{count_of-added, count_of-nil, longest-added}
+use Rattle.ps_language.proofs.ScheduleLaws.{moves-added, count_of-added, count_of-nil, longest-added}
 use Rattle.ps_language.proofs.SmallLaws.{ready_move, small_world-nil, small_world-added, small_proper-nil, small_proper-added}
 use Rattle.ps_mem.specs.Heap.{Heap, Grants, empty_heap, birth_at, has_room}
 use Rattle.ps_mem.specs.Plain.{plain_space}
-use Rattle.ps_mem.proofs.EmptyLemmas.{IsSound-empty, Shows-empty}
+use Rattle.ps_mem.proofs.EmptyLemmas.{Shows-empty}
 use Rattle.ps_ops.specs.declared.failure.NotMade.{NotMade}
 use Rattle.ps_ops.specs.declared.failure.NotMade.TheVariants.{LogFull, LogClosed, NeedSpace, Memory}
 use Rattle.ps_step.specs.declared.interpreter.Stage.{Stage}
@@ -19,27 +20,21 @@ use Rattle.ps_step.specs.declared.interpreter.Stage.TheVariants.{Running, Unwind
 use Rattle.ps_step.specs.Machine as machines
 use Rattle.ps_step.specs.Machine.{Machine, world_of, starting_machine, stage_of, IsShown, IsGood}
 use Rattle.ps_step.specs.Goes.{Goes, GoesTo}
+use Rattle.ps_step.specs.Needs.{step_needs}
 use Rattle.ps_vault.specs.declared.reports.Outcome.{Outcome}
-use Rattle.ps_vault.specs.Reports.{EndsAs, IsRunOf}
+use Rattle.ps_vault.specs.Reports.{AreOrdinary, EndsAs, IsRunOf}
 use Rattle.ps_vault.specs.Stories.{Story, world_at, first_move, Keeps}
 
 -- ---- before the first step
-
-good_start : (program : List ℕ) → IsGood (empty_heap plain_space) (starting_machine program)
-good_start program = record {
-  ready = record { sound = IsSound-empty plain_space; values = tt };
-  frames = (omega arith, tt);
-  counted = λ _. refl;
-}
 
 shown_start : (program : List ℕ) → IsShown (empty_heap plain_space) (starting_machine program) (small_world program [])
 shown_start program =
     subst (IsShown (empty_heap plain_space) (starting_machine program)) (sym (small_world-nil program))
     (record { is = refl; shows = Shows-empty plain_space small_names; within = tt })
 
-pub keeps_start : (program : List ℕ) → Keeps (empty_heap plain_space) (starting_machine program) [] 0
-keeps_start program = record {
-  good = good_start program;
+pub keeps_start : (program : List ℕ) → IsGood (empty_heap plain_space) (starting_machine program) → Keeps (empty_heap plain_space) (starting_machine program) [] 0
+keeps_start program good = record {
+  good = good;
   shows = shown_start program;
   proper = small_proper-nil program;
   longest = refl;
@@ -56,12 +51,12 @@ world_step program schedule refused ready =
 
 module _ (old new : Heap) (before after : Machine) (schedule : List Entry) (made slot : ℕ) (asked left : Grants) (refused : Bool) (keeps : Keeps old before schedule made) where
   -- what the step says of the world that was shown
-  here : (result : Result Unit NotMade) → Goes (small_step refused) result slot asked left old new before after
-      → GoesTo (small_step refused (world_of old before (small_world before.program schedule).store)) result slot asked left old new before after (small_world before.program schedule).store
+  here : (result : Result Unit NotMade) → Goes step_needs (small_step refused) result slot asked left old new before after
+      → GoesTo (step_needs (world_of old before (small_world before.program schedule).store)) (small_step refused (world_of old before (small_world before.program schedule).store)) result slot asked left old new before after (small_world before.program schedule).store
   here result goes = goes.meets (small_world before.program schedule).store keeps.shows.shows keeps.shows.within
 
   -- one more
-  pub keeps_step : Goes (small_step refused) (Ok (tt {0})) slot asked left old new before after → is_small_ready (small_world before.program schedule) 1 ≡ true
+  pub keeps_step : Goes step_needs (small_step refused) (Ok (tt {0})) slot asked left old new before after → is_small_ready (small_world before.program schedule) 1 ≡ true
       → Keeps new after (added schedule (first_move refused)) (made + 1)
   keeps_step goes ready =
       let later : List Entry = added schedule (first_move refused) in
@@ -79,17 +74,17 @@ module _ (old new : Heap) (before after : Machine) (schedule : List Entry) (made
       }
 
   -- or none
-  pub keeps_none : (reason : NotMade) → Goes (small_step refused) (Err reason) slot asked left old new before after → Keeps new after schedule made
+  pub keeps_none : (reason : NotMade) → Goes step_needs (small_step refused) (Err reason) slot asked left old new before after → Keeps new after schedule made
   keeps_none reason goes =
       let same = here (Err reason) goes in
-      subst (λ (m : Machine). Keeps new m schedule made) (sym same.2) (subst (λ (h : Heap). Keeps h before schedule made) (sym same.1) keeps)
+      subst (λ (m : Machine). Keeps new m schedule made) (sym same.3) (subst (λ (h : Heap). Keeps h before schedule made) (sym same.2) keeps)
 
   -- only for want of memory, where nothing else is asked for
-  pub only_memory : (reason : NotMade) → Goes (small_step refused) (Err reason) slot asked left old new before after
+  pub only_memory : (reason : NotMade) → Goes step_needs (small_step refused) (Err reason) slot asked left old new before after
       → asked.closed slot ≡ false → left.records slot ≢ 0 → old.space.grows ≡ true → reason ≡ Memory
   unfolding has_room
-  only_memory LogFull goes opened free grows = absurd (free (here (Err LogFull) goes).0.1)
-  only_memory LogClosed goes opened free grows = absurd (true≢false (sym (here (Err LogClosed) goes).0 ∙ opened))
+  only_memory LogFull goes opened free grows = let none : left.records slot ≡ 0 = omega (arith, (here (Err LogFull) goes).0.1) in absurd (free none)
+  only_memory LogClosed goes opened free grows = absurd (true≢false (sym (here (Err LogClosed) goes).0.1 ∙ opened))
   only_memory (NeedSpace words) goes opened free grows = let none = (here (Err (NeedSpace words)) goes).0.1 in absurd (true≢false (rw grows at none))
   only_memory Memory goes opened free grows = refl
 
@@ -134,18 +129,32 @@ printed_shown h m w shown = ap (λ (v : SmallWorld). v.printed) shown.is
 pub count_step : (schedule : List Entry) (refused : Bool) → count_of (added schedule (first_move refused)) ≡ count_of schedule + 1
 count_step schedule refused = count_of-added schedule (first_move refused)
 
+-- no step is refused where there is none
+pub ordinary_start : AreOrdinary []
+unfolding moves count_of
+ordinary_start = refl
+
+-- nor where one more is an ordinary one
+pub ordinary_step : (schedule : List Entry) → AreOrdinary schedule → AreOrdinary (added schedule (first_move false))
+ordinary_step schedule ordinary =
+    moves-added schedule (first_move false)
+    ∙ (ap (λ (steps : List Move). steps ++ first_move false ∷ []) ordinary
+    ∙ (replicate_more (count_of schedule) (plain_move 1)
+    ∙ ap (λ (n : ℕ). replicate n (plain_move 1)) (sym (count_of-added schedule (first_move false)))))
+
 -- a vault at the end is a run
 pub run_at_end : (h : Heap) (m : Machine) (schedule : List Entry) (made steps : ℕ) (story : Story) (printed : List ℕ) (outcome : Outcome)
-    → Keeps h m schedule made → record { program = m.program; schedule = schedule } ≡ story → count_of story.schedule ≤ steps → printed ≡ m.printed
+    → Keeps h m schedule made → record { program = m.program; schedule = schedule } ≡ story → count_of story.schedule ≤ steps → AreOrdinary story.schedule → printed ≡ m.printed
     → EndsAs (world_at story) (made == steps) outcome → IsRunOf story.program steps printed schedule outcome
 unfolding small_printed
-run_at_end h m schedule made steps story printed outcome keeps view few prints ends =
+run_at_end h m schedule made steps story printed outcome keeps view few ordinary prints ends =
     let same : m.program ≡ story.program = ap (λ (s : Story). s.program) view in
     let steps_made : schedule ≡ story.schedule = ap (λ (s : Story). s.schedule) view in
     let bytes : (small_world m.program schedule).printed ≡ m.printed = printed_shown h m (small_world m.program schedule) keeps.shows in
     record {
       prints = prints ∙ (sym bytes ∙ ap (λ (p : List ℕ). (small_world p schedule).printed) same);
       proper = subst (λ (p : List ℕ). IsSmallProper p schedule) same keeps.proper;
+      ordinary = rw steps_made ordinary;
       longest = keeps.longest;
       within = rw steps_made few;
       ends = subst (λ (n : ℕ). EndsAs (small_world story.program schedule) (n == steps) outcome) keeps.counted

@@ -1,7 +1,7 @@
 -- What runs promise.
-use Rattle.std.specs.Prelude.{◌≡◌, ◌≢◌, ℕ, ◌≤◌, ◌==◌, Bool, true, false, not, List}
+use Rattle.std.specs.Prelude.{◌≡◌, ◌≢◌, ℕ, ◌≤◌, ◌==◌, Bool, true, false, not, List, replicate}
 use Rattle.ps_language.specs.declared.schedules.Entry.{Entry}
-use Rattle.ps_language.specs.Schedules.{count_of, is_longest}
+use Rattle.ps_language.specs.Schedules.{plain_move, moves, count_of, is_longest}
 use Rattle.ps_language.specs.Small.{SmallWorld, has_steps, small_world, small_printed, IsSmallProper}
 use Rattle.ps_vault.specs.declared.reports.Config.{Config}
 use Rattle.ps_vault.specs.declared.reports.Outcome.{Outcome}
@@ -29,10 +29,16 @@ EndsAs world used_up AllWaiting = ⊥
 EndsAs world used_up StepsOut = (is_over world ≡ false) × (used_up ≡ true)
 EndsAs world used_up Memory = (is_over world ≡ false) × (used_up ≡ false)
 
--- a run of a program with a budget of steps: its bytes are those that its schedule prints, the schedule is proper and of the longest entries, and the outcome is that of its world
+-- each step is an ordinary one of the first context: none is refused
+abbrev pub AreOrdinary : List Entry → Type 0
+AreOrdinary schedule = moves schedule ≡ replicate (count_of schedule) (plain_move 1)
+
+-- a run of a program with a budget of steps: its bytes are those that its schedule prints, the schedule is proper, of ordinary steps and of the longest entries, and the outcome is
+-- that of its world
 pub record IsRunOf (program : List ℕ) (steps : ℕ) (printed : List ℕ) (schedule : List Entry) (outcome : Outcome) : Type 0 where
   pub prints : printed ≡ small_printed program schedule
   pub proper : IsSmallProper program schedule
+  pub ordinary : AreOrdinary schedule
   pub longest : is_longest schedule ≡ true
   pub within : count_of schedule ≤ steps
   pub ends : EndsAs (small_world program schedule) (count_of schedule == steps) outcome

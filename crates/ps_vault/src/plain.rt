@@ -12,7 +12,7 @@ use std::alloc::Global;
 ///
 /// The numbers `space` and `workers` are not used, but each must be in its range: else the fault is `Config`. The fault is `Memory` where the room that
 /// the run starts with can't be had; a growth that is refused later ends the run, and the report has what was made so far.
-#[tactic(auto, using(crate::proofs::Kept::count_step))]
+#[tactic(auto, using(crate::proofs::Kept::count_step, crate::proofs::Kept::ordinary_step))]
 pub fn run_plain(alloc: Global, program: &[u8], config: Config) -> Result<Report, RunFault>
     ensures config { (result ≡ Err RunFault.Config) ↔ ¬ IsWithin config }
     ensures run { IfOk result (λ report. IsRunOf program.now config.steps report.printed.items report.schedule.items report.outcome) }

@@ -3,7 +3,7 @@
 ghost use Rattle.std.specs.Prelude.{◌≡◌, ◌≤◌, OnOk, OnErr, IfOk, IfErr, IfSome, IfNone, Some, None, [], true, ◌&&◌};
 ghost use Rattle.ps_language.specs.Schedules.{added, count_of};
 ghost use Rattle.ps_language.specs.Small as small;
-ghost use Rattle.ps_vault.specs.Reports.{EndsAs, IsRunOf, is_over};
+ghost use Rattle.ps_vault.specs.Reports.{AreOrdinary, EndsAs, IsRunOf, is_over};
 ghost use Rattle.ps_vault.specs.Stories.{Story, world_at, first_move};
 
 use crate::reports::{Outcome, Report};
@@ -123,9 +123,10 @@ impl Vault {
         interpreter.into_printed()
     }
 
-    /// The report of a run with a budget of steps, at the end.
+    /// The report of a run of ordinary steps with a budget, at the end.
     pub fn into_report(self, steps: u32) -> Report
-        requires { count_of self.schedule ≤ steps }
+        requires few { count_of self.schedule ≤ steps }
+        requires ordinary { AreOrdinary self.schedule }
         ensures run { IsRunOf self.program steps result.printed.items result.schedule.items result.outcome }
         ensures flips { result.flips ≡ 0 }
         ensures taken { result.taken ≡ 0 }

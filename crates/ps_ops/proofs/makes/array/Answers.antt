@@ -23,7 +23,7 @@ returns-clause-does g c =
     c.new_array-part.ensures.part c.new_array-part.ensures.birth (λ births names. c.array_word.ensures.value births names) (λ births names s. c.array_word.ensures.within births names s)
     array_row c.args.refused c.if-refused.false
     (array_makes h now old c.in-Some.top c.in-Some-integer_of.number c.in-Some-count_of.count c.in-Some.ensures (λ births names. c.in-Some-integer_of.ensures births names)
-    (simp to_z-of_z at c.in-Some-count_of.ensures) (omega arith)
+    (simp to_z-of_z at c.in-Some-count_of.ensures.count) (omega arith)
     (λ names s shows. c.new_array-part.ensures.shows names s shows)))
 
 pub returns-clause-ready : goal.returns-clause-ready

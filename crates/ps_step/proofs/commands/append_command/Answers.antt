@@ -1,8 +1,5 @@
 -- The text of a name and of an operator.
-use Rattle.std.proofs.Common.{◌≡◌, ℕ, List, ◌++◌, sym, ◌∙◌, ap, refl, subst}
-use Rattle.std.specs.Prelude.{OnOk}
 use Rattle.ps_language.specs.SmallRows.{small_text}
-use Rattle.ps_step.specs.Machine.{command_of}
 use Rattle.ps_step.proofs.commands.append_command.Goals as goal
 
 pub returns-in-Name-clause-ok : goal.returns-in-Name-clause-ok

@@ -1,5 +1,5 @@
 -- The whole line.
-use Rattle.std.proofs.Common.{◌≡◌, rules, sym, ◌∙◌}
+use Rattle.std.proofs.Common.{sym, ◌∙◌}
 use Rattle.ps_values.proofs.Printed.{was_ok}
 use Rattle.ps_step.proofs.commands.append_error_line.Goals as goal
 

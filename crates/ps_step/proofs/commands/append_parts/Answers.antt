@@ -1,5 +1,5 @@
 -- The parts one after the other.
-use Rattle.std.proofs.Common.{◌≡◌, ℕ, List, ◌++◌, rules, sym, ◌∙◌, ap, refl, subst}
+use Rattle.std.proofs.Common.{ℕ, List, ◌++◌, ◌∙◌, ap}
 use Rattle.ps_step.specs.Machine.{command_of}
 use Rattle.ps_step.proofs.LineParts.{line_parts, line_grows, on_error}
 use Rattle.ps_step.proofs.commands.append_parts.Goals as goal

@@ -1,5 +1,5 @@
 -- A name, another value, or a literal one.
-use Rattle.std.proofs.Common.{◌≡◌, Some, None, sym, ◌∙◌, true, false}
+use Rattle.std.proofs.Common.{sym, ◌∙◌}
 use Rattle.ps_step.proofs.NameWords.{name_value_of, other_value_of, literal_value_of}
 use Rattle.ps_step.proofs.readers.executable_name_of.Goals as goal
 

@@ -1,9 +1,6 @@
 -- Each case by what the operands are.
-use Rattle.std.proofs.Common.{◌≡◌, Some, None, sym, ◌∙◌, ap, refl, true, false}
-use Rattle.std.specs.Prelude.{option_map}
-use Rattle.ps_language.specs.Readers.{as_array}
-use Rattle.ps_mem.specs.Meaning.{value_of, part_of}
-use Rattle.ps_step.proofs.Looping.{parts_by, parts_of_two}
+use Rattle.std.proofs.Common.{◌∙◌, refl}
+use Rattle.ps_step.proofs.Looping.{parts_of_two}
 use Rattle.ps_step.proofs.readers.forall_operands.Goals as goal
 
 pub returns-then-not-is_executable-clause-parts : goal.returns-then-not-is_executable-clause-parts

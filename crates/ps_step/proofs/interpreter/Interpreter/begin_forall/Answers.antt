@@ -1,5 +1,5 @@
 -- A frame comes, or there is an error.
-use Rattle.std.proofs.Common.{◌≡◌, Ok, Err, List, sym, ◌∙◌, ap, subst}
+use Rattle.std.proofs.Common.{sym, ◌∙◌, ap, subst}
 use Rattle.ps_language.specs.declared.errors.ErrorName.TheVariants.{ExecStackOverflow}
 use Rattle.ps_language.specs.declared.operators.Operator.TheVariants.{Forall}
 use Rattle.ps_language.specs.Small as small

@@ -1,10 +1,9 @@
 -- The line is printed, and nothing is left.
-use Rattle.std.proofs.Common.{◌≡◌, ℕ, ◌+◌, List, [], ◌∷◌, ◌++◌, length, sym, ◌∙◌, ap, refl, subst}
-use Rattle.std.specs.Prelude.{OnOk}
+use Rattle.std.proofs.Common.{◌≡◌, ℕ, ◌+◌, List, [], ◌++◌, length, sym, ◌∙◌, ap}
 use Rattle.ps_language.specs.Small.{small_error_line}
 use Rattle.ps_values.proofs.Printed.{was_ok}
 use Rattle.ps_step.specs.declared.interpreter.Stage.TheVariants.{Finished}
-use Rattle.ps_step.specs.Machine.{Machine, EndsWithLine, command_of}
+use Rattle.ps_step.specs.Machine.{Machine, command_of}
 use Rattle.ps_step.proofs.Ending.{dropped_last}
 use Rattle.ps_step.proofs.interpreter.Interpreter.end_with_line.Goals as goal
 

@@ -1,5 +1,5 @@
 -- An operator acts in each of its three ways.
-use Rattle.std.proofs.Common.{◌≡◌, Ok, Err, sym, ◌∙◌, ap, subst}
+use Rattle.std.proofs.Common.{sym, ◌∙◌, ap, subst}
 use Rattle.ps_step.specs.Machine.{Machine, IsGood}
 use Rattle.ps_step.proofs.Going.{seen_goes}
 use Rattle.ps_step.proofs.Operated.{goes_operated, goes_failed, goes_not}

@@ -1,5 +1,5 @@
 -- The errors in their order, and what is made.
-use Rattle.std.proofs.Common.{◌≡◌, ℕ, List, Ok, Err, true, false, ◌∷◌, sym, ◌∙◌, ap, refl, subst}
+use Rattle.std.proofs.Common.{◌≡◌, ℕ, List, Ok, Err, true, ◌∷◌, sym, ◌∙◌, ap, refl, subst}
 use Rattle.ps_language.specs.declared.errors.ErrorName.TheVariants.{StackOverflow, LimitCheck, VmError}
 use Rattle.std.specs.Prelude.{vec_capacity}
 use Rattle.ps_language.specs.Readers.{is_full}
@@ -9,8 +9,9 @@ use Rattle.ps_procedures.specs.Procedures.{tokens_in, IsMade}
 use Rattle.ps_procedures.specs.Refused.{IsRefused}
 use Rattle.ps_step.specs.declared.commands.Command.TheVariants.{Value}
 use Rattle.ps_step.specs.Machine.{Machine}
+use Rattle.ps_operators.specs.Reasons.{growth_needed}
 use Rattle.ps_step.specs.Goes.{Goes}
-use Rattle.ps_step.proofs.Going.{goes_raised}
+use Rattle.ps_step.proofs.Going.{same_records, goes_raised}
 use Rattle.ps_step.proofs.Procedural.{pushed_full, pushed_foreign, pushed_refused, goes_made_procedure, goes_no_procedure}
 use Rattle.ps_step.proofs.interpreter.Interpreter.push_procedure.Goals as goal
 
@@ -20,7 +21,7 @@ returns-then-is_full g c =
     let h = g.M.Memory.heap c.args.memory.now in
     let view = c.self.view_is in
     let elements = tokens_in c.args.self.now.program c.args.elements.now in
-    let went = goes_raised h c.args.self.now c.requires.good c.requires.running (g.M.Memory.grants c.args.memory.now) c.args.slot
+    let went = goes_raised h c.args.self.now c.requires.good c.requires.running (g.M.Memory.grants c.args.memory.now) c.args.slot (λ world. growth_needed)
     (procedure_pushed c.args.refused elements) StackOverflow (Value c.null.result)
     (λ store shows. pushed_full c.args.refused elements h c.args.self.now store (ap (λ (m : Machine). is_full m.operands) (sym view) ∙ (sym c.is_full.ensures ∙ c.if-is_full.true)) ∙ rw (c.null.ensures.value (birth_at h) small_names) refl) in
     rw c.raise.ensures went
@@ -31,7 +32,7 @@ returns-then-not-is_small g c =
     let h = g.M.Memory.heap c.args.memory.now in
     let view = c.self.view_is in
     let elements = tokens_in c.args.self.now.program c.args.elements.now in
-    let went = goes_raised h c.args.self.now c.requires.good c.requires.running (g.M.Memory.grants c.args.memory.now) c.args.slot
+    let went = goes_raised h c.args.self.now c.requires.good c.requires.running (g.M.Memory.grants c.args.memory.now) c.args.slot (λ world. growth_needed)
     (procedure_pushed c.args.refused elements) LimitCheck (Value c.null.result)
     (λ store shows. pushed_foreign c.args.refused elements h c.args.self.now store (ap (λ (m : Machine). is_full m.operands) (sym view) ∙ (sym c.is_full.ensures ∙ c.if-is_full.false)) (ap (λ (program : List ℕ). are_small (tokens_in program c.args.elements.now)) (sym (ap (λ (m : Machine). m.program) view) ∙ sym c.as_slice.ensures.value) ∙ (sym c.is_small.ensures ∙ c.if-not-is_small.true)) ∙ rw (c.null.ensures.value (birth_at h) small_names) refl) in
     rw c.raise-then-not-is_small.ensures went
@@ -42,7 +43,7 @@ returns-then-refused g c =
     let h = g.M.Memory.heap c.args.memory.now in
     let view = c.self.view_is in
     let elements = tokens_in c.args.self.now.program c.args.elements.now in
-    let went = goes_raised h c.args.self.now c.requires.good c.requires.running (g.M.Memory.grants c.args.memory.now) c.args.slot
+    let went = goes_raised h c.args.self.now c.requires.good c.requires.running (g.M.Memory.grants c.args.memory.now) c.args.slot (λ world. growth_needed)
     (procedure_pushed c.args.refused elements) VmError (Value c.null.result)
     (λ store shows. pushed_refused c.args.refused elements h c.args.self.now store (ap (λ (m : Machine). is_full m.operands) (sym view) ∙ (sym c.is_full.ensures ∙ c.if-is_full.false)) (ap (λ (program : List ℕ). are_small (tokens_in program c.args.elements.now)) (sym (ap (λ (m : Machine). m.program) view) ∙ sym c.as_slice.ensures.value) ∙ (sym c.is_small.ensures ∙ c.if-not-is_small.false)) c.if-refused.true ∙ rw (c.null.ensures.value (birth_at h) small_names) refl) in
     rw c.raise-then-refused.ensures went
@@ -59,9 +60,9 @@ returns-in-Ok g c =
     let made = subst (λ (program : List ℕ). IsMade (small_procedure (tokens_in program c.args.elements.now)) old new c.in-Ok.word) (c.as_slice-2.ensures.value ∙ sym text) c.in-Ok.ensures.made in
     let went = goes_made_procedure c.args.refused elements c.args.slot (g.M.Memory.grants c.args.memory.now) (g.M.Memory.grants c.make_procedure.new.memory) old new c.args.self.now c.requires.good c.requires.running
     (ap (λ (m : Machine). is_full m.operands) (sym view) ∙ (sym c.is_full.ensures ∙ c.if-is_full.false)) small c.if-refused.false (λ store. c.procedure_laws.ensures.room elements store small) c.in-Ok.word made
-    (record { closed = c.make_procedure.ensures.closed; others = λ s other. ap (λ (records : ℕ → ℕ). records s) c.make_procedure.ensures.records }) in
+    (same_records _ _ c.args.slot c.make_procedure.ensures.closed c.make_procedure.ensures.records) in
     rw c.push_within.ensures
-    (subst (λ (m : Machine). Goes (procedure_pushed c.args.refused elements) (Ok (tt {0})) c.args.slot (g.M.Memory.grants c.args.memory.now) (g.M.Memory.grants c.make_procedure.new.memory) old new c.args.self.now m)
+    (subst (λ (m : Machine). Goes (λ world. growth_needed) (procedure_pushed c.args.refused elements) (Ok (tt {0})) c.args.slot (g.M.Memory.grants c.args.memory.now) (g.M.Memory.grants c.make_procedure.new.memory) old new c.args.self.now m)
     (ap (λ (m : Machine). record m { operands = c.in-Ok.word ∷ m.operands }) (sym view)) went)
 
 pub returns-in-Err : goal.returns-in-Err
@@ -76,6 +77,6 @@ returns-in-Err g c =
     let reason = subst (λ (program : List ℕ). IsRefused c.in-Err.reason (tokens_in program c.args.elements.now) old (vec_capacity c.self.inside.scratch)) (c.as_slice-2.ensures.value ∙ sym text) c.in-Err.ensures.refused in
     let went = goes_no_procedure c.args.refused elements c.args.slot (g.M.Memory.grants c.args.memory.now) (g.M.Memory.grants c.make_procedure.new.memory) old new c.args.self.now c.requires.good c.requires.running
     (ap (λ (m : Machine). is_full m.operands) (sym view) ∙ (sym c.is_full.ensures ∙ c.if-is_full.false)) small c.if-refused.false (λ store. c.procedure_laws.ensures.room elements store small) c.in-Err.reason (vec_capacity c.self.inside.scratch) reason
-    c.in-Err.ensures.unchanged (record { closed = c.make_procedure.ensures.closed; others = λ s other. ap (λ (records : ℕ → ℕ). records s) c.make_procedure.ensures.records }) in
-    subst (λ (m : Machine). Goes (procedure_pushed c.args.refused elements) (Err c.in-Err.reason) c.args.slot (g.M.Memory.grants c.args.memory.now) (g.M.Memory.grants c.make_procedure.new.memory) old new c.args.self.now m)
+    c.in-Err.ensures.unchanged (same_records _ _ c.args.slot c.make_procedure.ensures.closed c.make_procedure.ensures.records) in
+    subst (λ (m : Machine). Goes (λ world. growth_needed) (procedure_pushed c.args.refused elements) (Err c.in-Err.reason) c.args.slot (g.M.Memory.grants c.args.memory.now) (g.M.Memory.grants c.make_procedure.new.memory) old new c.args.self.now m)
     (sym view) went

@@ -1,5 +1,5 @@
 -- By the stage and the top frame.
-use Rattle.std.proofs.Common.{◌≡◌, sym, ◌∙◌, ap}
+use Rattle.std.proofs.Common.{sym, ◌∙◌, ap}
 use Rattle.ps_stacks.specs.Tops.{first_of}
 use Rattle.ps_step.specs.Machine.{Machine}
 use Rattle.ps_step.proofs.Ending.{goes_unwound, goes_finished, goes_bare}
@@ -14,7 +14,8 @@ returns-in-None g c = goes_bare c.args.refused c.args.slot (g.M.Memory.grants c.
 
 pub returns-in-Unwinding : goal.returns-in-Unwinding
 returns-in-Unwinding g c =
-    goes_unwound c.args.refused c.unwind.result c.args.slot (g.M.Memory.grants c.args.memory.now) (g.M.Memory.heap c.args.memory.now) c.args.self.now c.unwind.new.self c.requires.good c.unwind.ensures.made c.unwind.ensures.reason c.unwind.ensures.unmade
+    goes_unwound c.args.refused c.unwind.result c.args.slot (g.M.Memory.grants c.args.memory.now) (g.M.Memory.heap c.args.memory.now) c.args.self.now c.unwind.new.self c.in-Unwinding.error c.in-Unwinding.command
+    (sym (ap (λ (m : Machine). m.stage) c.self.view_is) ∙ c.in-Unwinding.is) c.requires.good c.unwind.ensures.made c.unwind.ensures.reason c.unwind.ensures.last c.unwind.ensures.unmade
 
 pub returns-in-Finished : goal.returns-in-Finished
 returns-in-Finished g c = goes_finished c.args.refused c.args.slot (g.M.Memory.grants c.args.memory.now) (g.M.Memory.heap c.args.memory.now) c.args.self.now c.requires.good

@@ -1,5 +1,5 @@
 -- The text's frame goes behind the token, or back.
-use Rattle.std.proofs.Common.{◌≡◌, ℕ, List, ◌∷◌, length, arith, Ok, Err, Some, sym, ◌∙◌, ap, refl, subst}
+use Rattle.std.proofs.Common.{◌≡◌, ℕ, List, ◌∷◌, length, arith, Ok, Err, sym, ◌∙◌, ap, refl, subst}
 use Rattle.std.specs.Prelude.{drop}
 use Rattle.ps_language.specs.Scan.{scan}
 use Rattle.ps_language.specs.Small.{small_step, small_done}
@@ -10,9 +10,10 @@ use Rattle.ps_stacks.specs.Tops.{first_of}
 use Rattle.ps_step.specs.declared.frames.Frame.{Frame}
 use Rattle.ps_step.specs.declared.frames.Frame.TheVariants.{Text}
 use Rattle.ps_step.specs.Machine.{Machine, IsGood}
+use Rattle.ps_step.specs.Needs.{token_needs, step_needs}
 use Rattle.ps_step.specs.Goes.{Goes}
 use Rattle.ps_step.proofs.Going.{goes_made, seen_goes}
-use Rattle.ps_step.proofs.Taking.{with_top, good_top, goes_back, token_taken}
+use Rattle.ps_step.proofs.Taking.{with_top, goes_back, token_taken, token_needed}
 use Rattle.ps_step.proofs.interpreter.Interpreter.take_token.Goals as goal
 
 pub execute-requires-clause-short : goal.execute-requires-clause-short
@@ -35,10 +36,10 @@ returns-in-Ok g c =
     let kind = c.args.token.now.kind in
     let end = c.args.token.now.end in
     let inner = small_done c.args.refused (token_of V.program kind) in
-    let went : Goes inner (Ok (tt {0})) c.args.slot (g.M.Memory.grants c.args.memory.now) (g.M.Memory.grants c.execute.new.memory) old new (with_top (Text end) V) c.execute.new.self =
-    subst (λ (frames : List Frame). Goes inner (Ok (tt {0})) c.args.slot (g.M.Memory.grants c.args.memory.now) (g.M.Memory.grants c.execute.new.memory) old new (record V { frames = frames }) c.execute.new.self) c.replace.ensures c.in-Ok.ensures in
+    let went : Goes (token_needs (token_of V.program kind)) inner (Ok (tt {0})) c.args.slot (g.M.Memory.grants c.args.memory.now) (g.M.Memory.grants c.execute.new.memory) old new (with_top (Text end) V) c.execute.new.self =
+    subst (λ (frames : List Frame). Goes (token_needs (token_of V.program kind)) inner (Ok (tt {0})) c.args.slot (g.M.Memory.grants c.args.memory.now) (g.M.Memory.grants c.execute.new.memory) old new (record V { frames = frames }) c.execute.new.self) c.replace.ensures c.in-Ok.ensures in
     seen_goes view
-    (goes_made (small_step c.args.refused) inner c.args.slot _ _ old new V (with_top (Text end) V) c.execute.new.self went refl refl
+    (goes_made step_needs (token_needs (token_of V.program kind)) (small_step c.args.refused) inner c.args.slot _ _ old new V (with_top (Text end) V) c.execute.new.self went refl refl
     (λ store shows. token_taken c.args.refused old V c.args.at (ap (λ (m : Machine). m.stage) view ∙ c.requires.running) (ap (λ (m : Machine). first_of m.frames) view ∙ c.requires.top) store (token_of V.program kind) end
     (subst (λ (program : List ℕ). scan program c.args.at ≡ found (token_of program kind) end) (sym (ap (λ (m : Machine). m.program) view)) c.requires.scanned)))
 
@@ -52,12 +53,14 @@ returns-in-Err g c =
     let kind = c.args.token.now.kind in
     let end = c.args.token.now.end in
     let inner = small_done c.args.refused (token_of V.program kind) in
-    let went : Goes inner (Err c.in-Err.reason) c.args.slot (g.M.Memory.grants c.args.memory.now) (g.M.Memory.grants c.execute.new.memory) old new (with_top (Text end) V) c.execute.new.self =
-    subst (λ (frames : List Frame). Goes inner (Err c.in-Err.reason) c.args.slot (g.M.Memory.grants c.args.memory.now) (g.M.Memory.grants c.execute.new.memory) old new (record V { frames = frames }) c.execute.new.self) c.replace.ensures c.in-Err.ensures in
-    let seen : Goes inner (Err c.in-Err.reason) c.args.slot (g.M.Memory.grants c.args.memory.now) (g.M.Memory.grants c.execute.new.memory) old new (with_top (Text end) V) W =
-    subst (λ (n : Machine). Goes inner (Err c.in-Err.reason) c.args.slot (g.M.Memory.grants c.args.memory.now) (g.M.Memory.grants c.execute.new.memory) old new (with_top (Text end) V) n) (sym c.self-2.view_is) went in
+    let went : Goes (token_needs (token_of V.program kind)) inner (Err c.in-Err.reason) c.args.slot (g.M.Memory.grants c.args.memory.now) (g.M.Memory.grants c.execute.new.memory) old new (with_top (Text end) V) c.execute.new.self =
+    subst (λ (frames : List Frame). Goes (token_needs (token_of V.program kind)) inner (Err c.in-Err.reason) c.args.slot (g.M.Memory.grants c.args.memory.now) (g.M.Memory.grants c.execute.new.memory) old new (record V { frames = frames }) c.execute.new.self) c.replace.ensures c.in-Err.ensures in
+    let seen : Goes (token_needs (token_of V.program kind)) inner (Err c.in-Err.reason) c.args.slot (g.M.Memory.grants c.args.memory.now) (g.M.Memory.grants c.execute.new.memory) old new (with_top (Text end) V) W =
+    subst (λ (n : Machine). Goes (token_needs (token_of V.program kind)) inner (Err c.in-Err.reason) c.args.slot (g.M.Memory.grants c.args.memory.now) (g.M.Memory.grants c.execute.new.memory) old new (with_top (Text end) V) n) (sym c.self-2.view_is) went in
     rw c.replace-in-Err.ensures
     (seen_goes view
-    (goes_back (small_step c.args.refused) inner c.args.slot _ _ old new V (Text c.args.at) (subst (IsGood old) (sym view) c.requires.good) (ap (λ (m : Machine). first_of m.frames) view ∙ c.requires.top) (Text end) c.in-Err.reason W
+    (goes_back step_needs (token_needs (token_of V.program kind)) (small_step c.args.refused) inner c.args.slot _ _ old new V (Text c.args.at) (subst (IsGood old) (sym view) c.requires.good) (ap (λ (m : Machine). first_of m.frames) view ∙ c.requires.top) (Text end) c.in-Err.reason W
+    (λ store shows. token_needed c.args.refused old V c.args.at (ap (λ (m : Machine). m.stage) view ∙ c.requires.running) (ap (λ (m : Machine). first_of m.frames) view ∙ c.requires.top) store (token_of V.program kind) end
+    (subst (λ (program : List ℕ). scan program c.args.at ≡ found (token_of program kind) end) (sym (ap (λ (m : Machine). m.program) view)) c.requires.scanned))
     (λ store shows. token_taken c.args.refused old V c.args.at (ap (λ (m : Machine). m.stage) view ∙ c.requires.running) (ap (λ (m : Machine). first_of m.frames) view ∙ c.requires.top) store (token_of V.program kind) end
     (subst (λ (program : List ℕ). scan program c.args.at ≡ found (token_of program kind) end) (sym (ap (λ (m : Machine). m.program) view)) c.requires.scanned)) seen))

@@ -1,5 +1,5 @@
 -- By the number of frames.
-use Rattle.std.proofs.Common.{◌≡◌, ℕ, ◌≤◌, List, length, arith, sym, ◌∙◌, ap, refl, subst}
+use Rattle.std.proofs.Common.{◌≤◌, length, arith, sym, ◌∙◌, ap}
 use Rattle.ps_step.specs.Machine.{Machine}
 use Rattle.ps_step.proofs.Going.{seen_alone}
 use Rattle.ps_step.proofs.Ending.{alone_bare, alone_ended, alone_unwound, one_frame, two_frames, ok_map}

@@ -1,0 +1,77 @@
+//! A program by the command line, and again under the schedule that its run returned.
+
+use crate::rows::Verdict;
+use ps_run::drive;
+use ps_tests::fakes::{OneFile, Output};
+use ps_vault::{Config, Outcome, Report, RunFault, replay, run_plain};
+use std::alloc::Global;
+
+/// More writes than a run makes.
+const AMPLE: u32 = 1000;
+
+/// The exit status for want of memory.
+const MEMORY: u8 = 5;
+
+/// The numbers of a run that ends by itself.
+const CONFIG: Config = Config {
+    space: 65536,
+    workers: 4,
+    quantum: 100,
+    steps: 1000000,
+};
+
+/// Whether `drive` prints this, with this status and nothing told.
+pub fn driven(alloc: Global, program: &[u8], printed: &[u8], status: u8) -> Verdict {
+    let mut files = OneFile { bytes: Ok(program) };
+    let mut out = Output::new(alloc, AMPLE);
+    let mut err = Output::new(alloc, AMPLE);
+    if out.bytes.reserve(printed.len()).is_err() {
+        return Verdict::WantsMemory;
+    }
+    let given = drive(alloc, &["--plain", "f"], &mut files, &mut out, &mut err);
+    if given == MEMORY {
+        return if printed.starts_with(out.bytes.as_slice()) {
+            Verdict::WantsMemory
+        } else {
+            Verdict::Different
+        };
+    }
+    Verdict::of(given == status && out.bytes.as_slice() == printed && err.bytes.is_empty())
+}
+
+/// Whether a run prints this, or a beginning of it where memory is wanted, and prints the same bytes again under its schedule.
+pub fn replayed(alloc: Global, program: &[u8], printed: &[u8]) -> Verdict {
+    match run_plain(alloc, program, CONFIG) {
+        Err(RunFault::Memory) => Verdict::WantsMemory,
+        Err(RunFault::Config) => Verdict::Different,
+        Ok(report) => {
+            let is_wanted = report.printed.as_slice() == printed
+                || (report.outcome == Outcome::Memory
+                    && printed.starts_with(report.printed.as_slice()));
+            if is_wanted {
+                again(alloc, program, &report)
+            } else {
+                Verdict::Different
+            }
+        }
+    }
+}
+
+/// Whether the schedule of a report makes a run print the same bytes, or a beginning of them where memory is wanted then.
+fn again(alloc: Global, program: &[u8], report: &Report) -> Verdict {
+    let Ok(other) = replay(alloc, program, report.schedule.as_slice()) else {
+        return Verdict::WantsMemory;
+    };
+    let printed = report.printed.as_slice();
+    if other.outcome == Outcome::Memory && printed.starts_with(other.printed.as_slice()) {
+        return Verdict::WantsMemory;
+    }
+    if other.printed.as_slice() != printed {
+        return Verdict::Different;
+    }
+    if report.outcome == Outcome::Memory {
+        Verdict::WantsMemory
+    } else {
+        Verdict::of(other.outcome == report.outcome)
+    }
+}

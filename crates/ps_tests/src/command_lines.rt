@@ -1,0 +1,231 @@
+//! Rows of the command line: what is run, and what it gives.
+
+use crate::fakes::{OneFile, Output};
+use ps_run::{ReadFault, drive};
+use std::alloc::Global;
+use std::test::Fail;
+
+/// Ample writes.
+const AMPLE: u32 = 1000;
+
+/// What a run gave: the status, and what stands on both outputs.
+#[derive(Drop)]
+struct Given {
+    status: u8,
+    out: Vec<u8>,
+    err: Vec<u8>,
+}
+
+/// What a run of these bytes gave, with so many writes to each output.
+fn driven(
+    alloc: Global,
+    words: &[&str],
+    bytes: Result<&[u8], ReadFault>,
+    out_writes: u32,
+    err_writes: u32,
+) -> Given {
+    let mut files = OneFile { bytes };
+    let mut out = Output::new(alloc, out_writes);
+    let mut err = Output::new(alloc, err_writes);
+    let status = drive(alloc, words, &mut files, &mut out, &mut err);
+    let Output { bytes: printed, .. } = out;
+    let Output { bytes: told, .. } = err;
+    Given {
+        status,
+        out: printed,
+        err: told,
+    }
+}
+
+/// A command line over `1 2 add =`, what is printed, what is told and the status.
+#[derive(Clone, Copy)]
+struct Line {
+    words: &'static [&'static str],
+    printed: &'static str,
+    told: &'static str,
+    status: u8,
+}
+
+const LINES: [Line; 8] = [
+    Line {
+        words: &["--plain", "--stats", "f"],
+        printed: "3\n",
+        told: "flips 0\ntaken 0\nsteps 5\n",
+        status: 0,
+    },
+    Line {
+        words: &["--plain", "--steps", "4", "f"],
+        printed: "3\n",
+        told: "dpsrun: steps used up\n",
+        status: 4,
+    },
+    Line {
+        words: &["--plain", "--steps", "5", "f"],
+        printed: "3\n",
+        told: "",
+        status: 0,
+    },
+    Line {
+        words: &["--plain", "--steps", "4", "--stats", "f"],
+        printed: "3\n",
+        told: "flips 0\ntaken 0\nsteps 4\ndpsrun: steps used up\n",
+        status: 4,
+    },
+    Line {
+        words: &["--steps=5", "f"],
+        printed: "3\n",
+        told: "",
+        status: 0,
+    },
+    Line {
+        words: &[
+            "--space",
+            "4096",
+            "--workers",
+            "32",
+            "--quantum",
+            "65535",
+            "f",
+        ],
+        printed: "3\n",
+        told: "",
+        status: 0,
+    },
+    Line {
+        words: &[
+            "--space",
+            "1048576",
+            "--workers",
+            "1",
+            "--quantum",
+            "1",
+            "--steps",
+            "4294967295",
+            "f",
+        ],
+        printed: "3\n",
+        told: "",
+        status: 0,
+    },
+    Line {
+        words: &["f", "--plain"],
+        printed: "3\n",
+        told: "",
+        status: 0,
+    },
+];
+
+#[test]
+fn command_lines_are_read(rt: HostRuntime) -> Result<(), Fail> {
+    for line in LINES {
+        let words = line.words;
+        let given = driven(rt.alloc(), words, Ok(b"1 2 add ="), AMPLE, AMPLE);
+        assert_eq!(rt;
+            given.out.as_slice(),
+            line.printed.as_bytes(),
+            "printed under {words:?}"
+        );
+        assert_eq!(rt;
+            given.err.as_slice(),
+            line.told.as_bytes(),
+            "told under {words:?}"
+        );
+        assert_eq!(rt; given.status, line.status, "the status under {words:?}");
+    }
+    Ok(())
+}
+
+/// Command lines that are refused, `--help` too.
+const REFUSED: [&[&str]; 17] = [
+    &[],
+    &["--space", "4095", "f"],
+    &["--space", "1048577", "f"],
+    &["--workers", "0", "f"],
+    &["--workers", "33", "f"],
+    &["--quantum", "0", "f"],
+    &["--quantum", "65536", "f"],
+    &["--steps", "0", "f"],
+    &["--steps", "4294967296", "f"],
+    &["--steps", "x", "f"],
+    &["--steps", "-1", "f"],
+    &["--steps"],
+    &["--record", "r", "f"],
+    &["--replay", "r", "f"],
+    &["--unknown", "f"],
+    &["f", "g"],
+    &["--help"],
+];
+
+#[test]
+fn bad_command_lines_are_told(rt: HostRuntime) -> Result<(), Fail> {
+    for words in REFUSED {
+        let given = driven(rt.alloc(), words, Ok(b"1 2 add ="), AMPLE, AMPLE);
+        assert_eq!(rt; given.status, 2, "the status under {words:?}");
+        assert_eq!(rt; given.out.len(), 0, "printed under {words:?}");
+        assert!(rt; !given.err.is_empty(), "told under {words:?}");
+    }
+    Ok(())
+}
+
+#[test]
+fn files_that_are_not_read_are_told(rt: HostRuntime) -> Result<(), Fail> {
+    let faults = [
+        (ReadFault::NoRead, "dpsrun: cannot read f\n", 2),
+        (ReadFault::TooLong, "dpsrun: cannot read f\n", 2),
+        (ReadFault::Memory, "dpsrun: out of memory\n", 5),
+    ];
+    for (fault, told, status) in faults {
+        let given = driven(
+            rt.alloc(),
+            &["--plain", "--stats", "f"],
+            Err(fault),
+            AMPLE,
+            AMPLE,
+        );
+        assert_eq!(rt; given.status, status);
+        assert_eq!(rt; given.err.as_slice(), told.as_bytes());
+        assert_eq!(rt; given.out.len(), 0);
+    }
+    Ok(())
+}
+
+#[test]
+fn each_write_fails_in_turn(rt: HostRuntime) -> Result<(), Fail> {
+    // Of `out` the write and the flush: the fault is told, and no statistics.
+    for writes in 0..2u32 {
+        let given = driven(
+            rt.alloc(),
+            &["--plain", "--stats", "f"],
+            Ok(b"1 2 add ="),
+            writes,
+            AMPLE,
+        );
+        assert_eq!(rt; given.status, 2);
+        assert_eq!(rt;
+            given.err.as_slice(),
+            b"dpsrun: cannot write output\n".as_slice()
+        );
+    }
+    // Of `err` each: nothing else changes.
+    for writes in 0..12u32 {
+        let given = driven(
+            rt.alloc(),
+            &["--plain", "--stats", "--steps", "4", "f"],
+            Ok(b"1 2 add ="),
+            AMPLE,
+            writes,
+        );
+        assert_eq!(rt; given.status, 4);
+        assert_eq!(rt; given.out.as_slice(), b"3\n".as_slice());
+    }
+    // Both.
+    let given = driven(
+        rt.alloc(),
+        &["--plain", "--stats", "f"],
+        Ok(b"1 2 add ="),
+        0,
+        0,
+    );
+    assert_eq!(rt; given.status, 2);
+    Ok(())
+}
