@@ -45,6 +45,17 @@ pub fn is_writable(access: Access) -> bool
     }
 }
 
+/// Whether an access permits execution.
+#[inline]
+pub fn is_executable(access: Access) -> bool
+    ensures { result ≡ language.is_executable access }
+{
+    match access {
+        Access::Unlimited | Access::ReadOnly | Access::ExecuteOnly => true,
+        Access::NoAccess => false,
+    }
+}
+
 /// A number as an index below a count.
 #[inline]
 pub fn index_below(number: i32, count: u16) -> Option<u16>

@@ -112,7 +112,7 @@ module _ (h : Heap) (a n : ℕ) (known : StandsAs h ArrayKind a n) (i count : �
 
 -- ---- nothing copied
 
-set_same : (s : Store) (b : ℕ) (object : Object) → slice_get s b ≡ Some object → slice_set s b object ≡ s
+pub set_same : (s : Store) (b : ℕ) (object : Object) → slice_get s b ≡ Some object → slice_set s b object ≡ s
 set_same [] b object e = cc
 set_same (x ∷ s) zero object e = let same : x ≡ object = cc in ap (λ y. y ∷ s) (sym same)
 set_same (x ∷ s) (suc b) object e = ap (λ ys. x ∷ ys) (set_same s b object e)

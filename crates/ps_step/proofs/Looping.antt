@@ -30,7 +30,8 @@ use Rattle.ps_step.specs.declared.commands.Command.TheVariants.{Operator as Blam
 use Rattle.ps_step.specs.declared.frames.Frame.{Frame}
 use Rattle.ps_step.specs.declared.frames.Frame.TheVariants.{Forall as Loop}
 use Rattle.ps_step.specs.declared.interpreter.Stage.TheVariants.{Running}
-use Rattle.ps_step.specs.Machine.{Machine, frame_of, IsHeld, raised}
+use Rattle.ps_control.specs.Frames.{IsHeld}
+use Rattle.ps_step.specs.Machine.{Machine, frame_of, raised}
 use Rattle.ps_step.specs.Goes.{GoesAlone}
 use Rattle.ps_step.proofs.Going.{same_logs, goes_raised}
 

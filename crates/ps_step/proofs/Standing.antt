@@ -10,7 +10,8 @@ use Rattle.ps_mem.specs.Meaning.{part_of}
 use Rattle.ps_mem.proofs.KeepsLemmas.{birth_at-kept, stands-kept}
 use Rattle.ps_step.specs.declared.frames.Frame.{Frame}
 use Rattle.ps_step.specs.declared.frames.Frame.TheVariants.{Text, Procedure, Forall}
-use Rattle.ps_step.specs.Machine.{frame_of, IsFrame, IsHeld}
+use Rattle.ps_control.specs.Frames.{IsHeld}
+use Rattle.ps_step.specs.Machine.{frame_of, IsFrame}
 
 module _ (old new : Heap) (keeps : Keeps old new) where
   pub held_kept : (part : Part) → IsHeld old part → IsHeld new part

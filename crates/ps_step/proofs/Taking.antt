@@ -26,7 +26,8 @@ use Rattle.ps_step.specs.declared.frames.Frame.TheVariants.{Text, Procedure}
 use Rattle.ps_step.specs.declared.interpreter.Stage.TheVariants.{Running}
 use Rattle.ps_language.specs.declared.kinds.Kind.TheVariants.{Array}
 use Rattle.ps_mem.specs.References.{StandsAs}
-use Rattle.ps_step.specs.Machine.{Machine, frame_of, world_of, IsGood, IsFrame, IsHeld}
+use Rattle.ps_control.specs.Frames.{IsHeld}
+use Rattle.ps_step.specs.Machine.{Machine, frame_of, world_of, IsGood, IsFrame}
 use Rattle.ps_operators.specs.Reasons.{Needs, nothing_needed, growth_needed, operator_needs}
 use Rattle.ps_step.specs.Needs.{begins_composite, what_needs, name_needs, token_needs, element_needs, scan_needs, step_needs}
 use Rattle.ps_step.specs.Goes.{Goes}

@@ -1,9 +1,8 @@
 -- A context as its words, and the world that it shows in a memory.
-use Rattle.std.specs.Prelude.{◌≡◌, ℕ, ◌+◌, ◌<◌, ◌≤◌, ◌^◌, List, [], ◌∷◌, ◌++◌, length, map, drop, slice_range, Bool, true, false, Result, Ok, Err, if◌then◌else◌}
+use Rattle.std.specs.Prelude.{◌≡◌, ℕ, ◌+◌, ◌≤◌, List, [], ◌∷◌, ◌++◌, length, map, drop, slice_range, Bool, true, false, Result, Ok, Err, if◌then◌else◌}
 use Rattle.std.specs.List.{AllByRecursion}
 use Rattle.ps_language.specs.declared.errors.ErrorName.{ErrorName}
 use Rattle.ps_language.specs.declared.errors.ErrorName.TheVariants.{StackOverflow}
-use Rattle.ps_language.specs.declared.kinds.Kind.TheVariants.{Array}
 use Rattle.ps_language.specs.Value.{Part as PartValue, Value, Store}
 use Rattle.ps_language.specs.Outcome.{Outcome, leaves, fails}
 use Rattle.ps_language.specs.Readers as readers
@@ -14,10 +13,10 @@ use Rattle.ps_language.specs.Small.{small_names, SmallFrame, SmallWorld}
 use Rattle.ps_word.specs.declared.words.Word.{Word}
 use Rattle.ps_word.specs.declared.values.Part.{Part}
 use Rattle.ps_mem.specs.Heap.{Heap, birth_at}
-use Rattle.ps_mem.specs.References.{StandsAs}
 use Rattle.ps_mem.specs.Meaning.{value_of, part_of}
 use Rattle.ps_mem.specs.Shows.{IsReady, AreWithin, Shows}
 use Rattle.ps_ops.specs.Does.{values_in}
+use Rattle.ps_control.specs.Frames.{IsHeld}
 use Rattle.ps_step.specs.declared.commands.Command.{Command}
 use Rattle.ps_step.specs.declared.commands.Command.TheVariants.{Value as ValueOf, Name, Operator}
 use Rattle.ps_step.specs.declared.frames.Frame.{Frame}
@@ -107,11 +106,6 @@ pub record EndsWithLine (births : ℕ → ℕ) (error : ErrorName) (command : Co
   pub is : after ≡ record before { frames = []; stage = Finished; printed = before.printed ++ small.small_error_line error (command_of births before.program command); error_lines = before.error_lines + 1 }
 
 -- ---- what holds of it in every memory
-
--- all of it stands
-pub record IsHeld (h : Heap) (part : Part) : Type 0 where
-  pub stands : StandsAs h Array part.address (part.offset + part.length)
-  pub end : part.offset + part.length < 2 ^ 16
 
 abbrev pub IsFrame : Heap → (size : ℕ) → Frame → Type 0
 IsFrame h size (Text at) = at ≤ size

@@ -1,19 +1,18 @@
 //! What the interpreter reads of words.
 
-ghost use Rattle.std.specs.Prelude.{◌≡◌, ◌≤◌, ◌&&◌, ℕ, List, length, map, false, IfSome, IfNone, IfOk, OnOk};
-ghost use Rattle.ps_language.specs.Access as language;
+ghost use Rattle.std.specs.Prelude.{◌≡◌, ◌≤◌, ℕ, List, length, map, false, IfSome, IfNone, IfOk, OnOk};
 ghost use Rattle.ps_language.specs.Readers.{executable_name};
 ghost use Rattle.ps_language.specs.Small.{forall_parts};
 ghost use Rattle.ps_language.specs.StepValues.{is_executable_name};
 ghost use Rattle.ps_mem.specs.Heap.{Heap};
 ghost use Rattle.ps_mem.specs.Meaning.{value_of, text_of_name};
 ghost use Rattle.ps_mem.specs.Shows.{IsReady};
-ghost use Rattle.ps_step.specs.Machine.{IsHeld, parts_outcome};
+ghost use Rattle.ps_control.specs.Frames.{IsHeld};
+ghost use Rattle.ps_step.specs.Machine.{parts_outcome};
 
-use ps_language::access::Access;
+use ps_control::readers::may_loop;
 use ps_language::errors::ErrorName;
 use ps_operands::Operands;
-use ps_ops::arrays::is_readable;
 use ps_ops::readers::array_of;
 use ps_word::values::Part;
 use ps_word::words::Word;
@@ -31,25 +30,6 @@ pub fn executable_name_of(word: Word) -> Option<u16>
         Some(number) => Some(number),
         None => None,
     }
-}
-
-/// Whether an access permits execution.
-#[inline]
-pub fn is_executable(access: Access) -> bool
-    ensures { result ≡ language.is_executable access }
-{
-    match access {
-        Access::Unlimited | Access::ReadOnly | Access::ExecuteOnly => true,
-        Access::NoAccess => false,
-    }
-}
-
-/// Whether one access permits execution and the other reading.
-#[inline]
-fn may_loop(body: Access, over: Access) -> bool
-    ensures { result ≡ language.is_executable body && language.is_readable over }
-{
-    is_executable(body) && is_readable(over)
 }
 
 /// The array and the procedure of `forall`. Raises `stackunderflow`, `typecheck` and `invalidaccess`.

@@ -1,5 +1,4 @@
 pub mod Copied
-pub mod EqualContents
 pub mod IntegerTests
 pub mod Measured
 pub mod NamesDiffer

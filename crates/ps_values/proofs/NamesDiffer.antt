@@ -1,7 +1,7 @@
 -- The names of the small language have different texts, none of them long.
-use Rattle.std.proofs.Common.{◌≡◌, ℕ, zero, suc, ◌<◌, Bool, true, false, not, ◌&&◌, List, [], ◌∷◌, length, refl, sym, ◌∙◌, arith}
-use Rattle.std.specs.Prelude.{◌==◌, nat_lt}
-use Rattle.std.specs.List.{list_all}
+use Rattle.std.proofs.Common.{◌≡◌, ◌≢◌, ℕ, zero, suc, ◌<◌, Bool, true, false, not, ◌&&◌, List, [], ◌∷◌, length, refl, sym, ◌∙◌, arith}
+use Rattle.std.specs.Prelude.{◌==◌, nat_lt, slice_index_or}
+use Rattle.std.specs.List.{list_all, AllPairs}
 use Rattle.std.specs.Str.{bytes_eq}
 use Rattle.std.proofs.lemmas.Bool.Decides.{nat_tests}
 use Rattle.std.proofs.lemmas.Slice.Eq.{bytes_eq-Decides}
@@ -51,10 +51,23 @@ equal_numbers (text ∷ texts) (suc m) (suc n) differ first second =
     let before : (suc m == suc n) ≡ (m == n) = grind (arith, nat_tests) in
     equal_numbers texts m n (both (differs_from text texts) (all_differ texts) differ).1 (omega arith) (omega arith) ∙ sym before
 
--- two numbers of names are equal exactly where their texts are
-pub same_name : (m n : ℕ) → m < length small_names → n < length small_names → bytes_eq (text_of_name small_names m) (text_of_name small_names n) ≡ (m == n)
+text_at : (names : List (List ℕ)) (n : ℕ) (d : List ℕ) → n < length names → slice_index_or names n d ≡ text_of_name names n
+text_at [] n d below = absurd (omega (arith, below))
+text_at (text ∷ names) zero d below = refl
+text_at (text ∷ names) (suc n) d below = text_at names n d (omega (arith, below))
+
+later_differs : (names : List (List ℕ)) → all_differ names ≡ true → AllPairs (λ first later. first ≢ later) names
+later_differs names differ = λ m n d before below same.
+    let earlier : m < length names = omega (arith, before, below) in
+    let equal : bytes_eq (text_of_name names m) (text_of_name names n) ≡ true =
+    (bytes_eq-Decides (text_of_name names m) (text_of_name names n)).1 (sym (text_at names m d earlier) ∙ (same ∙ text_at names n d below)) in
+    let number : (m == n) ≡ true = sym (equal_numbers names m n differ earlier below) ∙ equal in
+    grind (arith, nat_tests, before, number)
+
+-- no two names have one text
+pub names_differ : AllPairs (λ first later. first ≢ later) small_names
 unfolding small_names small_pairs
-same_name m n first second = equal_numbers small_names m n refl first second
+names_differ = later_differs small_names refl
 
 few_in : (texts : List (List ℕ)) (n : ℕ) → list_all (λ text. nat_lt (length text) 100) texts ≡ true → length (text_of_name texts n) < 100
 few_in [] n few = omega arith

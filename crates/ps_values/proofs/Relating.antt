@@ -10,7 +10,6 @@ use Rattle.ps_language.specs.Small.{small_names}
 use Rattle.ps_language.specs.SmallRows.{small_equality_row, small_order_row}
 use Rattle.ps_stacks.specs.Tops.{first_two_of}
 use Rattle.ps_word.specs.declared.words.Word.{Word}
-use Rattle.ps_word.specs.Format.{content_in}
 use Rattle.ps_mem.specs.Heap.{Heap, birth_at}
 use Rattle.ps_mem.specs.Meaning.{value_of}
 use Rattle.ps_mem.specs.Shows.{IsValue, IsReady, IsWithin, AreWithin, Shows}
@@ -20,9 +19,10 @@ use Rattle.ps_ops.specs.Does.{values_in, ObservesAs}
 use Rattle.ps_ops.proofs.Operands.{first_two_split}
 use Rattle.ps_ops.proofs.Held.{first_of_two_held, second_held, replaced_held, ready_with}
 use Rattle.ps_ops.proofs.Ready.{plain_value, plain_within}
-use Rattle.ps_values.specs.Contents.{same_content}
 use Rattle.ps_values.specs.Does.{Relates}
-use Rattle.ps_values.proofs.EqualContents.{same_words}
+use Rattle.ps_dict.specs.Keys.{same_words}
+use Rattle.ps_dict.proofs.KeyLemmas.{same_keys}
+use Rattle.ps_values.proofs.NamesDiffer.{names_differ}
 
 -- the row leaves what these words stand for
 pub relates_leaves : (row : List Value → Outcome (List Value)) (h : Heap) (old new : List Word)
@@ -48,7 +48,7 @@ module _ (h : Heap) (old new : List Word) (count : ℕ) (w : Word) (plain : IsPl
 -- ---- equality
 
 module _ (h : Heap) (old new : List Word) (ready : IsReady h old) (right left : Word) (tops : Some (right, left) ≡ first_two_of old) (test : Bool → Bool) (equal : Bool)
-    (same : equal ≡ same_content (content_in left.0) (content_in right.0)) (w : Word) (plain : IsPlain w)
+    (same : equal ≡ same_words left right) (w : Word) (plain : IsPlain w)
     (value : (births : ℕ → ℕ) (names : List (List ℕ)) → value_of births names w ≡ boolean (test equal)) (are : new ≡ w ∷ drop 2 old) where
   equality_row-is : (s : Store) → AreWithin h small_names s old
       → small_equality_row test (values_in h small_names old) ≡ leaves (value_of (birth_at h) small_names w ∷ values_in h small_names (drop 2 old))
@@ -58,7 +58,7 @@ module _ (h : Heap) (old new : List Word) (ready : IsReady h old) (right left : 
       let inside = first_of_two_held (IsWithin (birth_at h) small_names s) old within right left tops in
       let also = second_held (IsWithin (birth_at h) small_names s) old within right left tops in
       ap (λ ws. small_equality_row test (values_in h small_names ws)) (first_two_split old right left tops)
-      ∙ (ap (λ (b : Bool). leaves (boolean (test b) ∷ values_in h small_names (drop 2 old))) (same_words h ready.sound s left right second first also inside ∙ sym same)
+      ∙ (ap (λ (b : Bool). leaves (boolean (test b) ∷ values_in h small_names (drop 2 old))) (same_keys small_names names_differ h ready.sound s left right second first also inside ∙ sym same)
       ∙ ap (λ v. leaves (v ∷ values_in h small_names (drop 2 old))) (sym (value (birth_at h) small_names)))
 
   pub equality_leaves : Relates (small_equality_row test) (Ok tt) h old new

@@ -4,7 +4,7 @@ use Rattle.ps_values.proofs.relations.ne.Goals as goal
 
 pub returns-clause-does : goal.returns-clause-does
 returns-clause-does g c =
-    equality_leaves (g.M.Memory.heap c.args.memory.now) _ _ c.requires.ready c.in-Some.right c.in-Some.left c.in-Some.ensures not c.are_equal.result c.are_equal.ensures c.boolean.result
+    equality_leaves (g.M.Memory.heap c.args.memory.now) _ _ c.requires.ready c.in-Some.right c.in-Some.left c.in-Some.ensures not c.is_same_key.result c.is_same_key.ensures c.boolean.result
     c.boolean.ensures.plain c.boolean.ensures.value c.replace.ensures
 
 pub returns-clause-ready : goal.returns-clause-ready

@@ -1,0 +1,9 @@
+pub mod Controlling
+pub mod Courses
+pub mod Loops
+pub mod Reading
+pub mod Rooms
+pub mod Rows
+pub mod Turning
+pub mod Foralls
+pub mod FramesLeft

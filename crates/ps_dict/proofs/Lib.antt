@@ -1,0 +1,14 @@
+pub mod KeyLemmas
+pub mod Pairs
+pub mod Shapes
+pub mod Reading
+pub mod Changing
+pub mod WordRuns
+pub mod Naturals
+pub mod Writing
+pub mod Planning
+pub mod Growing
+pub mod Filling
+pub mod Making
+pub mod Removing
+pub mod Fresh

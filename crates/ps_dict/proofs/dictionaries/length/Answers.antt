@@ -1,0 +1,15 @@
+use Rattle.std.proofs.Common.{◌∙◌, arith}
+use Rattle.ps_dict.proofs.Shapes.{four, small-count, count-shown}
+use Rattle.ps_dict.proofs.dictionaries.length.Goals as goal
+
+pub natural-requires : goal.natural-requires
+natural-requires g c = record { place = let fields = four (g.M.Memory.heap c.args.memory.now) c.args.address c.requires.known c.requires.sound in omega (arith, fields) }
+
+pub returns-clause-below : goal.returns-clause-below
+returns-clause-below g c =
+    let small = small-count (g.M.Memory.heap c.args.memory.now) c.args.address c.requires.known c.requires.sound in
+    let is = c.natural.ensures.value in
+    omega (arith, small, is)
+
+pub returns-clause-value : goal.returns-clause-value
+returns-clause-value g c = λ names s shows. c.natural.ensures.value ∙ count-shown (g.M.Memory.heap c.args.memory.now) c.args.address c.requires.known c.requires.sound names s shows

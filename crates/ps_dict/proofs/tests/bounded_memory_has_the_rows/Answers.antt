@@ -1,0 +1,19 @@
+use Rattle.std.proofs.Common.{sym, subst, ◌∙◌}
+use Rattle.ps_mem.specs.Shows.{IsSound}
+use Rattle.ps_mem.proofs.EmptyLemmas.{IsSound-empty}
+use Rattle.ps_dict.proofs.tests.bounded_memory_has_the_rows.Goals as goal
+
+pub capacity_row-requires : goal.capacity_row-requires
+capacity_row-requires g c = record { sound = subst IsSound (sym (c.open_cycle.ensures.heap ∙ c.in_ok-memory.ensures.empty)) (IsSound-empty _) }
+
+pub capacity_row-requires-2 : goal.capacity_row-requires-2
+capacity_row-requires-2 g c = record { sound = subst IsSound (sym (c.open_cycle-2.ensures.heap ∙ c.in_ok-second.ensures.empty)) (IsSound-empty _) }
+
+pub capacity_row-requires-3 : goal.capacity_row-requires-3
+capacity_row-requires-3 g c = record { sound = subst IsSound (sym (c.open_cycle-3.ensures.heap ∙ c.in_ok-third.ensures.empty)) (IsSound-empty _) }
+
+pub order_row-requires : goal.order_row-requires
+order_row-requires g c = record { sound = subst IsSound (sym (c.open_cycle-4.ensures.heap ∙ c.in_ok-fourth.ensures.empty)) (IsSound-empty _) }
+
+pub access_row-requires : goal.access_row-requires
+access_row-requires g c = record { sound = subst IsSound (sym c.in_ok-fifth.ensures.empty) (IsSound-empty _) }

@@ -1,0 +1,168 @@
+//! Dictionaries that are read (PLRM2, 3.3.9 and 8: length, maxlength, get, known, forall).
+
+ghost use Rattle.std.specs.Prelude.{◌≡◌, ◌≢◌, ℕ, ◌+◌, ◌<◌, ◌^◌, List, length, Option, Some, IfSome, option_map, slice_get};
+ghost use Rattle.std.specs.List.{AllPairs};
+ghost use Rattle.ps_language.specs.Value.{Store};
+ghost use Rattle.ps_language.specs.Access.{dictionary_at};
+ghost use Rattle.ps_language.specs.Dictionaries.{find};
+ghost use Rattle.ps_word.specs.Format as format;
+ghost use Rattle.ps_mem.specs.Heap.{birth_at, fields_at};
+ghost use Rattle.ps_mem.specs.References.{StandsAs};
+ghost use Rattle.ps_mem.specs.Meaning.{value_of};
+ghost use Rattle.ps_mem.specs.Shows.{IsValue, IsSound, IsWithin, Shows, pair_of};
+ghost use Rattle.ps_dict.specs.Places.{natural_in, count_at, capacity_at, access_at, body_at, pairs_at, place_of, first_place};
+
+use crate::keys::is_same_key;
+use ps_language::access::Access;
+use ps_language::kinds::Kind;
+use ps_mem::Memory;
+use ps_word::words::Word;
+
+pub(crate) const COUNT: u32 = 0;
+
+pub(crate) const CAPACITY: u32 = 1;
+
+pub(crate) const ACCESS: u32 = 2;
+
+pub(crate) const BODY: u32 = 3;
+
+/// The natural number in a field.
+#[inline]
+fn natural<M: Memory>(memory: &mut M, address: u32, place: u32) -> u32
+    requires place { place < length (fields_at (M.heap memory.old) address) }
+    ensures heap { M.heap memory.new ≡ M.heap memory.old }
+    ensures grants { M.grants memory.new ≡ M.grants memory.old }
+    ensures value { result ≡ natural_in (fields_at (M.heap memory.old) address) place }
+{
+    match memory.load(address, place).as_integer() {
+        Some(number) => number.unsigned_abs(),
+        None => 0,
+    }
+}
+
+/// How many pairs a dictionary has (PLRM2, 8 'length'). A sound memory has at most 2^31 - 1.
+#[inline]
+pub fn length<M: Memory>(memory: &mut M, address: u32) -> u32
+    requires sound { IsSound (M.heap memory.old) }
+    requires known { StandsAs (M.heap memory.old) Kind.Dictionary address 4 }
+    ensures heap { M.heap memory.new ≡ M.heap memory.old }
+    ensures grants { M.grants memory.new ≡ M.grants memory.old }
+    ensures below { result < 2 ^ 31 }
+    ensures words { result ≡ count_at (M.heap memory.old) address }
+    ensures value { (names : List (List ℕ)) (s : Store) → Shows (M.heap memory.old) names s → result ≡ length (dictionary_at s (birth_at (M.heap memory.old) address)).pairs }
+{
+    natural(memory, address, COUNT)
+}
+
+/// How many pairs a dictionary has room for (PLRM2, 8 'maxlength').
+#[inline]
+pub fn capacity<M: Memory>(memory: &mut M, address: u32) -> u32
+    requires sound { IsSound (M.heap memory.old) }
+    requires known { StandsAs (M.heap memory.old) Kind.Dictionary address 4 }
+    ensures heap { M.heap memory.new ≡ M.heap memory.old }
+    ensures grants { M.grants memory.new ≡ M.grants memory.old }
+    ensures below { result < 2 ^ 31 }
+    ensures words { result ≡ capacity_at (M.heap memory.old) address }
+    ensures value { (names : List (List ℕ)) (s : Store) → Shows (M.heap memory.old) names s → result ≡ (dictionary_at s (birth_at (M.heap memory.old) address)).capacity }
+{
+    natural(memory, address, CAPACITY)
+}
+
+#[inline]
+fn access_of(number: u32) -> Access
+    ensures { result ≡ format.access_of number }
+{
+    match number {
+        0 => Access::Unlimited,
+        1 => Access::ReadOnly,
+        2 => Access::ExecuteOnly,
+        _ => Access::NoAccess,
+    }
+}
+
+/// The access of a dictionary, which all references to it share (PLRM2, 3.3.2).
+#[inline]
+pub fn access<M: Memory>(memory: &mut M, address: u32) -> Access
+    requires sound { IsSound (M.heap memory.old) }
+    requires known { StandsAs (M.heap memory.old) Kind.Dictionary address 4 }
+    ensures heap { M.heap memory.new ≡ M.heap memory.old }
+    ensures grants { M.grants memory.new ≡ M.grants memory.old }
+    ensures words { result ≡ format.access_of (access_at (M.heap memory.old) address) }
+    ensures value { (names : List (List ℕ)) (s : Store) → Shows (M.heap memory.old) names s → result ≡ (dictionary_at s (birth_at (M.heap memory.old) address)).access }
+{
+    access_of(natural(memory, address, ACCESS))
+}
+
+/// The address of a dictionary's body.
+#[inline]
+pub(crate) fn body<M: Memory>(memory: &mut M, address: u32) -> u32
+    requires sound { IsSound (M.heap memory.old) }
+    requires known { StandsAs (M.heap memory.old) Kind.Dictionary address 4 }
+    ensures heap { M.heap memory.new ≡ M.heap memory.old }
+    ensures grants { M.grants memory.new ≡ M.grants memory.old }
+    ensures words { result ≡ body_at (M.heap memory.old) address }
+{
+    memory.load(address, BODY).as_body().unwrap_or(0)
+}
+
+/// The place of the first pair whose key is the same, counted from 0 in the order of insertion.
+pub fn position<M: Memory>(memory: &mut M, address: u32, key: Word) -> Option<u32>
+    requires sound { IsSound (M.heap memory.old) }
+    requires known { StandsAs (M.heap memory.old) Kind.Dictionary address 4 }
+    requires held { IsValue (M.heap memory.old) key }
+    ensures heap { M.heap memory.new ≡ M.heap memory.old }
+    ensures grants { M.grants memory.new ≡ M.grants memory.old }
+    ensures within { IfSome result (λ place. place < count_at (M.heap memory.old) address) }
+    ensures words { result ≡ place_of (pairs_at (M.heap memory.old) address) key }
+    ensures value { (names : List (List ℕ)) (s : Store) → Shows (M.heap memory.old) names s → AllPairs (λ first later. first ≢ later) names → IsWithin (birth_at (M.heap memory.old)) names s key → result ≡ first_place (dictionary_at s (birth_at (M.heap memory.old) address)).pairs (value_of (birth_at (M.heap memory.old)) names key) }
+{
+    let count = length(memory, address);
+    let body = body(memory, address);
+    for place in 0..count {
+        let word = memory.load(body, 2 * place);
+        if is_same_key(word, key) {
+            return Some(place);
+        }
+    }
+    None
+}
+
+/// The value of a key, where the dictionary has it.
+pub fn value_of_key<M: Memory>(memory: &mut M, address: u32, key: Word) -> Option<Word>
+    requires sound { IsSound (M.heap memory.old) }
+    requires known { StandsAs (M.heap memory.old) Kind.Dictionary address 4 }
+    requires held { IsValue (M.heap memory.old) key }
+    ensures heap { M.heap memory.new ≡ M.heap memory.old }
+    ensures grants { M.grants memory.new ≡ M.grants memory.old }
+    ensures held { IfSome result (IsValue (M.heap memory.old)) }
+    ensures within { (names : List (List ℕ)) (s : Store) → Shows (M.heap memory.old) names s → IfSome result (IsWithin (birth_at (M.heap memory.old)) names s) }
+    ensures value { (names : List (List ℕ)) (s : Store) → Shows (M.heap memory.old) names s → AllPairs (λ first later. first ≢ later) names → IsWithin (birth_at (M.heap memory.old)) names s key → option_map (value_of (birth_at (M.heap memory.old)) names) result ≡ find (dictionary_at s (birth_at (M.heap memory.old) address)).pairs (value_of (birth_at (M.heap memory.old)) names key) }
+{
+    match position(memory, address, key) {
+        Some(place) => {
+            let body = body(memory, address);
+            Some(memory.load(body, 2 * place + 1))
+        }
+        None => None,
+    }
+}
+
+/// The key and the value at a place in the order of insertion, counted from 0; none past the last.
+pub fn pair<M: Memory>(memory: &mut M, address: u32, place: u32) -> Option<(Word, Word)>
+    requires sound { IsSound (M.heap memory.old) }
+    requires known { StandsAs (M.heap memory.old) Kind.Dictionary address 4 }
+    ensures heap { M.heap memory.new ≡ M.heap memory.old }
+    ensures grants { M.grants memory.new ≡ M.grants memory.old }
+    ensures held { IfSome result (λ pair. IsValue (M.heap memory.old) pair.0 × IsValue (M.heap memory.old) pair.1) }
+    ensures within { (names : List (List ℕ)) (s : Store) → Shows (M.heap memory.old) names s → IfSome result (λ pair. IsWithin (birth_at (M.heap memory.old)) names s pair.0 × IsWithin (birth_at (M.heap memory.old)) names s pair.1) }
+    ensures words { result ≡ slice_get (pairs_at (M.heap memory.old) address) place }
+    ensures value { (names : List (List ℕ)) (s : Store) → Shows (M.heap memory.old) names s → option_map (pair_of (birth_at (M.heap memory.old)) names) result ≡ slice_get (dictionary_at s (birth_at (M.heap memory.old) address)).pairs place }
+{
+    if place >= length(memory, address) {
+        return None;
+    }
+    let body = body(memory, address);
+    let key = memory.load(body, 2 * place);
+    let value = memory.load(body, 2 * place + 1);
+    Some((key, value))
+}

@@ -1,0 +1,74 @@
+use Rattle.std.proofs.Common.{◌≡◌, ◌+◌, ◌/◌, ◌*◌, [], ◌∷◌, length, drop, arith, subst, sym, ap, ◌∙◌, refl}
+use Rattle.ps_language.specs.Access.{bytes, splice, with_bytes}
+use Rattle.ps_mem.specs.Heap.{Heap, birth_at, fields_at, stored}
+use Rattle.ps_mem.specs.Keeps.{Keeps}
+use Rattle.ps_mem.specs.Shows.{IsSound, Shows}
+use Rattle.ps_mem.specs.References.{NamesStanding, words_for}
+use Rattle.ps_mem.proofs.HeapLemmas.{birth_at-stored}
+use Rattle.ps_seq.proofs.TextLemmas.{text_reaches, text_at}
+use Rattle.ps_seq.proofs.TextStores.{text_names, text_store_sound, text_store_keeps, text_store_shows, loaded_one, one_word}
+use Rattle.ps_seq.proofs.strings.set_byte.Goals as goal
+
+pub load-word-requires : goal.load-word-requires
+load-word-requires g c =
+    let h = g.M.Memory.heap c.args.memory.now in
+    let p = c.args.part in
+    let reach = text_reaches h p.address (words_for (p.offset + p.length)) c.requires.known in
+    let below = c.requires.index in
+    record { place = omega (arith, reach, below) }
+
+pub store-requires-clause-known : goal.store-requires-clause-known
+store-requires-clause-known g c =
+    let h = g.M.Memory.heap c.args.memory.now in
+    let p = c.args.part in
+    subst (λ (k : Heap). NamesStanding k p.address (c.with_bytes-changed.result ∷ [])) (sym c.load-word.ensures.heap)
+    (text_names h p.address (words_for (p.offset + p.length)) (c.with_bytes-changed.result ∷ []) c.requires.known)
+
+pub store-requires-clause-place : goal.store-requires-clause-place
+store-requires-clause-place g c =
+    let h = g.M.Memory.heap c.args.memory.now in
+    let p = c.args.part in
+    let reach = text_reaches h p.address (words_for (p.offset + p.length)) c.requires.known in
+    let same = ap (λ (k : Heap). length (fields_at k p.address)) c.load-word.ensures.heap in
+    let below = c.requires.index in
+    omega (arith, reach, below, same)
+
+pub returns-clause-sound : goal.returns-clause-sound
+returns-clause-sound g c =
+    let h = g.M.Memory.heap c.args.memory.now in
+    let p = c.args.part in
+    let below = c.requires.index in
+    let first = (p.offset + c.args.index) / 8 in
+    let items = c.with_bytes-changed.result ∷ [] in
+    let now : g.M.Memory.heap c.store.new.self ≡ stored h p.address first items = c.store.ensures.heap ∙ ap (λ (k : Heap). stored k p.address first items) c.load-word.ensures.heap in
+    subst IsSound (sym now) (text_store_sound h p.address (words_for (p.offset + p.length)) c.requires.known c.requires.sound first 1 items refl (omega (arith, below)))
+
+pub returns-clause-keeps : goal.returns-clause-keeps
+returns-clause-keeps g c =
+    let h = g.M.Memory.heap c.args.memory.now in
+    let p = c.args.part in
+    let below = c.requires.index in
+    let first = (p.offset + c.args.index) / 8 in
+    let items = c.with_bytes-changed.result ∷ [] in
+    let now : g.M.Memory.heap c.store.new.self ≡ stored h p.address first items = c.store.ensures.heap ∙ ap (λ (k : Heap). stored k p.address first items) c.load-word.ensures.heap in
+    subst (Keeps h) (sym now) (text_store_keeps h p.address (words_for (p.offset + p.length)) c.requires.known c.requires.sound first 1 items refl (omega (arith, below)))
+
+pub returns-clause-births : goal.returns-clause-births
+returns-clause-births g c = ap birth_at c.store.ensures.heap ∙ (birth_at-stored _ _ _ _ ∙ ap birth_at c.load-word.ensures.heap)
+
+pub returns-clause-shows : goal.returns-clause-shows
+returns-clause-shows g c = λ names s shows within.
+    let h = g.M.Memory.heap c.args.memory.now in
+    let p = c.args.part in
+    let n = words_for (p.offset + p.length) in
+    let below = c.requires.index in
+    let at = p.offset + c.args.index in
+    let items = c.with_bytes-changed.result ∷ [] in
+    let t = bytes s (birth_at h p.address) in
+    let byte = c.ranges.byte in
+    let now : g.M.Memory.heap c.store.new.self ≡ stored h p.address (at / 8) items = c.store.ensures.heap ∙ ap (λ (k : Heap). stored k p.address (at / 8) items) c.load-word.ensures.heap in
+    let text = text_at h p.address n c.requires.known names s shows in
+    let value = c.with_bytes-changed.ensures ∙ loaded_one h p.address s text c.load-word.result at c.load-word.ensures.answer c.args.byte (omega (arith, within, below)) in
+    subst (λ (k : Heap). Shows k names (with_bytes s (birth_at h p.address) (splice t at (c.args.byte ∷ [])))) (sym now)
+    (text_store_shows h p.address n c.requires.known c.requires.sound (at / 8) 1 items refl (omega (arith, below)) names s shows at (c.args.byte ∷ []) (omega (arith, byte), tt)
+    (omega (arith, within, below)) (omega arith) (omega arith) (one_word c.with_bytes-changed.result (drop (8 * (at / 8)) (splice t at (c.args.byte ∷ []))) value))

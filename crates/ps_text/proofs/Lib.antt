@@ -1,0 +1,4 @@
+pub mod Cuts
+pub mod Rests
+pub mod Shown
+pub mod Worked

@@ -1,0 +1,104 @@
+// Strings in parentheses, with escapes.
+ghost use Rattle.std.specs.Prelude.{◌≡◌, ◌<◌, ◌≤◌, ◌+◌, ◌++◌, ℕ, List, take, length, OnOk, OnErr, vec_capacity};
+ghost use Rattle.std.specs.List.{flat_map};
+ghost use Rattle.ps_language.specs.Access.{bytes, part_bytes};
+ghost use Rattle.ps_language.specs.Texts as texts;
+ghost use Rattle.ps_language.specs.Value.{Store};
+ghost use Rattle.ps_mem.specs.Heap.{birth_at};
+ghost use Rattle.ps_mem.specs.References.{StandsAs, words_for};
+ghost use Rattle.ps_mem.specs.Meaning.{part_of};
+ghost use Rattle.ps_mem.specs.Shows.{IsSound, Shows};
+ghost use Rattle.ps_text.specs.Shown.{GoesOn};
+
+use crate::appends::{append_cut, is_readable};
+use ps_language::kinds::Kind;
+use ps_mem::Memory;
+use ps_seq::strings::byte;
+use ps_word::values::Part;
+use std::alloc::AllocError;
+
+/// A backslash and three octal digits.
+fn octal_escape(byte: u8) -> [u8; 4]
+    ensures { result ≡ texts.octal_escape byte }
+{
+    [
+        b'\\',
+        b'0' + byte / 64,
+        b'0' + byte / 8 % 8,
+        b'0' + byte % 8,
+    ]
+}
+
+/// Appends a byte of a string or its escape, as far as it fits.
+fn append_escape(byte: u8, end: usize, output: &mut Vec<u8>) -> Result<(), AllocError>
+    requires { length output.old.items ≤ end }
+    ensures goes_on { GoesOn end output.old.items output.new.items }
+    ensures capacity { vec_capacity output.old ≤ vec_capacity output.new }
+    ensures ok { OnOk result (output.new.items ≡ take end (output.old.items ++ texts.escaped byte)) }
+    ensures full { OnErr result (vec_capacity output.old < length (take end (output.old.items ++ texts.escaped byte))) }
+{
+    match byte {
+        b'(' => append_cut(b"\\(", end, output),
+        b')' => append_cut(b"\\)", end, output),
+        b'\\' => append_cut(b"\\\\", end, output),
+        b'\n' => append_cut(b"\\n", end, output),
+        b'\r' => append_cut(b"\\r", end, output),
+        b'\t' => append_cut(b"\\t", end, output),
+        8 => append_cut(b"\\b", end, output),
+        12 => append_cut(b"\\f", end, output),
+        b' '..=b'~' => append_cut(&[byte], end, output),
+        _ => append_cut(&octal_escape(byte), end, output),
+    }
+}
+
+/// Appends the bytes of a part of a string with their escapes, as far as they fit. Once the text is full no more is read.
+fn append_escaped<M: Memory>(
+    memory: &mut M,
+    part: Part,
+    end: usize,
+    output: &mut Vec<u8>,
+) -> Result<(), AllocError>
+    requires sound { IsSound (M.heap memory.old) }
+    requires known { StandsAs (M.heap memory.old) Kind.Text part.address (words_for (part.offset + part.length)) }
+    requires short { length output.old.items ≤ end }
+    ensures heap { M.heap memory.new ≡ M.heap memory.old }
+    ensures grants { M.grants memory.new ≡ M.grants memory.old }
+    ensures goes_on { GoesOn end output.old.items output.new.items }
+    ensures capacity { vec_capacity output.old ≤ vec_capacity output.new }
+    ensures ok { (names : List (List ℕ)) (s : Store) → Shows (M.heap memory.old) names s → part.offset + part.length ≤ length (bytes s (birth_at (M.heap memory.old) part.address)) → OnOk result (output.new.items ≡ take end (output.old.items ++ flat_map texts.escaped (part_bytes s (part_of (birth_at (M.heap memory.old)) part)))) }
+    ensures full { (names : List (List ℕ)) (s : Store) → Shows (M.heap memory.old) names s → part.offset + part.length ≤ length (bytes s (birth_at (M.heap memory.old) part.address)) → OnErr result (vec_capacity output.old < length (take end (output.old.items ++ flat_map texts.escaped (part_bytes s (part_of (birth_at (M.heap memory.old)) part))))) }
+{
+    for index in 0..part.length {
+        if output.len() >= end {
+            return Ok(());
+        }
+        let next = byte(memory, part, index);
+        append_escape(next, end, output)?;
+    }
+    Ok(())
+}
+
+/// Appends a part of a string in parentheses, as far as it fits; what can't be read is `-string-`.
+pub fn append_string<M: Memory>(
+    memory: &mut M,
+    part: Part,
+    end: usize,
+    output: &mut Vec<u8>,
+) -> Result<(), AllocError>
+    requires sound { IsSound (M.heap memory.old) }
+    requires known { StandsAs (M.heap memory.old) Kind.Text part.address (words_for (part.offset + part.length)) }
+    requires short { length output.old.items ≤ end }
+    ensures heap { M.heap memory.new ≡ M.heap memory.old }
+    ensures grants { M.grants memory.new ≡ M.grants memory.old }
+    ensures goes_on { GoesOn end output.old.items output.new.items }
+    ensures capacity { vec_capacity output.old ≤ vec_capacity output.new }
+    ensures ok { (names : List (List ℕ)) (s : Store) → Shows (M.heap memory.old) names s → part.offset + part.length ≤ length (bytes s (birth_at (M.heap memory.old) part.address)) → OnOk result (output.new.items ≡ take end (output.old.items ++ texts.string_text s (part_of (birth_at (M.heap memory.old)) part))) }
+    ensures full { (names : List (List ℕ)) (s : Store) → Shows (M.heap memory.old) names s → part.offset + part.length ≤ length (bytes s (birth_at (M.heap memory.old) part.address)) → OnErr result (vec_capacity output.old < length (take end (output.old.items ++ texts.string_text s (part_of (birth_at (M.heap memory.old)) part)))) }
+{
+    if !is_readable(part.access) {
+        return append_cut(b"-string-", end, output);
+    }
+    append_cut(b"(", end, output)?;
+    append_escaped(memory, part, end, output)?;
+    append_cut(b")", end, output)
+}
