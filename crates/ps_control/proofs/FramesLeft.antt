@@ -12,7 +12,7 @@ use Rattle.ps_language.specs.Readers.{boolean, is_full}
 use Rattle.ps_language.specs.Control.{with_frames, is_in_loop}
 use Rattle.ps_language.specs.StepValues.{leads, breaks}
 use Rattle.ps_language.specs.StepFrames.{frame_turn, unwound_turn, stopped_turn}
-use Rattle.ps_language.specs.Step.{turn_as}
+use Rattle.ps_language.specs.Machines.{turn_as}
 use Rattle.ps_stacks.specs.Tops.{first_of}
 use Rattle.ps_word.specs.declared.words.Word.{Word}
 use Rattle.ps_operands.specs.Plain.{IsPlain}
@@ -32,7 +32,8 @@ use Rattle.ps_control.specs.Turns.{cause_of, ends_at_loop, ends_at_stopped, is_m
 
 -- ---- loops among the frames
 
-pub drop_at : {A : Type 0} (xs : List A) (n : ℕ) (x : A) → Some x ≡ slice_get xs n → drop n xs ≡ x ∷ drop (n + 1) xs
+pub drop_at : {A : Type 0} (xs : List A) (n : ℕ) (x : A) → Some x ≡ slice_get xs n → drop n xs ≡ x
+    ∷ drop (n + 1) xs
 drop_at [] n x at = cc
 drop_at (y ∷ xs) zero x at = let same : x ≡ y = cc in rw same refl
 drop_at (y ∷ xs) (suc n) x at = rw (drop-suc n) (drop_at xs n x at)
@@ -47,7 +48,8 @@ drop_all (y ∷ xs) zero many = absurd (omega (arith, many))
 drop_all (y ∷ xs) (suc n) many = drop_all xs n (omega (arith, many))
 
 module _ (h : Heap) (names : List (List ℕ)) (rest : List Frame) where
-  pub loop_found : (frame : Frame) → ends_at_loop Exit frame ≡ true → is_in_loop (frames_in h names (frame ∷ rest)) ≡ true
+  pub loop_found : (frame : Frame) → ends_at_loop Exit frame ≡ true
+      → is_in_loop (frames_in h names (frame ∷ rest)) ≡ true
   loop_found (Text source at) is = cc
   loop_found (Procedure part) is = cc
   loop_found (Pending word) is = cc
@@ -59,7 +61,8 @@ module _ (h : Heap) (names : List (List ℕ)) (rest : List Frame) where
   loop_found (Monitor lock) is = cc
   loop_found (Bind over at depth) is = cc
 
-  pub stopped_found : (frame : Frame) → ends_at_stopped Stop frame ≡ true → is_in_loop (frames_in h names (frame ∷ rest)) ≡ false
+  pub stopped_found : (frame : Frame) → ends_at_stopped Stop frame ≡ true
+      → is_in_loop (frames_in h names (frame ∷ rest)) ≡ false
   stopped_found (Text source at) is = cc
   stopped_found (Procedure part) is = cc
   stopped_found (Pending word) is = cc
@@ -71,7 +74,9 @@ module _ (h : Heap) (names : List (List ℕ)) (rest : List Frame) where
   stopped_found (Monitor lock) is = cc
   stopped_found (Bind over at depth) is = cc
 
-  pub neither_found : (frame : Frame) → ends_at_stopped Stop frame ≡ false → ends_at_loop Exit frame ≡ false → is_in_loop (frames_in h names (frame ∷ rest)) ≡ is_in_loop (frames_in h names rest)
+  pub neither_found : (frame : Frame) → ends_at_stopped Stop frame ≡ false
+      → ends_at_loop Exit frame ≡ false
+      → is_in_loop (frames_in h names (frame ∷ rest)) ≡ is_in_loop (frames_in h names rest)
   neither_found (Text source at) stopped loop = refl
   neither_found (Procedure part) stopped loop = refl
   neither_found (Pending word) stopped loop = refl
@@ -86,7 +91,9 @@ module _ (h : Heap) (names : List (List ℕ)) (rest : List Frame) where
 -- ---- one frame of an unwinding
 
 module _ (births : ℕ → ℕ) (names : List (List ℕ)) (below : List world.Frame) (scene : Scene) where
-  left_stop : (frame : Frame) → is_monitor frame ≡ false → ends_at_stopped Stop frame ≡ false → unwound_turn world.for_stop (frame_of births names frame) below scene ≡ breaks world.for_stop (with_frames below scene)
+  left_stop : (frame : Frame) → is_monitor frame ≡ false → ends_at_stopped Stop frame ≡ false
+      → unwound_turn world.for_stop (frame_of births names frame) below scene ≡ breaks
+      world.for_stop (with_frames below scene)
   unfolding unwound_turn
   left_stop (Text source at) free stopped = refl
   left_stop (Procedure part) free stopped = refl
@@ -99,7 +106,9 @@ module _ (births : ℕ → ℕ) (names : List (List ℕ)) (below : List world.Fr
   left_stop (Monitor lock) free stopped = cc
   left_stop (Bind over at depth) free stopped = refl
 
-  left_exit : (frame : Frame) → is_monitor frame ≡ false → ends_at_loop Exit frame ≡ false → unwound_turn world.for_exit (frame_of births names frame) below scene ≡ breaks world.for_exit (with_frames below scene)
+  left_exit : (frame : Frame) → is_monitor frame ≡ false → ends_at_loop Exit frame ≡ false
+      → unwound_turn world.for_exit (frame_of births names frame) below scene ≡ breaks
+      world.for_exit (with_frames below scene)
   unfolding unwound_turn
   left_exit (Text source at) free loop = refl
   left_exit (Procedure part) free loop = refl
@@ -112,7 +121,9 @@ module _ (births : ℕ → ℕ) (names : List (List ℕ)) (below : List world.Fr
   left_exit (Monitor lock) free loop = cc
   left_exit (Bind over at depth) free loop = refl
 
-  left_quit : (frame : Frame) → is_monitor frame ≡ false → unwound_turn world.for_quit (frame_of births names frame) below scene ≡ breaks world.for_quit (with_frames below scene)
+  left_quit : (frame : Frame) → is_monitor frame ≡ false
+      → unwound_turn world.for_quit (frame_of births names frame) below scene ≡ breaks
+      world.for_quit (with_frames below scene)
   unfolding unwound_turn
   left_quit (Text source at) free = refl
   left_quit (Procedure part) free = refl
@@ -125,13 +136,17 @@ module _ (births : ℕ → ℕ) (names : List (List ℕ)) (below : List world.Fr
   left_quit (Monitor lock) free = cc
   left_quit (Bind over at depth) free = refl
 
-  left : (cause : Cause) (frame : Frame) → is_monitor frame ≡ false → ends_at_loop cause frame ≡ false → ends_at_stopped cause frame ≡ false
-      → unwound_turn (cause_of cause) (frame_of births names frame) below scene ≡ breaks (cause_of cause) (with_frames below scene)
+  left : (cause : Cause) (frame : Frame) → is_monitor frame ≡ false
+      → ends_at_loop cause frame ≡ false → ends_at_stopped cause frame ≡ false
+      → unwound_turn (cause_of cause) (frame_of births names frame) below scene ≡ breaks
+      (cause_of cause) (with_frames below scene)
   left Stop frame free loop stopped = left_stop frame free stopped
   left Exit frame free loop stopped = left_exit frame free loop
   left Quit frame free loop stopped = left_quit frame free
 
-  ended_exit : (frame : Frame) → ends_at_loop Exit frame ≡ true → unwound_turn world.for_exit (frame_of births names frame) below scene ≡ leads (with_frames below scene)
+  ended_exit : (frame : Frame) → ends_at_loop Exit frame ≡ true
+      → unwound_turn world.for_exit (frame_of births names frame) below scene ≡ leads
+      (with_frames below scene)
   unfolding unwound_turn
   ended_exit (Text source at) loop = cc
   ended_exit (Procedure part) loop = cc
@@ -144,7 +159,9 @@ module _ (births : ℕ → ℕ) (names : List (List ℕ)) (below : List world.Fr
   ended_exit (Monitor lock) loop = cc
   ended_exit (Bind over at depth) loop = cc
 
-  ended : (cause : Cause) (frame : Frame) → ends_at_loop cause frame ≡ true → unwound_turn (cause_of cause) (frame_of births names frame) below scene ≡ leads (with_frames below scene)
+  ended : (cause : Cause) (frame : Frame) → ends_at_loop cause frame ≡ true
+      → unwound_turn (cause_of cause) (frame_of births names frame) below scene ≡ leads
+      (with_frames below scene)
   ended Exit frame loop = ended_exit frame loop
   ended Stop frame loop = absurd (true≢false (sym loop ∙ never frame))
     where
@@ -152,89 +169,166 @@ module _ (births : ℕ → ℕ) (names : List (List ℕ)) (below : List world.Fr
       never f = refl
   ended Quit frame loop = cc
 
-  stopped_ended : (cause : Cause) (frame : Frame) → ends_at_stopped cause frame ≡ true → unwound_turn (cause_of cause) (frame_of births names frame) below scene ≡ stopped_turn true below scene
+  stopped_ended : (cause : Cause) (frame : Frame) → ends_at_stopped cause frame ≡ true
+      → unwound_turn (cause_of cause) (frame_of births names frame) below scene ≡ stopped_turn true
+      below scene
   unfolding unwound_turn
   stopped_ended Stop Stopped is = refl
   stopped_ended cause frame is = cc
 
 -- ---- over operands and frames
 
-full_operands : (h : Heap) (names : List (List ℕ)) (operands : List Word) → 500 ≤ length operands → is_full (values_in h names operands) ≡ true
+full_operands : (h : Heap) (names : List (List ℕ)) (operands : List Word) → 500 ≤ length operands
+    → is_full (values_in h names operands) ≡ true
 unfolding is_full
-full_operands h names operands many = rw (length-map operands (value_of (birth_at h) names)) (grind (arith, nat_tests))
+full_operands h names operands many =
+    rw (length-map operands (value_of (birth_at h) names)) (grind (arith, nat_tests))
 
-free_operands : (h : Heap) (names : List (List ℕ)) (operands : List Word) → length operands < 500 → is_full (values_in h names operands) ≡ false
+free_operands : (h : Heap) (names : List (List ℕ)) (operands : List Word) → length operands < 500
+    → is_full (values_in h names operands) ≡ false
 unfolding is_full
-free_operands h names operands few = rw (length-map operands (value_of (birth_at h) names)) (grind (arith, nat_tests))
+free_operands h names operands few =
+    rw (length-map operands (value_of (birth_at h) names)) (grind (arith, nat_tests))
 
-module _ (h : Heap) (size : ℕ) (operands : List Word) (frames : List Frame) (ready : IsReadyFor h size (stacks operands frames)) where
-  dropped_within : (names : List (List ℕ)) (store : Store) → IsWithinBoth h names store (stacks operands frames) → IsWithinBoth h names store (stacks operands (drop 1 frames))
-  dropped_within names store both = record { operands = both.operands; frames = rest_held (IsFrameWithin (birth_at h) names store) frames both.frames 1 }
+module _ (h : Heap) (size : ℕ) (operands : List Word) (frames : List Frame)
+    (ready : IsReadyFor h size (stacks operands frames)) where
+  dropped_within : (names : List (List ℕ)) (store : Store)
+      → IsWithinBoth h names store (stacks operands frames)
+      → IsWithinBoth h names store (stacks operands (drop 1 frames))
+  dropped_within names store both =
+      record {
+        operands = both.operands;
+        frames =
+            rest_held (IsFrameWithin (birth_at h) names store) frames both.frames 1;
+      }
 
   dropped_ready : IsReadyFor h size (stacks operands (drop 1 frames))
-  dropped_ready = record { operands = ready.operands; frames = rest_held (IsFrame h size) frames ready.frames 1 }
+  dropped_ready = record {
+    operands = ready.operands;
+    frames =
+        rest_held (IsFrame h size) frames ready.frames 1;
+  }
 
   module _ (w : Word) (plain : IsPlain w) where
-    pushed_within : (names : List (List ℕ)) (store : Store) → IsWithinBoth h names store (stacks operands frames) → IsWithinBoth h names store (stacks (w ∷ operands) (drop 1 frames))
-    pushed_within names store both = let d = dropped_within names store both in record { operands = (plain_within (birth_at h) names store w plain, d.operands); frames = d.frames }
+    pushed_within : (names : List (List ℕ)) (store : Store)
+        → IsWithinBoth h names store (stacks operands frames)
+        → IsWithinBoth h names store (stacks (w ∷ operands) (drop 1 frames))
+    pushed_within names store both = let d = dropped_within names store both in
+        record {
+          operands = (plain_within (birth_at h) names store w plain, d.operands);
+          frames =
+              d.frames;
+        }
 
     pushed_ready : IsReadyFor h size (stacks (w ∷ operands) (drop 1 frames))
-    pushed_ready = record { operands = record { sound = ready.operands.sound; values = (plain_value h w plain, ready.operands.values) }; frames = dropped_ready.frames }
+    pushed_ready = record {
+      operands =
+          record {
+            sound = ready.operands.sound;
+            values =
+                (plain_value h w plain, ready.operands.values);
+          };
+      frames = dropped_ready.frames;
+    }
 
   -- the end of stopped
   module _ (top : Some Stopped ≡ first_of frames) where
-    pub stopped_full : 500 ≤ length operands → Turns StoppedOperator (Err StackOverflow) h size (stacks operands frames) (stacks operands (drop 1 frames))
+    pub stopped_full : 500 ≤ length operands
+        → Turns StoppedOperator (Err StackOverflow) h size (stacks operands frames)
+        (stacks operands (drop 1 frames))
     unfolding frame_turn
     stopped_full many = record {
-      meets = λ program around names store dictionaries shows within. rw (first_split frames Stopped top, full_operands h names operands many) (refl, refl, refl);
+      meets = λ around names store dictionaries shows within.
+          rw (first_split frames Stopped top, full_operands h names operands many)
+          (refl, refl, refl);
       within = λ names store shows both. dropped_within names store both;
       ready = dropped_ready;
     }
 
-    pub stopped_pushed : length operands < 500 → (w : Word) → ((births : ℕ → ℕ) (names : List (List ℕ)) → value_of births names w ≡ boolean false) → IsPlain w
-        → Turns StoppedOperator (Ok tt) h size (stacks operands frames) (stacks (w ∷ operands) (drop 1 frames))
+    pub stopped_pushed : length operands < 500 → (w : Word)
+        → ((births : ℕ → ℕ) (names : List (List ℕ)) → value_of births names w ≡ boolean false)
+        → IsPlain w
+        → Turns StoppedOperator (Ok tt) h size (stacks operands frames)
+        (stacks (w ∷ operands) (drop 1 frames))
     unfolding frame_turn
     stopped_pushed few w means plain = record {
-      meets = λ program around names store dictionaries shows within. rw (first_split frames Stopped top, free_operands h names operands few, means (birth_at h) names) (refl, refl);
+      meets = λ around names store dictionaries shows within.
+          rw (
+            first_split frames Stopped top,
+            free_operands h names operands few,
+            means (birth_at h)
+                names,
+          ) (refl, refl);
       within = λ names store shows both. pushed_within w plain names store both;
       ready = pushed_ready w plain;
     }
 
   -- one frame of an unwinding
   module _ (cause : Cause) (top : Frame) (is : Some top ≡ first_of frames) where
-    turn_is : (program : List ℕ) (around : Around) (names : List (List ℕ)) (store : Store) (dictionaries : List Value)
-        → turn_as program around (world.unwinding (cause_of cause)) (scene_of h names store dictionaries (stacks operands frames)).frames (scene_of h names store dictionaries (stacks operands frames))
-        ≡ unwound_turn (cause_of cause) (frame_of (birth_at h) names top) (frames_in h names (drop 1 frames)) (scene_of h names store dictionaries (stacks operands frames))
-    turn_is program around names store dictionaries = rw (first_split frames top is) refl
+    turn_is : (around : Around) (names : List (List ℕ)) (store : Store) (dictionaries : List Value)
+        → turn_as around (world.unwinding (cause_of cause))
+        (scene_of h names store dictionaries (stacks operands frames)).frames
+        (scene_of h names store dictionaries (stacks operands frames))
+        ≡ unwound_turn (cause_of cause) (frame_of (birth_at h) names top)
+        (frames_in h names (drop 1 frames))
+        (scene_of h names store dictionaries (stacks operands frames))
+    turn_is around names store dictionaries = rw (first_split frames top is) refl
 
-    pub unwinds_ended : ends_at_loop cause top ≡ true → Unwinds cause (Ok true) h size (stacks operands frames) (stacks operands (drop 1 frames))
+    pub unwinds_ended : ends_at_loop cause top ≡ true
+        → Unwinds cause (Ok true) h size (stacks operands frames) (stacks operands (drop 1 frames))
     unwinds_ended loop = record {
-      meets = λ program around names store dictionaries shows within. rw (turn_is program around names store dictionaries, ended (birth_at h) names _ _ cause top loop) (refl, refl);
+      meets = λ around names store dictionaries shows within.
+          rw (turn_is around names store dictionaries, ended (birth_at h) names _ _ cause top loop)
+          (refl, refl);
       within = λ names store shows both. dropped_within names store both;
       ready = dropped_ready;
     }
 
-    pub unwinds_left : is_monitor top ≡ false → ends_at_loop cause top ≡ false → ends_at_stopped cause top ≡ false → Unwinds cause (Ok false) h size (stacks operands frames) (stacks operands (drop 1 frames))
+    pub unwinds_left : is_monitor top ≡ false → ends_at_loop cause top ≡ false
+        → ends_at_stopped cause top ≡ false
+        → Unwinds cause (Ok false) h size (stacks operands frames) (stacks operands (drop 1 frames))
     unwinds_left free loop stopped = record {
-      meets = λ program around names store dictionaries shows within. rw (turn_is program around names store dictionaries, left (birth_at h) names _ _ cause top free loop stopped) (refl, refl);
+      meets = λ around names store dictionaries shows within.
+          rw (
+            turn_is around names store dictionaries,
+            left (birth_at h) names _ _ cause top free
+                loop stopped,
+          ) (refl, refl);
       within = λ names store shows both. dropped_within names store both;
       ready = dropped_ready;
     }
 
     module _ (stopped : ends_at_stopped cause top ≡ true) where
-      pub unwinds_full : 500 ≤ length operands → Unwinds cause (Err StackOverflow) h size (stacks operands frames) (stacks operands (drop 1 frames))
+      pub unwinds_full : 500 ≤ length operands
+          → Unwinds cause (Err StackOverflow) h size (stacks operands frames)
+          (stacks operands (drop 1 frames))
       unwinds_full many = record {
-        meets = λ program around names store dictionaries shows within.
-            rw (turn_is program around names store dictionaries, stopped_ended (birth_at h) names _ _ cause top stopped, full_operands h names operands many) (refl, refl, refl);
+        meets = λ around names store dictionaries shows within.
+            rw (
+              turn_is around names store dictionaries,
+              stopped_ended (birth_at h) names _ _ cause
+                  top stopped,
+              full_operands h names operands many,
+            ) (refl, refl, refl);
         within = λ names store shows both. dropped_within names store both;
         ready = dropped_ready;
       }
 
-      pub unwinds_pushed : length operands < 500 → (w : Word) → ((births : ℕ → ℕ) (names : List (List ℕ)) → value_of births names w ≡ boolean true) → IsPlain w
-          → Unwinds cause (Ok true) h size (stacks operands frames) (stacks (w ∷ operands) (drop 1 frames))
+      pub unwinds_pushed : length operands < 500 → (w : Word)
+          → ((births : ℕ → ℕ) (names : List (List ℕ)) → value_of births names w ≡ boolean true)
+          → IsPlain w
+          → Unwinds cause (Ok true) h size (stacks operands frames)
+          (stacks (w ∷ operands) (drop 1 frames))
       unwinds_pushed few w means plain = record {
-        meets = λ program around names store dictionaries shows within.
-            rw (turn_is program around names store dictionaries, stopped_ended (birth_at h) names _ _ cause top stopped, free_operands h names operands few, means (birth_at h) names) (refl, refl);
+        meets = λ around names store dictionaries shows within.
+            rw (
+              turn_is around names store dictionaries,
+              stopped_ended (birth_at h) names _ _ cause
+                  top stopped,
+              free_operands h names operands few,
+              means (birth_at h) names,
+            )
+            (refl, refl);
         within = λ names store shows both. pushed_within w plain names store both;
         ready = pushed_ready w plain;
       }

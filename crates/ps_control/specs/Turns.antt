@@ -8,7 +8,7 @@ use Rattle.ps_language.specs.World as world
 use Rattle.ps_language.specs.Effect.{Around}
 use Rattle.ps_language.specs.StepValues.{Turn, goes, breaks, errs, command_of}
 use Rattle.ps_language.specs.StepFrames.{loop_turn, forall_operands}
-use Rattle.ps_language.specs.Step.{turn_as}
+use Rattle.ps_language.specs.Machines.{turn_as}
 use Rattle.ps_word.specs.declared.words.Word.{Word}
 use Rattle.ps_word.specs.declared.values.Part.{Part}
 use Rattle.ps_mem.specs.Heap.{Heap, birth_at}
@@ -25,16 +25,25 @@ use Rattle.ps_control.specs.Frames.{frame_of, frames_in, IsFrame, IsHeld, IsFram
 use Rattle.ps_control.specs.Controls.{Stacks, scene_of, IsReadyFor, IsWithinBoth}
 
 -- goes on with the scene of the stacks, without output; an error has this command and keeps the scene of the stacks
-abbrev pub TurnsAs : (operator : Operator) → Result Unit ErrorName → Turn → Heap → (names : List (List ℕ)) → Store → (dictionaries : List Value) → (after : Stacks) → Type 0
-TurnsAs operator (Ok _) (goes scene output) h names store dictionaries after = (scene_of h names store dictionaries after ≡ scene) × (output ≡ [])
-TurnsAs operator (Err error) (errs raised command kept) h names store dictionaries after = (error ≡ raised) × (command ≡ command_of operator) × (kept ≡ scene_of h names store dictionaries after)
+abbrev pub TurnsAs : (operator : Operator) → Result Unit ErrorName → Turn → Heap
+    → (names : List (List ℕ)) → Store → (dictionaries : List Value) → (after : Stacks) → Type 0
+TurnsAs operator (Ok _) (goes scene output) h names store dictionaries after =
+    (scene_of h names store dictionaries after ≡ scene) × (output ≡ [])
+TurnsAs operator (Err error) (errs raised command kept) h names store dictionaries after =
+    (error ≡ raised) × (command ≡ command_of operator)
+    × (kept ≡ scene_of h names store dictionaries after)
 TurnsAs operator result turn h names store dictionaries after = ⊥
 
 -- for every store that the memory shows, a step of the topmost frame of a running context; operator: whose frame it is
-pub record Turns (operator : Operator) (result : Result Unit ErrorName) (h : Heap) (size : ℕ) (before after : Stacks) : Type 0 where
-  pub meets : (program : List ℕ) (around : Around) (names : List (List ℕ)) (store : Store) (dictionaries : List Value) → Shows h names store → IsWithinBoth h names store before →
-      TurnsAs operator result (turn_as program around world.running (scene_of h names store dictionaries before).frames (scene_of h names store dictionaries before)) h names store dictionaries after
-  pub within : (names : List (List ℕ)) (store : Store) → Shows h names store → IsWithinBoth h names store before → IsWithinBoth h names store after
+pub record Turns (operator : Operator) (result : Result Unit ErrorName) (h : Heap) (size : ℕ)
+    (before after : Stacks) : Type 0 where
+  pub meets : (around : Around) (names : List (List ℕ)) (store : Store) (dictionaries : List Value)
+      → Shows h names store → IsWithinBoth h names store before →
+      TurnsAs operator result (turn_as around world.running
+      (scene_of h names store dictionaries before).frames
+      (scene_of h names store dictionaries before)) h names store dictionaries after
+  pub within : (names : List (List ℕ)) (store : Store) → Shows h names store
+      → IsWithinBoth h names store before → IsWithinBoth h names store after
   pub ready : IsReadyFor h size after
 
 -- ---- unwinding
@@ -62,17 +71,27 @@ is_monitor (Monitor lock) = true
 is_monitor frame = false
 
 -- true: it ends here and the context runs; false: it goes on
-abbrev pub UnwindsAs : (cause : Cause) → Result Bool ErrorName → Turn → Heap → (names : List (List ℕ)) → Store → (dictionaries : List Value) → (after : Stacks) → Type 0
-UnwindsAs cause (Ok true) (goes scene output) h names store dictionaries after = (scene_of h names store dictionaries after ≡ scene) × (output ≡ [])
-UnwindsAs cause (Ok false) (breaks on scene) h names store dictionaries after = (on ≡ cause_of cause) × (scene_of h names store dictionaries after ≡ scene)
-UnwindsAs cause (Err error) (errs raised command kept) h names store dictionaries after = (error ≡ raised) × (command ≡ command_of StoppedOperator) × (kept ≡ scene_of h names store dictionaries after)
+abbrev pub UnwindsAs : (cause : Cause) → Result Bool ErrorName → Turn → Heap
+    → (names : List (List ℕ)) → Store → (dictionaries : List Value) → (after : Stacks) → Type 0
+UnwindsAs cause (Ok true) (goes scene output) h names store dictionaries after =
+    (scene_of h names store dictionaries after ≡ scene) × (output ≡ [])
+UnwindsAs cause (Ok false) (breaks on scene) h names store dictionaries after =
+    (on ≡ cause_of cause) × (scene_of h names store dictionaries after ≡ scene)
+UnwindsAs cause (Err error) (errs raised command kept) h names store dictionaries after =
+    (error ≡ raised) × (command ≡ command_of StoppedOperator)
+    × (kept ≡ scene_of h names store dictionaries after)
 UnwindsAs cause result turn h names store dictionaries after = ⊥
 
 -- for every store that the memory shows, a step of an unwinding by its topmost frame
-pub record Unwinds (cause : Cause) (result : Result Bool ErrorName) (h : Heap) (size : ℕ) (before after : Stacks) : Type 0 where
-  pub meets : (program : List ℕ) (around : Around) (names : List (List ℕ)) (store : Store) (dictionaries : List Value) → Shows h names store → IsWithinBoth h names store before →
-      UnwindsAs cause result (turn_as program around (world.unwinding (cause_of cause)) (scene_of h names store dictionaries before).frames (scene_of h names store dictionaries before)) h names store dictionaries after
-  pub within : (names : List (List ℕ)) (store : Store) → Shows h names store → IsWithinBoth h names store before → IsWithinBoth h names store after
+pub record Unwinds (cause : Cause) (result : Result Bool ErrorName) (h : Heap) (size : ℕ)
+    (before after : Stacks) : Type 0 where
+  pub meets : (around : Around) (names : List (List ℕ)) (store : Store) (dictionaries : List Value)
+      → Shows h names store → IsWithinBoth h names store before →
+      UnwindsAs cause result (turn_as around (world.unwinding (cause_of cause))
+      (scene_of h names store dictionaries before).frames
+      (scene_of h names store dictionaries before)) h names store dictionaries after
+  pub within : (names : List (List ℕ)) (store : Store) → Shows h names store
+      → IsWithinBoth h names store before → IsWithinBoth h names store after
   pub ready : IsReadyFor h size after
 
 -- ---- loops
@@ -84,22 +103,34 @@ words_of (One word) = word ∷ []
 words_of (Pair key value) = value ∷ key ∷ []
 
 -- a turn of the topmost frame that pushes these words, the topmost first, leaves this frame in its place and enters this procedure
-pub record IsTurn (operator : Operator) (words : List Word) (left : Frame) (body : Part) (h : Heap) (before : Stacks) : Type 0 where
-  pub is : (program : List ℕ) (around : Around) (names : List (List ℕ)) (store : Store) (dictionaries : List Value) → Shows h names store → IsWithinBoth h names store before →
-      turn_as program around world.running (scene_of h names store dictionaries before).frames (scene_of h names store dictionaries before)
-      ≡ loop_turn operator (frame_of (birth_at h) names left ∷ frames_in h names (drop 1 before.frames)) (values_in h names words) (part_of (birth_at h) body) (scene_of h names store dictionaries before)
+pub record IsTurn (operator : Operator) (words : List Word) (left : Frame) (body : Part) (h : Heap)
+    (before : Stacks) : Type 0 where
+  pub is : (around : Around) (names : List (List ℕ)) (store : Store) (dictionaries : List Value)
+      → Shows h names store → IsWithinBoth h names store before →
+      turn_as around world.running (scene_of h names store dictionaries before).frames
+      (scene_of h names store dictionaries before)
+      ≡ loop_turn operator (frame_of (birth_at h) names left
+      ∷ frames_in h names (drop 1 before.frames)) (values_in h names words)
+      (part_of (birth_at h) body) (scene_of h names store dictionaries before)
 
 -- what a turn of a loop refers to stands and is within
-pub record IsTurnHeld (h : Heap) (size : ℕ) (pushed : List Word) (left : Frame) (body : Part) (before : Stacks) : Type 0 where
+pub record IsTurnHeld (h : Heap) (size : ℕ) (pushed : List Word) (left : Frame) (body : Part)
+    (before : Stacks) : Type 0 where
   pub values : AreValues h pushed
   pub frame : IsFrame h size left
   pub stands : IsHeld h body
-  pub values_within : (names : List (List ℕ)) (store : Store) → Shows h names store → IsWithinBoth h names store before → AreWithin h names store pushed
-  pub frame_within : (names : List (List ℕ)) (store : Store) → Shows h names store → IsWithinBoth h names store before → IsFrameWithin (birth_at h) names store left
+  pub values_within : (names : List (List ℕ)) (store : Store) → Shows h names store
+      → IsWithinBoth h names store before → AreWithin h names store pushed
+  pub frame_within : (names : List (List ℕ)) (store : Store) → Shows h names store
+      → IsWithinBoth h names store before → IsFrameWithin (birth_at h) names store left
 
 -- what a turn of forall pushes at a place, or nothing past the end
 pub record IsPushed (h : Heap) (over : Word) (at : ℕ) (pushed : Option TurnOperands) : Type 0 where
-  pub values : (names : List (List ℕ)) (store : Store) → Shows h names store → IsWithin (birth_at h) names store over →
-      option_map (λ (p : TurnOperands). values_in h names (words_of p)) pushed ≡ forall_operands store (value_of (birth_at h) names over).what at
+  pub values : (names : List (List ℕ)) (store : Store) → Shows h names store
+      → IsWithin (birth_at h) names store over →
+      option_map (λ (p : TurnOperands). values_in h names (words_of p)) pushed ≡ forall_operands
+      store (value_of (birth_at h) names over).what at
   pub held : IfSome pushed (λ p. AreValues h (words_of p))
-  pub within : (names : List (List ℕ)) (store : Store) → Shows h names store → IsWithin (birth_at h) names store over → IfSome pushed (λ p. AreWithin h names store (words_of p))
+  pub within : (names : List (List ℕ)) (store : Store) → Shows h names store
+      → IsWithin (birth_at h) names store over
+      → IfSome pushed (λ p. AreWithin h names store (words_of p))

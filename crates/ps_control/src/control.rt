@@ -32,7 +32,7 @@ fn are_executable(first: Access, second: Access) -> bool
 /// Whether nothing was taken away from an access.
 #[inline]
 fn is_unlimited(access: Access) -> bool
-    ensures { result ≡ rows.is_unlimited access }
+    ensures { result ≡ language.is_writable access }
 {
     match access {
         Access::Unlimited => true,
@@ -40,7 +40,8 @@ fn is_unlimited(access: Access) -> bool
     }
 }
 
-/// Takes operands off and pushes a frame. Raises `execstackoverflow`, and changes nothing, where 250 stand.
+/// Takes operands off and pushes a frame. Raises `execstackoverflow`, and changes nothing, where
+/// 250 stand.
 fn begin(
     operands: &mut Operands,
     frames: &mut Frames,
@@ -49,7 +50,11 @@ fn begin(
 ) -> Result<(), ErrorName>
     requires { count ≤ length operands.old }
     // Each row that leaves this frame and takes these operands is done.
-    ensures controls { (row : List Value → Scene → Outcome Scene) (h : Heap) (size : ℕ) → IsReadyFor h size (stacks operands.old frames.old) → IsFrame h size frame → IsFrameHeld h operands.old frames.old frame → Begins row h operands.old count frame → Controls row result h size (stacks operands.old frames.old) (stacks operands.new frames.new) }
+    ensures controls { (row : List Value → Scene → Outcome Scene) (h : Heap) (size : ℕ)
+        → IsReadyFor h size (stacks operands.old frames.old) → IsFrame h size frame
+        → IsFrameHeld h operands.old frames.old frame → Begins row h operands.old count frame
+        → Controls row result h size (stacks operands.old frames.old)
+        (stacks operands.new frames.new) }
 {
     if frames.is_full() {
         return Err(ErrorName::ExecStackOverflow);
@@ -59,7 +64,8 @@ fn begin(
     Ok(())
 }
 
-/// Takes operands off and enters a procedure. Raises `execstackoverflow`, and changes nothing, where it isn't empty and 250 frames stand.
+/// Takes operands off and enters a procedure. Raises `execstackoverflow`, and changes nothing,
+/// where it isn't empty and 250 frames stand.
 fn enter_with(
     operands: &mut Operands,
     frames: &mut Frames,
@@ -68,7 +74,11 @@ fn enter_with(
 ) -> Result<(), ErrorName>
     requires { count ≤ length operands.old }
     // Each row that enters this procedure and takes these operands is done.
-    ensures controls { (row : List Value → Scene → Outcome Scene) (h : Heap) (size : ℕ) → IsReadyFor h size (stacks operands.old frames.old) → IsHeld h body → Enters row h operands.old count body → Controls row result h size (stacks operands.old frames.old) (stacks operands.new frames.new) }
+    ensures controls { (row : List Value → Scene → Outcome Scene) (h : Heap) (size : ℕ)
+        → IsReadyFor h size (stacks operands.old frames.old) → IsHeld h body
+        → Enters row h operands.old count body
+        → Controls row result h size (stacks operands.old frames.old)
+        (stacks operands.new frames.new) }
 {
     if body.length == 0 {
         operands.discard(count);
@@ -79,7 +89,9 @@ fn enter_with(
 
 /// `x exec`: the object is executed next. Raises `stackunderflow` and `execstackoverflow`.
 pub fn exec(operands: &mut Operands, frames: &mut Frames) -> Result<(), ErrorName>
-    ensures controls { (h : Heap) (size : ℕ) → IsReadyFor h size (stacks operands.old frames.old) → Controls rows.exec_row result h size (stacks operands.old frames.old) (stacks operands.new frames.new) }
+    ensures controls { (h : Heap) (size : ℕ) → IsReadyFor h size (stacks operands.old frames.old)
+        → Controls rows.exec_row result h size (stacks operands.old frames.old)
+        (stacks operands.new frames.new) }
 {
     let Some(word) = operands.top() else {
         return Err(ErrorName::StackUnderflow);
@@ -87,10 +99,13 @@ pub fn exec(operands: &mut Operands, frames: &mut Frames) -> Result<(), ErrorNam
     begin(operands, frames, 1, Frame::Pending { word })
 }
 
-/// `t P if`: the procedure is entered where `t` is true. Raises `stackunderflow`, `typecheck`, `invalidaccess` where the procedure can't be executed, entered
+/// `t P if`: the procedure is entered where `t` is true. Raises `stackunderflow`, `typecheck`,
+/// `invalidaccess` where the procedure can't be executed, entered
 /// or not, and `execstackoverflow`.
 pub fn if_then(operands: &mut Operands, frames: &mut Frames) -> Result<(), ErrorName>
-    ensures controls { (h : Heap) (size : ℕ) → IsReadyFor h size (stacks operands.old frames.old) → Controls rows.if_row result h size (stacks operands.old frames.old) (stacks operands.new frames.new) }
+    ensures controls { (h : Heap) (size : ℕ) → IsReadyFor h size (stacks operands.old frames.old)
+        → Controls rows.if_row result h size (stacks operands.old frames.old)
+        (stacks operands.new frames.new) }
 {
     let Some((procedure, condition)) = operands.top_two() else {
         return Err(ErrorName::StackUnderflow);
@@ -111,10 +126,13 @@ pub fn if_then(operands: &mut Operands, frames: &mut Frames) -> Result<(), Error
     Ok(())
 }
 
-/// `t P1 P2 ifelse`: the first procedure is entered where `t` is true, else the second. Raises `stackunderflow`, `typecheck`, `invalidaccess` where one of the two
+/// `t P1 P2 ifelse`: the first procedure is entered where `t` is true, else the second. Raises
+/// `stackunderflow`, `typecheck`, `invalidaccess` where one of the two
 /// can't be executed, and `execstackoverflow`.
 pub fn if_then_else(operands: &mut Operands, frames: &mut Frames) -> Result<(), ErrorName>
-    ensures controls { (h : Heap) (size : ℕ) → IsReadyFor h size (stacks operands.old frames.old) → Controls rows.ifelse_row result h size (stacks operands.old frames.old) (stacks operands.new frames.new) }
+    ensures controls { (h : Heap) (size : ℕ) → IsReadyFor h size (stacks operands.old frames.old)
+        → Controls rows.ifelse_row result h size (stacks operands.old frames.old)
+        (stacks operands.new frames.new) }
 {
     let Some((second, first, condition)) = operands.top_three() else {
         return Err(ErrorName::StackUnderflow);
@@ -137,9 +155,12 @@ pub fn if_then_else(operands: &mut Operands, frames: &mut Frames) -> Result<(), 
     enter_with(operands, frames, 3, other)
 }
 
-/// `i j k P for`: a loop from `i` by `j` to `k`. Raises `stackunderflow`, `typecheck`, `invalidaccess` and `execstackoverflow`.
+/// `i j k P for`: a loop from `i` by `j` to `k`. Raises `stackunderflow`, `typecheck`,
+/// `invalidaccess` and `execstackoverflow`.
 pub fn begin_for(operands: &mut Operands, frames: &mut Frames) -> Result<(), ErrorName>
-    ensures controls { (h : Heap) (size : ℕ) → IsReadyFor h size (stacks operands.old frames.old) → Controls rows.for_row result h size (stacks operands.old frames.old) (stacks operands.new frames.new) }
+    ensures controls { (h : Heap) (size : ℕ) → IsReadyFor h size (stacks operands.old frames.old)
+        → Controls rows.for_row result h size (stacks operands.old frames.old)
+        (stacks operands.new frames.new) }
 {
     let Some(start) = operands.peek(3) else {
         return Err(ErrorName::StackUnderflow);
@@ -171,9 +192,12 @@ pub fn begin_for(operands: &mut Operands, frames: &mut Frames) -> Result<(), Err
     begin(operands, frames, 4, frame)
 }
 
-/// `n P repeat`. Raises `stackunderflow`, `typecheck`, `invalidaccess`, `rangecheck` for a negative number and `execstackoverflow`.
+/// `n P repeat`. Raises `stackunderflow`, `typecheck`, `invalidaccess`, `rangecheck` for a negative
+/// number and `execstackoverflow`.
 pub fn begin_repeat(operands: &mut Operands, frames: &mut Frames) -> Result<(), ErrorName>
-    ensures controls { (h : Heap) (size : ℕ) → IsReadyFor h size (stacks operands.old frames.old) → Controls rows.repeat_row result h size (stacks operands.old frames.old) (stacks operands.new frames.new) }
+    ensures controls { (h : Heap) (size : ℕ) → IsReadyFor h size (stacks operands.old frames.old)
+        → Controls rows.repeat_row result h size (stacks operands.old frames.old)
+        (stacks operands.new frames.new) }
 {
     let Some((procedure, number)) = operands.top_two() else {
         return Err(ErrorName::StackUnderflow);
@@ -195,7 +219,9 @@ pub fn begin_repeat(operands: &mut Operands, frames: &mut Frames) -> Result<(), 
 
 /// `P loop`. Raises `stackunderflow`, `typecheck`, `invalidaccess` and `execstackoverflow`.
 pub fn begin_loop(operands: &mut Operands, frames: &mut Frames) -> Result<(), ErrorName>
-    ensures controls { (h : Heap) (size : ℕ) → IsReadyFor h size (stacks operands.old frames.old) → Controls rows.loop_row result h size (stacks operands.old frames.old) (stacks operands.new frames.new) }
+    ensures controls { (h : Heap) (size : ℕ) → IsReadyFor h size (stacks operands.old frames.old)
+        → Controls rows.loop_row result h size (stacks operands.old frames.old)
+        (stacks operands.new frames.new) }
 {
     let Some(procedure) = operands.top() else {
         return Err(ErrorName::StackUnderflow);
@@ -209,14 +235,18 @@ pub fn begin_loop(operands: &mut Operands, frames: &mut Frames) -> Result<(), Er
     begin(operands, frames, 1, Frame::Loop { body })
 }
 
-/// `X P forall`: a loop over an array, a string or a dictionary, whose access the caller has read; `None`: what is looped over has none. Raises `stackunderflow`,
+/// `X P forall`: a loop over an array, a string or a dictionary, whose access the caller has read;
+/// `None`: what is looped over has none. Raises `stackunderflow`,
 /// `typecheck`, `invalidaccess` and `execstackoverflow`.
 pub fn begin_forall(
     operands: &mut Operands,
     frames: &mut Frames,
     access: Option<Access>,
 ) -> Result<(), ErrorName>
-    ensures controls { (h : Heap) (size : ℕ) → IsReadyFor h size (stacks operands.old frames.old) → IsSecondAccess h operands.old access → Controls rows.forall_row result h size (stacks operands.old frames.old) (stacks operands.new frames.new) }
+    ensures controls { (h : Heap) (size : ℕ) → IsReadyFor h size (stacks operands.old frames.old)
+        → IsSecondAccess h operands.old access
+        → Controls rows.forall_row result h size (stacks operands.old frames.old)
+        (stacks operands.new frames.new) }
 {
     let Some((procedure, over)) = operands.top_two() else {
         return Err(ErrorName::StackUnderflow);
@@ -238,9 +268,12 @@ pub fn begin_forall(
     Ok(())
 }
 
-/// `x stopped`: the object is executed next, above a frame where an unwinding ends. Raises `stackunderflow`, and `execstackoverflow` where two frames don't fit.
+/// `x stopped`: the object is executed next, above a frame where an unwinding ends. Raises
+/// `stackunderflow`, and `execstackoverflow` where two frames don't fit.
 pub fn begin_stopped(operands: &mut Operands, frames: &mut Frames) -> Result<(), ErrorName>
-    ensures controls { (h : Heap) (size : ℕ) → IsReadyFor h size (stacks operands.old frames.old) → Controls rows.stopped_row result h size (stacks operands.old frames.old) (stacks operands.new frames.new) }
+    ensures controls { (h : Heap) (size : ℕ) → IsReadyFor h size (stacks operands.old frames.old)
+        → Controls rows.stopped_row result h size (stacks operands.old frames.old)
+        (stacks operands.new frames.new) }
 {
     let Some(word) = operands.top() else {
         return Err(ErrorName::StackUnderflow);
@@ -254,9 +287,12 @@ pub fn begin_stopped(operands: &mut Operands, frames: &mut Frames) -> Result<(),
     Ok(())
 }
 
-/// `P bind`: its names begin to be replaced by operators where it can be written. Raises `stackunderflow`, `typecheck` and `execstackoverflow`.
+/// `P bind`: its names begin to be replaced by operators where it can be written. Raises
+/// `stackunderflow`, `typecheck` and `execstackoverflow`.
 pub fn begin_bind(operands: &mut Operands, frames: &mut Frames) -> Result<(), ErrorName>
-    ensures controls { (h : Heap) (size : ℕ) → IsReadyFor h size (stacks operands.old frames.old) → Controls rows.bind_row result h size (stacks operands.old frames.old) (stacks operands.new frames.new) }
+    ensures controls { (h : Heap) (size : ℕ) → IsReadyFor h size (stacks operands.old frames.old)
+        → Controls rows.bind_row result h size (stacks operands.old frames.old)
+        (stacks operands.new frames.new) }
 {
     let Some(procedure) = operands.top() else {
         return Err(ErrorName::StackUnderflow);

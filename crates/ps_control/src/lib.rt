@@ -1,10 +1,9 @@
-//! The execution stack: its frames, the operators that push them, and the turns of loops (PLRM2, 3.4, 8 'Operators': Control).
+//! The execution stack: its frames, the operators that push them, and the turns of loops (PLRM2,
+//! 3.4, 8 'Operators': Control).
 #![tactic(auto)]
 
 pub mod control;
 pub mod frames;
 pub mod readers;
-#[cfg(test)]
-mod tests;
 pub mod turns;
 pub mod unwinding;

@@ -1,6 +1,10 @@
-// The state as a plain value: whether an event may happen, and what it makes of the state.
+//! The state as a plain value: whether an event may happen, and what it makes of the state.
+//!
+//! Its functions keep no invariant: each says what it makes of any state whose numbers are bounded,
+//! as those of every run are.
 #![tactic(auto)]
 
+ghost use Rattle.std.specs.Bool.{Decides};
 ghost use Rattle.std.specs.Prelude.{◌≡◌, ◌+◌, ◌<◌, ◌^◌, IfOk, OnOk, MatchBool, length, slice_index};
 ghost use Rattle.ps_core_parts.specs.Bounds.{Bounded, CanStep, IsSlot};
 ghost use Rattle.ps_core_parts.specs.Conditions as conditions;
@@ -67,28 +71,30 @@ impl Machine {
     }
 
     fn finds_field(&self, address: u64, field: u64, word: u64) -> bool
-        ensures { MatchBool result (slice_index self.now.words (address + 2 + field) ≡ word) (slice_index self.now.words (address + 2 + field) ≡ word → ⊥) }
+        ensures { Decides result (slice_index self.now.words (address + 2 + field) ≡ word) }
     {
         load_field(self.words.as_slice(), address, field) == word
     }
 
     fn finds_record(&self, slot: u64, word: u64) -> bool
         requires { slot < 32 }
-        ensures { MatchBool result (BothMay self.now.words self.now.vm self.now.gc (TakeLoad slot word)) (BothMay self.now.words self.now.vm self.now.gc (TakeLoad slot word) → ⊥) }
+        ensures { Decides result (BothMay self.now.words self.now.vm self.now.gc
+            (TakeLoad slot word)) }
     {
         self.word(ring_place(slot, self.gc.length_of(slot))) == word
     }
 
     fn are_drained(&self) -> bool
-        ensures { MatchBool result (self.now.gc.taken ≡ self.now.vm.logs) (self.now.gc.taken ≡ self.now.vm.logs → ⊥) }
+        ensures { Decides result (self.now.gc.taken ≡ self.now.vm.logs) }
     {
         same_logs(self.gc.taken(), self.vm.logs())
     }
 
-    /// Whether the word that a load finds is the one that it carries, and whether a flip finds all logs drained.
+    /// Whether the word that a load finds is the one that it carries, and whether a flip finds all
+    /// logs drained.
     fn both(&self, event: &Event) -> bool
         requires { conditions.GcMay self.now.gc event.now }
-        ensures { MatchBool result (BothMay self.now.words self.now.vm self.now.gc event.now) (BothMay self.now.words self.now.vm self.now.gc event.now → ⊥) }
+        ensures { Decides result (BothMay self.now.words self.now.vm self.now.gc event.now) }
     {
         match event {
             Event::VmLoad { place, word } => self.word(*place) == *word,
@@ -108,7 +114,7 @@ impl Machine {
     /// Whether the event may happen now.
     pub fn permits(&self, event: &Event) -> bool
         requires { Bounded self.now }
-        ensures { MatchBool result (Permitted self.now event.now) (Permitted self.now event.now → ⊥) }
+        ensures { Decides result (Permitted self.now event.now) }
     {
         self.vm.may(event) && self.gc.may(event) && self.both(event)
     }
@@ -223,7 +229,8 @@ impl Machine {
 
     fn flip(&mut self, roots: &Roots) -> Result<(), AllocError>
         requires bounded { Bounded self.old }
-        requires end { objects.end_of_replicas (steps.other_base self.old.vm.space self.old.vm.cycle) self.old.gc.pairs < 2 ^ 64 }
+        requires end { objects.end_of_replicas
+            (steps.other_base self.old.vm.space self.old.vm.cycle) self.old.gc.pairs < 2 ^ 64 }
         ensures { OnOk result (self.new ≡ happens self.old (CycleStore roots.now)) }
     {
         store(&mut self.words, 0, self.gc.cycle() + 1);

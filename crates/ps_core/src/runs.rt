@@ -1,6 +1,11 @@
-// Runs: the machine with the events that it made.
+//! Runs: the machine with the events that it made.
+//!
+//! Invariant: its events, the oldest first, are a run over a space of one of the sizes, and its
+//! state
+//! is the one that the run leads to.
 #![tactic(auto)]
 
+ghost use Rattle.std.specs.Bool.{Decides};
 ghost use Rattle.std.specs.Prelude.{◌≡◌, ◌∷◌, [], IfErr, IfOk, MatchBool, OnOk, slice_index};
 ghost use Rattle.ps_core_parts.specs.Steps.{happens};
 ghost use Rattle.ps_core_parts.specs.Conditions.{Permitted};
@@ -37,7 +42,8 @@ impl Model for Core {
 
     ghost view = { λ c. record { space = c.space; events = reverse c.events.items } };
 
-    ghost invariant = { λ c. IsSpace c.space × IsRun c.space (reverse c.events.items) × (run c.space (reverse c.events.items) ≡ c.machine) };
+    ghost invariant = { λ c. IsSpace c.space × IsRun c.space (reverse c.events.items)
+        × (run c.space (reverse c.events.items) ≡ c.machine) };
 }
 
 impl Core {
@@ -62,7 +68,7 @@ impl Core {
 
     /// Whether the event may happen now.
     pub fn permits(&self, event: &Event) -> bool
-        ensures { MatchBool result (Permitted (run self.now.space self.now.events) event.now) (Permitted (run self.now.space self.now.events) event.now → ⊥) }
+        ensures { Decides result (Permitted (run self.now.space self.now.events) event.now) }
     {
         self.machine.permits(event)
     }
@@ -80,7 +86,8 @@ impl Core {
     /// The refusal of an event that may not happen now.
     fn admits(&self, event: &Event) -> Result<(), Refused>
         ensures ok { OnOk result (Permitted (run self.now.space self.now.events) event.now) }
-        ensures refused { IfErr result (λ e. (e ≡ NotNow) × (Permitted (run self.now.space self.now.events) event.now → ⊥)) }
+        ensures refused { IfErr result
+            (λ e. (e ≡ NotNow) × (Permitted (run self.now.space self.now.events) event.now → ⊥)) }
     {
         if self.permits(event) {
             Ok(())
@@ -91,8 +98,12 @@ impl Core {
 
     /// Makes the next event, where it may happen now. After a refusal nothing has changed.
     pub fn apply(&mut self, event: Event) -> Result<(), Refused>
-        ensures ok { OnOk result (Permitted (run self.old.space self.old.events) event × (self.new ≡ record self.old { events = event ∷ self.old.events })) }
-        ensures refused { IfErr result (λ e. (e ≡ NotNow → Permitted (run self.old.space self.old.events) event → ⊥) × (e ≡ Memory → Permitted (run self.old.space self.old.events) event) × (self.new ≡ self.old)) }
+        ensures ok { OnOk result (Permitted (run self.old.space self.old.events) event
+            × (self.new ≡ record self.old { events = event ∷ self.old.events })) }
+        ensures refused { IfErr result
+            (λ e. (e ≡ NotNow → Permitted (run self.old.space self.old.events) event → ⊥)
+            × (e ≡ Memory → Permitted (run self.old.space self.old.events) event)
+            × (self.new ≡ self.old)) }
     {
         self.admits(&event)?;
         match self.after(&event) {

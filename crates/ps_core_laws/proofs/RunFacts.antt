@@ -9,14 +9,16 @@ use Rattle.ps_core_laws.specs.Runs.{IsRun, IsSpace, run}
 use Rattle.ps_core_parts.specs.Steps.{State}
 use Rattle.ps_core_laws.proofs.Keeping.{Good}
 use Rattle.ps_core_laws.proofs.Kept.{good}
+use Rattle.ps_core_laws.proofs.Spaced.{SpacedOf, spaced}
 use Rattle.ps_core_laws.proofs.Sizes.{bounded, can_step}
 
-module _ (space : ℕ) (events : List Event) (m : State) (is : IsSpace space × IsRun space events × (run space events ≡ m)) where
+module _ (space : ℕ) (events : List Event) (m : State)
+    (is : IsSpace space × IsRun space events × (run space events ≡ m)) where
   kept : Good space m
   kept = subst (Good space) is.2 (good space is.0 events is.1)
 
   pub bounded_run : Bounded m
-  bounded_run = bounded space is.0 m kept
+  bounded_run = bounded space is.0 m kept (subst SpacedOf is.2 (spaced space is.0 events is.1))
 
   pub can_run : (e : Event) → Permitted m e → CanStep m e
   can_run e p = can_step space is.0 m kept e p

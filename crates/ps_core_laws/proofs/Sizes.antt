@@ -14,19 +14,23 @@ use Rattle.ps_core_laws.proofs.Bases.{spaces_wide, some_match}
 use Rattle.ps_core_laws.proofs.Lookups.{object_at-address, end_of_replicas-high}
 use Rattle.ps_core_laws.proofs.Keeping.{Good}
 use Rattle.ps_core_laws.proofs.Kept.{replicas_low}
+use Rattle.ps_core_laws.proofs.Spaced.{SpacedOf}
 
 module _ (space : ℕ) (size : IsSpace space) (s : State) (h : Good space s) where
   cycle_small : s.vm.cycle < 2 ^ 33
-  cycle_small = let m = h.counted.small in elim h.counted.epochs as (λ _. s.vm.cycle < 2 ^ 33) [ inl e ↦ omega arith | inr e ↦ omega arith ]
+  cycle_small = let m = h.counted.small in
+      elim h.counted.epochs as (λ _. s.vm.cycle < 2 ^ 33)
+      [ inl e ↦ omega arith | inr e ↦ omega arith ]
 
   making_small : s.vm.making < 2 ^ 32
   making_small = elim (ℕ_discrete s.vm.making 0) [
     | yes e ↦ omega arith
-    | no ne ↦ let c = (h.current.cleared s.vm.making (omega arith) (omega arith)).0 in let w = (spaces_wide space s.vm.cycle).0 in let m = size.1 in omega arith
+    | no ne ↦ let c = (h.current.cleared s.vm.making (omega arith) (omega arith)).0 in let w =
+        (spaces_wide space s.vm.cycle).0 in let m = size.1 in omega arith
   ]
 
-  pub bounded : Bounded s
-  bounded =
+  pub bounded : SpacedOf s → Bounded s
+  bounded d =
       let w = (spaces_wide space s.vm.cycle).0 in
       let m = size.1 in
       let e = h.current.end_high in
@@ -38,17 +42,51 @@ module _ (space : ℕ) (size : IsSpace space) (s : State) (h : Good space s) whe
       let seen = h.counted.epoch_seen in
       let births = h.births in
       record {
-        vm = record { space = omega arith; cycle = cycle; epoch = omega arith; making = making_small; end = omega arith; next_birth = omega arith; written = h.counted.range };
-        gc = record { space = omega arith; cycle = omega arith; epoch = omega arith; low = replicas_low space s h size };
+        vm = record {
+          space = omega arith;
+          cycle = cycle;
+          epoch = omega arith;
+          making =
+              making_small;
+          end = omega arith;
+          next_birth = omega arith;
+          written = h.counted.range;
+        };
+        gc = record {
+          space = omega arith;
+          cycle = omega arith;
+          epoch = omega arith;
+          low =
+              replicas_low space s h size;
+          end = ends;
+          last = d.last;
+        };
       }
+    where
+      ends : end_of_replicas (other_base s.gc.space s.gc.cycle) s.gc.pairs < 2 ^ 32
+      ends =
+          let w = (spaces_wide space s.vm.cycle).1 in
+          let m = size.1 in
+          let top = end_of_replicas-high s.gc.pairs (other_base space s.vm.cycle)
+          (other_base space s.vm.cycle + space) h.single (omega arith)
+          (λ c q e. (h.other.within c q e).1) in
+          let small : end_of_replicas (other_base space s.vm.cycle) s.gc.pairs < 2 ^ 32 =
+          omega arith in
+          subst (λ (z : ℕ). end_of_replicas (other_base z s.gc.cycle) s.gc.pairs < 2 ^ 32)
+          (sym h.counted.gc_space_is)
+          (subst (λ (z : ℕ). end_of_replicas (other_base space z) s.gc.pairs < 2 ^ 32)
+          h.counted.cycles small)
 
-  field_small : (x : Option Object) (a i w : ℕ) → object_at s.vm.objects a ≡ x → HasField s.vm x i w → i < 2 ^ 20
+  field_small : (x : Option Object) (a i w : ℕ) → object_at s.vm.objects a ≡ x → HasField s.vm x i w
+      → i < 2 ^ 20
   field_small None a i w at has = absurd has
-  field_small (Some o) a i w at has = let n = h.current.sized a o at in let lt = has.0 in omega arith
+  field_small (Some o) a i w at has = let n = h.current.sized a o at in let lt = has.0 in
+      omega arith
 
   slot_of : (x : Option Half) → s.gc.taking ≡ x → HasSlot s.gc x
   slot_of None e = tt
-  slot_of (Some q) e = let t = (h.logs.takes q e).in_range in let w = h.logs.wide_taken in (t, omega arith)
+  slot_of (Some q) e = let t = (h.logs.takes q e).in_range in let w = h.logs.wide_taken in
+      (t, omega arith)
 
   known_small : (a : ℕ) → is_some (object_at s.vm.objects a) ≡ true → a < 2 ^ 32
   known_small a st = go (object_at s.vm.objects a) refl st
@@ -87,5 +125,8 @@ module _ (space : ℕ) (size : IsSpace space) (s : State) (h : Good space s) whe
   can_step (CycleStore roots) p =
       let w = (spaces_wide space s.vm.cycle).1 in
       let m = size.1 in
-      let top = end_of_replicas-high s.gc.pairs (other_base space s.vm.cycle) (other_base space s.vm.cycle + space) h.single (omega arith) (λ c q e. (h.other.within c q e).1) in
-      subst (λ (z : ℕ). end_of_replicas (other_base z s.vm.cycle) s.gc.pairs < 2 ^ 64) (sym h.counted.vm_space_is) (omega arith)
+      let top = end_of_replicas-high s.gc.pairs (other_base space s.vm.cycle)
+      (other_base space s.vm.cycle + space) h.single (omega arith)
+      (λ c q e. (h.other.within c q e).1) in
+      subst (λ (z : ℕ). end_of_replicas (other_base z s.vm.cycle) s.gc.pairs < 2 ^ 64)
+      (sym h.counted.vm_space_is) (omega arith)

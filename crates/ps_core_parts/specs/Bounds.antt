@@ -10,7 +10,7 @@ use Rattle.ps_core_parts.specs.declared.events.Gc.{Gc}
 use Rattle.ps_core_parts.specs.declared.events.Carried.{Carried}
 use Rattle.ps_core_parts.specs.declared.events.Half.{Half}
 use Rattle.ps_core_parts.specs.declared.events.Target.{Target}
-use Rattle.ps_core_parts.specs.Objects.{pair_of, renamed, with_copy, end_of_replicas}
+use Rattle.ps_core_parts.specs.Objects.{pair_of, renamed, with_copy, end_of_last, end_of_replicas}
 use Rattle.ps_core_parts.specs.Steps.{State, start, other_base, header_of, replica_of, word_stored}
 
 abbrev pub IsShort : Option Written → Type 0
@@ -35,6 +35,9 @@ pub record GcBounded (g : Gc) : Type 0 where
   pub cycle : g.cycle < 2 ^ 33
   pub epoch : g.epoch < 2 ^ 33
   pub low : AllLow g.pairs
+  pub end : end_of_replicas (other_base g.space g.cycle) g.pairs < 2 ^ 32
+  pub last : end_of_last (other_base g.space g.cycle) g.pairs
+      ≡ end_of_replicas (other_base g.space g.cycle) g.pairs
 
 -- the record being taken has a slot
 abbrev pub HasSlot : Gc → Option Half → Type 0
@@ -46,11 +49,16 @@ IsSlot g = HasSlot g g.taking
 
 -- the field that the word being copied is put into
 abbrev pub target_of : Gc → Carried → Target
-target_of g k = record { replica = replica_of (pair_of g.pairs k.address); field = k.field; word = word_stored g k }
+target_of g k = record {
+  replica = replica_of (pair_of g.pairs k.address);
+  field = k.field;
+  word = word_stored g k;
+}
 
 -- the pairs after that store
 abbrev pub copied_pairs : List Pair → Carried → Bool → List Pair
-copied_pairs pairs k scans = with_copy pairs k.address k.field (renamed pairs (header_of (pair_of pairs k.address)) k.word) scans
+copied_pairs pairs k scans = with_copy pairs k.address k.field
+    (renamed pairs (header_of (pair_of pairs k.address)) k.word) scans
 
 pub record Bounded (s : State) : Type 0 where
   pub vm : VmBounded s.vm
@@ -62,7 +70,8 @@ CanStep s (FieldStore a i w) = i < 2 ^ 20
 CanStep s (RecordStore slot r) = slot < length s.vm.logs
 CanStep s (ForwardStore a c) = (a < 2 ^ 32) × (c < 2 ^ 32)
 CanStep s HeadStore = IsSlot s.gc
-CanStep s (CycleStore roots) = end_of_replicas (other_base s.vm.space s.vm.cycle) s.gc.pairs < 2 ^ 64
+CanStep s (CycleStore roots) =
+    end_of_replicas (other_base s.vm.space s.vm.cycle) s.gc.pairs < 2 ^ 64
 CanStep s _ = Unit {0}
 
 -- parts that an event of the other seat doesn't read

@@ -1,5 +1,6 @@
--- When an event may happen. All but the word that a load finds is a fact of the part of the seat that makes it, so that a seat can know it whatever the other one
--- did meanwhile; an event of both seats joined reads both parts.
+-- When an event may happen. All but the word that a load finds is a fact of the part of the seat
+-- that makes it, so that a seat can know it whatever the other one did meanwhile; an event of both
+-- seats joined reads both parts.
 use Rattle.std.specs.Prelude.{◌≡◌, ◌≢◌, ℕ, ◌+◌, ◌^◌, ◌<◌, ◌≤◌, ◌==◌, ◌&&◌, Bool, true, false, List, length, Option, Some, None, MatchOption, slice_index, MatchBool}
 use Rattle.std.specs.List.{list_any}
 use Rattle.ps_word.specs.Headers.{kind_in, fields_in, birth_in}
@@ -13,16 +14,19 @@ use Rattle.ps_core_parts.specs.declared.events.Carried.{Carried}
 use Rattle.ps_core_parts.specs.declared.events.Written.{Written}
 use Rattle.ps_core_parts.specs.declared.events.Vm.{Vm}
 use Rattle.ps_core_parts.specs.declared.events.Gc.{Gc}
-use Rattle.ps_core_parts.specs.Objects.{among, object_at, pair_of, seen_at, log_of, word_has_replica, values_have_replicas, word_stands, values_stand, closes, adjoins, is_done, is_in_replica, meets_replica, all_filled}
+use Rattle.ps_core_parts.specs.Objects.{among, object_at, pair_of, seen_at, log_of, word_has_replica, values_have_replicas, word_stands, values_stand, closes, adjoins, is_done, is_in_replica, end_of_replicas, all_filled}
 use Rattle.ps_core_parts.specs.Steps.{State, table_size, space_base, other_base, is_open, knows_open, header_of, forwarding}
 
 -- a dictionary with this birth stands
 abbrev pub dictionary_stands : List Object → ℕ → Bool
-dictionary_stands objects birth = list_any (λ o. kind_in o.header == 8 && birth_in o.header == birth) objects
+dictionary_stands objects birth =
+    list_any (λ o. kind_in o.header == 8 && birth_in o.header == birth) objects
 
 -- a body has its dictionary's birth, and any other object the next one
 abbrev pub IsBirth : Vm → ℕ → Type 0
-IsBirth v header = MatchBool (kind_in header == 11) (dictionary_stands v.objects (birth_in header) ≡ true) (birth_in header ≡ v.next_birth)
+IsBirth v header = MatchBool (kind_in header == 11)
+    (dictionary_stands v.objects (birth_in header) ≡ true)
+    (birth_in header ≡ v.next_birth)
 
 -- the first header of an object of one of the six kinds, with as many fields as were cleared
 pub record CanStand (v : Vm) (header : ℕ) : Type 0 where
@@ -45,14 +49,25 @@ CanStoreField v a i w = HasField v (object_at v.objects a) i w × IsOneRange v a
 
 -- a place record names just what is written
 abbrev pub IsNamed : Option Written → Record → Type 0
-IsNamed written (Place a first count) = written ≡ Some (record { address = a; first = first; count = count })
+IsNamed written (Place a first count) =
+    written ≡ Some (record { address = a; first = first; count = count })
 IsNamed written Close = Unit {0}
 
+-- the slot's ring has a free place, by its head as it was last loaded
+abbrev pub HasRoom : Vm → ℕ → Type 0
+HasRoom v slot = length (log_of v.logs slot) < slice_index v.heads slot + 256
+
+-- the number of the slot's next record has 63 bits
+abbrev pub HasNumber : Vm → ℕ → Type 0
+HasNumber v slot = length (log_of v.logs slot) < 2 ^ 63
+
+-- in an open cycle a log that isn't closed gets a record
 pub record CanLog (v : Vm) (slot : ℕ) (r : Record) : Type 0 where
   pub in_range : slot < 32
   pub opened : is_open v ≡ true
   pub not_closed : closes (log_of v.logs slot) ≢ v.epoch
-  pub room : length (log_of v.logs slot) < slice_index v.heads slot + 256
+  pub room : HasRoom v slot
+  pub short : HasNumber v slot
   pub fits : IsRecord r
   pub written : IsNamed v.written r
 
@@ -72,13 +87,13 @@ VmMay v EpochStore = (v.epoch ≡ v.cycle) × (v.epoch + 1 < 2 ^ 32) × (v.writt
 VmMay v (CycleStore roots) = (is_open v ≡ true) × AllClosed v × (v.written ≡ None)
 VmMay v _ = Unit {0}
 
--- the replica's headers stand: the first is the original's, the second leads back to it; and the replica lies whole in the other space, apart from the others
+-- the replica's headers stand: the first is the original's, the second leads back to it; and the
+-- replica lies right behind the others, whole in the other space
 pub record IsReady (g : Gc) (a c header : ℕ) : Type 0 where
   pub first : seen_at g.placed c ≡ Some header
   pub second : seen_at g.placed (c + 1) ≡ Some (forwarding g.epoch a)
-  pub low : other_base g.space g.cycle ≤ c
+  pub right : c ≡ end_of_replicas (other_base g.space g.cycle) g.pairs
   pub high : c + 2 + fields_in header ≤ other_base g.space g.cycle + g.space
-  pub apart : meets_replica g.pairs c (c + 2 + fields_in header) ≡ false
 
 pub record CanForward (g : Gc) (a c : ℕ) : Type 0 where
   pub opened : knows_open g ≡ true
@@ -100,18 +115,21 @@ abbrev pub GcMay : Gc → Event → Type 0
 GcMay g (GcLoad place word) = place < table_size g.space
 GcMay g (TakeLoad slot word) = (slot < 32) × (g.taking ≡ None)
 GcMay g (CopyLoad a i word) = (g.copying ≡ None) × IsPairField g a i
-GcMay g (ReplicaHeaderStore place word) = (other_base g.space g.cycle ≤ place) × (place < other_base g.space g.cycle + g.space) × (is_in_replica g.pairs place ≡ false)
+GcMay g (ReplicaHeaderStore place word) = (other_base g.space g.cycle ≤ place)
+    × (place < other_base g.space g.cycle + g.space) × (is_in_replica g.pairs place ≡ false)
 GcMay g (ReplicaFieldStore scans) = CanStore g g.copying
 GcMay g (ForwardStore a c) = CanForward g a c
 GcMay g HeadStore = is_done g.pairs g.copying g.taking ≡ true
-GcMay g (CycleStore roots) = (g.taking ≡ None) × (g.copying ≡ None) × (all_filled g.pairs ≡ true) × (values_have_replicas g.pairs roots ≡ true)
+GcMay g (CycleStore roots) = (g.taking ≡ None) × (g.copying ≡ None)
+    × (all_filled g.pairs ≡ true) × (values_have_replicas g.pairs roots ≡ true)
 GcMay g _ = Unit {0}
 
 -- the word that a load finds; and what a joined store reads of both parts
 abbrev pub BothMay : List ℕ → Vm → Gc → Event → Type 0
 BothMay ws v g (VmLoad place word) = slice_index ws place ≡ word
 BothMay ws v g (GcLoad place word) = slice_index ws place ≡ word
-BothMay ws v g (TakeLoad slot word) = slice_index ws (ring_place slot (length (log_of g.taken slot))) ≡ word
+BothMay ws v g (TakeLoad slot word) =
+    slice_index ws (ring_place slot (length (log_of g.taken slot))) ≡ word
 BothMay ws v g (CopyLoad a i word) = slice_index ws (a + 2 + i) ≡ word
 BothMay ws v g (HandOver word roots) = slice_index ws 0 ≡ word
 BothMay ws v g (CycleStore roots) = g.taken ≡ v.logs

@@ -51,7 +51,10 @@ with_field objects a i w = map (stored a i w) objects
 
 -- the pairs after a store to a field of the replica of this original; the scan's store fills it
 abbrev pub copied_to : ℕ → ℕ → ℕ → Bool → Pair → Pair
-copied_to a i w scans p = if nat_eq a p.original then record p { fields = slice_set p.fields i w; filled = if scans then slice_set p.filled i true else p.filled } else p
+copied_to a i w scans p = if nat_eq a p.original then record p {
+  fields = slice_set p.fields i w;
+  filled = if scans then slice_set p.filled i true else p.filled;
+} else p
 
 abbrev pub with_copy : List Pair → ℕ → ℕ → ℕ → Bool → List Pair
 with_copy pairs a i w scans = map (copied_to a i w scans) pairs
@@ -121,11 +124,16 @@ is_written (Some w) b j = nat_eq b w.address && (nat_le w.first j && nat_lt j (w
 -- a store there is in what is written, or next to it, or nothing is written
 abbrev pub adjoins : Option Written → ℕ → ℕ → Bool
 adjoins None a i = true
-adjoins (Some w) a i = nat_eq a w.address && (nat_le w.first (i + 1) && nat_le i (w.first + w.count))
+adjoins (Some w) a i =
+    nat_eq a w.address && (nat_le w.first (i + 1) && nat_le i (w.first + w.count))
 
 abbrev pub widened : Option Written → ℕ → ℕ → Written
 widened None a i = record { address = a; first = i; count = 1 }
-widened (Some w) a i = record { address = w.address; first = min w.first i; count = max (w.first + w.count) (i + 1) - min w.first i }
+widened (Some w) a i = record {
+  address = w.address;
+  first = min w.first i;
+  count = max (w.first + w.count) (i + 1) - min w.first i;
+}
 
 -- what is left of a record after some of its fields were loaded
 abbrev pub left_of : Record → ℕ → Record
@@ -138,12 +146,15 @@ is_left (Some h) b j = names (left_of h.what h.loaded) b j
 
 -- the next field of a record that is to be loaded
 abbrev pub is_next : Record → ℕ → ℕ → ℕ → Bool
-is_next (Place a first count) loaded b j = nat_eq b a && (nat_eq j (first + loaded) && nat_lt loaded count)
+is_next (Place a first count) loaded b j =
+    nat_eq b a && (nat_eq j (first + loaded) && nat_lt loaded count)
 is_next Close loaded b j = false
 
 abbrev pub with_load : Option Half → ℕ → ℕ → Option Half
 with_load None b j = None
-with_load (Some h) b j = Some (record h { loaded = if is_next h.what h.loaded b j then h.loaded + 1 else h.loaded })
+with_load (Some h) b j = Some (record h {
+  loaded = if is_next h.what h.loaded b j then h.loaded + 1 else h.loaded;
+})
 
 -- all of its fields are loaded
 abbrev pub is_loaded : Record → ℕ → Bool
@@ -168,7 +179,8 @@ lacks_replica pairs Close = false
 -- nothing of it is left to load or to store, or there is no replica to store to
 abbrev pub is_done : List Pair → Option Carried → Option Half → Bool
 is_done pairs copying None = false
-is_done pairs copying (Some h) = (is_loaded h.what h.loaded && not (is_copied_from h.what copying)) || lacks_replica pairs h.what
+is_done pairs copying (Some h) =
+    (is_loaded h.what h.loaded && not (is_copied_from h.what copying)) || lacks_replica pairs h.what
 
 -- ---- replicas in their space
 
@@ -177,10 +189,6 @@ end_of p = p.replica + 2 + length p.fields
 
 abbrev pub is_in_replica : List Pair → ℕ → Bool
 is_in_replica pairs place = list_any (λ p. nat_le p.replica place && nat_lt place (end_of p)) pairs
-
--- words from low up to high are shared with a replica
-abbrev pub meets_replica : List Pair → ℕ → ℕ → Bool
-meets_replica pairs low high = list_any (λ p. nat_lt p.replica high && nat_lt low (end_of p)) pairs
 
 abbrev pub all_true : List Bool → Bool
 all_true bits = list_all (λ b. b) bits
@@ -193,6 +201,11 @@ all_filled pairs = list_all (λ p. all_true p.filled) pairs
 abbrev pub end_of_replicas : ℕ → List Pair → ℕ
 end_of_replicas low [] = low
 end_of_replicas low (p ∷ ps) = max (end_of p) (end_of_replicas low ps)
+
+-- the end of the replica that was made last, or the lowest word where there is none
+abbrev pub end_of_last : ℕ → List Pair → ℕ
+end_of_last low [] = low
+end_of_last low (p ∷ ps) = end_of p
 
 -- the replicas as standing objects
 abbrev pub as_object : Pair → Object

@@ -1,4 +1,5 @@
-// The atomic steps on the table of words as events, and what each of the two seats has of the state.
+//! The atomic steps on the table of words as events, and what each of the two seats has of the
+//! state. They are plain values; what they must keep is said of runs (`law`).
 
 ghost use Rattle.std.specs.Prelude.{List, ℕ};
 
@@ -18,23 +19,28 @@ impl Model for Roots {
     ghost view = { λ r. r.words.items };
 }
 
-/// An atomic step: a load or a store of one word of the table, by the mutator's seat, by the collector's, or by both joined (Nettles and O'Toole, PLDI 1993,
+/// An atomic step: a load or a store of one word of the table, by the mutator's seat, by the
+/// collector's, or by both joined (Nettles and O'Toole, PLDI 1993,
 /// 2 and 3). A load carries the word that it finds.
 #[derive(Drop)]
 pub enum Event {
     /// Load by the mutator. A head, if it is one, is kept.
     VmLoad { place: u64, word: u64 },
-    /// Load by the collector, to look. The epoch word is kept, and the first header of an object that it knows.
+    /// Load by the collector, to look. The epoch word is kept, and the first header of an object
+    /// that it knows.
     GcLoad { place: u64, word: u64 },
-    /// Load by the collector of the ring place where the slot's next record is to stand; where it stands there, it is being taken from then on.
+    /// Load by the collector of the ring place where the slot's next record is to stand; where it
+    /// stands there, it is being taken from then on.
     TakeLoad { slot: u64, word: u64 },
     /// Load by the collector of a field of an original; it is being copied from then on.
     CopyLoad { address: u64, field: u64, word: u64 },
     /// Load of the cycle word by both seats joined, with the roots that the mutator hands over.
     HandOver { word: u64, roots: Roots },
-    /// Field store by the mutator, of the next word of the object being made, which becomes zero: its second header, then its fields.
+    /// Field store by the mutator, of the next word of the object being made, which becomes zero:
+    /// its second header, then its fields.
     ClearStore,
-    /// Field store by the mutator, of the first header of the object being made, which stands from then on.
+    /// Field store by the mutator, of the first header of the object being made, which stands from
+    /// then on.
     HeaderStore { header: u64 },
     /// Field store by the mutator, of a field of a standing object.
     FieldStore { address: u64, field: u64, word: u64 },
@@ -44,7 +50,8 @@ pub enum Event {
     EpochStore,
     /// To-space store by the collector, of a header of a replica that is in no pair.
     ReplicaHeaderStore { place: u64, word: u64 },
-    /// To-space store by the collector, of the word being copied, renamed; by its scan, or from a record.
+    /// To-space store by the collector, of the word being copied, renamed; by its scan, or from a
+    /// record.
     ReplicaFieldStore { scans: bool },
     /// Forwarding store by the collector: a new pair.
     ForwardStore { original: u64, replica: u64 },
@@ -54,14 +61,16 @@ pub enum Event {
     CycleStore { roots: Roots },
 }
 
-/// An object that stands: the index of its first header, that header, and its fields. No value of it is made.
+/// An object that stands: the index of its first header, that header, and its fields. No value of
+/// it is made.
 pub struct Object {
     pub address: u64,
     pub header: u64,
     pub fields: [u64; 0],
 }
 
-/// An original and its replica, with the first header that both have, the fields of the replica and which of them the scan has stored. No value of it is made.
+/// An original and its replica, with the first header that both have, the fields of the replica and
+/// which of them the scan has stored. No value of it is made.
 pub struct Pair {
     pub original: u64,
     pub replica: u64,
@@ -151,7 +160,8 @@ pub struct Gc {
     pub headers: [Seen; 0],
     /// Words that it put into the other space for replicas to be.
     pub placed: [Seen; 0],
-    /// Addresses that were named in this cycle, by a root handed over or by a word loaded from an original.
+    /// Addresses that were named in this cycle, by a root handed over or by a word loaded from an
+    /// original.
     pub known: [u64; 0],
     /// The roots handed over in this cycle.
     pub handed: [u64; 0],

@@ -1,4 +1,6 @@
-// Objects, replicas and logs as the machine holds them, and what is looked up in them.
+//! Objects, replicas and logs as the machine holds them, and what is looked up in them.
+//!
+//! They keep no invariant: where two of a list have the same address, the first is found.
 #![tactic(auto)]
 
 ghost use Rattle.std.specs.Prelude.{◌≡◌, ◌+◌, ◌-◌, ◌<◌, ◌^◌, ◌++◌, ◌∷◌, true, nat_lt, replicate, slice_set, if◌then◌else◌, IfOk, OnOk, List, [], length, slice_index, option_copied, map, MatchBool};
@@ -59,7 +61,14 @@ impl Model for Replica {
 
     ghost Value = { Pair };
 
-    ghost view = { λ p. record { original = p.original; replica = p.replica; header = p.header; fields = p.fields.items; filled = p.filled.items } };
+    ghost view = { λ p. record {
+      original = p.original;
+      replica = p.replica;
+      header = p.header;
+      fields =
+          p.fields.items;
+      filled = p.filled.items;
+    } };
 }
 
 impl Log {
@@ -149,7 +158,8 @@ impl StandingObject {
 impl StandingObject {
     /// A new object, whose fields are zero.
     pub fn new(alloc: Global, address: u64, header: u64) -> Result<StandingObject, AllocError>
-        ensures { IfOk result (λ o. o ≡ record { address = address; header = header; fields = replicate (headers.fields_in header) 0 }) }
+        ensures { IfOk result (λ o. o ≡ record
+            { address = address; header = header; fields = replicate (headers.fields_in header) 0 }) }
     {
         Ok(StandingObject {
             address,
@@ -244,7 +254,11 @@ impl Replica {
 
     /// Stores to a field; the scan's store fills it.
     pub fn store(&mut self, field: u64, word: u64, scans: bool)
-        ensures { self.new ≡ record self.old { fields = slice_set self.old.fields field word; filled = if scans then slice_set self.old.filled field true else self.old.filled } }
+        ensures { self.new ≡ record self.old {
+          fields = slice_set self.old.fields field word;
+          filled =
+              if scans then slice_set self.old.filled field true else self.old.filled;
+        } }
     {
         if field < self.fields.len() as u64 {
             self.fields[field as usize] = word;
@@ -267,7 +281,8 @@ impl Replica {
 
     /// The replica as an object that stands.
     pub fn into_object(self) -> StandingObject
-        ensures { result ≡ record { address = self.replica; header = self.header; fields = self.fields } }
+        ensures { result ≡ record
+            { address = self.replica; header = self.header; fields = self.fields } }
     {
         let Replica {
             original: _,
@@ -400,13 +415,6 @@ pub fn is_in_replica(list: &[Replica], place: u64) -> bool
 {
     list.iter()
         .any(|p| p.replica() <= place && p.ends_after(place))
-}
-
-/// Whether words from `low` up to `high` are shared with a replica.
-pub fn meets_replica(list: &[Replica], low: u64, high: u64) -> bool
-    ensures { result ≡ objects.meets_replica list.now low high }
-{
-    list.iter().any(|p| p.replica() < high && p.ends_after(low))
 }
 
 /// The word that was seen at a place last.

@@ -1,4 +1,6 @@
-//! Makes the rows of its input on the collector's machine, event by event, and prints how many there are and which of them differ from what they say.
+//! Makes the rows of its input on the collector's machine, event by event, and prints how many
+//! there
+//! are and which of them differ from what they say.
 #![tactic(auto)]
 
 mod events;

@@ -1,4 +1,6 @@
-//! Rows: an event with its numbers and how it is answered, `made`, `not-now` or `memory`; `word INDEX WORD`, a word of the table; or `run`, a new run.
+//! Rows: an event with its numbers and how it is answered, `made`, `not-now` or `memory`; `word
+//! INDEX
+//! WORD`, a word of the table; or `run`, a new run.
 
 ghost use Rattle.std.specs.Prelude.{◌≡◌, IfOk};
 
@@ -6,7 +8,8 @@ use crate::events::event_of;
 use ps_core::{Core, Refused};
 use std::alloc::{AllocError, Global};
 
-/// A number as a row writes it: in decimal digits, or in hexadecimal ones behind an `x`; any other text is zero.
+/// A number as a row writes it: in decimal digits, or in hexadecimal ones behind an `x`; any other
+/// text is zero.
 fn number_of(text: &str) -> u64 {
     match text.strip_prefix('x') {
         None => text.parse::<u64>().unwrap_or(0),

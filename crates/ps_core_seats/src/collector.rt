@@ -1,6 +1,10 @@
-// The collector's part of a state, and when it may make an event.
+//! The collector's part of a state, when it may make an event, and what the event makes of it.
+//!
+//! Its functions speak of any part whose numbers are bounded; that it is the part of a run is kept
+//! by `Core`.
 #![tactic(auto)]
 
+ghost use Rattle.std.specs.Bool.{Decides};
 ghost use Rattle.std.specs.Prelude.{◌≡◌, ◌+◌, ◌<◌, ◌++◌, ◌&&◌, if◌then◌else◌, ◌^◌, IfOk, OnOk, MatchBool, MatchOption, None, [], length, not, true, option_copied};
 ghost use Rattle.std.specs.Option.{option_map};
 ghost use Rattle.ps_core_parts.specs.Bounds.{AllLow, GcBounded, IsSlot, any_vm, copied_pairs, target_of};
@@ -18,7 +22,7 @@ use crate::values::{
 use ps_core_parts::events::{Carried, Event, Half, Seen, Target};
 use ps_core_parts::parts::{
     Log, Replica, all_filled, among, copy_logs, copy_pairs, empty_logs, fields_in, is_in_replica,
-    meets_replica, pair_of, seen_at, with_copy, with_front,
+    pair_of, seen_at, with_copy, with_front,
 };
 use ps_record::{PackedRecord, Record};
 use std::alloc::{AllocError, Global};
@@ -119,7 +123,7 @@ fn header_of(pair: Option<&Replica>) -> u64
 
 /// Whether the word was seen at the place.
 fn is_seen(list: &[Seen], place: u64, word: u64) -> bool
-    ensures { MatchBool result (objects.seen_at list.now place ≡ Some word) (objects.seen_at list.now place ≡ Some word → ⊥) }
+    ensures { Decides result (objects.seen_at list.now place ≡ Some word) }
 {
     match seen_at(list, place) {
         None => false,
@@ -131,7 +135,8 @@ fn is_seen(list: &[Seen], place: u64, word: u64) -> bool
 #[tactic(auto, unfolding(ps_word::specs::Headers::forward_packed))]
 fn leads_back(list: &[Seen], place: u64, cycle: u64, address: u64) -> bool
     requires { cycle < 2 ^ 33 }
-    ensures { MatchBool result (objects.seen_at list.now place ≡ Some (steps.forwarding cycle address)) (objects.seen_at list.now place ≡ Some (steps.forwarding cycle address) → ⊥) }
+    ensures { Decides result (objects.seen_at list.now place ≡ Some
+        (steps.forwarding cycle address)) }
 {
     match seen_at(list, place) {
         None => false,
@@ -141,12 +146,14 @@ fn leads_back(list: &[Seen], place: u64, cycle: u64, address: u64) -> bool
 
 /// Whether nothing of the record being taken is left to load or to store.
 fn is_spent(half: Half, copying: Option<Carried>) -> bool
-    ensures { result ≡ (objects.is_loaded half.what half.loaded && not (objects.is_copied_from half.what copying)) }
+    ensures { result ≡ (objects.is_loaded half.what half.loaded && not
+        (objects.is_copied_from half.what copying)) }
 {
     is_loaded(half.what, half.loaded) && !is_copied_from(half.what, copying)
 }
 
-/// What is being taken after a load of the ring place where record `number` of the slot is to stand.
+/// What is being taken after a load of the ring place where record `number` of the slot is to
+/// stand.
 fn taken_up(slot: u64, number: u64, word: u64) -> Option<Half>
     ensures { result ≡ steps.taken_up slot (layout.read_record number word) }
 {
@@ -190,7 +197,7 @@ impl Collector {
     }
 
     fn can_store(&self) -> bool
-        ensures { MatchBool result (conditions.CanStore self.now self.now.copying) (conditions.CanStore self.now self.now.copying → ⊥) }
+        ensures { Decides result (conditions.CanStore self.now self.now.copying) }
     {
         match self.copying {
             None => false,
@@ -203,7 +210,7 @@ impl Collector {
     }
 
     fn is_pair_field(&self, address: u64, field: u64) -> bool
-        ensures { MatchBool result (conditions.IsPairField self.now address field) (conditions.IsPairField self.now address field → ⊥) }
+        ensures { Decides result (conditions.IsPairField self.now address field) }
     {
         match pair_of(self.pairs.as_slice(), address) {
             None => false,
@@ -224,25 +231,39 @@ impl Collector {
         self.epoch > 0 && self.epoch - 1 == self.cycle
     }
 
+    /// Where the replica that was made last ends, so that the next one lies there.
+    fn next_replica(&self) -> u64
+        requires { GcBounded self.now }
+        ensures { result ≡ objects.end_of_replicas (steps.other_base self.now.space self.now.cycle)
+            self.now.pairs }
+    {
+        match self.pairs.first() {
+            None => self.other_base(),
+            Some(p) => p.end(),
+        }
+    }
+
     fn is_ready(&self, original: u64, replica: u64, header: u64) -> bool
         requires { GcBounded self.now }
-        ensures { MatchBool result (conditions.IsReady self.now original replica header) (conditions.IsReady self.now original replica header → ⊥) }
+        ensures { Decides result (conditions.IsReady self.now original replica header) }
     {
         let low = self.other_base();
         let high = low + self.space;
         let count = fields_in(header);
-        if replica < low || replica > high || high - replica < count + 2 {
+        if replica != self.next_replica() {
+            return false;
+        }
+        if replica > high || high - replica < count + 2 {
             return false;
         }
         let first = is_seen(self.placed.as_slice(), replica, header);
         let second = leads_back(self.placed.as_slice(), replica + 1, self.epoch, original);
-        let meets = meets_replica(self.pairs.as_slice(), replica, replica + 2 + count);
-        first && second && !meets
+        first && second
     }
 
     /// Whether the object has no replica yet.
     fn is_single(&self, original: u64) -> bool
-        ensures { MatchBool result (objects.pair_of self.now.pairs original ≡ None) (objects.pair_of self.now.pairs original ≡ None → ⊥) }
+        ensures { Decides result (objects.pair_of self.now.pairs original ≡ None) }
     {
         pair_of(self.pairs.as_slice(), original).is_none()
     }
@@ -250,7 +271,8 @@ impl Collector {
     /// Whether the object's first header was loaded, and a replica of it may stand there.
     fn is_headed(&self, original: u64, replica: u64) -> bool
         requires { GcBounded self.now }
-        ensures { MatchBool result (MatchOption (objects.seen_at self.now.headers original) ⊥ (conditions.IsReady self.now original replica)) (MatchOption (objects.seen_at self.now.headers original) ⊥ (conditions.IsReady self.now original replica) → ⊥) }
+        ensures { Decides result (MatchOption (objects.seen_at self.now.headers original) ⊥
+            (conditions.IsReady self.now original replica)) }
     {
         match seen_at(self.headers.as_slice(), original) {
             None => false,
@@ -260,7 +282,7 @@ impl Collector {
 
     fn can_forward(&self, original: u64, replica: u64) -> bool
         requires { GcBounded self.now }
-        ensures { MatchBool result (conditions.CanForward self.now original replica) (conditions.CanForward self.now original replica → ⊥) }
+        ensures { Decides result (conditions.CanForward self.now original replica) }
     {
         self.knows_open()
             && self.is_single(original)
@@ -271,7 +293,7 @@ impl Collector {
     /// Whether the word at the place is free for a header of a replica to be.
     fn can_place(&self, place: u64) -> bool
         requires { GcBounded self.now }
-        ensures { MatchBool result (GcMay self.now (ReplicaHeaderStore place 0)) (GcMay self.now (ReplicaHeaderStore place 0) → ⊥) }
+        ensures { Decides result (GcMay self.now (ReplicaHeaderStore place 0)) }
     {
         let low = self.other_base();
         low <= place && place < low + self.space && !is_in_replica(self.pairs.as_slice(), place)
@@ -286,7 +308,7 @@ impl Collector {
 
     /// Whether the replicas may become the standing objects.
     fn can_flip(&self, roots: &[u64]) -> bool
-        ensures { MatchBool result (GcMay self.now (CycleStore roots.now)) (GcMay self.now (CycleStore roots.now) → ⊥) }
+        ensures { Decides result (GcMay self.now (CycleStore roots.now)) }
     {
         self.taking.is_none()
             && self.copying.is_none()
@@ -297,7 +319,7 @@ impl Collector {
     /// Whether the condition on this part holds; events of the other seat alone have none.
     pub fn may(&self, event: &Event) -> bool
         requires { GcBounded self.now }
-        ensures { MatchBool result (GcMay self.now event.now) (GcMay self.now event.now → ⊥) }
+        ensures { Decides result (GcMay self.now event.now) }
     {
         match event {
             Event::GcLoad { place, .. } => *place < 8256 + 2 * self.space,
@@ -413,7 +435,8 @@ impl Collector {
 
     /// After a load of a field of an original.
     pub fn copy_from(&mut self, address: u64, field: u64, word: u64) -> Result<(), AllocError>
-        ensures { OnOk result (self.new ≡ steps.gc_after self.old any_vm (CopyLoad address field word)) }
+        ensures { OnOk result (self.new ≡ steps.gc_after self.old any_vm
+            (CopyLoad address field word)) }
     {
         self.taking = with_load(self.taking, address, field);
         self.copying = Some(Carried {
@@ -429,7 +452,12 @@ impl Collector {
 
     /// After roots were handed over.
     pub fn hand_over(&mut self, epoch: u64, opened: bool, roots: &[u64]) -> Result<(), AllocError>
-        ensures { OnOk result (self.new ≡ record self.old { epoch = epoch; known = (if opened then objects.addresses_named roots.now else []) ++ self.old.known; handed = (if opened then roots.now else []) ++ self.old.handed }) }
+        ensures { OnOk result (self.new ≡ record self.old {
+          epoch = epoch;
+          known = (if opened then objects.addresses_named roots.now else [])
+              ++ self.old.known;
+          handed = (if opened then roots.now else []) ++ self.old.handed;
+        }) }
     {
         let alloc = *self.known.allocator();
         self.epoch = epoch;
@@ -442,7 +470,8 @@ impl Collector {
 
     /// After a store of a header of a replica to be.
     pub fn place(&mut self, place: u64, word: u64) -> Result<(), AllocError>
-        ensures { OnOk result (self.new ≡ steps.gc_after self.old any_vm (ReplicaHeaderStore place word)) }
+        ensures { OnOk result (self.new ≡ steps.gc_after self.old any_vm
+            (ReplicaHeaderStore place word)) }
     {
         self.placed.insert(0, Seen { place, word })?;
         Ok(())
@@ -467,7 +496,8 @@ impl Collector {
 
     /// After a forwarding store.
     pub fn forward(&mut self, original: u64, replica: u64) -> Result<(), AllocError>
-        ensures { OnOk result (self.new ≡ steps.gc_after self.old any_vm (ForwardStore original replica)) }
+        ensures { OnOk result (self.new ≡ steps.gc_after self.old any_vm
+            (ForwardStore original replica)) }
     {
         let alloc = *self.known.allocator();
         let header = seen_at(self.headers.as_slice(), original).unwrap_or(0);
@@ -492,7 +522,8 @@ impl Collector {
     pub fn flip(&mut self, epoch: u64) -> Vec<Replica, Global>
         requires { GcBounded self.old }
         ensures pairs { result.items ≡ self.old.pairs }
-        ensures flipped { self.new ≡ steps.gc_after self.old (record any_vm { epoch = epoch }) (CycleStore []) }
+        ensures flipped { self.new ≡ steps.gc_after self.old (record any_vm { epoch = epoch })
+            (CycleStore []) }
     {
         let alloc = *self.known.allocator();
         self.cycle += 1;

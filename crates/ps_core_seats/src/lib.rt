@@ -1,4 +1,6 @@
-//! The parts that the two seats of the collector's machine have of its state: when each seat may make an event, and what the event makes of its part.
+//! The parts that the two seats of the collector's machine have of its state: when each seat may
+//! make
+//! an event, and what the event makes of its part.
 #![tactic(auto)]
 
 pub mod collector;

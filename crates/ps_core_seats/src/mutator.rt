@@ -1,12 +1,16 @@
-// The mutator's part of a state, when it may make an event, and what the event makes of it.
+//! The mutator's part of a state, when it may make an event, and what the event makes of it.
+//!
+//! Its functions speak of any part whose numbers are bounded; that it is the part of a run is kept
+//! by `Core`.
 #![tactic(auto)]
 
+ghost use Rattle.std.specs.Bool.{Decides};
 ghost use Rattle.std.specs.Prelude.{◌≡◌, ◌+◌, ◌^◌, ◌<◌, ◌++◌, ◌∷◌, false, slice_index, slice_set, IfOk, OnOk, MatchBool, [], length, true};
 ghost use Rattle.ps_record.specs.Format as layout;
 ghost use Rattle.ps_core_parts.specs.Bounds.{AllLow, IsShort, VmBounded, any_gc};
 ghost use Rattle.ps_core_parts.specs.declared.events.Event.TheVariants.{ClearStore, CycleStore, EpochStore, HeaderStore};
 ghost use Rattle.ps_core_parts.specs.Conditions as conditions;
-ghost use Rattle.ps_core_parts.specs.Conditions.{VmMay};
+ghost use Rattle.ps_core_parts.specs.Conditions.{VmMay, HasRoom, HasNumber};
 ghost use Rattle.ps_core_parts.specs.Objects as objects;
 ghost use Rattle.ps_core_parts.specs.Steps as steps;
 
@@ -75,7 +79,7 @@ fn adjoins(written: Option<Written>, address: u64, field: u64) -> bool
 
 /// Whether a place record names just what is written.
 fn names_written(written: Option<Written>, logged: Record) -> bool
-    ensures { MatchBool result (conditions.IsNamed written logged) (conditions.IsNamed written logged → ⊥) }
+    ensures { Decides result (conditions.IsNamed written logged) }
 {
     match (logged, written) {
         (Record::Close, _) => true,
@@ -93,7 +97,7 @@ fn names_written(written: Option<Written>, logged: Record) -> bool
 
 /// Whether the layout has a word for the record.
 fn fits(logged: Record) -> bool
-    ensures { MatchBool result (layout.IsRecord logged) (layout.IsRecord logged → ⊥) }
+    ensures { Decides result (layout.IsRecord logged) }
 {
     match logged {
         Record::Close => true,
@@ -156,21 +160,29 @@ impl Mutator {
 
     /// Whether the slot's log is closed in the cycle that was opened last.
     fn is_closed(&self, slot: u64) -> bool
-        ensures { MatchBool result (objects.closes (objects.log_of self.now.logs slot) ≡ self.now.epoch) (objects.closes (objects.log_of self.now.logs slot) ≡ self.now.epoch → ⊥) }
+        ensures { Decides result (objects.closes (objects.log_of self.now.logs slot) ≡
+            self.now.epoch) }
     {
         self.log_closes(slot) == self.epoch
     }
 
     /// Whether the slot's ring has room for one more record, by its head as it was last loaded.
     fn has_room(&self, slot: u64) -> bool
-        ensures { MatchBool result (length (objects.log_of self.now.logs slot) < slice_index self.now.heads slot + 256) (length (objects.log_of self.now.logs slot) < slice_index self.now.heads slot + 256 → ⊥) }
+        ensures { Decides result (HasRoom self.now slot) }
     {
         let length = self.log_length(slot);
         length < 256 || length - 256 < load(self.heads.as_slice(), slot)
     }
 
+    /// Whether the number of the slot's next record has 63 bits.
+    fn has_number(&self, slot: u64) -> bool
+        ensures { Decides result (HasNumber self.now slot) }
+    {
+        self.log_length(slot) < 1 << 63
+    }
+
     fn all_closed(&self) -> bool
-        ensures { MatchBool result (conditions.AllClosed self.now) (conditions.AllClosed self.now → ⊥) }
+        ensures { Decides result (conditions.AllClosed self.now) }
     {
         for slot in 0..32u64 {
             if !self.is_closed(slot) {
@@ -181,7 +193,7 @@ impl Mutator {
     }
 
     fn can_stand(&self, header: u64) -> bool
-        ensures { MatchBool result (conditions.CanStand self.now header) (conditions.CanStand self.now header → ⊥) }
+        ensures { Decides result (conditions.CanStand self.now header) }
     {
         let kind = header / (1 << 60);
         let count = fields_in(header);
@@ -203,7 +215,8 @@ impl Mutator {
 
     /// Whether the object has this field, and the word may be put there.
     fn has_field(&self, address: u64, field: u64, word: u64) -> bool
-        ensures { MatchBool result (conditions.HasField self.now (objects.object_at self.now.objects address) field word) (conditions.HasField self.now (objects.object_at self.now.objects address) field word → ⊥) }
+        ensures { Decides result (conditions.HasField self.now
+            (objects.object_at self.now.objects address) field word) }
     {
         match object_at(self.objects.as_slice(), address) {
             None => false,
@@ -213,24 +226,25 @@ impl Mutator {
 
     /// Whether what is written and not logged stays one range of fields of one object.
     fn is_one_range(&self, address: u64, field: u64) -> bool
-        ensures { MatchBool result (conditions.IsOneRange self.now address field) (conditions.IsOneRange self.now address field → ⊥) }
+        ensures { Decides result (conditions.IsOneRange self.now address field) }
     {
         self.is_new(address) || !self.is_open() || adjoins(self.written, address, field)
     }
 
     fn can_store(&self, address: u64, field: u64, word: u64) -> bool
-        ensures { MatchBool result (conditions.CanStoreField self.now address field word) (conditions.CanStoreField self.now address field word → ⊥) }
+        ensures { Decides result (conditions.CanStoreField self.now address field word) }
     {
         self.has_field(address, field, word) && self.is_one_range(address, field)
     }
 
     fn can_log(&self, slot: u64, logged: Record) -> bool
-        ensures { MatchBool result (conditions.CanLog self.now slot logged) (conditions.CanLog self.now slot logged → ⊥) }
+        ensures { Decides result (conditions.CanLog self.now slot logged) }
     {
         slot < 32
             && self.is_open()
             && !self.is_closed(slot)
             && self.has_room(slot)
+            && self.has_number(slot)
             && fits(logged)
             && names_written(self.written, logged)
     }
@@ -238,21 +252,21 @@ impl Mutator {
     /// Whether one more word of the object being made is in the current space.
     fn can_clear(&self) -> bool
         requires { VmBounded self.now }
-        ensures { MatchBool result (VmMay self.now ClearStore) (VmMay self.now ClearStore → ⊥) }
+        ensures { Decides result (VmMay self.now ClearStore) }
     {
         self.end + 1 + self.making < 8256 + (self.cycle % 2) * self.space + self.space
     }
 
     /// Whether a cycle may be opened: none is open, there are cycles left, and nothing is written.
     fn can_open(&self) -> bool
-        ensures { MatchBool result (VmMay self.now EpochStore) (VmMay self.now EpochStore → ⊥) }
+        ensures { Decides result (VmMay self.now EpochStore) }
     {
         self.epoch == self.cycle && self.epoch < (1 << 32) - 1 && self.written.is_none()
     }
 
     /// Whether the open cycle may be flipped: all logs are closed in it, and nothing is written.
     fn can_flip(&self) -> bool
-        ensures { MatchBool result (VmMay self.now (CycleStore [])) (VmMay self.now (CycleStore []) → ⊥) }
+        ensures { Decides result (VmMay self.now (CycleStore [])) }
     {
         self.is_open() && self.all_closed() && self.written.is_none()
     }
@@ -260,7 +274,7 @@ impl Mutator {
     /// Whether the condition on this part holds; events of the other seat alone have none.
     pub fn may(&self, event: &Event) -> bool
         requires { VmBounded self.now }
-        ensures { MatchBool result (VmMay self.now event.now) (VmMay self.now event.now → ⊥) }
+        ensures { Decides result (VmMay self.now event.now) }
     {
         match event {
             Event::VmLoad { place, .. } => *place < 8256 + 2 * self.space,
@@ -411,7 +425,13 @@ impl Mutator {
     /// After a record store.
     pub fn log(&mut self, slot: u64, logged: Record) -> Result<(), AllocError>
         requires { slot < length self.old.logs }
-        ensures { OnOk result (self.new ≡ record self.old { fresh = []; logs = slice_set self.old.logs slot (objects.log_of self.old.logs slot ++ logged ∷ []); written = steps.unlogged_after self.old.written logged }) }
+        ensures { OnOk result (self.new ≡ record self.old {
+          fresh = [];
+          logs = slice_set self.old.logs slot
+              (objects.log_of self.old.logs slot ++ logged ∷ []);
+          written =
+              steps.unlogged_after self.old.written logged;
+        }) }
     {
         self.logs[slot as usize].push(logged)?;
         self.fresh.clear();
@@ -424,7 +444,8 @@ impl Mutator {
     /// After an epoch store.
     pub fn open(&mut self)
         requires { VmBounded self.old }
-        ensures { self.new ≡ record self.old { epoch = self.old.epoch + 1; fresh = []; stored = false } }
+        ensures { self.new ≡ record self.old
+            { epoch = self.old.epoch + 1; fresh = []; stored = false } }
     {
         self.epoch += 1;
         self.fresh.clear();
@@ -435,8 +456,10 @@ impl Mutator {
     pub fn flip(&mut self, pairs: Vec<Replica, Global>, roots: &[u64]) -> Result<(), AllocError>
         requires bounded { VmBounded self.old }
         requires low { AllLow pairs.items }
-        requires end { objects.end_of_replicas (steps.other_base self.old.space self.old.cycle) pairs.items < 2 ^ 64 }
-        ensures { OnOk result (self.new ≡ steps.vm_after self.old (record any_gc { pairs = pairs.items }) (CycleStore roots.now)) }
+        requires end { objects.end_of_replicas (steps.other_base self.old.space self.old.cycle)
+            pairs.items < 2 ^ 64 }
+        ensures { OnOk result (self.new ≡ steps.vm_after self.old
+            (record any_gc { pairs = pairs.items }) (CycleStore roots.now)) }
     {
         let alloc = *self.heads.allocator();
         self.roots = renamed_values(alloc, pairs.as_slice(), roots)?;

@@ -1,4 +1,5 @@
-// What values name, and their renaming: a reference to an original becomes one to its replica, and everything else stays.
+//! What values name, and their renaming: a reference to an original becomes one to its replica, and
+//! everything else stays.
 #![tactic(auto)]
 
 ghost use Rattle.std.specs.Prelude.{◌≡◌, ◌<◌, ◌^◌, IfOk, map};

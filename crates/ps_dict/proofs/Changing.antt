@@ -17,49 +17,66 @@ use Rattle.ps_mem.specs.Shows.{AreValues, DictionaryFields, AreFields, dictionar
 use Rattle.ps_mem.proofs.Lists.{slice_get-set_same, slice_get-set_other, length-splice}
 use Rattle.ps_mem.proofs.HeapLemmas.{object_at-stored_same, object_at-stored_other, birth_at-stored}
 use Rattle.ps_mem.proofs.KeepsLemmas.{Keeps-stored, known_values}
-use Rattle.ps_mem.proofs.StoreLemmas.{IsSound-stored_object, IsSound-stored_body}
+use Rattle.ps_mem.proofs.StoreLemmas.{IsSound-stored_object}
 use Rattle.ps_mem.proofs.StoreShows.{Shows-stored_dictionary, Shows-stored_body}
-use Rattle.ps_dict.specs.Places.{natural_in, body_in, count_at, capacity_at, body_at, pairs_of_words, pairs_at}
+use Rattle.ps_dict.specs.Places.{natural_in, body_in, count_at, capacity_at, body_at, pairs_at}
+use Rattle.ps_mem.specs.Index.{pairs_of_words, index_words}
 use Rattle.ps_dict.proofs.Pairs.{pairs-of_words_of_pairs, take-front_all}
 use Rattle.ps_dict.proofs.Shapes.{count-in, capacity-in, body-in, fields-dictionary, birth-dictionary, dictionary_is_no_body, shape, count-is, capacity-is, access-is, body-is, four, body-stands, body-room, there, capacity-shown, access-shown}
 
 -- ---- the store of the language
 
-pub with_twice : (s : Store) (b : ℕ) (first second : DictionaryValue) → with_dictionary (with_dictionary s b first) b second ≡ with_dictionary s b second
+pub with_twice : (s : Store) (b : ℕ) (first second : DictionaryValue)
+    → with_dictionary (with_dictionary s b first) b second ≡ with_dictionary s b second
 unfolding with_dictionary
 with_twice s b first second = twice s b
   where
-    twice : (s : Store) (b : ℕ) → slice_set (slice_set s b (dictionary_object first)) b (dictionary_object second) ≡ slice_set s b (dictionary_object second)
+    twice : (s : Store) (b : ℕ)
+        → slice_set (slice_set s b (dictionary_object first)) b (dictionary_object second) ≡
+        slice_set s b (dictionary_object second)
     twice [] b = refl
     twice (x ∷ s) zero = refl
     twice (x ∷ s) (suc b) = ap (λ t. x ∷ t) (twice s b)
 
-pub dictionary_at-with : (s : Store) (b : ℕ) (old : Object) (new : DictionaryValue) → slice_get s b ≡ Some old → dictionary_at (with_dictionary s b new) b ≡ new
+pub dictionary_at-with : (s : Store) (b : ℕ) (old : Object) (new : DictionaryValue)
+    → slice_get s b ≡ Some old → dictionary_at (with_dictionary s b new) b ≡ new
 unfolding dictionary_at with_dictionary
-dictionary_at-with s b old new at = ap dictionary_object_in (slice_get-set_same s b (dictionary_object new) old at)
+dictionary_at-with s b old new at =
+    ap dictionary_object_in (slice_get-set_same s b (dictionary_object new) old at)
 
 -- no string has changed
-pub with-lengths : (s : Store) (b : ℕ) (old new : DictionaryValue) → slice_get s b ≡ Some (dictionary_object old) → (birth : ℕ) → length (bytes s birth) ≤ length (bytes (with_dictionary s b new) birth)
+pub with-lengths : (s : Store) (b : ℕ) (old new : DictionaryValue)
+    → slice_get s b ≡ Some (dictionary_object old) → (birth : ℕ)
+    → length (bytes s birth) ≤ length (bytes (with_dictionary s b new) birth)
 unfolding with_dictionary bytes
 with-lengths s b old new at birth = elim (cases_eq b birth) [
   | inl same ↦
-      let was : slice_get s birth ≡ Some (dictionary_object old) = ap (slice_get s) (sym same) ∙ at in
+      let was : slice_get s birth ≡ Some (dictionary_object old) = ap (slice_get s) (sym same)
+      ∙ at in
       let none : length (bytes_in (slice_get s birth)) ≡ 0 = ap (λ x. length (bytes_in x)) was in
       omega (arith, none)
   | inr other ↦
-      let same : length (bytes_in (slice_get (slice_set s b (dictionary_object new)) birth)) ≡ length (bytes_in (slice_get s birth)) = ap (λ x. length (bytes_in x)) (slice_get-set_other s b birth (dictionary_object new) other) in
+      let same : length (bytes_in (slice_get (slice_set s b (dictionary_object new)) birth)) ≡
+      length (bytes_in (slice_get s birth)) =
+      ap (λ x. length (bytes_in x))
+      (slice_get-set_other s b birth (dictionary_object new) other) in
       omega (arith, same)
 ]
 
 -- ---- what a store leaves
 
-pub fields-stored_other : (h : Heap) (a place : ℕ) (items : List Word) (b : ℕ) → a ≢ b → fields_at (stored h a place items) b ≡ fields_at h b
+pub fields-stored_other : (h : Heap) (a place : ℕ) (items : List Word) (b : ℕ) → a ≢ b
+    → fields_at (stored h a place items) b ≡ fields_at h b
 unfolding fields_at
-fields-stored_other h a place items b apart = ap fields_of (object_at-stored_other h a place items b apart)
+fields-stored_other h a place items b apart =
+    ap fields_of (object_at-stored_other h a place items b apart)
 
-pub fields-stored_same : (h : Heap) (a place : ℕ) (items : List Word) (o : Standing) → object_at h a ≡ Some o → fields_at (stored h a place items) a ≡ splice (fields_at h a) place items
+pub fields-stored_same : (h : Heap) (a place : ℕ) (items : List Word) (o : Standing)
+    → object_at h a ≡ Some o → fields_at (stored h a place items) a ≡ splice (fields_at h a) place
+    items
 unfolding fields_at
-fields-stored_same h a place items o at = ap fields_of (object_at-stored_same h a place items o at) ∙ ap (λ ws. splice ws place items) (sym (ap fields_of at))
+fields-stored_same h a place items o at = ap fields_of (object_at-stored_same h a place items o at)
+    ∙ ap (λ ws. splice ws place items) (sym (ap fields_of at))
 
 module _ (h : Heap) (a : ℕ) (known : StandsAs h DictionaryKind a 4) (sound : IsSound h) where
   -- what is of another kind stands elsewhere
@@ -67,7 +84,8 @@ module _ (h : Heap) (a : ℕ) (known : StandsAs h DictionaryKind a 4) (sound : I
   apart b o at kind same =
       let one : Some known.object ≡ Some o = sym known.at ∙ (ap (object_at h) same ∙ at) in
       let is : known.object ≡ o = cc in
-      let clash : DictionaryKind ≡ BodyKind = sym known.kind_is ∙ (ap (λ (x : Standing). x.kind) is ∙ kind) in cc
+      let clash : DictionaryKind ≡ BodyKind = sym known.kind_is
+      ∙ (ap (λ (x : Standing). x.kind) is ∙ kind) in cc
 
   pub apart-body : a ≢ body_at h a
   apart-body = apart (body_at h a) _ (body-stands h a known sound) refl
@@ -77,7 +95,8 @@ module _ (h : Heap) (a : ℕ) (known : StandsAs h DictionaryKind a 4) (sound : I
 
   -- ---- into the fields
 
-  module _ (place : ℕ) (items : List Word) (fits : place + length items ≤ 4) (d : DictionaryFields h (birth_at h a) (splice (fields_at h a) place items)) where
+  module _ (place : ℕ) (items : List Word) (fits : place + length items ≤ 4)
+      (d : DictionaryFields h (birth_at h a) (splice (fields_at h a) place items)) where
     abbrev now : Heap
     now = stored h a place items
 
@@ -109,17 +128,25 @@ module _ (h : Heap) (a : ℕ) (known : StandsAs h DictionaryKind a 4) (sound : I
       capacity_is = d.capacity_is;
       access_is = d.access_is;
       body_is = d.body_is;
-      stands = object_at-stored_other h a place items d.body (apart d.body _ d.stands refl) ∙ d.stands;
+      stands = object_at-stored_other h a place items d.body (apart d.body _ d.stands refl)
+          ∙ d.stands;
       within = d.within;
       room = d.room;
+      few = d.few;
+      indexed = d.indexed ∙ ap (λ births. index_words births d.capacity
+          (take d.count (pairs_of_words d.body_fields))) (sym (birth_at-stored h a place items));
     }
 
     pub fields-sound : IsSound now
     fields-sound =
-        IsSound-stored_object h a place items known.object known.at inside sound (dictionary_is_no_body h a known)
-        (subst (λ k. AreFields now k known.object.birth (splice known.object.fields place items)) (sym known.kind_is)
-        (subst (λ n. AreFields now DictionaryKind n (splice known.object.fields place items)) (birth-dictionary h a known)
-        (subst (AreFields now DictionaryKind (birth_at h a)) (sym new_fields) (dictionary_fields shape-now))))
+        IsSound-stored_object h a place items known.object known.at inside sound
+        (dictionary_is_no_body h a known)
+        (subst (λ k. AreFields now k known.object.birth (splice known.object.fields place items))
+        (sym known.kind_is)
+        (subst (λ n. AreFields now DictionaryKind n (splice known.object.fields place items))
+        (birth-dictionary h a known)
+        (subst (AreFields now DictionaryKind (birth_at h a)) (sym new_fields)
+        (dictionary_fields shape-now))))
 
     pub fields-count : count_at now a ≡ d.count
     fields-count = ap (λ ws. natural_in ws 0) fields-now ∙ count-in h (birth_at h a) _ d
@@ -134,9 +161,14 @@ module _ (h : Heap) (a : ℕ) (known : StandsAs h DictionaryKind a 4) (sound : I
     unfolding fields_at
     fields-body_words = ap fields_of (ap (object_at now) fields-body ∙ shape-now.stands)
 
-    module _ (names : List (List ℕ)) (s : Store) (shows : Shows h names s) (items_known : AreKnown h items) (items_within : AreWithin h names s items) (new : DictionaryValue) (pairs : List (Word × Word)) (index : List Word)
-        (count : d.count ≡ length new.pairs) (capacity : d.capacity ≡ new.capacity) (access : d.access ≡ access_number new.access) (are : new.pairs ≡ map (pair_of (birth_at h) names) pairs)
-        (holds : d.body_fields ≡ words_of_pairs pairs ++ (replicate (2 * (d.capacity - d.count)) zero_word ++ index)) where
+    module _ (names : List (List ℕ)) (s : Store) (shows : Shows h names s)
+        (items_known : AreKnown h items) (items_within : AreWithin h names s items)
+        (new : DictionaryValue) (pairs : List (Word × Word)) (index : List Word)
+        (count : d.count ≡ length new.pairs) (capacity : d.capacity ≡ new.capacity)
+        (access : d.access ≡ access_number new.access)
+        (are : new.pairs ≡ map (pair_of (birth_at h) names) pairs)
+        (holds : d.body_fields ≡ words_of_pairs pairs
+        ++ (replicate (2 * (d.capacity - d.count)) zero_word ++ index)) where
       shows-now : ShowsDictionary now names (birth_at h a) (splice (fields_at h a) place items) new
       shows-now = record {
         shape = shape-now;
@@ -145,8 +177,10 @@ module _ (h : Heap) (a : ℕ) (known : StandsAs h DictionaryKind a 4) (sound : I
         access = access;
         pairs = pairs;
         index = index;
-        holds = holds ∙ ap (λ n. words_of_pairs pairs ++ (replicate (2 * n) zero_word ++ index)) left;
-        are = are ∙ ap (λ births. map (pair_of births names) pairs) (sym (birth_at-stored h a place items));
+        holds = holds ∙ ap (λ n. words_of_pairs pairs ++ (replicate (2 * n) zero_word ++ index))
+            left;
+        are = are ∙ ap (λ births. map (pair_of births names) pairs)
+            (sym (birth_at-stored h a place items));
       }
         where
           left : d.capacity - d.count ≡ new.capacity - length new.pairs
@@ -155,95 +189,12 @@ module _ (h : Heap) (a : ℕ) (known : StandsAs h DictionaryKind a 4) (sound : I
       pub fields-shows : Shows now names (with_dictionary s (birth_at h a) new)
       fields-shows =
           subst (λ n. Shows now names (with_dictionary s n new)) (sym (birth-dictionary h a known))
-          (Shows-stored_dictionary h a place items known.object known.at inside sound names s shows known.kind_is (dictionary_at s (birth_at h a)) new
-          (ap (slice_get s) (sym (birth-dictionary h a known)) ∙ there h a known sound names s shows)
-          (subst (λ n. ShowsDictionary now names n (splice known.object.fields place items) new) (birth-dictionary h a known)
-          (subst (λ ws. ShowsDictionary now names (birth_at h a) ws new) (sym new_fields) shows-now))
+          (Shows-stored_dictionary h a place items known.object known.at inside sound names s shows
+          known.kind_is (dictionary_at s (birth_at h a)) new
+          (ap (slice_get s) (sym (birth-dictionary h a known))
+          ∙ there h a known sound names s shows)
+          (subst (λ n. ShowsDictionary now names n (splice known.object.fields place items) new)
+          (birth-dictionary h a known)
+          (subst (λ ws. ShowsDictionary now names (birth_at h a) ws new) (sym new_fields)
+          shows-now))
           items_known items_within)
-
-  -- ---- into the body
-
-  module _ (place : ℕ) (items : List Word) (fits : place + length items ≤ length (fields_at h (body_at h a))) (values : AreValues h items) where
-    abbrev then : Heap
-    then = stored h (body_at h a) place items
-
-    abbrev the_body : Standing
-    the_body = record { kind = BodyKind; birth = birth_at h a; fields = fields_at h (body_at h a) }
-
-    pub body-keeps : Keeps h then
-    body-keeps = Keeps-stored h (body_at h a) place items the_body (body-stands h a known sound) fits
-
-    pub body-sound : IsSound then
-    body-sound = IsSound-stored_body h (body_at h a) place items the_body (body-stands h a known sound) fits sound refl values
-
-    other : body_at h a ≢ a
-    other same = apart-body (sym same)
-
-    pub body-fields : fields_at then a ≡ fields_at h a
-    body-fields = fields-stored_other h (body_at h a) place items a other
-
-    pub body-body : body_at then a ≡ body_at h a
-    body-body = ap (λ ws. body_in ws 3) body-fields
-
-    pub body-words : fields_at then (body_at then a) ≡ splice (fields_at h (body_at h a)) place items
-    body-words = ap (fields_at then) body-body ∙ fields-stored_same h (body_at h a) place items the_body (body-stands h a known sound)
-
-    module _ (pairs : List (Word × Word)) (rest : List Word) (count : length pairs ≡ count_at h a) (holds : splice (fields_at h (body_at h a)) place items ≡ words_of_pairs pairs ++ rest) where
-      pub body-pairs : pairs_at then a ≡ pairs
-      unfolding pairs_at
-      body-pairs =
-          ap (λ ws. take (natural_in ws 0) (pairs_of_words (fields_at then (body_at then a)))) body-fields
-          ∙ (ap (λ ws. take (count_at h a) (pairs_of_words ws)) (body-words ∙ holds)
-          ∙ (ap (take (count_at h a)) (pairs-of_words_of_pairs pairs rest)
-          ∙ (ap (λ n. take n (pairs ++ pairs_of_words rest)) (sym count) ∙ take-front_all pairs (pairs_of_words rest))))
-
-    module _ (names : List (List ℕ)) (s : Store) (shows : Shows h names s) (items_within : AreWithin h names s items) (pairs : List (Word × Word)) (index : List Word) (count : length pairs ≡ count_at h a)
-        (holds : splice (fields_at h (body_at h a)) place items ≡ words_of_pairs pairs ++ (replicate (2 * (capacity_at h a - count_at h a)) zero_word ++ index)) where
-      old : DictionaryValue
-      old = dictionary_at s (birth_at h a)
-
-      abbrev new_pairs : List (Value × Value)
-      new_pairs = map (pair_of (birth_at h) names) pairs
-
-      shows-then : ShowsDictionary then names (birth_at h a) (fields_at h a) (record (dictionary_at s (birth_at h a)) { pairs = new_pairs })
-      shows-then =
-          let d = shape h a known sound in
-          let where_body : d.body ≡ body_at h a = sym (body-is h a known sound) in
-          record {
-            shape = record {
-              count_word = d.count_word;
-              capacity_word = d.capacity_word;
-              access_word = d.access_word;
-              body_word = d.body_word;
-              are = d.are;
-              count = d.count;
-              capacity = d.capacity;
-              access = d.access;
-              body = d.body;
-              body_fields = splice (fields_at h (body_at h a)) place items;
-              count_is = d.count_is;
-              capacity_is = d.capacity_is;
-              access_is = d.access_is;
-              body_is = d.body_is;
-              stands = ap (object_at then) where_body ∙ object_at-stored_same h (body_at h a) place items the_body (body-stands h a known sound);
-              within = d.within;
-              room = length-splice (fields_at h (body_at h a)) place items fits ∙ (body-room h a known sound ∙ ap (λ n. 3 * n) (capacity-is h a known sound));
-            };
-            count = sym (count-is h a known sound) ∙ (sym count ∙ sym (length-map pairs (pair_of (birth_at h) names)));
-            capacity = sym (capacity-is h a known sound) ∙ capacity-shown h a known sound names s shows;
-            access = sym (access-is h a known sound) ∙ access-shown h a known sound names s shows;
-            pairs = pairs;
-            index = index;
-            holds = holds ∙ ap (λ n. words_of_pairs pairs ++ (replicate (2 * n) zero_word ++ index)) left;
-            are = ap (λ births. map (pair_of births names) pairs) (sym (birth_at-stored h (body_at h a) place items));
-          }
-        where
-          left : capacity_at h a - count_at h a ≡ (dictionary_at s (birth_at h a)).capacity - length new_pairs
-          left = let k = capacity-shown h a known sound names s shows in let n = length-map pairs (pair_of (birth_at h) names) in omega (arith, k, n, count)
-
-      pub body-shows : Shows then names (with_dictionary s (birth_at h a) (record (dictionary_at s (birth_at h a)) { pairs = new_pairs }))
-      body-shows =
-          Shows-stored_body h (body_at h a) place items the_body (body-stands h a known sound) fits sound names s shows refl a known.object known.at known.kind_is (sym (birth-dictionary h a known))
-          (dictionary_at s (birth_at h a)) (record (dictionary_at s (birth_at h a)) { pairs = new_pairs }) (there h a known sound names s shows)
-          (subst (λ ws. ShowsDictionary then names (birth_at h a) ws (record (dictionary_at s (birth_at h a)) { pairs = new_pairs })) (fields-dictionary h a known) shows-then)
-          (known_values h items values) items_within

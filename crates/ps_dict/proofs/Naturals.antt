@@ -19,20 +19,25 @@ use Rattle.ps_dict.proofs.Shapes.{shape, count-is, capacity-is, access-is, body-
 use Rattle.ps_dict.proofs.Changing.{fields-sound, fields-keeps, fields-count, fields-capacity, fields-body, fields-body_words, fields-shows}
 
 natural_plain : (w : Word) (n : ℕ) → IsNatural w n → IsPlain (content_in w.0)
-natural_plain w n is = subst IsPlain (sym (ap (λ (v : WordValue). v.content) is)) (plain_integer (pos n))
+natural_plain w n is = subst IsPlain (sym (ap (λ (v : WordValue). v.content) is))
+    (plain_integer (pos n))
 
 pub natural-value : (w : Word) (n : ℕ) → IsNatural w n → IsWord w.0 → (h : Heap) → IsValue h w
 natural-value w n is word h = IsValue-plain w (natural_plain w n is) h word
 
-pub natural-within : (w : Word) (n : ℕ) → IsNatural w n → (births : ℕ → ℕ) (names : List (List ℕ)) (s : Store) → IsWithin births names s w
+pub natural-within : (w : Word) (n : ℕ) → IsNatural w n
+    → (births : ℕ → ℕ) (names : List (List ℕ)) (s : Store) → IsWithin births names s w
 natural-within w n is births names s = IsWithin-plain w (natural_plain w n is) births names s
 
-module _ (h : Heap) (a : ℕ) (known : StandsAs h DictionaryKind a 4) (sound : IsSound h) (w : Word) (n : ℕ) (is : IsNatural w n) where
-  pub access_fields : splice (fields_at h a) 2 (w ∷ []) ≡ (shape h a known sound).count_word ∷ (shape h a known sound).capacity_word ∷ w ∷ (shape h a known sound).body_word ∷ []
+module _ (h : Heap) (a : ℕ) (known : StandsAs h DictionaryKind a 4) (sound : IsSound h) (w : Word)
+    (n : ℕ) (is : IsNatural w n) where
+  pub access_fields : splice (fields_at h a) 2 (w ∷ []) ≡ (shape h a known sound).count_word
+      ∷ (shape h a known sound).capacity_word ∷ w ∷ (shape h a known sound).body_word ∷ []
   unfolding splice
   access_fields = ap (λ ws. splice ws 2 (w ∷ [])) (shape h a known sound).are
 
-  pub count_fields : splice (fields_at h a) 0 (w ∷ []) ≡ w ∷ (shape h a known sound).capacity_word ∷ (shape h a known sound).access_word ∷ (shape h a known sound).body_word ∷ []
+  pub count_fields : splice (fields_at h a) 0 (w ∷ []) ≡ w ∷ (shape h a known sound).capacity_word
+      ∷ (shape h a known sound).access_word ∷ (shape h a known sound).body_word ∷ []
   unfolding splice
   count_fields = ap (λ ws. splice ws 0 (w ∷ [])) (shape h a known sound).are
 
@@ -56,85 +61,40 @@ module _ (h : Heap) (a : ℕ) (known : StandsAs h DictionaryKind a 4) (sound : I
     stands = (shape h a known sound).stands;
     within = (shape h a known sound).within;
     room = (shape h a known sound).room;
+    few = (shape h a known sound).few;
+    indexed = (shape h a known sound).indexed;
   }
-
-  -- another number of pairs
-  module _ (fits : n ≤ capacity_at h a) where
-    abbrev pub count-shape : DictionaryFields h (birth_at h a) (splice (fields_at h a) 0 (w ∷ []))
-    count-shape = record {
-      count_word = w;
-      capacity_word = (shape h a known sound).capacity_word;
-      access_word = (shape h a known sound).access_word;
-      body_word = (shape h a known sound).body_word;
-      are = count_fields;
-      count = n;
-      capacity = (shape h a known sound).capacity;
-      access = (shape h a known sound).access;
-      body = (shape h a known sound).body;
-      body_fields = (shape h a known sound).body_fields;
-      count_is = is;
-      capacity_is = (shape h a known sound).capacity_is;
-      access_is = (shape h a known sound).access_is;
-      body_is = (shape h a known sound).body_is;
-      stands = (shape h a known sound).stands;
-      within = (let k = capacity-is h a known sound in omega (arith, fits, k));
-      room = (shape h a known sound).room;
-    }
 
 -- ---- another access
 
-module _ (h : Heap) (a : ℕ) (known : StandsAs h DictionaryKind a 4) (sound : IsSound h) (w : Word) (access : Access) (is : IsNatural w (access_number access)) (held : IsValue h w) where
+module _ (h : Heap) (a : ℕ) (known : StandsAs h DictionaryKind a 4) (sound : IsSound h) (w : Word)
+    (access : Access) (is : IsNatural w (access_number access)) (held : IsValue h w) where
   pub access-stored_sound : IsSound (stored h a 2 (w ∷ []))
-  access-stored_sound = fields-sound h a known sound 2 (w ∷ []) (omega arith) (access-shape h a known sound w (access_number access) is)
+  access-stored_sound = fields-sound h a known sound 2 (w ∷ []) (omega arith)
+      (access-shape h a known sound w (access_number access) is)
 
   pub access-stored_keeps : Keeps h (stored h a 2 (w ∷ []))
-  access-stored_keeps = fields-keeps h a known sound 2 (w ∷ []) (omega arith) (access-shape h a known sound w (access_number access) is)
+  access-stored_keeps = fields-keeps h a known sound 2 (w ∷ []) (omega arith)
+      (access-shape h a known sound w (access_number access) is)
 
-  pub access-stored_shows : (names : List (List ℕ)) (s : Store) → Shows h names s → Shows (stored h a 2 (w ∷ [])) names (with_dictionary s (birth_at h a) (record (dictionary_at s (birth_at h a)) { access = access }))
+  pub access-stored_shows : (names : List (List ℕ)) (s : Store) → Shows h names s
+      → Shows (stored h a 2 (w ∷ [])) names
+      (with_dictionary s (birth_at h a)
+      (record (dictionary_at s (birth_at h a)) { access = access }))
   access-stored_shows names s shows =
-      fields-shows h a known sound 2 (w ∷ []) (omega arith) (access-shape h a known sound w (access_number access) is) names s shows (held.known, tt) (natural-within w (access_number access) is (birth_at h) names s, tt)
-      (record (dictionary_at s (birth_at h a)) { access = access }) (pairs_at h a) (shown h a known sound names s shows).index
+      fields-shows h a known sound 2 (w ∷ []) (omega arith)
+      (access-shape h a known sound w (access_number access) is) names s shows (held.known, tt)
+      (natural-within w (access_number access) is (birth_at h) names s, tt)
+      (record (dictionary_at s (birth_at h a)) { access = access }) (pairs_at h a)
+      (shown h a known sound names s shows).index
       (sym (count-is h a known sound) ∙ count-shown h a known sound names s shows)
       (sym (capacity-is h a known sound) ∙ capacity-shown h a known sound names s shows)
       refl (pairs-shown h a known sound names s shows)
       (sym (body_fields-is h a known sound) ∙ (holds-shown h a known sound names s shows
-      ∙ ap (λ n. words_of_pairs (pairs_at h a) ++ (replicate (2 * n) zero_word ++ (shown h a known sound names s shows).index)) left))
+      ∙ ap (λ n. words_of_pairs (pairs_at h a)
+      ++ (replicate (2 * n) zero_word ++ (shown h a known sound names s shows).index)) left))
     where
-      left : capacity_at h a - count_at h a ≡ (shape h a known sound).capacity - (shape h a known sound).count
-      left = let k = capacity-is h a known sound in let n = count-is h a known sound in omega (arith, k, n)
-
--- ---- another number of pairs
-
-module _ (h : Heap) (a : ℕ) (known : StandsAs h DictionaryKind a 4) (sound : IsSound h) (w : Word) (n : ℕ) (is : IsNatural w n) (held : IsValue h w) (fits : n ≤ capacity_at h a) where
-  abbrev counted : Heap
-  counted = stored h a 0 (w ∷ [])
-
-  pub counted-sound : IsSound counted
-  counted-sound = fields-sound h a known sound 0 (w ∷ []) (omega arith) (count-shape h a known sound w n is fits)
-
-  pub counted-keeps : Keeps h counted
-  counted-keeps = fields-keeps h a known sound 0 (w ∷ []) (omega arith) (count-shape h a known sound w n is fits)
-
-  pub counted-count : count_at counted a ≡ n
-  counted-count = fields-count h a known sound 0 (w ∷ []) (omega arith) (count-shape h a known sound w n is fits)
-
-  pub counted-capacity : capacity_at counted a ≡ capacity_at h a
-  counted-capacity = fields-capacity h a known sound 0 (w ∷ []) (omega arith) (count-shape h a known sound w n is fits) ∙ sym (capacity-is h a known sound)
-
-  pub counted-body : body_at counted a ≡ body_at h a
-  counted-body = fields-body h a known sound 0 (w ∷ []) (omega arith) (count-shape h a known sound w n is fits) ∙ sym (body-is h a known sound)
-
-  pub counted-words : fields_at counted (body_at counted a) ≡ fields_at h (body_at h a)
-  counted-words = fields-body_words h a known sound 0 (w ∷ []) (omega arith) (count-shape h a known sound w n is fits) ∙ sym (body_fields-is h a known sound)
-
-  pub counted-shows : (names : List (List ℕ)) (s : Store) → Shows h names s → (pairs : List (Word × Word)) (index : List Word) → length pairs ≡ n
-      → fields_at h (body_at h a) ≡ words_of_pairs pairs ++ (replicate (2 * (capacity_at h a - n)) zero_word ++ index)
-      → Shows counted names (with_dictionary s (birth_at h a) (record (dictionary_at s (birth_at h a)) { pairs = map (pair_of (birth_at h) names) pairs }))
-  counted-shows names s shows pairs index count holds =
-      fields-shows h a known sound 0 (w ∷ []) (omega arith) (count-shape h a known sound w n is fits) names s shows (held.known, tt) (natural-within w n is (birth_at h) names s, tt)
-      (record (dictionary_at s (birth_at h a)) { pairs = map (pair_of (birth_at h) names) pairs }) pairs index
-      (sym count ∙ sym (length-map pairs (pair_of (birth_at h) names)))
-      (sym (capacity-is h a known sound) ∙ capacity-shown h a known sound names s shows)
-      (sym (access-is h a known sound) ∙ access-shown h a known sound names s shows) refl
-      (sym (body_fields-is h a known sound) ∙ (holds
-      ∙ ap (λ k. words_of_pairs pairs ++ (replicate (2 * (k - n)) zero_word ++ index)) (capacity-is h a known sound)))
+      left : capacity_at h a - count_at h a ≡ (shape h a known sound).capacity -
+          (shape h a known sound).count
+      left = let k = capacity-is h a known sound in let n = count-is h a known sound in
+          omega (arith, k, n)

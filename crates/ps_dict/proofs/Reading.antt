@@ -16,94 +16,146 @@ use Rattle.ps_mem.specs.Meaning.{value_of}
 use Rattle.ps_mem.specs.Shows.{IsValue, IsSound, IsWithin, Shows, pair_of}
 use Rattle.ps_mem.proofs.Lists.{all_at, slice_get-map}
 use Rattle.ps_dict.specs.Keys.{same_words}
-use Rattle.ps_dict.specs.Places.{natural_of, natural_in, body_in, count_at, body_at, pairs_of_words, pairs_at, place_of, first_place}
+use Rattle.ps_dict.specs.Places.{natural_of, natural_in, body_in, count_at, body_at, pairs_at, place_of, first_place}
+use Rattle.ps_mem.specs.Index.{pairs_of_words}
 use Rattle.ps_dict.proofs.KeyLemmas.{same_keys}
 use Rattle.ps_dict.proofs.Pairs.{slice_get_there, slice_get-take, slice_get-past, pair_here, place_found, place_not_yet, place_below, find_at, find_none, place-first, all_with}
 use Rattle.ps_dict.proofs.Shapes.{body-room, count-fits, body-values, length-pairs, pairs-values, pairs-within, pairs-shown}
 
-index-get : {A : Type 0} (xs : List A) (i : ℕ) (x d : A) → slice_get xs i ≡ Some x → slice_index_or xs i d ≡ x
+index-get : {A : Type 0} (xs : List A) (i : ℕ) (x d : A) → slice_get xs i ≡ Some x
+    → slice_index_or xs i d ≡ x
 index-get [] i x d e = cc
 index-get (y ∷ xs) zero x d e = cc
 index-get (y ∷ xs) (suc i) x d e = index-get xs i x d e
 
-pub natural-loaded : (fields : List Word) (place : ℕ) (w : Word) (o : Option ℤ) → slice_get fields place ≡ Some w → o ≡ as_integer (content_in w.0) → natural_of o ≡ natural_in fields place
+pub natural-loaded : (fields : List Word) (place : ℕ) (w : Word) (o : Option ℤ)
+    → slice_get fields place ≡ Some w → o ≡ as_integer (content_in w.0)
+    → natural_of o ≡ natural_in fields place
 unfolding natural_in
-natural-loaded fields place w o read is = ap natural_of is ∙ sym (ap (λ (x : Word). natural_of (as_integer (content_in x.0))) (index-get fields place w zero_word read))
+natural-loaded fields place w o read is = ap natural_of is
+    ∙ sym (ap (λ (x : Word). natural_of (as_integer (content_in x.0)))
+    (index-get fields place w zero_word read))
 
-pub body-loaded : (fields : List Word) (place : ℕ) (w : Word) (o : Option ℕ) → slice_get fields place ≡ Some w → o ≡ as_body (content_in w.0) → unwrap_or o 0 ≡ body_in fields place
+pub body-loaded : (fields : List Word) (place : ℕ) (w : Word) (o : Option ℕ)
+    → slice_get fields place ≡ Some w → o ≡ as_body (content_in w.0)
+    → unwrap_or o 0 ≡ body_in fields place
 unfolding body_in
-body-loaded fields place w o read is = ap (λ x. unwrap_or x 0) is ∙ sym (ap (λ (x : Word). unwrap_or (as_body (content_in x.0)) 0) (index-get fields place w zero_word read))
+body-loaded fields place w o read is = ap (λ x. unwrap_or x 0) is
+    ∙ sym (ap (λ (x : Word). unwrap_or (as_body (content_in x.0)) 0)
+    (index-get fields place w zero_word read))
 
 -- of the body of a heap that is the same
-pub loaded : (g h : Heap) (a b i : ℕ) (w : Word) → g ≡ h → b ≡ body_at h a → slice_get (fields_at g b) i ≡ Some w → slice_get (fields_at h (body_at h a)) i ≡ Some w
-loaded g h a b i w same is read = ap (λ c. slice_get (fields_at h c) i) (sym is) ∙ (ap (λ (k : Heap). slice_get (fields_at k b) i) (sym same) ∙ read)
+pub loaded : (g h : Heap) (a b i : ℕ) (w : Word) → g ≡ h → b ≡ body_at h a
+    → slice_get (fields_at g b) i ≡ Some w → slice_get (fields_at h (body_at h a)) i ≡ Some w
+loaded g h a b i w same is read = ap (λ c. slice_get (fields_at h c) i) (sym is)
+    ∙ (ap (λ (k : Heap). slice_get (fields_at k b) i) (sym same) ∙ read)
 
-module _ (h : Heap) (a : ℕ) (known : StandsAs h DictionaryKind a 4) (sound : IsSound h) (place : ℕ) (below : place < count_at h a) where
+module _ (h : Heap) (a : ℕ) (known : StandsAs h DictionaryKind a 4) (sound : IsSound h) (place : ℕ)
+    (below : place < count_at h a) where
   pub key-place : 2 * place < length (fields_at h (body_at h a))
-  key-place = let room = body-room h a known sound in let fits = count-fits h a known sound in omega (arith, room, fits, below)
+  key-place = let room = body-room h a known sound in let fits = count-fits h a known sound in
+      omega (arith, room, fits, below)
 
   pub value-place : 2 * place + 1 < length (fields_at h (body_at h a))
-  value-place = let room = body-room h a known sound in let fits = count-fits h a known sound in omega (arith, room, fits, below)
+  value-place = let room = body-room h a known sound in let fits = count-fits h a known sound in
+      omega (arith, room, fits, below)
 
-  pub pair-read : (k v : Word) → slice_get (fields_at h (body_at h a)) (2 * place) ≡ Some k → slice_get (fields_at h (body_at h a)) (2 * place + 1) ≡ Some v → slice_get (pairs_at h a) place ≡ Some (k, v)
+  pub pair-read : (k v : Word) → slice_get (fields_at h (body_at h a)) (2 * place) ≡ Some k
+      → slice_get (fields_at h (body_at h a)) (2 * place + 1) ≡ Some v
+      → slice_get (pairs_at h a) place ≡ Some (k, v)
   unfolding pairs_at
-  pair-read k v first second = slice_get-take (count_at h a) (pairs_of_words (fields_at h (body_at h a))) place below ∙ pair_here (fields_at h (body_at h a)) place k v first second
+  pair-read k v first second =
+      slice_get-take (count_at h a) (pairs_of_words (fields_at h (body_at h a))) place below
+      ∙ pair_here (fields_at h (body_at h a)) place k v first second
 
   module _ (k : Word) (first : slice_get (fields_at h (body_at h a)) (2 * place) ≡ Some k) where
     pub key-value : IsValue h k
-    key-value = all_at (IsValue h) (fields_at h (body_at h a)) (2 * place) k (body-values h a known sound) first
+    key-value = all_at (IsValue h) (fields_at h (body_at h a)) (2 * place) k
+        (body-values h a known sound) first
 
-    key-pair : (v : Word) × (slice_get (pairs_at h a) place ≡ Some (k, v))
-    key-pair = let (v, second) = slice_get_there (fields_at h (body_at h a)) (2 * place + 1) value-place in (v, pair-read k v first second)
+    pub key-pair : (v : Word) × (slice_get (pairs_at h a) place ≡ Some (k, v))
+    key-pair = let (v, second) =
+        slice_get_there (fields_at h (body_at h a)) (2 * place + 1) value-place in
+        (v, pair-read k v first second)
 
-    pub position-found : (key : Word) → place_of (take place (pairs_at h a)) key ≡ None → same_words k key ≡ true → place_of (pairs_at h a) key ≡ Some place
-    position-found key before same = place_found key (pairs_at h a) place k key-pair.0 before key-pair.1 same
+    pub position-found : (key : Word) → place_of (take place (pairs_at h a)) key ≡ None
+        → same_words k key ≡ true → place_of (pairs_at h a) key ≡ Some place
+    position-found key before same =
+        place_found key (pairs_at h a) place k key-pair.0 before key-pair.1 same
 
-    pub position-next : (key : Word) → place_of (take place (pairs_at h a)) key ≡ None → same_words k key ≡ false → place_of (take (place + 1) (pairs_at h a)) key ≡ None
+    pub position-next : (key : Word) → place_of (take place (pairs_at h a)) key ≡ None
+        → same_words k key ≡ false → place_of (take (place + 1) (pairs_at h a)) key ≡ None
     position-next key before other =
         let next : place + 1 ≡ suc place = omega arith in
-        ap (λ n. place_of (take n (pairs_at h a)) key) next ∙ place_not_yet key (pairs_at h a) place k key-pair.0 before key-pair.1 other
+        ap (λ n. place_of (take n (pairs_at h a)) key) next
+        ∙ place_not_yet key (pairs_at h a) place k key-pair.0 before key-pair.1 other
 
   -- by its value alone
-  pub value-pair : (v : Word) → slice_get (fields_at h (body_at h a)) (2 * place + 1) ≡ Some v → (k : Word) × (slice_get (pairs_at h a) place ≡ Some (k, v))
-  value-pair v second = let (k, first) = slice_get_there (fields_at h (body_at h a)) (2 * place) key-place in (k, pair-read k v first second)
+  pub value-pair : (v : Word) → slice_get (fields_at h (body_at h a)) (2 * place + 1) ≡ Some v
+      → (k : Word) × (slice_get (pairs_at h a) place ≡ Some (k, v))
+  value-pair v second = let (k, first) =
+      slice_get_there (fields_at h (body_at h a)) (2 * place) key-place in
+      (k, pair-read k v first second)
 
 module _ (h : Heap) (a : ℕ) (known : StandsAs h DictionaryKind a 4) (sound : IsSound h) where
-  pub position-none : (key : Word) (n : ℕ) → count_at h a ≤ n → place_of (take n (pairs_at h a)) key ≡ None → place_of (pairs_at h a) key ≡ None
+  pub position-none : (key : Word) (n : ℕ) → count_at h a ≤ n
+      → place_of (take n (pairs_at h a)) key ≡ None → place_of (pairs_at h a) key ≡ None
   position-none key n all none =
       let count = length-pairs h a known sound in
-      sym (ap (λ ps. place_of ps key) (take_all n (pairs_at h a) (omega (arith, all, count)))) ∙ none
+      sym (ap (λ ps. place_of ps key) (take_all n (pairs_at h a) (omega (arith, all, count))))
+      ∙ none
 
-  pub position-below : (key : Word) (i : ℕ) → place_of (pairs_at h a) key ≡ Some i → i < count_at h a
-  position-below key i at = let below = place_below key (pairs_at h a) i at in let count = length-pairs h a known sound in omega (arith, below, count)
+  pub position-below : (key : Word) (i : ℕ) → place_of (pairs_at h a) key ≡ Some i
+      → i < count_at h a
+  position-below key i at = let below = place_below key (pairs_at h a) i at in let count =
+      length-pairs h a known sound in omega (arith, below, count)
 
   pub past-pairs : (i : ℕ) → count_at h a ≤ i → slice_get (pairs_at h a) i ≡ None
-  past-pairs i past = let count = length-pairs h a known sound in slice_get-past (pairs_at h a) i (omega (arith, past, count))
+  past-pairs i past = let count = length-pairs h a known sound in
+      slice_get-past (pairs_at h a) i (omega (arith, past, count))
 
   module _ (names : List (List ℕ)) (s : Store) (shows : Shows h names s) where
-    pub pair-shown : (i : ℕ) (pair : Word × Word) → slice_get (pairs_at h a) i ≡ Some pair → slice_get (dictionary_at s (birth_at h a)).pairs i ≡ Some (pair_of (birth_at h) names pair)
+    pub pair-shown : (i : ℕ) (pair : Word × Word) → slice_get (pairs_at h a) i ≡ Some pair
+        → slice_get (dictionary_at s (birth_at h a)).pairs i ≡ Some
+        (pair_of (birth_at h) names pair)
     pair-shown i pair at =
-        ap (λ ps. slice_get ps i) (pairs-shown h a known sound names s shows) ∙ slice_get-map (pair_of (birth_at h) names) (pairs_at h a) i pair at
+        ap (λ ps. slice_get ps i) (pairs-shown h a known sound names s shows)
+        ∙ slice_get-map (pair_of (birth_at h) names) (pairs_at h a) i pair at
 
-    pub past-shown : (i : ℕ) → slice_get (pairs_at h a) i ≡ None → slice_get (dictionary_at s (birth_at h a)).pairs i ≡ None
-    past-shown i none = ap (λ ps. slice_get ps i) (pairs-shown h a known sound names s shows) ∙ none_map (pairs_at h a) i none
+    pub past-shown : (i : ℕ) → slice_get (pairs_at h a) i ≡ None
+        → slice_get (dictionary_at s (birth_at h a)).pairs i ≡ None
+    past-shown i none = ap (λ ps. slice_get ps i) (pairs-shown h a known sound names s shows)
+        ∙ none_map (pairs_at h a) i none
       where
-        none_map : (ps : List (Word × Word)) (i : ℕ) → slice_get ps i ≡ None → slice_get (map (pair_of (birth_at h) names) ps) i ≡ None
+        none_map : (ps : List (Word × Word)) (i : ℕ) → slice_get ps i ≡ None
+            → slice_get (map (pair_of (birth_at h) names) ps) i ≡ None
         none_map [] i e = refl
         none_map (p ∷ ps) zero e = cc
         none_map (p ∷ ps) (suc i) e = none_map ps i e
 
-    module _ (key : Word) (held : IsValue h key) (distinct : AllPairs (λ first later. first ≢ later) names) (within : IsWithin (birth_at h) names s key) where
-      pub position-shown : first_place (dictionary_at s (birth_at h a)).pairs (value_of (birth_at h) names key) ≡ place_of (pairs_at h a) key
+    module _ (key : Word) (held : IsValue h key)
+        (distinct : AllPairs (λ first later. first ≢ later) names)
+        (within : IsWithin (birth_at h) names s key) where
+      pub position-shown : first_place (dictionary_at s (birth_at h a)).pairs
+          (value_of (birth_at h) names key) ≡ place_of (pairs_at h a) key
       position-shown =
-          ap (λ ps. first_place ps (value_of (birth_at h) names key)) (pairs-shown h a known sound names s shows)
-          ∙ place-first (pair_of (birth_at h) names) key (value_of (birth_at h) names key) (pairs_at h a)
-          (all_with _ _ _ (λ (pair : Word × Word) values inside. same_keys names distinct h sound s pair.0 key values.0 held inside.0 within) (pairs_at h a)
+          ap (λ ps. first_place ps (value_of (birth_at h) names key))
+          (pairs-shown h a known sound names s shows)
+          ∙ place-first (pair_of (birth_at h) names) key (value_of (birth_at h) names key)
+          (pairs_at h a)
+          (all_with _ _ _ (λ (pair : Word × Word) values inside. same_keys names distinct h sound s
+          pair.0 key values.0 held inside.0 within) (pairs_at h a)
           (pairs-values h a known sound) (pairs-within h a known sound names s shows))
 
-      pub found-shown : (i : ℕ) (pair : Word × Word) → place_of (pairs_at h a) key ≡ Some i → slice_get (pairs_at h a) i ≡ Some pair → find (dictionary_at s (birth_at h a)).pairs (value_of (birth_at h) names key) ≡ Some (value_of (birth_at h) names pair.1)
+      pub found-shown : (i : ℕ) (pair : Word × Word) → place_of (pairs_at h a) key ≡ Some i
+          → slice_get (pairs_at h a) i ≡ Some pair
+          → find (dictionary_at s (birth_at h a)).pairs (value_of (birth_at h) names key) ≡ Some
+          (value_of (birth_at h) names pair.1)
       found-shown i pair at there =
-          find_at (dictionary_at s (birth_at h a)).pairs (value_of (birth_at h) names key) i (pair_of (birth_at h) names pair) (position-shown ∙ at) (pair-shown i pair there)
+          find_at (dictionary_at s (birth_at h a)).pairs (value_of (birth_at h) names key) i
+          (pair_of (birth_at h) names pair) (position-shown ∙ at) (pair-shown i pair there)
 
-      pub missing-shown : place_of (pairs_at h a) key ≡ None → find (dictionary_at s (birth_at h a)).pairs (value_of (birth_at h) names key) ≡ None
-      missing-shown none = find_none (dictionary_at s (birth_at h a)).pairs (value_of (birth_at h) names key) (position-shown ∙ none)
+      pub missing-shown : place_of (pairs_at h a) key ≡ None
+          → find (dictionary_at s (birth_at h a)).pairs (value_of (birth_at h) names key) ≡ None
+      missing-shown none = find_none (dictionary_at s (birth_at h a)).pairs
+          (value_of (birth_at h) names key) (position-shown ∙ none)

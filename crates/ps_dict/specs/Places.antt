@@ -1,11 +1,12 @@
 -- Where the fields of a dictionary say that its pairs are, and the place of a key among them.
-use Rattle.std.specs.Prelude.{ℕ, ℤ, unsigned_abs, suc, List, [], ◌∷◌, Option, Some, None, option_map, unwrap_or, slice_index_or, take, if◌then◌else◌}
+use Rattle.std.specs.Prelude.{ℕ, ℤ, unsigned_abs, suc, List, [], ◌∷◌, Option, Some, None, option_map, unwrap_or, slice_index_or, take, if◌then◌else◌, true, map, length, slice_get, slice_set, ◌≡◌, ◌<◌, ◌^◌}
 use Rattle.ps_language.specs.Value.{Value}
 use Rattle.ps_language.specs.Equality.{same_key}
 use Rattle.ps_word.specs.declared.words.Word.{Word}
 use Rattle.ps_word.specs.Format.{content_in}
 use Rattle.ps_word.specs.Readers.{as_integer, as_body}
 use Rattle.ps_mem.specs.Heap.{Heap, fields_at, zero_word}
+use Rattle.ps_mem.specs.Index.{pairs_of_words, has_free, placed, index_word}
 use Rattle.ps_dict.specs.Keys.{same_words}
 
 -- ---- the fields
@@ -17,7 +18,8 @@ natural_of None = 0
 
 -- the natural number in a field
 unfoldable pub natural_in : List Word → ℕ → ℕ
-natural_in fields place = natural_of (as_integer (content_in (slice_index_or fields place zero_word).0))
+natural_in fields place =
+    natural_of (as_integer (content_in (slice_index_or fields place zero_word).0))
 
 -- the body's address in a field
 unfoldable pub body_in : List Word → ℕ → ℕ
@@ -38,24 +40,27 @@ body_at h address = body_in (fields_at h address) 3
 
 -- ---- the pairs
 
--- words in twos, key before value
-unfoldable pub pairs_of_words : List Word → List (Word × Word)
-pairs_of_words [] = []
-pairs_of_words (key ∷ []) = []
-pairs_of_words (key ∷ value ∷ words) = (key, value) ∷ pairs_of_words words
-
 -- the pairs of the dictionary at an address
 unfoldable pub pairs_at : Heap → ℕ → List (Word × Word)
 pairs_at h address = take (count_at h address) (pairs_of_words (fields_at h (body_at h address)))
 
 -- ---- places
 
+-- the place of an index, given by its words, in which a position goes that is looked for from a start on
+abbrev pub IsPlaceFor : List Word → (capacity start place : ℕ) → Type 0
+IsPlaceFor words capacity start place =
+    (places : List (Option ℕ)) → words ≡ map index_word places → length places ≡ capacity
+    → ((i q : ℕ) → slice_get places i ≡ Some (Some q) → q < 2 ^ 31) → has_free places ≡ true
+    → (position : ℕ) → placed position start places ≡ slice_set places place (Some position)
+
 -- the place of the first pair of words whose key is the same
 unfoldable pub place_of : List (Word × Word) → Word → Option ℕ
 place_of [] key = None
-place_of (pair ∷ pairs) key = if same_words pair.0 key then Some 0 else option_map suc (place_of pairs key)
+place_of (pair ∷ pairs) key =
+    if same_words pair.0 key then Some 0 else option_map suc (place_of pairs key)
 
 -- the place of the first pair whose key is the same
 unfoldable pub first_place : List (Value × Value) → Value → Option ℕ
 first_place [] key = None
-first_place (pair ∷ pairs) key = if same_key pair.0 key then Some 0 else option_map suc (first_place pairs key)
+first_place (pair ∷ pairs) key =
+    if same_key pair.0 key then Some 0 else option_map suc (first_place pairs key)

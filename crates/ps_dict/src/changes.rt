@@ -15,8 +15,9 @@ ghost use Rattle.ps_dict.specs.Places.{count_at, capacity_at};
 ghost use Rattle.ps_dict.specs.Puts as puts;
 ghost use Rattle.ps_dict.specs.Puts.{AfterChange, with_value, plan_at};
 
-use crate::dictionaries::{ACCESS, COUNT, body, length};
+use crate::dictionaries::{ACCESS, COUNT, body, capacity, length};
 use crate::fills::new_body;
+use crate::index::free_place;
 use crate::plans::PutPlan;
 use ps_language::access::Access;
 use ps_language::kinds::Kind;
@@ -30,7 +31,8 @@ pub(crate) fn natural_word(number: u32) -> Word
     requires { number < 2 ^ 31 }
     ensures value { IsNatural result number }
     ensures held { (h : Heap) → IsValue h result }
-    ensures within { (births : ℕ → ℕ) (names : List (List ℕ)) (s : Store) → IsWithin births names s result }
+    ensures within { (births : ℕ → ℕ) (names : List (List ℕ)) (s : Store)
+        → IsWithin births names s result }
 {
     Word::integer(number as i32)
 }
@@ -42,7 +44,8 @@ fn access_number(access: Access) -> u32
     access as u32
 }
 
-/// Gives a dictionary another access, which all references to it share, with one record in a cycle (PLRM2, 3.3.2 and 8: readonly, noaccess).
+/// Gives a dictionary another access, which all references to it share, with one record in a cycle
+/// (PLRM2, 3.3.2 and 8: readonly, noaccess).
 pub fn set_access<M: Memory>(memory: &mut M, slot: u32, address: u32, access: Access)
     requires granted { 1 ≤ (M.grants memory.old).records slot }
     requires sound { IsSound (M.heap memory.old) }
@@ -51,7 +54,10 @@ pub fn set_access<M: Memory>(memory: &mut M, slot: u32, address: u32, access: Ac
     ensures keeps { Keeps (M.heap memory.old) (M.heap memory.new) }
     ensures births { birth_at (M.heap memory.new) ≡ birth_at (M.heap memory.old) }
     ensures grants { AfterStore (M.grants memory.old) (M.grants memory.new) slot }
-    ensures shows { (names : List (List ℕ)) (s : Store) → Shows (M.heap memory.old) names s → Shows (M.heap memory.new) names (with_dictionary s (birth_at (M.heap memory.old) address) (record (dictionary_at s (birth_at (M.heap memory.old) address)) { access = access })) }
+    ensures shows { (names : List (List ℕ)) (s : Store) → Shows (M.heap memory.old) names s
+        → Shows (M.heap memory.new) names
+        (with_dictionary s (birth_at (M.heap memory.old) address)
+        (record (dictionary_at s (birth_at (M.heap memory.old) address)) { access = access })) }
 {
     let number = natural_word(access_number(access));
     memory.store(slot, address, ACCESS, &[number]);
@@ -67,16 +73,24 @@ fn replace_value<M: Memory>(memory: &mut M, slot: u32, address: u32, place: u32,
     ensures sound { IsSound (M.heap memory.new) }
     ensures keeps { Keeps (M.heap memory.old) (M.heap memory.new) }
     ensures grants { AfterChange (M.grants memory.old) (M.grants memory.new) slot 1 0 }
-    ensures shows { (names : List (List ℕ)) (s : Store) → Shows (M.heap memory.old) names s → IsWithin (birth_at (M.heap memory.old)) names s value → let d = dictionary_at s (birth_at (M.heap memory.old) address) in Shows (M.heap memory.new) names (with_dictionary s (birth_at (M.heap memory.old) address) (record d { pairs = with_value d.pairs place (value_of (birth_at (M.heap memory.old)) names value) })) }
+    ensures shows { (names : List (List ℕ)) (s : Store) → Shows (M.heap memory.old) names s
+        → IsWithin (birth_at (M.heap memory.old)) names s value → let d =
+        dictionary_at s (birth_at (M.heap memory.old) address) in
+        Shows (M.heap memory.new) names
+        (with_dictionary s (birth_at (M.heap memory.old) address)
+        (record d {
+          pairs = with_value d.pairs place
+              (value_of (birth_at (M.heap memory.old)) names value);
+        })) }
 {
     let body = body(memory, address);
     memory.store(slot, body, 2 * place + 1, &[value]);
 }
 
-/// A pair more, in the room that there is, with two records in a cycle: the null pair behind the last is counted, and the new one written
-/// over it.
+/// A pair more, in the room that there is, with three records in a cycle: the number of pairs, the
+/// pair, and its position in the index.
 fn append_pair<M: Memory>(memory: &mut M, slot: u32, address: u32, key: Word, value: Word)
-    requires granted { 2 ≤ (M.grants memory.old).records slot }
+    requires granted { 3 ≤ (M.grants memory.old).records slot }
     requires sound { IsSound (M.heap memory.old) }
     requires known { StandsAs (M.heap memory.old) Kind.Dictionary address 4 }
     requires room { count_at (M.heap memory.old) address < capacity_at (M.heap memory.old) address }
@@ -84,17 +98,35 @@ fn append_pair<M: Memory>(memory: &mut M, slot: u32, address: u32, key: Word, va
     requires value { IsValue (M.heap memory.old) value }
     ensures sound { IsSound (M.heap memory.new) }
     ensures keeps { Keeps (M.heap memory.old) (M.heap memory.new) }
-    ensures grants { AfterChange (M.grants memory.old) (M.grants memory.new) slot 2 0 }
-    ensures shows { (names : List (List ℕ)) (s : Store) → Shows (M.heap memory.old) names s → IsWithin (birth_at (M.heap memory.old)) names s key → IsWithin (birth_at (M.heap memory.old)) names s value → let d = dictionary_at s (birth_at (M.heap memory.old) address) in Shows (M.heap memory.new) names (with_dictionary s (birth_at (M.heap memory.old) address) (record d { pairs = d.pairs ++ (value_of (birth_at (M.heap memory.old)) names key, value_of (birth_at (M.heap memory.old)) names value) ∷ [] })) }
+    ensures grants { AfterChange (M.grants memory.old) (M.grants memory.new) slot 3 0 }
+    ensures shows { (names : List (List ℕ)) (s : Store) → Shows (M.heap memory.old) names s
+        → IsWithin (birth_at (M.heap memory.old)) names s key
+        → IsWithin (birth_at (M.heap memory.old)) names s value → let d =
+        dictionary_at s (birth_at (M.heap memory.old) address) in
+        Shows (M.heap memory.new) names
+        (with_dictionary s (birth_at (M.heap memory.old) address)
+        (record d {
+          pairs = d.pairs
+              ++ (
+                value_of (birth_at (M.heap memory.old)) names key,
+                value_of
+                    (birth_at (M.heap memory.old)) names value,
+              ) ∷ [];
+        })) }
 {
     let count = length(memory, address);
     let body = body(memory, address);
+    let capacity = capacity(memory, address);
+    let place = free_place(memory, body, capacity, key);
     let more = natural_word(count + 1);
+    let last = natural_word(count);
     memory.store(slot, address, COUNT, &[more]);
     memory.store(slot, body, 2 * count, &[key, value]);
+    memory.store(slot, body, 2 * capacity + place, &[last]);
 }
 
-/// A pair more in a new body of this capacity, which the dictionary gets by one store of its fields, with one record in a cycle.
+/// A pair more in a new body of this capacity, which the dictionary gets by one store of its
+/// fields, with one record in a cycle.
 fn grow_with<M: Memory>(
     memory: &mut M,
     slot: u32,
@@ -113,8 +145,23 @@ fn grow_with<M: Memory>(
     requires value { IsValue (M.heap memory.old) value }
     ensures sound { IsSound (M.heap memory.new) }
     ensures keeps { Keeps (M.heap memory.old) (M.heap memory.new) }
-    ensures grants { AfterChange (M.grants memory.old) (M.grants memory.new) slot 1 (2 + 3 * capacity) }
-    ensures shows { (names : List (List ℕ)) (s : Store) → Shows (M.heap memory.old) names s → IsWithin (birth_at (M.heap memory.old)) names s key → IsWithin (birth_at (M.heap memory.old)) names s value → let d = dictionary_at s (birth_at (M.heap memory.old) address) in Shows (M.heap memory.new) names (with_dictionary s (birth_at (M.heap memory.old) address) (record d { pairs = d.pairs ++ (value_of (birth_at (M.heap memory.old)) names key, value_of (birth_at (M.heap memory.old)) names value) ∷ []; capacity = capacity })) }
+    ensures grants { AfterChange (M.grants memory.old) (M.grants memory.new) slot 1
+        (2 + 3 * capacity) }
+    ensures shows { (names : List (List ℕ)) (s : Store) → Shows (M.heap memory.old) names s
+        → IsWithin (birth_at (M.heap memory.old)) names s key
+        → IsWithin (birth_at (M.heap memory.old)) names s value → let d =
+        dictionary_at s (birth_at (M.heap memory.old) address) in
+        Shows (M.heap memory.new) names
+        (with_dictionary s (birth_at (M.heap memory.old) address)
+        (record d {
+          pairs = d.pairs
+              ++ (
+                value_of (birth_at (M.heap memory.old)) names key,
+                value_of
+                    (birth_at (M.heap memory.old)) names value,
+              ) ∷ [];
+          capacity = capacity;
+        })) }
 {
     let count = length(memory, address);
     let access = memory.load(address, ACCESS);
@@ -125,8 +172,10 @@ fn grow_with<M: Memory>(
     memory.store(slot, address, COUNT, &[more, room, access, reference]);
 }
 
-/// Puts a key with its value, as `plan_put` planned it in this memory: a present key keeps its place and its object, and a new one goes last
-/// (PLRM2, 3.3.9 and 8: put, def, store). The plan's records are granted in the slot, and its words.
+/// Puts a key with its value, as `plan_put` planned it in this memory: a present key keeps its
+/// place and its object, and a new one goes last
+/// (PLRM2, 3.3.9 and 8: put, def, store). The plan's records are granted in the slot, and its
+/// words.
 pub fn put<M: Memory>(
     memory: &mut M,
     slot: u32,
@@ -145,8 +194,19 @@ pub fn put<M: Memory>(
     requires value { IsValue (M.heap memory.old) value }
     ensures sound { IsSound (M.heap memory.new) }
     ensures keeps { Keeps (M.heap memory.old) (M.heap memory.new) }
-    ensures grants { AfterChange (M.grants memory.old) (M.grants memory.new) slot (puts.records_of plan) (puts.words_of plan) }
-    ensures shows { (names : List (List ℕ)) (s : Store) → Shows (M.heap memory.old) names s → AllPairs (λ first later. first ≢ later) names → IsWithin (birth_at (M.heap memory.old)) names s key → IsWithin (birth_at (M.heap memory.old)) names s value → (d : Dictionary) → holding (dictionary_at s (birth_at (M.heap memory.old) address)) (put_pair (dictionary_at s (birth_at (M.heap memory.old) address)).pairs (value_of (birth_at (M.heap memory.old)) names key, value_of (birth_at (M.heap memory.old)) names value)) ≡ Some d → Shows (M.heap memory.new) names (with_dictionary s (birth_at (M.heap memory.old) address) d) }
+    ensures grants { AfterChange (M.grants memory.old) (M.grants memory.new) slot
+        (puts.records_of plan) (puts.words_of plan) }
+    ensures shows { (names : List (List ℕ)) (s : Store) → Shows (M.heap memory.old) names s
+        → AllPairs (λ first later. first ≢ later) names
+        → IsWithin (birth_at (M.heap memory.old)) names s key
+        → IsWithin (birth_at (M.heap memory.old)) names s value → (d : Dictionary)
+        → holding (dictionary_at s (birth_at (M.heap memory.old) address))
+        (put_pair (dictionary_at s (birth_at (M.heap memory.old) address)).pairs (
+          value_of (birth_at (M.heap memory.old)) names key,
+          value_of (birth_at (M.heap memory.old))
+              names value,
+        )) ≡ Some d → Shows (M.heap memory.new) names
+        (with_dictionary s (birth_at (M.heap memory.old) address) d) }
 {
     match plan {
         PutPlan::Replace(place) => replace_value(memory, slot, address, place, value),

@@ -12,6 +12,7 @@ ghost use Rattle.ps_mem.specs.Meaning.{value_of};
 ghost use Rattle.ps_mem.specs.Shows.{IsValue, IsSound, IsWithin, Shows, pair_of};
 ghost use Rattle.ps_dict.specs.Places.{natural_in, count_at, capacity_at, access_at, body_at, pairs_at, place_of, first_place};
 
+use crate::index::{first_place, place_behind};
 use crate::keys::is_same_key;
 use ps_language::access::Access;
 use ps_language::kinds::Kind;
@@ -49,7 +50,8 @@ pub fn length<M: Memory>(memory: &mut M, address: u32) -> u32
     ensures grants { M.grants memory.new ≡ M.grants memory.old }
     ensures below { result < 2 ^ 31 }
     ensures words { result ≡ count_at (M.heap memory.old) address }
-    ensures value { (names : List (List ℕ)) (s : Store) → Shows (M.heap memory.old) names s → result ≡ length (dictionary_at s (birth_at (M.heap memory.old) address)).pairs }
+    ensures value { (names : List (List ℕ)) (s : Store) → Shows (M.heap memory.old) names s
+        → result ≡ length (dictionary_at s (birth_at (M.heap memory.old) address)).pairs }
 {
     natural(memory, address, COUNT)
 }
@@ -63,7 +65,8 @@ pub fn capacity<M: Memory>(memory: &mut M, address: u32) -> u32
     ensures grants { M.grants memory.new ≡ M.grants memory.old }
     ensures below { result < 2 ^ 31 }
     ensures words { result ≡ capacity_at (M.heap memory.old) address }
-    ensures value { (names : List (List ℕ)) (s : Store) → Shows (M.heap memory.old) names s → result ≡ (dictionary_at s (birth_at (M.heap memory.old) address)).capacity }
+    ensures value { (names : List (List ℕ)) (s : Store) → Shows (M.heap memory.old) names s
+        → result ≡ (dictionary_at s (birth_at (M.heap memory.old) address)).capacity }
 {
     natural(memory, address, CAPACITY)
 }
@@ -88,7 +91,8 @@ pub fn access<M: Memory>(memory: &mut M, address: u32) -> Access
     ensures heap { M.heap memory.new ≡ M.heap memory.old }
     ensures grants { M.grants memory.new ≡ M.grants memory.old }
     ensures words { result ≡ format.access_of (access_at (M.heap memory.old) address) }
-    ensures value { (names : List (List ℕ)) (s : Store) → Shows (M.heap memory.old) names s → result ≡ (dictionary_at s (birth_at (M.heap memory.old) address)).access }
+    ensures value { (names : List (List ℕ)) (s : Store) → Shows (M.heap memory.old) names s
+        → result ≡ (dictionary_at s (birth_at (M.heap memory.old) address)).access }
 {
     access_of(natural(memory, address, ACCESS))
 }
@@ -105,7 +109,9 @@ pub(crate) fn body<M: Memory>(memory: &mut M, address: u32) -> u32
     memory.load(address, BODY).as_body().unwrap_or(0)
 }
 
-/// The place of the first pair whose key is the same, counted from 0 in the order of insertion.
+/// The place of the first pair whose key is the same, counted from 0 in the order of insertion. In
+/// a dictionary that
+/// is full, each pair is looked at in order; else the index is looked through.
 pub fn position<M: Memory>(memory: &mut M, address: u32, key: Word) -> Option<u32>
     requires sound { IsSound (M.heap memory.old) }
     requires known { StandsAs (M.heap memory.old) Kind.Dictionary address 4 }
@@ -114,9 +120,69 @@ pub fn position<M: Memory>(memory: &mut M, address: u32, key: Word) -> Option<u3
     ensures grants { M.grants memory.new ≡ M.grants memory.old }
     ensures within { IfSome result (λ place. place < count_at (M.heap memory.old) address) }
     ensures words { result ≡ place_of (pairs_at (M.heap memory.old) address) key }
-    ensures value { (names : List (List ℕ)) (s : Store) → Shows (M.heap memory.old) names s → AllPairs (λ first later. first ≢ later) names → IsWithin (birth_at (M.heap memory.old)) names s key → result ≡ first_place (dictionary_at s (birth_at (M.heap memory.old) address)).pairs (value_of (birth_at (M.heap memory.old)) names key) }
+    ensures value { (names : List (List ℕ)) (s : Store) → Shows (M.heap memory.old) names s
+        → AllPairs (λ first later. first ≢ later) names
+        → IsWithin (birth_at (M.heap memory.old)) names s key
+        → result ≡ first_place (dictionary_at s (birth_at (M.heap memory.old) address)).pairs
+        (value_of (birth_at (M.heap memory.old)) names key) }
 {
     let count = length(memory, address);
+    let capacity = capacity(memory, address);
+    if count < capacity {
+        indexed_position(memory, address, capacity, key)
+    } else {
+        ordered_position(memory, address, count, key)
+    }
+}
+
+/// The same by the index, from the place of the key's hash number on: where places are free, a few
+/// looks tell that a key is absent.
+fn indexed_position<M: Memory>(
+    memory: &mut M,
+    address: u32,
+    capacity: u32,
+    key: Word,
+) -> Option<u32>
+    requires capacity { capacity ≡ capacity_at (M.heap memory.old) address }
+    requires some { 0 < capacity }
+    requires sound { IsSound (M.heap memory.old) }
+    requires known { StandsAs (M.heap memory.old) Kind.Dictionary address 4 }
+    requires held { IsValue (M.heap memory.old) key }
+    ensures heap { M.heap memory.new ≡ M.heap memory.old }
+    ensures grants { M.grants memory.new ≡ M.grants memory.old }
+    ensures within { IfSome result (λ place. place < count_at (M.heap memory.old) address) }
+    ensures words { result ≡ place_of (pairs_at (M.heap memory.old) address) key }
+{
+    let body = body(memory, address);
+    let start = first_place(memory, key, capacity);
+    for behind in 0..capacity {
+        let place = place_behind(start, behind, capacity);
+        match memory.load(body, 2 * capacity + place).as_integer() {
+            Some(number) => {
+                let position = number.unsigned_abs();
+                let word = memory.load(body, 2 * position);
+                if is_same_key(word, key) {
+                    return Some(position);
+                }
+            }
+            None => return None,
+        }
+    }
+    None
+}
+
+/// The same in the order of insertion: where no place of the index is free, this takes half the
+/// loads.
+fn ordered_position<M: Memory>(memory: &mut M, address: u32, count: u32, key: Word) -> Option<u32>
+    requires count { count ≡ count_at (M.heap memory.old) address }
+    requires sound { IsSound (M.heap memory.old) }
+    requires known { StandsAs (M.heap memory.old) Kind.Dictionary address 4 }
+    requires held { IsValue (M.heap memory.old) key }
+    ensures heap { M.heap memory.new ≡ M.heap memory.old }
+    ensures grants { M.grants memory.new ≡ M.grants memory.old }
+    ensures within { IfSome result (λ place. place < count_at (M.heap memory.old) address) }
+    ensures words { result ≡ place_of (pairs_at (M.heap memory.old) address) key }
+{
     let body = body(memory, address);
     for place in 0..count {
         let word = memory.load(body, 2 * place);
@@ -135,8 +201,14 @@ pub fn value_of_key<M: Memory>(memory: &mut M, address: u32, key: Word) -> Optio
     ensures heap { M.heap memory.new ≡ M.heap memory.old }
     ensures grants { M.grants memory.new ≡ M.grants memory.old }
     ensures held { IfSome result (IsValue (M.heap memory.old)) }
-    ensures within { (names : List (List ℕ)) (s : Store) → Shows (M.heap memory.old) names s → IfSome result (IsWithin (birth_at (M.heap memory.old)) names s) }
-    ensures value { (names : List (List ℕ)) (s : Store) → Shows (M.heap memory.old) names s → AllPairs (λ first later. first ≢ later) names → IsWithin (birth_at (M.heap memory.old)) names s key → option_map (value_of (birth_at (M.heap memory.old)) names) result ≡ find (dictionary_at s (birth_at (M.heap memory.old) address)).pairs (value_of (birth_at (M.heap memory.old)) names key) }
+    ensures within { (names : List (List ℕ)) (s : Store) → Shows (M.heap memory.old) names s
+        → IfSome result (IsWithin (birth_at (M.heap memory.old)) names s) }
+    ensures value { (names : List (List ℕ)) (s : Store) → Shows (M.heap memory.old) names s
+        → AllPairs (λ first later. first ≢ later) names
+        → IsWithin (birth_at (M.heap memory.old)) names s key
+        → option_map (value_of (birth_at (M.heap memory.old)) names) result ≡ find
+        (dictionary_at s (birth_at (M.heap memory.old) address)).pairs
+        (value_of (birth_at (M.heap memory.old)) names key) }
 {
     match position(memory, address, key) {
         Some(place) => {
@@ -153,10 +225,15 @@ pub fn pair<M: Memory>(memory: &mut M, address: u32, place: u32) -> Option<(Word
     requires known { StandsAs (M.heap memory.old) Kind.Dictionary address 4 }
     ensures heap { M.heap memory.new ≡ M.heap memory.old }
     ensures grants { M.grants memory.new ≡ M.grants memory.old }
-    ensures held { IfSome result (λ pair. IsValue (M.heap memory.old) pair.0 × IsValue (M.heap memory.old) pair.1) }
-    ensures within { (names : List (List ℕ)) (s : Store) → Shows (M.heap memory.old) names s → IfSome result (λ pair. IsWithin (birth_at (M.heap memory.old)) names s pair.0 × IsWithin (birth_at (M.heap memory.old)) names s pair.1) }
+    ensures held { IfSome result
+        (λ pair. IsValue (M.heap memory.old) pair.0 × IsValue (M.heap memory.old) pair.1) }
+    ensures within { (names : List (List ℕ)) (s : Store) → Shows (M.heap memory.old) names s
+        → IfSome result (λ pair. IsWithin (birth_at (M.heap memory.old)) names s pair.0
+        × IsWithin (birth_at (M.heap memory.old)) names s pair.1) }
     ensures words { result ≡ slice_get (pairs_at (M.heap memory.old) address) place }
-    ensures value { (names : List (List ℕ)) (s : Store) → Shows (M.heap memory.old) names s → option_map (pair_of (birth_at (M.heap memory.old)) names) result ≡ slice_get (dictionary_at s (birth_at (M.heap memory.old) address)).pairs place }
+    ensures value { (names : List (List ℕ)) (s : Store) → Shows (M.heap memory.old) names s
+        → option_map (pair_of (birth_at (M.heap memory.old)) names) result ≡ slice_get
+        (dictionary_at s (birth_at (M.heap memory.old) address)).pairs place }
 {
     if place >= length(memory, address) {
         return None;

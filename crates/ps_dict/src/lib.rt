@@ -4,9 +4,8 @@
 pub mod changes;
 pub mod dictionaries;
 mod fills;
+pub mod index;
 pub mod keys;
 pub mod makes;
 pub mod plans;
 pub mod removals;
-#[cfg(test)]
-mod tests;

@@ -10,19 +10,23 @@ ghost use Rattle.ps_mem.specs.Keeps.{Keeps, Extends};
 ghost use Rattle.ps_mem.specs.References.{StandsAs};
 ghost use Rattle.ps_mem.specs.Meaning.{value_of};
 ghost use Rattle.ps_mem.specs.Shows.{IsValue, AreValues, IsSound, IsWithin, AreWithin, pair_of, Shows};
-ghost use Rattle.ps_dict.specs.Places.{count_at, capacity_at, body_at, pairs_of_words};
+ghost use Rattle.ps_dict.specs.Places.{count_at, capacity_at, body_at};
+ghost use Rattle.ps_mem.specs.Index.{pairs_of_words};
 ghost use Rattle.ps_dict.specs.Puts.{with_value};
 
 use crate::changes::natural_word;
-use crate::dictionaries::{COUNT, body, length, position};
+use crate::dictionaries::{COUNT, body, capacity, length, position};
 use crate::fills::fill_words;
+use crate::index::free_place;
 use ps_language::kinds::Kind;
 use ps_mem::Memory;
 use ps_word::values::Content;
 use ps_word::words::Word;
 
-/// A new dictionary without pairs, of unlimited access, with room for so many (PLRM2, 8 'dict'). It and its body may still be filled.
+/// A new dictionary without pairs, of unlimited access, with room for so many, at most 21,845
+/// (PLRM2, 8 'dict'). It and its body may still be filled.
 pub fn new_dictionary<M: Memory>(memory: &mut M, capacity: u16) -> u32
+    requires limit { capacity ≤ 21845 }
     requires words { 6 + body_words capacity ≤ (M.grants memory.old).words }
     requires births { 1 ≤ (M.grants memory.old).births }
     requires sound { IsSound (M.heap memory.old) }
@@ -35,9 +39,11 @@ pub fn new_dictionary<M: Memory>(memory: &mut M, capacity: u16) -> u32
     ensures birth { birth_at (M.heap memory.new) result ≡ (M.heap memory.old).next }
     ensures count { count_at (M.heap memory.new) result ≡ 0 }
     ensures capacity { capacity_at (M.heap memory.new) result ≡ capacity }
-    ensures grants { AfterNew (M.grants memory.old) (M.grants memory.new) result (6 + body_words capacity) 1 }
+    ensures grants { AfterNew (M.grants memory.old) (M.grants memory.new) result
+        (6 + body_words capacity) 1 }
     ensures body_fresh { IsTrue ((M.grants memory.new).fresh (body_at (M.heap memory.new) result)) }
-    ensures shows { (names : List (List ℕ)) (s : Store) → Shows (M.heap memory.old) names s → Shows (M.heap memory.new) names (s ++ dictionary_object (empty_dictionary capacity) ∷ []) }
+    ensures shows { (names : List (List ℕ)) (s : Store) → Shows (M.heap memory.old) names s
+        → Shows (M.heap memory.new) names (s ++ dictionary_object (empty_dictionary capacity) ∷ []) }
 {
     let address = memory.alloc(Kind::Dictionary, 4);
     let body = memory.alloc_body(address, 3 * capacity as u32);
@@ -58,12 +64,22 @@ fn fill_value<M: Memory>(memory: &mut M, address: u32, place: u32, value: Word)
     ensures sound { IsSound (M.heap memory.new) }
     ensures keeps { Keeps (M.heap memory.old) (M.heap memory.new) }
     ensures births { birth_at (M.heap memory.new) ≡ birth_at (M.heap memory.old) }
-    ensures extends { (g : Heap) → Extends g (M.heap memory.old) → object_at g address ≡ None → object_at g (body_at (M.heap memory.old) address) ≡ None → Extends g (M.heap memory.new) }
+    ensures extends { (g : Heap) → Extends g (M.heap memory.old) → object_at g address ≡ None
+        → object_at g (body_at (M.heap memory.old) address) ≡ None → Extends g (M.heap memory.new) }
     ensures body { body_at (M.heap memory.new) address ≡ body_at (M.heap memory.old) address }
-    ensures capacity { capacity_at (M.heap memory.new) address ≡ capacity_at (M.heap memory.old) address }
+    ensures capacity { capacity_at (M.heap memory.new) address ≡ capacity_at (M.heap memory.old)
+        address }
     ensures grants { M.grants memory.new ≡ M.grants memory.old }
     ensures count { count_at (M.heap memory.new) address ≡ count_at (M.heap memory.old) address }
-    ensures shows { (names : List (List ℕ)) (s : Store) → Shows (M.heap memory.old) names s → IsWithin (birth_at (M.heap memory.old)) names s value → let d = dictionary_at s (birth_at (M.heap memory.old) address) in Shows (M.heap memory.new) names (with_dictionary s (birth_at (M.heap memory.old) address) (record d { pairs = with_value d.pairs place (value_of (birth_at (M.heap memory.old)) names value) })) }
+    ensures shows { (names : List (List ℕ)) (s : Store) → Shows (M.heap memory.old) names s
+        → IsWithin (birth_at (M.heap memory.old)) names s value → let d =
+        dictionary_at s (birth_at (M.heap memory.old) address) in
+        Shows (M.heap memory.new) names
+        (with_dictionary s (birth_at (M.heap memory.old) address)
+        (record d {
+          pairs = with_value d.pairs place
+              (value_of (birth_at (M.heap memory.old)) names value);
+        })) }
 {
     let body = body(memory, address);
     memory.fill(body, 2 * place + 1, value);
@@ -81,19 +97,38 @@ fn fill_last<M: Memory>(memory: &mut M, address: u32, key: Word, value: Word)
     ensures sound { IsSound (M.heap memory.new) }
     ensures keeps { Keeps (M.heap memory.old) (M.heap memory.new) }
     ensures births { birth_at (M.heap memory.new) ≡ birth_at (M.heap memory.old) }
-    ensures extends { (g : Heap) → Extends g (M.heap memory.old) → object_at g address ≡ None → object_at g (body_at (M.heap memory.old) address) ≡ None → Extends g (M.heap memory.new) }
+    ensures extends { (g : Heap) → Extends g (M.heap memory.old) → object_at g address ≡ None
+        → object_at g (body_at (M.heap memory.old) address) ≡ None → Extends g (M.heap memory.new) }
     ensures body { body_at (M.heap memory.new) address ≡ body_at (M.heap memory.old) address }
-    ensures capacity { capacity_at (M.heap memory.new) address ≡ capacity_at (M.heap memory.old) address }
+    ensures capacity { capacity_at (M.heap memory.new) address ≡ capacity_at (M.heap memory.old)
+        address }
     ensures grants { M.grants memory.new ≡ M.grants memory.old }
     ensures count { count_at (M.heap memory.new) address ≡ count_at (M.heap memory.old) address + 1 }
-    ensures shows { (names : List (List ℕ)) (s : Store) → Shows (M.heap memory.old) names s → IsWithin (birth_at (M.heap memory.old)) names s key → IsWithin (birth_at (M.heap memory.old)) names s value → let d = dictionary_at s (birth_at (M.heap memory.old) address) in Shows (M.heap memory.new) names (with_dictionary s (birth_at (M.heap memory.old) address) (record d { pairs = d.pairs ++ (value_of (birth_at (M.heap memory.old)) names key, value_of (birth_at (M.heap memory.old)) names value) ∷ [] })) }
+    ensures shows { (names : List (List ℕ)) (s : Store) → Shows (M.heap memory.old) names s
+        → IsWithin (birth_at (M.heap memory.old)) names s key
+        → IsWithin (birth_at (M.heap memory.old)) names s value → let d =
+        dictionary_at s (birth_at (M.heap memory.old) address) in
+        Shows (M.heap memory.new) names
+        (with_dictionary s (birth_at (M.heap memory.old) address)
+        (record d {
+          pairs = d.pairs
+              ++ (
+                value_of (birth_at (M.heap memory.old)) names key,
+                value_of
+                    (birth_at (M.heap memory.old)) names value,
+              ) ∷ [];
+        })) }
 {
     let count = length(memory, address);
     let body = body(memory, address);
+    let capacity = capacity(memory, address);
+    let place = free_place(memory, body, capacity, key);
     let more = natural_word(count + 1);
+    let last = natural_word(count);
     memory.fill(address, COUNT, more);
     memory.fill(body, 2 * count, key);
     memory.fill(body, 2 * count + 1, value);
+    memory.fill(body, 2 * capacity + place, last);
 }
 
 /// Puts a key with its value into a dictionary that may be filled and has room for a pair more.
@@ -108,12 +143,27 @@ fn fill_pair<M: Memory>(memory: &mut M, address: u32, key: Word, value: Word)
     ensures sound { IsSound (M.heap memory.new) }
     ensures keeps { Keeps (M.heap memory.old) (M.heap memory.new) }
     ensures births { birth_at (M.heap memory.new) ≡ birth_at (M.heap memory.old) }
-    ensures extends { (g : Heap) → Extends g (M.heap memory.old) → object_at g address ≡ None → object_at g (body_at (M.heap memory.old) address) ≡ None → Extends g (M.heap memory.new) }
+    ensures extends { (g : Heap) → Extends g (M.heap memory.old) → object_at g address ≡ None
+        → object_at g (body_at (M.heap memory.old) address) ≡ None → Extends g (M.heap memory.new) }
     ensures body { body_at (M.heap memory.new) address ≡ body_at (M.heap memory.old) address }
-    ensures capacity { capacity_at (M.heap memory.new) address ≡ capacity_at (M.heap memory.old) address }
+    ensures capacity { capacity_at (M.heap memory.new) address ≡ capacity_at (M.heap memory.old)
+        address }
     ensures grants { M.grants memory.new ≡ M.grants memory.old }
     ensures count { count_at (M.heap memory.new) address ≤ count_at (M.heap memory.old) address + 1 }
-    ensures shows { (names : List (List ℕ)) (s : Store) → Shows (M.heap memory.old) names s → AllPairs (λ first later. first ≢ later) names → IsWithin (birth_at (M.heap memory.old)) names s key → IsWithin (birth_at (M.heap memory.old)) names s value → let d = dictionary_at s (birth_at (M.heap memory.old) address) in Shows (M.heap memory.new) names (with_dictionary s (birth_at (M.heap memory.old) address) (record d { pairs = put_pair d.pairs (value_of (birth_at (M.heap memory.old)) names key, value_of (birth_at (M.heap memory.old)) names value) })) }
+    ensures shows { (names : List (List ℕ)) (s : Store) → Shows (M.heap memory.old) names s
+        → AllPairs (λ first later. first ≢ later) names
+        → IsWithin (birth_at (M.heap memory.old)) names s key
+        → IsWithin (birth_at (M.heap memory.old)) names s value → let d =
+        dictionary_at s (birth_at (M.heap memory.old) address) in
+        Shows (M.heap memory.new) names
+        (with_dictionary s (birth_at (M.heap memory.old) address)
+        (record d {
+          pairs = put_pair d.pairs (
+            value_of (birth_at (M.heap memory.old)) names key,
+            value_of (birth_at (M.heap memory.old))
+                names value,
+          );
+        })) }
 {
     match position(memory, address, key) {
         Some(place) => fill_value(memory, address, place, value),
@@ -121,8 +171,10 @@ fn fill_pair<M: Memory>(memory: &mut M, address: u32, key: Word, value: Word)
     }
 }
 
-/// A new dictionary of unlimited access with these keys and values, which are put in order: words of a key, its value, the next key and so
-/// on, at most 21,845 of each (PLRM2, 8 '>>'). Its capacity is the number of keys. Nothing is recorded.
+/// A new dictionary of unlimited access with these keys and values, which are put in order: words
+/// of a key, its value, the next key and so
+/// on, at most 21,845 of each (PLRM2, 8 '>>'). Its capacity is the number of keys. Nothing is
+/// recorded.
 pub fn make_dictionary<M: Memory>(memory: &mut M, words: &[Word]) -> u32
     requires few { length words.now ≤ 43690 }
     requires words { 6 + body_words (length words.now / 2) ≤ (M.grants memory.old).words }
@@ -134,8 +186,16 @@ pub fn make_dictionary<M: Memory>(memory: &mut M, words: &[Word]) -> u32
     ensures sound { IsSound (M.heap memory.new) }
     ensures extends { Extends (M.heap memory.old) (M.heap memory.new) }
     ensures birth { birth_at (M.heap memory.new) result ≡ (M.heap memory.old).next }
-    ensures grants { AfterNew (M.grants memory.old) (M.grants memory.new) result (6 + body_words (length words.now / 2)) 1 }
-    ensures shows { (names : List (List ℕ)) (s : Store) → Shows (M.heap memory.old) names s → AllPairs (λ first later. first ≢ later) names → AreWithin (M.heap memory.old) names s words.now → Shows (M.heap memory.new) names (s ++ dictionary_object (record (empty_dictionary (length words.now / 2)) { pairs = put_pairs [] (map (pair_of (birth_at (M.heap memory.old)) names) (pairs_of_words words.now)) }) ∷ []) }
+    ensures grants { AfterNew (M.grants memory.old) (M.grants memory.new) result
+        (6 + body_words (length words.now / 2)) 1 }
+    ensures shows { (names : List (List ℕ)) (s : Store) → Shows (M.heap memory.old) names s
+        → AllPairs (λ first later. first ≢ later) names
+        → AreWithin (M.heap memory.old) names s words.now
+        → Shows (M.heap memory.new) names
+        (s ++ dictionary_object (record (empty_dictionary (length words.now / 2)) {
+          pairs = put_pairs [] (map (pair_of (birth_at (M.heap memory.old)) names)
+              (pairs_of_words words.now));
+        }) ∷ []) }
 {
     let count = words.len() / 2;
     let address = new_dictionary(memory, count as u16);

@@ -1,4 +1,5 @@
-//! What a put will do (PLRM2, 3.3.9 and 8: put, def, store): a step reads and asks for records and room before it writes anything.
+//! What a put will do (PLRM2, 3.3.9 and 8: put, def, store): a step reads and asks for records and
+//! room before it writes anything.
 
 ghost use Rattle.std.specs.Prelude.{◌≡◌, ◌≢◌, ◌↔◌, ◌+◌, ◌<◌, ◌≤◌, ◌^◌, ℕ, List, None};
 ghost use Rattle.std.specs.List.{AllPairs};
@@ -40,7 +41,7 @@ impl PutPlan {
     {
         match self {
             PutPlan::Replace(_) | PutPlan::Grow(_) => 1,
-            PutPlan::Append => 2,
+            PutPlan::Append => 3,
             PutPlan::Full => 0,
         }
     }
@@ -57,7 +58,8 @@ impl PutPlan {
     }
 }
 
-/// The capacity of a dictionary that is to have a pair more than its capacity: twice the capacity and four, at most 21,845.
+/// The capacity of a dictionary that is to have a pair more than its capacity: twice the capacity
+/// and four, at most 21,845.
 fn next_capacity(capacity: u32, count: u32) -> u32
     requires full { capacity < count }
     requires limit { capacity < 21845 }
@@ -76,8 +78,18 @@ pub fn plan_put<M: Memory>(memory: &mut M, address: u32, key: Word) -> PutPlan
     ensures grants { M.grants memory.new ≡ M.grants memory.old }
     ensures words { result ≡ plan_at (M.heap memory.old) address key }
     ensures limit { (capacity : ℕ) → result ≡ PutPlan.Grow capacity → capacity ≤ 21845 }
-    ensures value { (names : List (List ℕ)) (s : Store) → Shows (M.heap memory.old) names s → AllPairs (λ first later. first ≢ later) names → IsWithin (birth_at (M.heap memory.old)) names s key → result ≡ planned (dictionary_at s (birth_at (M.heap memory.old) address)) (value_of (birth_at (M.heap memory.old)) names key) }
-    ensures full { (names : List (List ℕ)) (s : Store) → Shows (M.heap memory.old) names s → AllPairs (λ first later. first ≢ later) names → IsWithin (birth_at (M.heap memory.old)) names s key → (value : Value) → (result ≡ PutPlan.Full) ↔ (holding (dictionary_at s (birth_at (M.heap memory.old) address)) (put_pair (dictionary_at s (birth_at (M.heap memory.old) address)).pairs (value_of (birth_at (M.heap memory.old)) names key, value)) ≡ None) }
+    ensures value { (names : List (List ℕ)) (s : Store) → Shows (M.heap memory.old) names s
+        → AllPairs (λ first later. first ≢ later) names
+        → IsWithin (birth_at (M.heap memory.old)) names s key
+        → result ≡ planned (dictionary_at s (birth_at (M.heap memory.old) address))
+        (value_of (birth_at (M.heap memory.old)) names key) }
+    ensures full { (names : List (List ℕ)) (s : Store) → Shows (M.heap memory.old) names s
+        → AllPairs (λ first later. first ≢ later) names
+        → IsWithin (birth_at (M.heap memory.old)) names s key → (value : Value)
+        → (result ≡ PutPlan.Full) ↔
+        (holding (dictionary_at s (birth_at (M.heap memory.old) address))
+        (put_pair (dictionary_at s (birth_at (M.heap memory.old) address)).pairs
+        (value_of (birth_at (M.heap memory.old)) names key, value)) ≡ None) }
 {
     let place = position(memory, address, key);
     let count = length(memory, address);
@@ -92,11 +104,7 @@ fn plan_of(place: Option<u32>, count: u32, capacity: u32) -> PutPlan
     ensures limit { (grown : ℕ) → result ≡ PutPlan.Grow grown → grown ≤ 21845 }
 {
     match place {
-        Some(place) => if count <= CAPACITY_LIMIT {
-            PutPlan::Replace(place)
-        } else {
-            PutPlan::Full
-        },
+        Some(place) => PutPlan::Replace(place),
         None => if count >= CAPACITY_LIMIT {
             PutPlan::Full
         } else if count < capacity {

@@ -1,15 +1,18 @@
 pub mod AskedLemmas
 pub mod Behind
 pub mod Blanks
+mod ContextExamples
 pub mod DictionaryLaws
 pub mod EqualityLaws
+mod ErrorExamples
 pub mod Evaluation
 pub mod ExampleScenes
 pub mod LiveLaws
 pub mod OperandsKept
 pub mod Places
 pub mod Procedures
-mod ProgramExamples
+pub mod ProgramExamples
+pub mod Recorded
 pub mod Refusals
 pub mod RowExamples
 pub mod RowExamplesFurther
@@ -17,6 +20,7 @@ mod ScanExamples
 pub mod ScanLaw
 pub mod ScanSteps
 pub mod ScheduleLaws
+pub mod Shown
 pub mod Simples
 pub mod SimplesFound
 pub mod Spans

@@ -1,7 +1,6 @@
 pub mod Access
 pub mod Acts
 pub mod ArrayRows
-pub mod Asked
 pub mod Bytes
 pub mod Contexts
 pub mod Control
@@ -9,9 +8,11 @@ pub mod Dictionaries
 pub mod Effect
 pub mod Equality
 pub mod Integers
+pub mod Keeping
 pub mod Limits
 pub mod Live
 pub mod Locks
+pub mod Machines
 pub mod Objects
 pub mod OperatorList
 pub mod OperatorNames
@@ -30,6 +31,7 @@ pub mod RowsTypes
 pub mod Scan
 pub mod Schedules
 pub mod Small
+pub mod SmallActs
 pub mod SmallRows
 pub mod Step
 pub mod StepBind

@@ -9,7 +9,8 @@ use Rattle.ps_language.specs.declared.operators.Operator.{Operator}
 use Rattle.ps_language.specs.declared.operators.Operator.TheVariants.{Pop, Exch, Dup, Copy, Index, Roll, Clear, Count, Mark, ClearToMark, CountToMark, Add, Sub, Mul, Idiv, Mod, Neg, Abs, Eq, Ne, Gt, Ge, Lt, Le, And, Or, Xor, Not, Bitshift, Array, BeginArray, EndArray, Length, Get, Put, GetInterval, PutInterval, Aload, Astore, Forall, Equals}
 use Rattle.ps_language.specs.declared.schedules.Entry.{Entry}
 use Rattle.ps_language.specs.Value.{Part, What, name_value, operator_value, Value, Store}
-use Rattle.ps_language.specs.Effect.{Around, Scene, Effect, makes, unwinds, raises, starves}
+use Rattle.ps_language.specs.Effect.{Scene}
+use Rattle.ps_language.specs.SmallActs.{Around, Effect, makes, unwinds, raises, starves, effect_of}
 use Rattle.ps_language.specs.Outcome.{Outcome, leaves, fails, given, given_that, and_then}
 use Rattle.ps_language.specs.Readers.{null, integer, boolean, literal_name, executable_name, as_array, is_full}
 use Rattle.ps_language.specs.Access.{is_readable, is_executable}
@@ -19,7 +20,6 @@ use Rattle.ps_language.specs.Limits.{frame_limit}
 use Rattle.ps_language.specs.Control.{as_procedure}
 use Rattle.ps_language.specs.Token.{Token, Tokens, number_token, executable_name_token, literal_name_token, immediate_name_token, string_token, procedure_token, no_tokens, more_tokens, Scan, found, exhausted, faulty}
 use Rattle.ps_language.specs.Scan.{scan}
-use Rattle.ps_language.specs.Acts.{effect_of}
 use Rattle.ps_language.specs.SmallRows.{small_row, small_text}
 use Rattle.ps_language.specs.StepErrors.{error_text}
 use Rattle.ps_language.specs.StepFrames.{fault_name, element_at}
@@ -43,11 +43,13 @@ abbrev pub five_byte_operators : List Operator
 five_byte_operators = Index ∷ Clear ∷ Count ∷ Array ∷ Aload ∷ []
 
 abbrev pub longest_operators : List Operator
-longest_operators = Length ∷ Astore ∷ Forall ∷ Bitshift ∷ ClearToMark ∷ CountToMark ∷ GetInterval ∷ PutInterval ∷ []
+longest_operators = Length ∷ Astore ∷ Forall ∷ Bitshift ∷ ClearToMark ∷ CountToMark ∷ GetInterval
+    ∷ PutInterval ∷ []
 
 -- one of these
 abbrev pub is_small : Operator → Bool
-is_small operator = list_any (same_operator operator) (shortest_operators ++ four_byte_operators ++ five_byte_operators ++ longest_operators)
+is_small operator = list_any (same_operator operator)
+    (shortest_operators ++ four_byte_operators ++ five_byte_operators ++ longest_operators)
 
 -- what names stand for
 unfoldable pub small_pairs : List (Value × Value)
@@ -102,7 +104,16 @@ pub record SmallWorld : Type 0 where
 -- before the first step
 abbrev pub starting_small_world : (program : List ℕ) → SmallWorld
 starting_small_world program =
-    record { program = program; operands = []; frames = text_frame 0 ∷ []; store = []; stage = running; printed = []; error_lines = 0 }
+    record {
+      program = program;
+      operands = [];
+      frames = text_frame 0 ∷ [];
+      store = [];
+      stage =
+          running;
+      printed = [];
+      error_lines = 0;
+    }
 
 -- ---- what a step comes to
 
@@ -125,7 +136,8 @@ small_pushed command value world =
 
 -- the operands and the objects, with no dictionary
 abbrev pub small_scene : (operands : List Value) → Store → Scene
-small_scene operands store = record { operands = operands; dictionaries = []; frames = []; store = store; names = [] }
+small_scene operands store =
+    record { operands = operands; dictionaries = []; frames = []; store = store; names = [] }
 
 -- nothing is shown
 abbrev pub small_around : (refused : Bool) → Around
@@ -133,11 +145,18 @@ small_around refused = record { error_dictionary = 0; refused = refused; shown =
 
 -- an operator acts on the operands and the objects
 unfoldable pub small_effect : Operator → (refused : Bool) → (operands : List Value) → Store → Effect
-small_effect operator refused operands store = effect_of (small_row operator) (small_around refused) (small_scene operands store)
+small_effect operator refused operands store =
+    effect_of (small_row operator) (small_around refused) (small_scene operands store)
 
 -- what it comes to; none of these operators unwinds
 abbrev pub after_effect : Operator → SmallWorld → Effect → SmallWorld
-after_effect operator world (makes scene output) = record world { operands = scene.operands; store = scene.store; printed = world.printed ++ output }
+after_effect operator world (makes scene output) =
+    record world {
+      operands = scene.operands;
+      store = scene.store;
+      printed = world.printed
+          ++ output;
+    }
 after_effect operator world (raises error) = with_error error (command_of operator) world
 after_effect operator world (unwinds cause scene) = world
 after_effect operator world (starves names) = with_error VmError (command_of operator) world
@@ -148,11 +167,13 @@ has_frame_room frames = nat_lt (length frames) frame_limit
 
 -- one frame more, where there is room
 abbrev pub with_frame : SmallFrame → SmallWorld → Outcome SmallWorld
-with_frame frame world = given_that (has_frame_room world.frames) ExecStackOverflow (leaves (record world { frames = frame ∷ world.frames }))
+with_frame frame world = given_that (has_frame_room world.frames) ExecStackOverflow
+    (leaves (record world { frames = frame ∷ world.frames }))
 
 -- a procedure is entered; an empty one is not pushed
 abbrev pub entered : Part → SmallWorld → Outcome SmallWorld
-entered body world = if body.count == 0 then leaves world else with_frame (procedure_frame body) world
+entered body world = if body.count == 0 then leaves world else with_frame (procedure_frame body)
+    world
 
 -- the array and the procedure of A P forall; access is asked for here and no later
 abbrev pub forall_parts : List Value → Outcome (Part × Part)
@@ -171,25 +192,32 @@ forall_row operands world =
 
 -- forall takes a frame, every other operator acts
 unfoldable pub small_operated : (refused : Bool) → Operator → SmallWorld → SmallWorld
-small_operated refused Forall world = after (command_of Forall) world (forall_row world.operands world)
-small_operated refused operator world = after_effect operator world (small_effect operator refused world.operands world.store)
+small_operated refused Forall world =
+    after (command_of Forall) world (forall_row world.operands world)
+small_operated refused operator world =
+    after_effect operator world (small_effect operator refused world.operands world.store)
 
 -- ---- values
 
 -- an operator acts, and another value is pushed
-abbrev pub treated_what : (refused : Bool) → (command value : Value) → What → SmallWorld → SmallWorld
-treated_what refused command value (operator_value operator) world = small_operated refused operator world
+abbrev pub treated_what : (refused : Bool) → (command value : Value) → What → SmallWorld
+    → SmallWorld
+treated_what refused command value (operator_value operator) world =
+    small_operated refused operator world
 treated_what refused command value _ world = small_pushed command value world
 
 -- what a name stands for, if it stands for anything
-abbrev pub name_treated : (refused : Bool) → (text : List ℕ) → Option Value → SmallWorld → SmallWorld
-name_treated refused text (Some value) world = treated_what refused (executable_name text) value value.what world
+abbrev pub name_treated : (refused : Bool) → (text : List ℕ) → Option Value → SmallWorld
+    → SmallWorld
+name_treated refused text (Some value) world =
+    treated_what refused (executable_name text) value value.what world
 name_treated refused text None world = with_error Undefined (executable_name text) world
 
 -- doing an element of a procedure: an executable name is looked up, and everything else that stands there is pushed
 unfoldable pub element_done : (refused : Bool) → Value → SmallWorld → SmallWorld
 element_done refused value world =
-    if is_executable_name value then name_treated refused (text_in value.what) (named (text_in value.what)) world
+    if is_executable_name value then name_treated refused (text_in value.what)
+    (named (text_in value.what)) world
     else small_pushed value value world
 
 -- ---- procedures
@@ -219,13 +247,18 @@ procedure_pushed refused elements world =
     given_that (not (is_full world.operands)) StackOverflow
     (given_that (are_small elements) LimitCheck
     (given_that (not refused) VmError
-    (leaves (record world { operands = (small_procedure elements world.store).values ++ world.operands; store = (small_procedure elements world.store).store })))))
+    (leaves (record world {
+      operands = (small_procedure elements world.store).values
+          ++ world.operands;
+      store = (small_procedure elements world.store).store;
+    })))))
 
 -- ---- frames
 
 -- a token that needs strings or dictionaries is a syntaxerror as long as there are none
 abbrev pub small_done : (refused : Bool) → Token → SmallWorld → SmallWorld
-small_done refused (number_token number) world = small_pushed (integer number) (integer number) world
+small_done refused (number_token number) world =
+    small_pushed (integer number) (integer number) world
 small_done refused (executable_name_token text) world = name_treated refused text (named text) world
 small_done refused (procedure_token elements) world = procedure_pushed refused elements world
 small_done refused (literal_name_token text) world = with_error SyntaxError null world
@@ -235,12 +268,18 @@ small_done refused (string_token bytes) world = with_error SyntaxError null worl
 -- the line of an error that nothing caught
 unfoldable pub small_error_line : ErrorName → (command : Value) → List ℕ
 small_error_line error command =
-    codes "%%[ Error: " ++ error_text error ++ codes "; OffendingCommand: " ++ small_text command ++ codes " ]%%\n"
+    codes "%%[ Error: " ++ error_text error ++ codes "; OffendingCommand: " ++ small_text command
+    ++ codes " ]%%\n"
 
 -- the context is finished; an unwinding prints its line first
 abbrev pub ended_as : Stage → SmallWorld → SmallWorld
 ended_as (unwinding error command) world =
-    record world { stage = finished; printed = world.printed ++ small_error_line error command; error_lines = world.error_lines + 1 }
+    record world {
+      stage = finished;
+      printed = world.printed
+          ++ small_error_line error command;
+      error_lines = world.error_lines + 1;
+    }
 ended_as _ world = record world { stage = finished }
 
 -- the frames below are left; with none left the context is finished
@@ -250,30 +289,39 @@ left_with (frame ∷ below) world = record world { frames = frame ∷ below }
 
 -- the next token is taken and done; with none left the frame goes; a fault leaves it where it is
 abbrev pub text_turn : (refused : Bool) → List SmallFrame → SmallWorld → Scan → SmallWorld
-text_turn refused below world (found token end) = small_done refused token (record world { frames = text_frame end ∷ below })
+text_turn refused below world (found token end) =
+    small_done refused token (record world { frames = text_frame end ∷ below })
 text_turn refused below world exhausted = left_with below world
 text_turn refused below world (faulty fault) = with_error (fault_name fault) null world
 
 -- the frames once the first element was taken: the last takes the frame with it
 abbrev pub rest_frames : Part → List SmallFrame → List SmallFrame
 rest_frames part below =
-    if nat_lt 1 part.count then procedure_frame (record part { offset = part.offset + 1; count = part.count - 1 }) ∷ below
+    if nat_lt 1 part.count then procedure_frame
+    (record part { offset = part.offset + 1; count = part.count - 1 }) ∷ below
     else below
 
 -- the next element is pushed and the procedure entered; past the last the frame goes; an error changes nothing
-unfoldable pub forall_turn : (over : Part) (at : ℕ) (body : Part) → List SmallFrame → SmallWorld → SmallWorld
+unfoldable pub forall_turn : (over : Part) (at : ℕ) (body : Part) → List SmallFrame → SmallWorld
+    → SmallWorld
 forall_turn over at body below world =
     if nat_lt at over.count then
     after (command_of Forall) world (
     given_that (not (is_full world.operands)) StackOverflow
-    (entered body (record world { operands = element_at world.store over at ∷ world.operands; frames = forall_frame over (at + 1) body ∷ below })))
+    (entered body (record world {
+      operands = element_at world.store over at ∷ world.operands;
+      frames =
+          forall_frame over (at + 1) body ∷ below;
+    })))
     else record world { frames = below }
 
 -- a step by the top frame, given those below
 abbrev pub frame_turn : (refused : Bool) → SmallFrame → List SmallFrame → SmallWorld → SmallWorld
-frame_turn refused (text_frame at) below world = text_turn refused below world (scan world.program at)
+frame_turn refused (text_frame at) below world =
+    text_turn refused below world (scan world.program at)
 frame_turn refused (procedure_frame part) below world =
-    element_done refused (element_at world.store part 0) (record world { frames = rest_frames part below })
+    element_done refused (element_at world.store part 0)
+    (record world { frames = rest_frames part below })
 frame_turn refused (forall_frame over at body) below world = forall_turn over at body below world
 
 -- by the stage: an unwinding takes a frame off
@@ -301,7 +349,8 @@ is_small_ready world context = (context == 1) && has_steps world.stage
 
 -- a step of a context that isn't ready changes nothing
 unfoldable pub after_small_move : SmallWorld → Move → SmallWorld
-after_small_move world move = if is_small_ready world move.context then small_step move.refused world else world
+after_small_move world move =
+    if is_small_ready world move.context then small_step move.refused world else world
 
 -- step after step
 unfoldable pub after_small_moves : SmallWorld → List Move → SmallWorld
@@ -319,8 +368,10 @@ small_printed program schedule = (small_world program schedule).printed
 -- whether each step is one of a context that is ready just before it
 abbrev pub all_small_ready : SmallWorld → List Move → Bool
 all_small_ready world [] = true
-all_small_ready world (move ∷ rest) = is_small_ready world move.context && all_small_ready (after_small_move world move) rest
+all_small_ready world (move ∷ rest) =
+    is_small_ready world move.context && all_small_ready (after_small_move world move) rest
 
 -- a schedule all of whose steps are made
 unfoldable pub IsSmallProper : (program : List ℕ) → (schedule : List Entry) → Type 0
-IsSmallProper program schedule = IsTrue (all_small_ready (starting_small_world program) (moves schedule))
+IsSmallProper program schedule =
+    IsTrue (all_small_ready (starting_small_world program) (moves schedule))

@@ -1,5 +1,5 @@
 -- Contexts and the world that they share (PLRM2, 7.1, 3.4).
-use Rattle.std.specs.Prelude.{ℕ, ℤ, Bool, List}
+use Rattle.std.specs.Prelude.{ℕ, ℤ, Bool, List, Option}
 use Rattle.ps_language.specs.Value.{Part, Value, Store}
 
 -- where a Text frame's bytes come from: the program, or a string as it stands
@@ -33,7 +33,6 @@ pub data Status : Type 0 where
   waiting : (lock condition : ℕ) → Status
   retaking : (lock : ℕ) → Status
   finished : Status
-  ended : Status
 
 pub record Context : Type 0 where
   pub operands : List Value  -- the topmost first, as the two below
@@ -46,7 +45,16 @@ pub record Context : Type 0 where
 pub record World : Type 0 where
   pub program : List ℕ
   pub store : Store
-  pub contexts : List Context  -- the context of identifier n is at place n - 1
+  -- the context of identifier n is at place n - 1; nothing is left of one that is ended
+  pub contexts : List (Option Context)
   pub printed : List ℕ
   pub error_lines : ℕ
   pub names : List (List ℕ)  -- the names met, each once, in the order of meeting
+
+-- one context with what it shares with the others
+pub record Machine : Type 0 where
+  pub context : Context
+  pub store : Store
+  pub printed : List ℕ
+  pub error_lines : ℕ
+  pub names : List (List ℕ)

@@ -1,21 +1,23 @@
 -- The world at the start of a program, and the world after a schedule (PLRM2, 3.7, 7.1).
-use Rattle.std.specs.Prelude.{ℕ, suc, Bool, true, false, not, ◌&&◌, ◌||◌, List, [], ◌∷◌, ◌++◌, map, nat_eq, IsTrue, codes}
+use Rattle.std.specs.Prelude.{ℕ, suc, ℤ, Bool, true, false, not, Option, Some, None, ◌&&◌, ◌||◌, List, [], ◌∷◌, ◌++◌, map, nat_eq, IsTrue, codes}
 use Rattle.std.specs.List.{list_all}
+use Rattle.std.specs.Option.{option_map_or}
 use Rattle.ps_language.specs.declared.access.Access.TheVariants.{Unlimited, ReadOnly}
 use Rattle.ps_language.specs.declared.operators.Operator.{Operator}
 use Rattle.ps_language.specs.declared.errors.ErrorName.{ErrorName}
 use Rattle.ps_language.specs.declared.errors.ErrorName.TheVariants.{DictStackOverflow, DictStackUnderflow, ExecStackOverflow, InvalidAccess, InvalidContext, InvalidExit, LimitCheck, RangeCheck, StackOverflow, StackUnderflow, SyntaxError, TypeCheck, Undefined, UndefinedResult, UnmatchedMark, VmError}
-use Rattle.ps_language.specs.Value.{operator_value, dictionary_value, Value, Dictionary, Object, dictionary_object}
-use Rattle.ps_language.specs.World.{from_program, text_frame, running, finished, ended, Status, Context, World}
+use Rattle.ps_language.specs.Value.{What, name_value, operator_value, dictionary_value, Value, Dictionary, Object, dictionary_object}
+use Rattle.ps_language.specs.World.{from_program, text_frame, running, Context, World}
 use Rattle.ps_language.specs.declared.schedules.Entry.{Entry}
 use Rattle.ps_language.specs.Schedules.{Move, moves, count_of}
 use Rattle.ps_language.specs.OperatorNames.{operator_name}
 use Rattle.ps_language.specs.OperatorList.{every_operator}
 use Rattle.ps_language.specs.Readers.{literal, executable, null, boolean, literal_name}
-use Rattle.ps_language.specs.StepErrors.{error_text}
-use Rattle.ps_language.specs.Contexts.{new_error_dictionary}
+use Rattle.ps_language.specs.StepErrors.{error_text, new_error_pairs, new_error_dictionary}
+use Rattle.ps_language.specs.Contexts.{is_finished}
 use Rattle.ps_language.specs.Locks.{is_ready}
-use Rattle.ps_language.specs.Step.{step}
+use Rattle.ps_language.specs.Effect.{Note, shows_memory}
+use Rattle.ps_language.specs.Step.{stepped, step}
 
 -- the birth numbers of the first three objects
 abbrev pub systemdict : ℕ
@@ -39,7 +41,11 @@ user_value = literal (dictionary_value userdict)
 
 -- an operator under its name
 abbrev pub operator_pair : Operator → Value × Value
-operator_pair operator = (literal_name (operator_name operator), executable (operator_value operator))
+operator_pair operator = (
+  literal_name (operator_name operator),
+  executable
+      (operator_value operator),
+)
 
 -- the names that have values
 abbrev pub value_pairs : List (Value × Value)
@@ -64,32 +70,38 @@ user_dictionary = record { pairs = []; capacity = 32; access = Unlimited }
 
 -- these three
 abbrev pub first_store : List Object
-first_store = dictionary_object system_dictionary ∷ dictionary_object user_dictionary ∷ new_error_dictionary ∷ []
+first_store = dictionary_object system_dictionary ∷ dictionary_object user_dictionary
+    ∷ new_error_dictionary ∷ []
 
--- the names of the values
-abbrev pub value_names : List (List ℕ)
-value_names = codes "true" ∷ codes "false" ∷ codes "null" ∷ codes "systemdict" ∷ codes "userdict" ∷ []
+-- by the type
+abbrev pub text_in : What → List ℕ
+text_in (name_value text) = text
+text_in _ = []
+
+-- the names under which values stand
+abbrev pub names_of : List (Value × Value) → List (List ℕ)
+names_of pairs = map (λ pair. text_in pair.0.what) pairs
 
 -- the errors by the letter
 abbrev pub every_error : List ErrorName
 every_error =
-    DictStackOverflow ∷ DictStackUnderflow ∷ ExecStackOverflow ∷ InvalidAccess ∷ InvalidContext ∷ InvalidExit ∷
+    DictStackOverflow ∷ DictStackUnderflow ∷ ExecStackOverflow ∷ InvalidAccess ∷ InvalidContext
+    ∷ InvalidExit ∷
     LimitCheck ∷ RangeCheck ∷ StackOverflow ∷ StackUnderflow ∷ SyntaxError ∷ TypeCheck ∷
     Undefined ∷ UndefinedResult ∷ UnmatchedMark ∷ VmError ∷ []
 
 -- what type gives
 abbrev pub type_names : List (List ℕ)
 type_names =
-    codes "integertype" ∷ codes "booleantype" ∷ codes "nulltype" ∷ codes "marktype" ∷ codes "nametype" ∷ codes "operatortype" ∷
-    codes "arraytype" ∷ codes "stringtype" ∷ codes "dicttype" ∷ codes "locktype" ∷ codes "conditiontype" ∷ []
-
--- the keys of $error
-abbrev pub error_keys : List (List ℕ)
-error_keys = codes "newerror" ∷ codes "errorname" ∷ codes "command" ∷ []
+    codes "integertype" ∷ codes "booleantype" ∷ codes "nulltype" ∷ codes "marktype"
+    ∷ codes "nametype" ∷ codes "operatortype" ∷
+    codes "arraytype" ∷ codes "stringtype" ∷ codes "dicttype" ∷ codes "locktype"
+    ∷ codes "conditiontype" ∷ []
 
 -- The names met at the start, in this order: the keys of systemdict in theirs, the errors by the letter, the types of values, the keys of $error
 unfoldable pub first_names : List (List ℕ)
-first_names = map operator_name every_operator ++ value_names ++ map error_text every_error ++ type_names ++ error_keys
+first_names = map operator_name every_operator ++ names_of value_pairs ++ map error_text every_error
+    ++ type_names ++ names_of new_error_pairs
 
 -- the first context, about to scan the program
 abbrev pub first_context : Context
@@ -109,11 +121,21 @@ starting_world program =
     record {
       program = program;
       store = first_store;
-      contexts = first_context ∷ [];
+      contexts = Some first_context ∷ [];
       printed = [];
       error_lines = 0;
       names = first_names;
     }
+
+-- what the schedule keeps of what was shown: the pair, where a vmstatus acted
+abbrev pub kept_pair : Note → Option (ℤ × ℤ) → Option (ℤ × ℤ)
+kept_pair shows_memory shown = shown
+kept_pair _ shown = None
+
+-- a step as the schedule keeps it
+abbrev pub recorded : World → Move → Move
+recorded now move = record move
+    { shown = kept_pair (stepped now move.context move.refused move.shown).note move.shown }
 
 -- one step
 abbrev pub after_move : World → Move → World
@@ -143,24 +165,19 @@ IsProper program schedule = IsTrue (all_ready (starting_world program) (moves sc
 
 -- ---- outcomes
 
--- by the status
-abbrev pub is_over_as : Status → Bool
-is_over_as finished = true
-is_over_as ended = true
-is_over_as _ = false
-
 -- a context that is finished or ended
-abbrev pub is_over : Context → Bool
-is_over context = is_over_as context.status
+abbrev pub is_over : Option Context → Bool
+is_over context = option_map_or (λ there. is_finished there.status) context true
 
 -- each context is finished or ended
 unfoldable pub is_all_over : World → Bool
 is_all_over now = list_all is_over now.contexts
 
 -- whether one of the contexts from an identifier on is ready
-abbrev pub is_one_ready : World → ℕ → List Context → Bool
+abbrev pub is_one_ready : World → ℕ → List (Option Context) → Bool
 is_one_ready now identifier [] = false
-is_one_ready now identifier (context ∷ contexts) = is_ready now identifier || is_one_ready now (suc identifier) contexts
+is_one_ready now identifier (context ∷ contexts) =
+    is_ready now identifier || is_one_ready now (suc identifier) contexts
 
 -- whether any context is ready
 unfoldable pub is_some_ready : World → Bool
@@ -180,4 +197,5 @@ IsAllWaiting now = IsTrue (not (is_all_over now) && not (is_some_ready now))
 
 -- a context is ready, and the steps are used up
 abbrev pub IsStepsOut : World → (schedule : List Entry) → (budget : ℕ) → Type 0
-IsStepsOut now schedule budget = IsTrue (not (is_all_over now) && is_some_ready now && nat_eq (count_of schedule) budget)
+IsStepsOut now schedule budget =
+    IsTrue (not (is_all_over now) && is_some_ready now && nat_eq (count_of schedule) budget)

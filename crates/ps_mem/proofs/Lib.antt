@@ -1,5 +1,6 @@
 pub mod Lists
 pub mod Walks
+pub mod WalkCounts
 pub mod WalkWrites
 pub mod WalkNews
 pub mod HeapLemmas
@@ -14,6 +15,7 @@ pub mod ShowsLemmas
 pub mod SoundLemmas
 pub mod StoreLemmas
 pub mod StoreShows
+pub mod DictionaryStores
 pub mod NewShows
 pub mod NameLemmas
 pub mod ZeroLemmas

@@ -9,9 +9,9 @@ use Rattle.ps_language.specs.Access.{splice, bytes, bytes_in}
 use Rattle.ps_word.specs.declared.words.Word.{Word}
 use Rattle.ps_mem.specs.Heap.{Heap, Standing, object_at, stored}
 use Rattle.ps_mem.specs.Keeps.{Keeps}
-use Rattle.ps_mem.specs.Shows.{IsValue, AreValues, DictionaryFields, AreFields, array_fields, text_fields, dictionary_fields, lock_fields, condition_fields, body_fields, IsSound, AreWithin, IsShown, Shows}
-use Rattle.ps_mem.proofs.Lists.{all_splice, slice_get-set_same, slice_get-set_other, length-splice}
-use Rattle.ps_mem.proofs.HeapLemmas.{next-stored, object_at-stored_same, object_at-stored_other}
+use Rattle.ps_mem.specs.Shows.{IsValue, AreValues, AreFields, array_fields, text_fields, body_fields, IsSound, AreWithin, IsShown, Shows}
+use Rattle.ps_mem.proofs.Lists.{all_splice, slice_get-set_same, slice_get-set_other}
+use Rattle.ps_mem.proofs.HeapLemmas.{next-stored}
 use Rattle.ps_mem.proofs.KeepsLemmas.{Keeps-stored, KeepsBirth-stored, stored_from, AreValues-kept}
 use Rattle.ps_mem.proofs.ShowsLemmas.{Shows-kept, body_values, array_values}
 use Rattle.ps_mem.proofs.SoundLemmas.{IsSound-stored, untouched}
@@ -19,7 +19,8 @@ use Rattle.ps_mem.proofs.SoundLemmas.{IsSound-stored, untouched}
 bytes_of_object : Object → List ℕ
 bytes_of_object object = bytes_in (Some object)
 
-module _ (h : Heap) (a place : ℕ) (items : List Word) (o : Standing) (at : object_at h a ≡ Some o) (fits : place + length items ≤ length o.fields) (sound : IsSound h)
+module _ (h : Heap) (a place : ℕ) (items : List Word) (o : Standing) (at : object_at h a ≡ Some o)
+    (fits : place + length items ≤ length o.fields) (sound : IsSound h)
     (names : List (List ℕ)) (s : Store) (shows : Shows h names s) where
   abbrev now : Heap
   now = stored h a place items
@@ -28,7 +29,8 @@ module _ (h : Heap) (a place : ℕ) (items : List Word) (o : Standing) (at : obj
   keeps = Keeps-stored h a place items o at fits
 
   -- another object at the birth number of what was stored into, of as many bytes as the old one
-  module _ (old new : Object) (there : slice_get s o.birth ≡ Some old) (bytes_kept : length (bytes_in (Some old)) ≡ length (bytes_in (Some new))) where
+  module _ (old new : Object) (there : slice_get s o.birth ≡ Some old)
+      (bytes_kept : length (bytes_in (Some old)) ≡ length (bytes_in (Some new))) where
     abbrev after : Store
     after = slice_set s o.birth new
 
@@ -41,25 +43,41 @@ module _ (h : Heap) (a place : ℕ) (items : List Word) (o : Standing) (at : obj
       | inl same ↦
           let was : slice_get s birth ≡ Some old = ap (slice_get s) (sym same) ∙ there in
           let is : slice_get after birth ≡ Some new = ap (slice_get after) (sym same) ∙ there_now in
-          let count : length (bytes_in (slice_get s birth)) ≡ length (bytes_in (slice_get after birth)) =
-          ap (λ x. length (bytes_in x)) was ∙ (bytes_kept ∙ sym (ap (λ x. length (bytes_in x)) is)) in
+          let count : length (bytes_in (slice_get s birth)) ≡ length
+          (bytes_in (slice_get after birth)) =
+          ap (λ x. length (bytes_in x)) was
+          ∙ (bytes_kept ∙ sym (ap (λ x. length (bytes_in x)) is)) in
           omega (arith, count)
       | inr other ↦
-          let same : length (bytes_in (slice_get after birth)) ≡ length (bytes_in (slice_get s birth)) = ap (λ x. length (bytes_in x)) (slice_get-set_other s o.birth birth new other) in
+          let same : length (bytes_in (slice_get after birth)) ≡ length
+          (bytes_in (slice_get s birth)) =
+          ap (λ x. length (bytes_in x)) (slice_get-set_other s o.birth birth new other) in
           omega (arith, same)
     ]
 
     pub Shows-stored :
-        ((b : ℕ) (p : Standing) → object_at now b ≡ Some p → p.kind ≢ BodyKind → p.birth ≡ o.birth → IsShown now names p.kind p.birth p.fields new)
-        → ((b : ℕ) (p : Standing) → object_at now b ≡ Some p → p.kind ≢ TextKind → p.birth ≡ o.birth → AreWithin now names after p.fields)
+        ((b : ℕ) (p : Standing) → object_at now b ≡ Some p → p.kind ≢ BodyKind → p.birth ≡ o.birth
+        → IsShown now names p.kind p.birth p.fields new)
+        → ((b : ℕ) (p : Standing) → object_at now b ≡ Some p → p.kind ≢ TextKind → p.birth ≡ o.birth
+        → AreWithin now names after p.fields)
         → Shows now names after
     Shows-stored shown within =
         Shows-kept h now keeps names sound s after shows
         (next-stored h a place items ∙ (shows.next ∙ sym (length-set s o.birth new)))
         lengths
         (λ b p e body. elim (cases_eq o.birth p.birth) [
-          | inl same ↦ inr (record { object = new; there = ap (slice_get after) (sym same) ∙ there_now; shown = shown b p e body (sym same) })
-          | inr other ↦ inl (untouched h a place items o at fits sound b p e (λ k. other (sym k)), KeepsBirth-stored h a place items o at fits p.birth other, slice_get-set_other s o.birth p.birth new other)
+          | inl same ↦ inr (record {
+            object = new;
+            there = ap (slice_get after) (sym same)
+                ∙ there_now;
+            shown = shown b p e body (sym same);
+          })
+          | inr other ↦ inl (
+            untouched h a place items o at fits sound b p e (λ k. other (sym k)),
+            KeepsBirth-stored h a place items o at fits p.birth other,
+            slice_get-set_other s
+                o.birth p.birth new other,
+          )
         ])
         (λ b p e text. elim (cases_eq o.birth p.birth) [
           | inl same ↦ inr (within b p e text (sym same))
@@ -69,12 +87,15 @@ module _ (h : Heap) (a place : ℕ) (items : List Word) (o : Standing) (at : obj
 -- ---- by kinds
 
 -- an object of one kind stands alone at its birth number but for bodies; an array, a string, a lock and a condition have none
-module _ (h : Heap) (a place : ℕ) (items : List Word) (o : Standing) (at : object_at h a ≡ Some o) (fits : place + length items ≤ length o.fields) (sound : IsSound h) where
+module _ (h : Heap) (a place : ℕ) (items : List Word) (o : Standing) (at : object_at h a ≡ Some o)
+    (fits : place + length items ≤ length o.fields) (sound : IsSound h) where
   abbrev stored_now : Heap
   stored_now = stored h a place items
 
   -- what isn't a body and has the birth number of what was stored into, which isn't a body either, is that object
-  pub alone : o.kind ≢ BodyKind → (b : ℕ) (p : Standing) → object_at stored_now b ≡ Some p → p.kind ≢ BodyKind → p.birth ≡ o.birth → p ≡ record o { fields = splice o.fields place items }
+  pub alone : o.kind ≢ BodyKind → (b : ℕ) (p : Standing) → object_at stored_now b ≡ Some p
+      → p.kind ≢ BodyKind → p.birth ≡ o.birth
+      → p ≡ record o { fields = splice o.fields place items }
   alone body b p e body' one = elim (stored_from h a place items o at fits b p e) [
     | inl (same, is) ↦ is
     | inr (other, there) ↦ absurd (other (sound.single a b o p at there body body' (sym one)))
@@ -88,108 +109,49 @@ body_or LockKind = inr (λ e. cc)
 body_or ConditionKind = inr (λ e. cc)
 body_or BodyKind = inl refl
 
-module _ (h : Heap) (a place : ℕ) (items : List Word) (o : Standing) (at : object_at h a ≡ Some o) (fits : place + length items ≤ length o.fields) (sound : IsSound h) where
+module _ (h : Heap) (a place : ℕ) (items : List Word) (o : Standing) (at : object_at h a ≡ Some o)
+    (fits : place + length items ≤ length o.fields) (sound : IsSound h) where
   abbrev heap_now : Heap
   heap_now = stored h a place items
 
   -- a body that stands apart keeps its fields
-  body_apart : (b : ℕ) (p : Standing) → object_at h b ≡ Some p → p.kind ≡ BodyKind → AreFields heap_now p.kind p.birth p.fields
+  body_apart : (b : ℕ) (p : Standing) → object_at h b ≡ Some p → p.kind ≡ BodyKind
+      → AreFields heap_now p.kind p.birth p.fields
   body_apart b p there body =
-      let old : AreFields h BodyKind p.birth p.fields = subst (λ k. AreFields h k p.birth p.fields) body (sound.fields b p there) in
+      let old : AreFields h BodyKind p.birth p.fields =
+      subst (λ k. AreFields h k p.birth p.fields) body (sound.fields b p there) in
       subst (λ k. AreFields heap_now k p.birth p.fields) (sym body)
-      (body_fields (AreValues-kept h heap_now (Keeps-stored h a place items o at fits) p.fields (body_values h p.birth p.fields old)))
+      (body_fields (AreValues-kept h heap_now (Keeps-stored h a place items o at fits) p.fields
+      (body_values h p.birth p.fields old)))
 
   -- a store into what isn't a body
-  pub IsSound-stored_object : o.kind ≢ BodyKind → AreFields heap_now o.kind o.birth (splice o.fields place items) → IsSound heap_now
+  pub IsSound-stored_object : o.kind ≢ BodyKind
+      → AreFields heap_now o.kind o.birth (splice o.fields place items) → IsSound heap_now
   IsSound-stored_object body fields =
-      IsSound-stored h a place items o at fits sound (λ b p e one. elim (stored_from h a place items o at fits b p e) [
-        | inl (same, is) ↦ subst (λ (x : Standing). AreFields heap_now x.kind x.birth x.fields) (sym is) fields
+      IsSound-stored h a place items o at fits sound
+      (λ b p e one. elim (stored_from h a place items o at fits b p e) [
+        | inl (same, is) ↦ subst (λ (x : Standing). AreFields heap_now x.kind x.birth x.fields)
+            (sym is) fields
         | inr (other, there) ↦ elim (body_or p.kind) [
           | inl body' ↦ body_apart b p there body'
           | inr body' ↦ absurd (other (sound.single a b o p at there body body' (sym one)))
         ]
       ])
 
-  -- the dictionary whose body is stored into keeps its shape
-  shape-stored_body : o.kind ≡ BodyKind → (birth : ℕ) (fields : List Word) → DictionaryFields h birth fields → DictionaryFields heap_now birth fields
-  shape-stored_body body birth fields d = elim (cases_eq a d.body) [
-    | inl same ↦
-        let one : Some o ≡ Some (record { kind = BodyKind; birth = birth; fields = d.body_fields }) = sym at ∙ (ap (object_at h) same ∙ d.stands) in
-        let is : o ≡ record { kind = BodyKind; birth = birth; fields = d.body_fields } = cc in
-        let fields_is : o.fields ≡ d.body_fields = ap (λ (x : Standing). x.fields) is in
-        let birth_is : o.birth ≡ birth = ap (λ (x : Standing). x.birth) is in
-        record {
-          count_word = d.count_word;
-          capacity_word = d.capacity_word;
-          access_word = d.access_word;
-          body_word = d.body_word;
-          are = d.are;
-          count = d.count;
-          capacity = d.capacity;
-          access = d.access;
-          body = d.body;
-          body_fields = splice o.fields place items;
-          count_is = d.count_is;
-          capacity_is = d.capacity_is;
-          access_is = d.access_is;
-          body_is = d.body_is;
-          stands = ap (object_at heap_now) (sym same) ∙ (object_at-stored_same h a place items o at
-              ∙ (ap (λ k. Some (record { kind = k; birth = o.birth; fields = splice o.fields place items })) body
-              ∙ ap (λ n. Some (record { kind = BodyKind; birth = n; fields = splice o.fields place items })) birth_is));
-          within = d.within;
-          room = length-splice o.fields place items fits ∙ (ap length fields_is ∙ d.room);
-        }
-    | inr other ↦ record {
-      count_word = d.count_word;
-      capacity_word = d.capacity_word;
-      access_word = d.access_word;
-      body_word = d.body_word;
-      are = d.are;
-      count = d.count;
-      capacity = d.capacity;
-      access = d.access;
-      body = d.body;
-      body_fields = d.body_fields;
-      count_is = d.count_is;
-      capacity_is = d.capacity_is;
-      access_is = d.access_is;
-      body_is = d.body_is;
-      stands = object_at-stored_other h a place items d.body other ∙ d.stands;
-      within = d.within;
-      room = d.room;
-    }
-  ]
-
-  fields-stored_body : o.kind ≡ BodyKind → {kind : Kind} {birth : ℕ} {fields : List Word} → AreFields h kind birth fields → AreFields heap_now kind birth fields
-  fields-stored_body body (array_fields {fields = fields} v) = array_fields (AreValues-kept h heap_now (Keeps-stored h a place items o at fits) fields v)
-  fields-stored_body body text_fields = text_fields
-  fields-stored_body body (dictionary_fields {birth = birth} {fields = fields} d) = dictionary_fields (shape-stored_body body birth fields d)
-  fields-stored_body body (lock_fields n is) = lock_fields n is
-  fields-stored_body body condition_fields = condition_fields
-  fields-stored_body body (body_fields {fields = fields} v) = body_fields (AreValues-kept h heap_now (Keeps-stored h a place items o at fits) fields v)
-
-  -- a store of values into a body
-  pub IsSound-stored_body : o.kind ≡ BodyKind → AreValues h items → IsSound heap_now
-  IsSound-stored_body body values =
-      IsSound-stored h a place items o at fits sound (λ b p e one. elim (stored_from h a place items o at fits b p e) [
-        | inl (same, is) ↦
-            let old : AreValues h o.fields = body_values h o.birth o.fields (subst (λ k. AreFields h k o.birth o.fields) body (sound.fields a o at)) in
-            subst (λ (x : Standing). AreFields heap_now x.kind x.birth x.fields) (sym is)
-            (subst (λ k. AreFields heap_now k o.birth (splice o.fields place items)) (sym body)
-            (body_fields (AreValues-kept h heap_now (Keeps-stored h a place items o at fits) (splice o.fields place items) (all_splice (IsValue h) o.fields place items old values))))
-        | inr (other, there) ↦ fields-stored_body body (sound.fields b p there)
-      ])
-
   -- a store of values into an array
   pub IsSound-stored_array : o.kind ≡ ArrayKind → AreValues h items → IsSound heap_now
   IsSound-stored_array kind values =
-      let old : AreValues h o.fields = array_values h o.birth o.fields (subst (λ k. AreFields h k o.birth o.fields) kind (sound.fields a o at)) in
+      let old : AreValues h o.fields =
+      array_values h o.birth o.fields
+      (subst (λ k. AreFields h k o.birth o.fields) kind (sound.fields a o at)) in
       IsSound-stored_object (λ k. let clash : ArrayKind ≡ BodyKind = sym kind ∙ k in cc)
       (subst (λ k. AreFields heap_now k o.birth (splice o.fields place items)) (sym kind)
-      (array_fields (AreValues-kept h heap_now (Keeps-stored h a place items o at fits) (splice o.fields place items) (all_splice (IsValue h) o.fields place items old values))))
+      (array_fields (AreValues-kept h heap_now (Keeps-stored h a place items o at fits)
+      (splice o.fields place items) (all_splice (IsValue h) o.fields place items old values))))
 
   -- a store of any words into a string
   pub IsSound-stored_text : o.kind ≡ TextKind → IsSound heap_now
   IsSound-stored_text kind =
       IsSound-stored_object (λ k. let clash : TextKind ≡ BodyKind = sym kind ∙ k in cc)
-      (subst (λ k. AreFields heap_now k o.birth (splice o.fields place items)) (sym kind) text_fields)
+      (subst (λ k. AreFields heap_now k o.birth (splice o.fields place items)) (sym kind)
+      text_fields)

@@ -5,15 +5,18 @@ use Rattle.ps_mem.specs.Heap.{Space, Grants, birth_limit}
 abbrev pub bounded_space : ℕ → Space
 bounded_space size = record { size = size; grows = false }
 
--- the logs of the slots: whether a cycle is open, how many records each may still put, and which are closed
+-- the logs of the slots: whether a cycle is open, how many records each has places for, how many it has put, and which are closed
 pub record Logs : Type 0 where
   pub cycle_open : Bool
-  pub free : List ℕ
+  pub places : List ℕ
+  pub put : List ℕ
   pub closed : List Bool
 
 -- outside a cycle no record is put, and any number may be asked for
 abbrev pub records_of : Logs → ℕ → ℕ
-records_of logs slot = if logs.cycle_open then (if slice_index_or logs.closed slot true then 0 else slice_index logs.free slot) else 2 ^ 64
+records_of logs slot = if logs.cycle_open then
+    (if slice_index_or logs.closed slot true then 0 else slice_index logs.places slot - slice_index
+    logs.put slot) else 2 ^ 64
 
 -- a log is closed in a cycle alone
 abbrev pub is_closed : Logs → ℕ → Bool
@@ -25,21 +28,37 @@ bounded_grants size used next fresh_from logs = record {
   fresh = λ address. nat_le fresh_from address;
   words = size - used;
   births = birth_limit - next;
+  cycle_open = logs.cycle_open;
   records = records_of logs;
+  put = λ slot. slice_index logs.put slot;
   closed = is_closed logs;
 }
 
--- outside a cycle, and at its opening: 256 places are free in the log of each of 32 slots
+-- outside a cycle, and at its opening: there are 256 places in the log of each of 32 slots, and no record was put
 abbrev pub no_logs : Logs
-no_logs = record { cycle_open = false; free = replicate 32 256; closed = replicate 32 false }
+no_logs = record {
+  cycle_open = false;
+  places = replicate 32 256;
+  put = replicate 32 0;
+  closed =
+      replicate 32 false;
+}
 
 abbrev pub open_logs : Logs
-open_logs = record { cycle_open = true; free = replicate 32 256; closed = replicate 32 false }
+open_logs = record {
+  cycle_open = true;
+  places = replicate 32 256;
+  put = replicate 32 0;
+  closed =
+      replicate 32 false;
+}
 
 -- what was granted stays, but for the logs
 pub record IsWithLogs (old new : Grants) (logs : Logs) : Type 0 where
   pub fresh : new.fresh ≡ old.fresh
   pub words : new.words ≡ old.words
   pub births : new.births ≡ old.births
+  pub cycle_open : new.cycle_open ≡ logs.cycle_open
   pub records : (slot : ℕ) → new.records slot ≡ records_of logs slot
+  pub put : (slot : ℕ) → new.put slot ≡ slice_index logs.put slot
   pub closed : (slot : ℕ) → new.closed slot ≡ is_closed logs slot

@@ -1,5 +1,5 @@
 -- What a memory holds: the objects that stand, the next birth number, and the room that they lie in; and what it has granted.
-use Rattle.std.specs.Prelude.{ℕ, Bool, ◌≡◌, ◌≢◌, ◌≤◌, List, [], ◌+◌, ◌^◌, ◌==◌, ◌&&◌, ◌||◌, replicate, nat_le, Option, Some, None, IsTrue, if◌then◌else◌}
+use Rattle.std.specs.Prelude.{ℕ, zero, suc, length, Bool, ◌≡◌, ◌≢◌, ◌≤◌, List, [], ◌+◌, ◌^◌, ◌==◌, ◌&&◌, ◌||◌, not, replicate, nat_le, Option, Some, None, IsTrue, if◌then◌else◌}
 use Rattle.ps_language.specs.declared.kinds.Kind.{Kind}
 use Rattle.ps_language.specs.declared.kinds.Kind.TheVariants.{Body}
 use Rattle.ps_language.specs.Access.{splice}
@@ -51,6 +51,22 @@ fields_at h address = fields_of (object_at h address)
 unfoldable pub empty_heap : Space → Heap
 empty_heap space = record { at = λ address. None; next = 0; used = 0; space = space }
 
+-- ---- how many words stand
+
+-- an object's words: two headers and its fields
+abbrev pub size_of : Option Standing → ℕ
+size_of (Some o) = 2 + length o.fields
+size_of None = 0
+
+-- of the objects at the first addresses, so many of them
+unfoldable pub words_below : (ℕ → Option Standing) → ℕ → ℕ
+words_below at zero = 0
+words_below at (suc n) = words_below at n + size_of (at n)
+
+-- of all that stand: addresses are below 2^24
+unfoldable pub standing_words : Heap → ℕ
+standing_words h = words_below h.at (2 ^ 24)
+
 -- ---- what changes
 
 abbrev pub with_fields : Option Standing → List Word → Option Standing
@@ -60,7 +76,10 @@ with_fields None fields = None
 -- other words in the fields of an object, from a place on; no other object changes
 unfoldable pub stored : Heap → ℕ → ℕ → List Word → Heap
 stored h address place items =
-    record h { at = λ b. if address == b then with_fields (h.at b) (splice (fields_of (h.at b)) place items) else h.at b }
+    record h {
+      at = λ b. if address == b then with_fields (h.at b)
+          (splice (fields_of (h.at b)) place items) else h.at b;
+    }
 
 -- an object more
 abbrev pub with_object : Heap → ℕ → Standing → (ℕ → Option Standing)
@@ -73,7 +92,8 @@ zero_word = record { 0 = 0 }
 -- a new object of zero words takes the next birth number
 unfoldable pub made : Heap → ℕ → Kind → ℕ → Heap
 made h address kind count = record h {
-  at = with_object h address (record { kind = kind; birth = h.next; fields = replicate count zero_word });
+  at = with_object h address
+      (record { kind = kind; birth = h.next; fields = replicate count zero_word });
   next = h.next + 1;
   used = h.used + (2 + count);
 }
@@ -81,7 +101,8 @@ made h address kind count = record h {
 -- a new body of zero words has the birth number of its dictionary, and takes none
 unfoldable pub made_body : Heap → ℕ → ℕ → ℕ → Heap
 made_body h address birth count = record h {
-  at = with_object h address (record { kind = Body; birth = birth; fields = replicate count zero_word });
+  at = with_object h address
+      (record { kind = Body; birth = birth; fields = replicate count zero_word });
   used = h.used + (2 + count);
 }
 
@@ -93,18 +114,34 @@ birth_limit = 2 ^ 40
 
 -- so many words fit the space beside what stands, and so many birth numbers are left
 unfoldable pub has_room : Heap → ℕ → ℕ → Bool
-has_room h words births = h.space.grows || (nat_le (h.used + words) h.space.size && nat_le (h.next + births) birth_limit)
+has_room h words births =
+    h.space.grows || (nat_le (h.used + words) h.space.size && nat_le (h.next + births) birth_limit)
 
 -- ---- what a memory has granted
 
--- fresh: the objects that may still be filled; words, births: what new objects may take; records: how many a slot may put;
--- closed: the slots whose logs are closed
+-- fresh: the objects that may still be filled; words, births: what new objects may take; cycle_open: whether stores are logged;
+-- records: how many a slot may put; put: how many it has put; closed: the slots whose logs are closed
 pub record Grants : Type 0 where
   pub fresh : ℕ → Bool
   pub words : ℕ
   pub births : ℕ
+  pub cycle_open : Bool
   pub records : ℕ → ℕ
+  pub put : ℕ → ℕ
   pub closed : ℕ → Bool
+
+-- the records of an open log that were put and those that may be, together
+abbrev pub IsLogBounded : Grants → (slot : ℕ) → Type 0
+IsLogBounded grants slot =
+    IsTrue grants.cycle_open → 1 ≤ grants.records slot
+    → grants.put slot + grants.records slot ≤ 2 ^ 63
+
+-- no record was put, none was granted or lost, and no cycle or log was opened or closed
+pub record SameLogs (old new : Grants) : Type 0 where
+  pub cycle_open : new.cycle_open ≡ old.cycle_open
+  pub records : new.records ≡ old.records
+  pub put : new.put ≡ old.put
+  pub closed : new.closed ≡ old.closed
 
 -- a new object uses up what was granted for it; what was fresh is so still
 pub record AfterNew (old new : Grants) (address size numbers : ℕ) : Type 0 where
@@ -112,13 +149,24 @@ pub record AfterNew (old new : Grants) (address size numbers : ℕ) : Type 0 whe
   pub still_fresh : (a : ℕ) → IsTrue (old.fresh a) → IsTrue (new.fresh a)
   pub words : old.words ≤ new.words + size
   pub births : old.births ≤ new.births + numbers
+  pub cycle_open : new.cycle_open ≡ old.cycle_open
   pub records : new.records ≡ old.records
+  pub put : new.put ≡ old.put
   pub closed : new.closed ≡ old.closed
 
--- a store leaves no object of which it is known that it may be filled, and uses up at most one record of its slot
+-- the records that a store to an object puts: one in an open cycle, unless the object may still be filled
+abbrev pub records_put : Grants → ℕ → ℕ
+records_put grants address = if grants.cycle_open && not (grants.fresh address) then 1 else 0
+
+-- a store leaves no object of which it is known that it may be filled; it puts at most one record, into the log of its slot, and uses
+-- up what it puts
 pub record AfterStore (old new : Grants) (slot : ℕ) : Type 0 where
   pub words : new.words ≡ old.words
   pub births : new.births ≡ old.births
+  pub cycle_open : new.cycle_open ≡ old.cycle_open
   pub closed : new.closed ≡ old.closed
-  pub used : old.records slot ≤ new.records slot + 1
+  pub used : new.put slot + new.records slot ≡ old.put slot + old.records slot
   pub others : (s : ℕ) → s ≢ slot → new.records s ≡ old.records s
+  pub kept : old.put slot ≤ new.put slot
+  pub one : new.put slot ≤ old.put slot + 1
+  pub put_no_other : (s : ℕ) → s ≢ slot → new.put s ≡ old.put s

@@ -1,5 +1,6 @@
 pub mod Bounded
 pub mod Heap
+pub mod Index
 pub mod Keeps
 pub mod Meaning
 pub mod Objects

@@ -12,6 +12,8 @@ plain_grants size used next = record {
   fresh = λ address. true;
   words = size - used;
   births = birth_limit - next;
+  cycle_open = false;
   records = λ slot. 2 ^ 64;
+  put = λ slot. 0;
   closed = λ slot. false;
 }

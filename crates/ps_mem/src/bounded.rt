@@ -1,6 +1,7 @@
-// A memory of bounded space whose logs are led by hand: it stands in for the collected memories in tests.
-ghost use Rattle.std.specs.Prelude.{ℕ, ◌≡◌, ◌+◌, ◌-◌, ◌≤◌, ◌<◌, ◌^◌, [], true, false, length, IfOk, slice_set, slice_index, replicate, if◌then◌else◌};
-ghost use Rattle.ps_mem.specs.Heap.{Space, Grants, has_room, empty_heap};
+//! A memory of bounded space whose logs are led by hand: it stands in for the collected memories in
+//! tests.
+ghost use Rattle.std.specs.Prelude.{ℕ, ◌≡◌, ◌+◌, ◌-◌, ◌≤◌, ◌<◌, ◌^◌, [], true, false, length, IfOk, slice_set, slice_index, replicate, if◌then◌else◌, ◌&&◌, not, nat_le, ◌↔◌, ◌≢◌, IsTrue};
+ghost use Rattle.ps_mem.specs.Heap.{Space, Grants, has_room, empty_heap, IsLogBounded};
 ghost use Rattle.ps_mem.specs.Objects.{heap_in};
 ghost use Rattle.ps_mem.specs.Bounded.{Logs, bounded_space, bounded_grants, records_of, no_logs, open_logs, IsWithLogs};
 
@@ -17,7 +18,8 @@ pub const RING: u32 = 256;
 /// The birth numbers that there are.
 const BIRTHS: u64 = 1 << 40;
 
-/// A memory whose space is bounded and whose cycles, logs and refusals are as the caller commands. It collects nothing: an end of a cycle
+/// A memory whose space is bounded and whose cycles, logs and refusals are as the caller commands.
+/// It collects nothing: an end of a cycle
 /// leaves what stands where it is.
 #[derive(Drop)]
 pub struct BoundedMemory {
@@ -25,7 +27,8 @@ pub struct BoundedMemory {
     size: u32,
     fresh_from: u32,
     cycle_open: bool,
-    free: [u32; 32],
+    places: [u32; 32],
+    put: [u32; 32],
     closed: [bool; 32],
     ghost sized: { size ≤ length region.words },
     ghost filled: { region.used ≤ size },
@@ -33,11 +36,14 @@ pub struct BoundedMemory {
 }
 
 impl BoundedMemory {
-    /// A space of so many words, below 2^24, in which nothing stands; no cycle is open. `AllocError`: the allocator refused.
+    /// A space of so many words, below 2^24, in which nothing stands; no cycle is open.
+    /// `AllocError`: the allocator refused.
     pub fn new(alloc: Global, size: u32) -> Result<BoundedMemory, AllocError>
         requires { size < 2 ^ 24 }
-        ensures empty { IfOk result (λ m. ⟦<BoundedMemory as Memory>⟧.heap m ≡ empty_heap (bounded_space size)) }
-        ensures granted { IfOk result (λ m. ⟦<BoundedMemory as Memory>⟧.grants m ≡ bounded_grants size 0 0 0 no_logs) }
+        ensures empty { IfOk result
+            (λ m. ⟦<BoundedMemory as Memory>⟧.heap m ≡ empty_heap (bounded_space size)) }
+        ensures granted { IfOk result
+            (λ m. ⟦<BoundedMemory as Memory>⟧.grants m ≡ bounded_grants size 0 0 0 no_logs) }
     {
         let region = Region::new(alloc, size)?;
         Ok(BoundedMemory {
@@ -45,29 +51,36 @@ impl BoundedMemory {
             size,
             fresh_from: 0,
             cycle_open: false,
-            free: [RING; 32],
+            places: [RING; 32],
+            put: [0; 32],
             closed: [false; 32],
         })
     }
 
     /// Opens a cycle: each log is open and holds nothing.
     pub fn open_cycle(&mut self)
-        ensures heap { ⟦<BoundedMemory as Memory>⟧.heap self.new ≡ ⟦<BoundedMemory as Memory>⟧.heap self.old }
-        ensures logs { IsWithLogs (⟦<BoundedMemory as Memory>⟧.grants self.old) (⟦<BoundedMemory as Memory>⟧.grants self.new) open_logs }
+        ensures heap { ⟦<BoundedMemory as Memory>⟧.heap self.new ≡ ⟦<BoundedMemory as Memory>⟧.heap
+            self.old }
+        ensures logs { IsWithLogs (⟦<BoundedMemory as Memory>⟧.grants self.old)
+            (⟦<BoundedMemory as Memory>⟧.grants self.new) open_logs }
         ensures open { self.new.cycle_open ≡ true }
     {
         self.cycle_open = true;
-        self.free = [RING; 32];
+        self.places = [RING; 32];
+        self.put = [0; 32];
         self.closed = [false; 32];
     }
 
     /// Ends the cycle.
     pub fn end_cycle(&mut self)
-        ensures heap { ⟦<BoundedMemory as Memory>⟧.heap self.new ≡ ⟦<BoundedMemory as Memory>⟧.heap self.old }
-        ensures logs { IsWithLogs (⟦<BoundedMemory as Memory>⟧.grants self.old) (⟦<BoundedMemory as Memory>⟧.grants self.new) no_logs }
+        ensures heap { ⟦<BoundedMemory as Memory>⟧.heap self.new ≡ ⟦<BoundedMemory as Memory>⟧.heap
+            self.old }
+        ensures logs { IsWithLogs (⟦<BoundedMemory as Memory>⟧.grants self.old)
+            (⟦<BoundedMemory as Memory>⟧.grants self.new) no_logs }
         ensures over { self.new.cycle_open ≡ false }
     {
         self.cycle_open = false;
+        self.put = [0; 32];
     }
 
     /// Whether a cycle is open.
@@ -80,43 +93,85 @@ impl BoundedMemory {
     /// Closes the log of a slot until the cycle ends.
     pub fn close(&mut self, slot: u32)
         requires { slot < SLOTS }
-        ensures heap { ⟦<BoundedMemory as Memory>⟧.heap self.new ≡ ⟦<BoundedMemory as Memory>⟧.heap self.old }
-        ensures logs { IsWithLogs (⟦<BoundedMemory as Memory>⟧.grants self.old) (⟦<BoundedMemory as Memory>⟧.grants self.new) (record { cycle_open = self.old.cycle_open; free = self.old.free; closed = slice_set self.old.closed slot true }) }
+        ensures heap { ⟦<BoundedMemory as Memory>⟧.heap self.new ≡ ⟦<BoundedMemory as Memory>⟧.heap
+            self.old }
+        ensures logs { IsWithLogs (⟦<BoundedMemory as Memory>⟧.grants self.old)
+            (⟦<BoundedMemory as Memory>⟧.grants self.new)
+            (record {
+              cycle_open = self.old.cycle_open;
+              places = self.old.places;
+              put =
+                  self.old.put;
+              closed = slice_set self.old.closed slot true;
+            }) }
         ensures closed { self.new.closed ≡ slice_set self.old.closed slot true }
-        ensures kept { (self.new.cycle_open ≡ self.old.cycle_open) × (self.new.free ≡ self.old.free) }
+        ensures kept { (self.new.cycle_open ≡ self.old.cycle_open)
+            × (self.new.places ≡ self.old.places) × (self.new.put ≡ self.old.put) }
     {
         self.closed[slot as usize] = true;
     }
 
-    /// Leaves room for so many records in the log of a slot.
+    /// Leaves places for so many records in the log of a slot, and counts its records anew.
     pub fn leave(&mut self, slot: u32, records: u32)
         requires { slot < SLOTS }
-        ensures heap { ⟦<BoundedMemory as Memory>⟧.heap self.new ≡ ⟦<BoundedMemory as Memory>⟧.heap self.old }
-        ensures logs { IsWithLogs (⟦<BoundedMemory as Memory>⟧.grants self.old) (⟦<BoundedMemory as Memory>⟧.grants self.new) (record { cycle_open = self.old.cycle_open; free = slice_set self.old.free slot records; closed = self.old.closed }) }
-        ensures free { self.new.free ≡ slice_set self.old.free slot records }
-        ensures kept { (self.new.cycle_open ≡ self.old.cycle_open) × (self.new.closed ≡ self.old.closed) }
+        ensures heap { ⟦<BoundedMemory as Memory>⟧.heap self.new ≡ ⟦<BoundedMemory as Memory>⟧.heap
+            self.old }
+        ensures logs { IsWithLogs (⟦<BoundedMemory as Memory>⟧.grants self.old)
+            (⟦<BoundedMemory as Memory>⟧.grants self.new)
+            (record {
+              cycle_open = self.old.cycle_open;
+              places =
+                  slice_set self.old.places slot records;
+              put = slice_set self.old.put slot 0;
+              closed =
+                  self.old.closed;
+            }) }
+        ensures places { self.new.places ≡ slice_set self.old.places slot records }
+        ensures put { self.new.put ≡ slice_set self.old.put slot 0 }
+        ensures kept { (self.new.cycle_open ≡ self.old.cycle_open)
+            × (self.new.closed ≡ self.old.closed) }
     {
-        self.free[slot as usize] = records;
+        self.places[slot as usize] = records;
+        self.put[slot as usize] = 0;
     }
 
     /// Whether so many words and birth numbers are left.
     fn fits(&self, words: u32, births: u32) -> bool
-        ensures { result ≡ has_room (heap_in self.now.region.words self.now.region.used self.now.region.next (bounded_space self.now.size)) words births }
+        ensures { result ≡ has_room
+            (heap_in self.now.region.words self.now.region.used self.now.region.next
+            (bounded_space self.now.size)) words births }
     {
         words <= self.size - self.region.used() && births as u64 <= BIRTHS - self.region.next()
     }
 
-    /// Uses up a record of a slot where a cycle is open, and ends the time in which what stands may be filled.
-    fn log(&mut self, slot: u32)
-        requires { 1 ≤ records_of (record { cycle_open = self.old.cycle_open; free = self.old.free; closed = self.old.closed }) slot }
+    /// Counts a record of a slot where a cycle is open and the object at an address may not be
+    /// filled, and ends the time in which what
+    /// stands may be filled.
+    fn log(&mut self, slot: u32, address: u32)
+        requires { 1 ≤ records_of
+            (record {
+              cycle_open = self.old.cycle_open;
+              places = self.old.places;
+              put =
+                  self.old.put;
+              closed = self.old.closed;
+            }) slot }
         ensures region { self.new.region ≡ self.old.region }
-        ensures kept { (self.new.size ≡ self.old.size) × (self.new.cycle_open ≡ self.old.cycle_open) × (self.new.closed ≡ self.old.closed) }
+        ensures kept { (self.new.size ≡ self.old.size) × (self.new.cycle_open ≡ self.old.cycle_open)
+            × (self.new.closed ≡ self.old.closed) × (self.new.places ≡ self.old.places) }
         ensures fresh { self.new.fresh_from ≡ self.old.region.used }
-        ensures free { self.new.free ≡ (if self.old.cycle_open then slice_set self.old.free slot (slice_index self.old.free slot - 1) else self.old.free) }
+        ensures put { self.new.put ≡
+            (if self.old.cycle_open && not (nat_le self.old.fresh_from address) then slice_set
+            self.old.put slot (slice_index self.old.put slot + 1) else self.old.put) }
     {
+        let may_be_filled = self.fresh_from <= address;
         self.fresh_from = self.region.used();
-        if self.cycle_open {
-            self.free[slot as usize] -= 1;
+        if self.cycle_open && !may_be_filled {
+            let places = self.places[slot as usize];
+            let put = self.put[slot as usize];
+            if put < places {
+                self.put[slot as usize] = put + 1;
+            }
         }
     }
 }
@@ -124,7 +179,8 @@ impl BoundedMemory {
 impl Memory for BoundedMemory {
     ghost heap = { λ m. heap_in m.region.words m.region.used m.region.next (bounded_space m.size) };
 
-    ghost grants = { λ m. bounded_grants m.size m.region.used m.region.next m.fresh_from (record { cycle_open = m.cycle_open; free = m.free; closed = m.closed }) };
+    ghost grants = { λ m. bounded_grants m.size m.region.used m.region.next m.fresh_from
+        (record { cycle_open = m.cycle_open; places = m.places; put = m.put; closed = m.closed }) };
 
     fn used(&mut self) -> u32 {
         self.region.used()
@@ -168,23 +224,43 @@ impl Memory for BoundedMemory {
     }
 
     fn store(&mut self, slot: u32, address: u32, place: u32, items: &[Word]) {
-        self.log(slot);
+        self.log(slot, address);
         self.region.write(address, place, items);
     }
 
     fn copy(&mut self, slot: u32, from: u32, from_place: u32, to: u32, to_place: u32, count: u32) {
-        self.log(slot);
+        self.log(slot, to);
         self.region.copy(from, from_place, to, to_place, count);
     }
 
-    fn permit(&mut self, slot: u32, count: u32) -> Permit {
+    /// Of this memory no log is drained but by `leave`: asking changes nothing.
+    fn permit(&mut self, slot: u32, count: u32) -> Permit
+        requires slot { slot < SLOTS }
+        ensures heap { ⟦<BoundedMemory as Memory>⟧.heap self.new ≡ ⟦<BoundedMemory as Memory>⟧.heap
+            self.old }
+        ensures grants { ⟦<BoundedMemory as Memory>⟧.grants self.new ≡ ⟦<BoundedMemory as Memory>⟧.grants self.old }
+        ensures others { (s : ℕ) → s ≢ slot
+            → (⟦<BoundedMemory as Memory>⟧.grants self.new).records s ≡
+            (⟦<BoundedMemory as Memory>⟧.grants self.old).records s }
+        ensures more { (⟦<BoundedMemory as Memory>⟧.grants self.old).records slot ≤
+            (⟦<BoundedMemory as Memory>⟧.grants self.new).records slot }
+        ensures limit { IsLogBounded (⟦<BoundedMemory as Memory>⟧.grants self.new) slot }
+        ensures yes { result ≡ Permit.Yes
+            → count ≤ (⟦<BoundedMemory as Memory>⟧.grants self.new).records slot }
+        ensures full { result ≡ Permit.LogFull
+            → (⟦<BoundedMemory as Memory>⟧.grants self.new).records slot < count }
+        ensures closed { (result ≡ Permit.LogClosed) ↔
+            ((1 ≤ count) × IsTrue ((⟦<BoundedMemory as Memory>⟧.grants self.old).closed slot)) }
+    {
+        let places = self.places[slot as usize];
+        let put = self.put[slot as usize];
         if !self.cycle_open || count == 0 {
             return Permit::Yes;
         }
         if self.closed[slot as usize] {
             return Permit::LogClosed;
         }
-        if count <= self.free[slot as usize] {
+        if count <= places.saturating_sub(put) {
             Permit::Yes
         } else {
             Permit::LogFull

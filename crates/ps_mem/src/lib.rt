@@ -2,7 +2,7 @@
 #![tactic(auto)]
 
 ghost use Rattle.std.specs.Prelude.{◌≡◌, ℕ, ◌+◌, ◌^◌, ◌<◌, ◌≤◌, ◌↔◌, ◌≢◌, List, [], ◌∷◌, Bool, true, false, IsTrue, length, slice_get, Option, Some, None, OnOk, OnErr, IsOk, IsErr, IfSome, IsSome, slice_range};
-ghost use Rattle.ps_mem.specs.Heap.{Heap, Grants, AfterNew, AfterStore, object_at, fields_at, birth_at, stored, made, made_body, IsKind, has_room};
+ghost use Rattle.ps_mem.specs.Heap.{Heap, Grants, AfterNew, AfterStore, object_at, fields_at, birth_at, stored, made, made_body, IsKind, has_room, standing_words, records_put, IsLogBounded};
 ghost use Rattle.ps_mem.specs.References.{NamesStanding};
 
 pub mod bounded;
@@ -35,11 +35,16 @@ pub enum Permit {
     LogClosed,
 }
 
-/// A memory of objects. An object stands at an address from its making on; its kind, birth number and number of fields never change, and
-/// no object moves or goes within a call of this trait. What stands may be renamed or collected between two calls only, by calls that
+/// A memory of objects. An object stands at an address from its making on; its kind, birth number
+/// and number of fields never change, and
+/// no object moves or goes within a call of this trait. What stands may be renamed or collected
+/// between two calls only, by calls that
 /// the caller makes on the memory's owner.
 ///
-/// Outside a cycle of the collector no log is kept. In a cycle each `store` and `copy` puts one record into the log of its slot.
+/// Outside a cycle of the collector no log is kept. In a cycle each `store` and `copy` puts one
+/// record into the log of its slot, but none
+/// for an object that may still be filled. No other call puts a record. No log is granted more than
+/// 2^63 records in all.
 pub trait Memory {
     /// What stands, the next birth number and the space.
     ghost heap: { Self → Heap };
@@ -51,7 +56,8 @@ pub trait Memory {
     fn used(&mut self) -> u32
         ensures heap { heap self.new ≡ heap self.old }
         ensures grants { grants self.new ≡ grants self.old }
-        ensures answer { result ≡ (heap self.old).used };
+        ensures answer { result ≡ (heap self.old).used }
+        ensures counted { (heap self.old).used ≡ standing_words (heap self.old) };
 
     /// The words of the space; of a memory that grows, the most that it takes.
     fn size(&mut self) -> u32
@@ -59,47 +65,59 @@ pub trait Memory {
         ensures grants { grants self.new ≡ grants self.old }
         ensures answer { result ≡ (heap self.old).space.size };
 
-    /// Whether so many words fit the space beside what stands and so many birth numbers are left; of a memory that grows, always.
+    /// Whether so many words fit the space beside what stands and so many birth numbers are left;
+    /// of a memory that grows, always.
     fn room(&mut self, words: u32, births: u32) -> bool
         ensures heap { heap self.new ≡ heap self.old }
         ensures grants { grants self.new ≡ grants self.old }
         ensures answer { result ≡ has_room (heap self.old) words births };
 
-    /// Asks for words and birth numbers for new objects. `NeedSpace`, of the words asked: there is no room. `Memory`: a growth was
-    /// refused, never in a space that doesn't grow. After an error nothing has changed.
+    /// Asks for words and birth numbers for new objects. `NeedSpace`, of the words asked: there is
+    /// no room. `Memory`: a growth was
+    /// refused, never in a space that doesn't grow. After an error nothing has changed, and nothing
+    /// that was granted before is lost.
     fn need(&mut self, words: u32, births: u32) -> Result<(), NeedFault>
         ensures heap { heap self.new ≡ heap self.old }
-        ensures kept { grants self.new ≡ record (grants self.old) { words = (grants self.new).words; births = (grants self.new).births } }
-        ensures granted { OnOk result ((words ≤ (grants self.new).words) × (births ≤ (grants self.new).births)) }
+        ensures kept { grants self.new ≡ record (grants self.old)
+            { words = (grants self.new).words; births = (grants self.new).births } }
+        ensures granted { OnOk result
+            ((words ≤ (grants self.new).words) × (births ≤ (grants self.new).births)) }
         ensures refused { OnErr result (grants self.new ≡ grants self.old) }
+        ensures more { ((grants self.old).words ≤ (grants self.new).words)
+            × ((grants self.old).births ≤ (grants self.new).births) }
 
         // When it is refused, and when it is not.
-        ensures space { IsTrue (has_room (heap self.old) words births) ↔ (result ≢ Err (NeedFault.NeedSpace words)) }
+        ensures space { IsTrue (has_room (heap self.old) words births) ↔
+            (result ≢ Err (NeedFault.NeedSpace words)) }
         ensures names_words { (n : ℕ) → result ≡ Err (NeedFault.NeedSpace n) → n ≡ words }
         ensures memory { result ≡ Err NeedFault.Memory → IsTrue (heap self.old).space.grows }
         ensures limit { (heap self.old).space.size < (heap self.old).used + words → IsErr result }
-        ensures already { words ≤ (grants self.old).words → births ≤ (grants self.old).births → IsOk result };
+        ensures already { words ≤ (grants self.old).words → births ≤ (grants self.old).births
+            → IsOk result };
 
-    /// A new object of zero words, at an address below 2^24 where nothing stands, with the next birth number. It may be filled up to
+    /// A new object of zero words, at an address below 2^24 where nothing stands, with the next
+    /// birth number. It may be filled up to
     /// the first `store` or `copy`.
     fn alloc(&mut self, kind: Kind, fields: u32) -> u32
         requires words { 2 + fields ≤ (grants self.old).words }
         requires births { 1 ≤ (grants self.old).births }
-        requires fields { fields < 2 ^ 20 }
+        requires fields { fields < 2 ^ 16 }
         requires kind { kind ≢ Kind.Body }
         ensures address { result < 2 ^ 24 }
         ensures free { object_at (heap self.old) result ≡ None }
         ensures heap { heap self.new ≡ made (heap self.old) result kind fields }
         ensures grants { AfterNew (grants self.old) (grants self.new) result (2 + fields) 1 };
 
-    /// A new body of zero words for the dictionary at an address, whose birth number it has; else as `alloc`.
+    /// A new body of zero words for the dictionary at an address, whose birth number it has; else
+    /// as `alloc`.
     fn alloc_body(&mut self, dictionary: u32, fields: u32) -> u32
         requires words { 2 + fields ≤ (grants self.old).words }
-        requires fields { fields < 2 ^ 20 }
+        requires fields { fields < 2 ^ 16 }
         requires stands { IsKind Kind.Dictionary (object_at (heap self.old) dictionary) }
         ensures address { result < 2 ^ 24 }
         ensures free { object_at (heap self.old) result ≡ None }
-        ensures heap { heap self.new ≡ made_body (heap self.old) result (birth_at (heap self.old) dictionary) fields }
+        ensures heap { heap self.new ≡ made_body (heap self.old) result
+            (birth_at (heap self.old) dictionary) fields }
         ensures grants { AfterNew (grants self.old) (grants self.new) result (2 + fields) 0 };
 
     /// What stands at an address.
@@ -107,7 +125,9 @@ pub trait Memory {
         requires stands { IsSome (object_at (heap self.old) address) }
         ensures heap { heap self.new ≡ heap self.old }
         ensures grants { grants self.new ≡ grants self.old }
-        ensures answer { IfSome (object_at (heap self.old) address) (λ o. result ≡ record { kind = o.kind; fields = length o.fields; birth = o.birth }) };
+        ensures birth { result.birth < 2 ^ 40 }
+        ensures answer { IfSome (object_at (heap self.old) address)
+            (λ o. result ≡ record { kind = o.kind; fields = length o.fields; birth = o.birth }) };
 
     /// The word in a field.
     fn load(&mut self, address: u32, place: u32) -> Word
@@ -116,7 +136,8 @@ pub trait Memory {
         ensures grants { grants self.new ≡ grants self.old }
         ensures answer { slice_get (fields_at (heap self.old) address) place ≡ Some result };
 
-    /// Puts a word into a field of an object that may be filled, without a record. What the word refers to stands.
+    /// Puts a word into a field of an object that may be filled, without a record. What the word
+    /// refers to stands.
     fn fill(&mut self, address: u32, place: u32, word: Word)
         requires fresh { IsTrue ((grants self.old).fresh address) }
         requires known { NamesStanding (heap self.old) address (word ∷ []) }
@@ -124,7 +145,8 @@ pub trait Memory {
         ensures heap { heap self.new ≡ stored (heap self.old) address place (word ∷ []) }
         ensures grants { grants self.new ≡ grants self.old };
 
-    /// Puts one word or more into the fields from a place on, with one record in a cycle. From here on no object may be filled but those
+    /// Puts one word or more into the fields from a place on, with one record in a cycle, if the
+    /// object may not be filled. From here on no object may be filled but those
     /// that are made later. What the words refer to stands.
     fn store(&mut self, slot: u32, address: u32, place: u32, items: &[Word])
         requires granted { 1 ≤ (grants self.old).records slot }
@@ -132,30 +154,43 @@ pub trait Memory {
         requires known { NamesStanding (heap self.old) address items.now }
         requires place { place + length items.now ≤ length (fields_at (heap self.old) address) }
         ensures heap { heap self.new ≡ stored (heap self.old) address place items.now }
-        ensures grants { AfterStore (grants self.old) (grants self.new) slot };
+        ensures grants { AfterStore (grants self.old) (grants self.new) slot }
+        ensures logged { (grants self.new).put slot ≡ (grants self.old).put slot + records_put
+            (grants self.old) address };
 
-    /// Copies `count` words, at least one, from the fields of one object from a place on to those of another or the same, as if all were
+    /// Copies `count` words, at least one, from the fields of one object from a place on to those
+    /// of another or the same, as if all were
     /// read before any was written; else as `store`.
     fn copy(&mut self, slot: u32, from: u32, from_place: u32, to: u32, to_place: u32, count: u32)
         requires granted { 1 ≤ (grants self.old).records slot }
         requires some { 1 ≤ count }
         requires source { from_place + count ≤ length (fields_at (heap self.old) from) }
         requires target { to_place + count ≤ length (fields_at (heap self.old) to) }
-        requires known { NamesStanding (heap self.old) to (slice_range (fields_at (heap self.old) from) from_place (from_place + count)) }
-        ensures heap { heap self.new ≡ stored (heap self.old) to to_place (slice_range (fields_at (heap self.old) from) from_place (from_place + count)) }
-        ensures grants { AfterStore (grants self.old) (grants self.new) slot };
+        requires known { NamesStanding (heap self.old) to
+            (slice_range (fields_at (heap self.old) from) from_place (from_place + count)) }
+        ensures heap { heap self.new ≡ stored (heap self.old) to to_place
+            (slice_range (fields_at (heap self.old) from) from_place (from_place + count)) }
+        ensures grants { AfterStore (grants self.old) (grants self.new) slot }
+        ensures logged { (grants self.new).put slot ≡ (grants self.old).put slot + records_put
+            (grants self.old) to };
 
-    /// Asks for so many records in the log of a slot, one for each `store` or `copy` to come. `LogClosed`: one at least is asked for, and
-    /// the log is closed. `LogFull`: fewer can be put. Nothing that stands changes, and nothing that was granted is lost.
+    /// Asks for so many records in the log of a slot, one for each `store` or `copy` to come.
+    /// `LogClosed`: one at least is asked for, and
+    /// the log is closed. `LogFull`: fewer can be put. Nothing that stands changes, and nothing
+    /// that was granted is lost.
     fn permit(&mut self, slot: u32, count: u32) -> Permit
         requires slot { slot < SLOTS }
         ensures heap { heap self.new ≡ heap self.old }
-        ensures grants { grants self.new ≡ record (grants self.old) { records = (grants self.new).records } }
-        ensures others { (s : ℕ) → s ≢ slot → (grants self.new).records s ≡ (grants self.old).records s }
+        ensures grants { grants self.new ≡ record (grants self.old)
+            { records = (grants self.new).records } }
+        ensures others { (s : ℕ) → s ≢ slot
+            → (grants self.new).records s ≡ (grants self.old).records s }
         ensures more { (grants self.old).records slot ≤ (grants self.new).records slot }
+        ensures limit { IsLogBounded (grants self.new) slot }
 
         // The answer.
         ensures yes { result ≡ Permit.Yes → count ≤ (grants self.new).records slot }
         ensures full { result ≡ Permit.LogFull → (grants self.new).records slot < count }
-        ensures closed { (result ≡ Permit.LogClosed) ↔ ((1 ≤ count) × IsTrue ((grants self.old).closed slot)) };
+        ensures closed { (result ≡ Permit.LogClosed) ↔
+            ((1 ≤ count) × IsTrue ((grants self.old).closed slot)) };
 }

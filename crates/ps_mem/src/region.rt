@@ -1,7 +1,7 @@
 // Words in which objects stand one after another, with blank words behind them.
 ghost use Rattle.std.specs.Prelude.{◌≡◌, ◌≢◌, ℕ, true, ◌+◌, ◌-◌, ◌^◌, ◌<◌, ◌≤◌, List, [], ◌∷◌, take, drop, replicate, length, slice_get, slice_range, Option, Some, None, OnOk, OnErr, IfOk, IfSome, IsSome};
 ghost use Rattle.ps_mem.specs.Objects.{wanting, all_headers, heap_in};
-ghost use Rattle.ps_mem.specs.Heap.{Space, object_at, fields_at, birth_at, stored, made, made_body, IsKind};
+ghost use Rattle.ps_mem.specs.Heap.{Space, object_at, fields_at, birth_at, stored, made, made_body, IsKind, standing_words};
 
 use ps_language::kinds::Kind;
 use ps_raw::RawWords;
@@ -58,7 +58,10 @@ impl Region {
     /// The words that stand.
     #[inline]
     pub(crate) fn used(&self) -> u32
-        ensures { result ≡ self.now.used }
+        ensures answer { result ≡ self.now.used }
+        ensures counted { (space : Space)
+            → standing_words (heap_in self.now.words self.now.used self.now.next space) ≡
+            self.now.used }
     {
         self.used
     }
@@ -83,7 +86,9 @@ impl Region {
     pub(crate) fn grow(&mut self, size: u32) -> Result<(), AllocError>
         requires grown { length self.old.words ≤ size }
         requires limit { size < 2 ^ 24 }
-        ensures heap { (space : Space) → heap_in self.new.words self.new.used self.new.next space ≡ heap_in self.old.words self.old.used self.old.next space }
+        ensures heap { (space : Space)
+            → heap_in self.new.words self.new.used self.new.next space ≡ heap_in self.old.words
+            self.old.used self.old.next space }
         ensures used { (self.new.used ≡ self.old.used) × (self.new.next ≡ self.old.next) }
         ensures ok { OnOk result (length self.new.words ≡ size) }
         ensures err { OnErr result (length self.new.words ≡ length self.old.words) }
@@ -94,8 +99,12 @@ impl Region {
     /// The word in a field of what stands at an address.
     #[inline]
     pub(crate) fn load(&self, address: u32, place: u32) -> Word
-        requires { (space : Space) → place < length (fields_at (heap_in self.now.words self.now.used self.now.next space) address) }
-        ensures { (space : Space) → slice_get (fields_at (heap_in self.now.words self.now.used self.now.next space) address) place ≡ Some result }
+        requires { (space : Space)
+            → place < length (fields_at (heap_in self.now.words self.now.used self.now.next space)
+            address) }
+        ensures { (space : Space)
+            → slice_get (fields_at (heap_in self.now.words self.now.used self.now.next space)
+            address) place ≡ Some result }
     {
         Word(self.words.load(address as usize + HEADERS + place as usize))
     }
@@ -103,9 +112,12 @@ impl Region {
     /// The header of what stands at an address.
     #[inline]
     pub(crate) fn header(&self, address: u32) -> Header
-        requires { (space : Space) → IsSome (object_at (heap_in self.now.words self.now.used self.now.next space) address) }
+        requires { (space : Space)
+            → IsSome (object_at (heap_in self.now.words self.now.used self.now.next space) address) }
         ensures birth { result.birth < 2 ^ 40 }
-        ensures answer { (space : Space) → IfSome (object_at (heap_in self.now.words self.now.used self.now.next space) address) (λ o. result ≡ record { kind = o.kind; fields = length o.fields; birth = o.birth }) }
+        ensures answer { (space : Space)
+            → IfSome (object_at (heap_in self.now.words self.now.used self.now.next space) address)
+            (λ o. result ≡ record { kind = o.kind; fields = length o.fields; birth = o.birth }) }
     {
         match Header::unpack(Word(self.words.load(address as usize))) {
             Some(header) => header,
@@ -116,9 +128,14 @@ impl Region {
     /// Puts a word into a field of what stands at an address.
     #[inline]
     pub(crate) fn put(&mut self, address: u32, place: u32, word: Word)
-        requires { (space : Space) → place < length (fields_at (heap_in self.old.words self.old.used self.old.next space) address) }
-        ensures heap { (space : Space) → heap_in self.new.words self.new.used self.new.next space ≡ stored (heap_in self.old.words self.old.used self.old.next space) address place (word ∷ []) }
-        ensures counts { (self.new.used ≡ self.old.used) × (self.new.next ≡ self.old.next) × (length self.new.words ≡ length self.old.words) }
+        requires { (space : Space)
+            → place < length (fields_at (heap_in self.old.words self.old.used self.old.next space)
+            address) }
+        ensures heap { (space : Space)
+            → heap_in self.new.words self.new.used self.new.next space ≡ stored
+            (heap_in self.old.words self.old.used self.old.next space) address place (word ∷ []) }
+        ensures counts { (self.new.used ≡ self.old.used) × (self.new.next ≡ self.old.next)
+            × (length self.new.words ≡ length self.old.words) }
     {
         self.words
             .store(address as usize + HEADERS + place as usize, word.0);
@@ -126,9 +143,14 @@ impl Region {
 
     /// Puts words into the fields of what stands at an address, from a place on.
     pub(crate) fn write(&mut self, address: u32, place: u32, items: &[Word])
-        requires { (space : Space) → place + length items.now ≤ length (fields_at (heap_in self.old.words self.old.used self.old.next space) address) }
-        ensures heap { (space : Space) → heap_in self.new.words self.new.used self.new.next space ≡ stored (heap_in self.old.words self.old.used self.old.next space) address place items.now }
-        ensures counts { (self.new.used ≡ self.old.used) × (self.new.next ≡ self.old.next) × (length self.new.words ≡ length self.old.words) }
+        requires { (space : Space)
+            → place + length items.now ≤ length
+            (fields_at (heap_in self.old.words self.old.used self.old.next space) address) }
+        ensures heap { (space : Space)
+            → heap_in self.new.words self.new.used self.new.next space ≡ stored
+            (heap_in self.old.words self.old.used self.old.next space) address place items.now }
+        ensures counts { (self.new.used ≡ self.old.used) × (self.new.next ≡ self.old.next)
+            × (length self.new.words ≡ length self.old.words) }
     {
         let mut at = place;
         for word in items {
@@ -137,13 +159,23 @@ impl Region {
         }
     }
 
-    /// Copies words from the fields of one object to those of another or the same, as if all were read first.
+    /// Copies words from the fields of one object to those of another or the same, as if all were
+    /// read first.
     pub(crate) fn copy(&mut self, from: u32, from_place: u32, to: u32, to_place: u32, count: u32)
         requires some { 1 ≤ count }
-        requires source { (space : Space) → from_place + count ≤ length (fields_at (heap_in self.old.words self.old.used self.old.next space) from) }
-        requires target { (space : Space) → to_place + count ≤ length (fields_at (heap_in self.old.words self.old.used self.old.next space) to) }
-        ensures heap { (space : Space) → heap_in self.new.words self.new.used self.new.next space ≡ stored (heap_in self.old.words self.old.used self.old.next space) to to_place (slice_range (fields_at (heap_in self.old.words self.old.used self.old.next space) from) from_place (from_place + count)) }
-        ensures counts { (self.new.used ≡ self.old.used) × (self.new.next ≡ self.old.next) × (length self.new.words ≡ length self.old.words) }
+        requires source { (space : Space)
+            → from_place + count ≤ length
+            (fields_at (heap_in self.old.words self.old.used self.old.next space) from) }
+        requires target { (space : Space)
+            → to_place + count ≤ length
+            (fields_at (heap_in self.old.words self.old.used self.old.next space) to) }
+        ensures heap { (space : Space)
+            → heap_in self.new.words self.new.used self.new.next space ≡ stored
+            (heap_in self.old.words self.old.used self.old.next space) to to_place
+            (slice_range (fields_at (heap_in self.old.words self.old.used self.old.next space) from)
+            from_place (from_place + count)) }
+        ensures counts { (self.new.used ≡ self.old.used) × (self.new.next ≡ self.old.next)
+            × (length self.new.words ≡ length self.old.words) }
     {
         self.words.copy_within(
             from as usize + HEADERS + from_place as usize,
@@ -158,9 +190,14 @@ impl Region {
         requires fields { fields < 2 ^ 20 }
         requires kind { kind ≢ Kind.Body }
         ensures address { result ≡ self.old.used }
-        ensures free { (space : Space) → object_at (heap_in self.old.words self.old.used self.old.next space) result ≡ None }
-        ensures heap { (space : Space) → heap_in self.new.words self.new.used self.new.next space ≡ made (heap_in self.old.words self.old.used self.old.next space) result kind fields }
-        ensures counts { (self.new.used ≡ self.old.used + (2 + fields)) × (self.new.next ≡ self.old.next + 1) × (length self.new.words ≡ length self.old.words) }
+        ensures free { (space : Space)
+            → object_at (heap_in self.old.words self.old.used self.old.next space) result ≡ None }
+        ensures heap { (space : Space)
+            → heap_in self.new.words self.new.used self.new.next space ≡ made
+            (heap_in self.old.words self.old.used self.old.next space) result kind fields }
+        ensures counts { (self.new.used ≡ self.old.used + (2 + fields))
+            × (self.new.next ≡ self.old.next + 1)
+            × (length self.new.words ≡ length self.old.words) }
     {
         let address = self.used;
         let header = Header {
@@ -180,9 +217,13 @@ impl Region {
         requires fields { fields < 2 ^ 20 }
         requires birth { birth < 2 ^ 40 }
         ensures address { result ≡ self.old.used }
-        ensures free { (space : Space) → object_at (heap_in self.old.words self.old.used self.old.next space) result ≡ None }
-        ensures heap { (space : Space) → heap_in self.new.words self.new.used self.new.next space ≡ made_body (heap_in self.old.words self.old.used self.old.next space) result birth fields }
-        ensures counts { (self.new.used ≡ self.old.used + (2 + fields)) × (self.new.next ≡ self.old.next) × (length self.new.words ≡ length self.old.words) }
+        ensures free { (space : Space)
+            → object_at (heap_in self.old.words self.old.used self.old.next space) result ≡ None }
+        ensures heap { (space : Space)
+            → heap_in self.new.words self.new.used self.new.next space ≡ made_body
+            (heap_in self.old.words self.old.used self.old.next space) result birth fields }
+        ensures counts { (self.new.used ≡ self.old.used + (2 + fields))
+            × (self.new.next ≡ self.old.next) × (length self.new.words ≡ length self.old.words) }
     {
         let body = self.used;
         let header = Header {

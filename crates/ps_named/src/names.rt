@@ -21,6 +21,7 @@ pub const NAMES: u32 = 44;
 
 /// What the name of a number stands for; no name has a number that isn't below `NAMES`.
 #[tactic(auto, unfolding(ps_language::specs::Small::named, ps_language::specs::Small::small_names, ps_language::specs::Small::small_pairs, ps_language::specs::Equality::same_key))]
+#[inline]
 pub fn named_at(number: u32) -> Option<Named>
     ensures value { option_map named_value_of result ≡ named (text_of_name small_names number) }
     ensures small { IfSome result (λ found. IsTrue (is_small_named found)) }
@@ -131,7 +132,8 @@ pub fn text_at(number: u32) -> &'static [u8]
 /// The numbers of the names of so many bytes: from the first on, below the second.
 fn numbers_of_length(size: usize) -> (u32, u32)
     ensures below { result.1 ≤ NAMES }
-    ensures others { (n : ℕ) → n < NAMES → (n < result.0) ⊎ (result.1 ≤ n) → length (text_of_name small_names n) ≢ size }
+    ensures others { (n : ℕ) → n < NAMES → (n < result.0) ⊎ (result.1 ≤ n)
+        → length (text_of_name small_names n) ≢ size }
 {
     match size {
         1 => (0, 3),

@@ -2,7 +2,5 @@
 #![tactic(auto)]
 
 mod names;
-#[cfg(test)]
-mod tests;
 
 pub use names::{NAME_LIMIT, NAMES_LIMIT, NameId, Names, NamesFault};

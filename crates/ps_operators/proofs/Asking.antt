@@ -1,14 +1,16 @@
 -- What the rows ask for that change arrays or make them.
-use Rattle.std.proofs.Common.{◌≡◌, Bool, true, false, List, [], ◌∷◌, ◌++◌, Option, Some, None, refl}
+use Rattle.std.proofs.Common.{◌≡◌, ℕ, Bool, true, false, List, [], ◌∷◌, ◌++◌, Option, Some, None, refl}
 use Rattle.std.specs.Prelude.{ℤ}
 use Rattle.ps_language.specs.Readers.{as_integer, as_array}
 use Rattle.ps_language.specs.declared.errors.ErrorName.{ErrorName}
 use Rattle.ps_language.specs.declared.errors.ErrorName.TheVariants.{StackUnderflow, TypeCheck}
 use Rattle.ps_language.specs.Value.{Part, What, integer_value, array_value, Value, Object, Store}
 use Rattle.ps_language.specs.Outcome.{Outcome, leaves, fails, given, given_that, Change, unchanged}
-use Rattle.ps_language.specs.Objects.{size_of, making, changing}
+use Rattle.ps_language.specs.Objects.{made_between, making, changing}
+use Rattle.ps_language.specs.Access.{with_part_elements}
 use Rattle.ps_language.specs.ArrayRows.{array_put_row, array_putinterval_row, array_copy_row}
 use Rattle.ps_language.specs.RowsSequences.{array_row, end_array_row, astore_row}
+use Rattle.ps_language.proofs.AskedLemmas.{made-same, elements-unasked}
 use Rattle.ps_language.specs.SmallRows.{copy_by, small_copy_row}
 
 -- what is left is such a change; an error leaves none
@@ -23,76 +25,90 @@ pub record Leaving (P : Change → Type 0) (outcome : Outcome Change) : Type 0 w
 leaving_error : (P : Change → Type 0) (error : ErrorName) → Leaving P (fails error)
 leaving_error P error = record { such = tt }
 
-leaving_given : {A : Type 0} (P : Change → Type 0) (thing : Option A) (error : ErrorName) (next : A → Outcome Change) → ((a : A) → Leaving P (next a)) → Leaving P (given thing error next)
+leaving_given : {A : Type 0} (P : Change → Type 0) (thing : Option A) (error : ErrorName)
+    (next : A → Outcome Change) → ((a : A) → Leaving P (next a))
+    → Leaving P (given thing error next)
 leaving_given P None error next each = leaving_error P error
 leaving_given P (Some a) error next each = each a
 
-leaving_given_that : (P : Change → Type 0) (test : Bool) (error : ErrorName) (next : Outcome Change) → Leaving P next → Leaving P (given_that test error next)
+leaving_given_that : (P : Change → Type 0) (test : Bool) (error : ErrorName) (next : Outcome Change)
+    → Leaving P next → Leaving P (given_that test error next)
 leaving_given_that P true error next left = left
 leaving_given_that P false error next left = leaving_error P error
 
 -- ---- rows that ask for no room
 
-abbrev pub IsUnasked : Change → Type 0
-IsUnasked change = change.asked.words ≡ 0
+abbrev pub IsUnasked : Store → Change → Type 0
+IsUnasked store change = made_between store change.store ≡ 0
 
-changing_unasked : (operands : List Value) (store : Store) → Leaving IsUnasked (changing operands store)
-changing_unasked operands store = record { such = refl }
+changing_unasked : (store : Store) (operands : List Value) (part : Part) (place : ℕ)
+    (items : List Value) → Leaving (IsUnasked store)
+    (changing operands (with_part_elements store part place items))
+changing_unasked store operands part place items =
+    record { such = elements-unasked store part.birth _ }
 
 ruleset unasked_steps = (leaving_given, leaving_given_that, changing_unasked)
 
-pub put_unasked : (store : Store) (operands : List Value) → Leaving IsUnasked (array_put_row store operands)
-put_unasked store [] = leaving_error IsUnasked StackUnderflow
-put_unasked store (y ∷ []) = leaving_error IsUnasked StackUnderflow
-put_unasked store (y ∷ k ∷ []) = leaving_error IsUnasked StackUnderflow
+pub put_unasked : (store : Store) (operands : List Value)
+    → Leaving (IsUnasked store) (array_put_row store operands)
+put_unasked store [] = leaving_error (IsUnasked store) StackUnderflow
+put_unasked store (y ∷ []) = leaving_error (IsUnasked store) StackUnderflow
+put_unasked store (y ∷ k ∷ []) = leaving_error (IsUnasked store) StackUnderflow
 put_unasked store (y ∷ k ∷ x ∷ rest) = search unasked_steps
 
-pub putinterval_unasked : (store : Store) (operands : List Value) → Leaving IsUnasked (array_putinterval_row store operands)
-putinterval_unasked store [] = leaving_error IsUnasked StackUnderflow
-putinterval_unasked store (y ∷ []) = leaving_error IsUnasked StackUnderflow
-putinterval_unasked store (y ∷ k ∷ []) = leaving_error IsUnasked StackUnderflow
+pub putinterval_unasked : (store : Store) (operands : List Value)
+    → Leaving (IsUnasked store) (array_putinterval_row store operands)
+putinterval_unasked store [] = leaving_error (IsUnasked store) StackUnderflow
+putinterval_unasked store (y ∷ []) = leaving_error (IsUnasked store) StackUnderflow
+putinterval_unasked store (y ∷ k ∷ []) = leaving_error (IsUnasked store) StackUnderflow
 putinterval_unasked store (y ∷ k ∷ x ∷ rest) =
-    leaving_given {A = ℤ} IsUnasked (as_integer k) TypeCheck _ λ i.
-    leaving_given {A = Part} IsUnasked (as_array y) TypeCheck _ λ from.
-    leaving_given {A = Part} IsUnasked (as_array x) TypeCheck _ λ to. search unasked_steps
+    leaving_given {A = ℤ} (IsUnasked store) (as_integer k) TypeCheck _ λ i.
+    leaving_given {A = Part} (IsUnasked store) (as_array y) TypeCheck _ λ from.
+    leaving_given {A = Part} (IsUnasked store) (as_array x) TypeCheck _ λ to. search unasked_steps
 
-pub astore_unasked : (store : Store) (operands : List Value) → Leaving IsUnasked (astore_row store operands)
-astore_unasked store [] = leaving_error IsUnasked StackUnderflow
+pub astore_unasked : (store : Store) (operands : List Value)
+    → Leaving (IsUnasked store) (astore_row store operands)
+astore_unasked store [] = leaving_error (IsUnasked store) StackUnderflow
 astore_unasked store (x ∷ rest) = search unasked_steps
 
-array_copy_unasked : (store : Store) (operands : List Value) → Leaving IsUnasked (array_copy_row store operands)
-array_copy_unasked store [] = leaving_error IsUnasked StackUnderflow
-array_copy_unasked store (y ∷ []) = leaving_error IsUnasked StackUnderflow
+array_copy_unasked : (store : Store) (operands : List Value)
+    → Leaving (IsUnasked store) (array_copy_row store operands)
+array_copy_unasked store [] = leaving_error (IsUnasked store) StackUnderflow
+array_copy_unasked store (y ∷ []) = leaving_error (IsUnasked store) StackUnderflow
 array_copy_unasked store (y ∷ x ∷ rest) = search unasked_steps
 
-unchanged_unasked : (store : Store) (outcome : Outcome (List Value)) → Leaving IsUnasked (unchanged store outcome)
-unchanged_unasked store (leaves operands) = record { such = refl }
-unchanged_unasked store (fails error) = leaving_error IsUnasked error
+unchanged_unasked : (store : Store) (outcome : Outcome (List Value))
+    → Leaving (IsUnasked store) (unchanged store outcome)
+unchanged_unasked store (leaves operands) = record { such = made-same store }
+unchanged_unasked store (fails error) = leaving_error (IsUnasked store) error
 
-copy_by_unasked : (store : Store) (y : Value) (what : What) (rest : List Value) → Leaving IsUnasked (copy_by store y what rest)
+copy_by_unasked : (store : Store) (y : Value) (what : What) (rest : List Value)
+    → Leaving (IsUnasked store) (copy_by store y what rest)
 copy_by_unasked store y (integer_value i) rest = unchanged_unasked store _
 copy_by_unasked store y (array_value to) rest = array_copy_unasked store (y ∷ rest)
-copy_by_unasked store y _ rest = leaving_error IsUnasked TypeCheck
+copy_by_unasked store y _ rest = leaving_error (IsUnasked store) TypeCheck
 
-pub copy_unasked : (store : Store) (operands : List Value) → Leaving IsUnasked (small_copy_row store operands)
-copy_unasked store [] = leaving_error IsUnasked StackUnderflow
+pub copy_unasked : (store : Store) (operands : List Value)
+    → Leaving (IsUnasked store) (small_copy_row store operands)
+copy_unasked store [] = leaving_error (IsUnasked store) StackUnderflow
 copy_unasked store (y ∷ rest) = copy_by_unasked store y y.what rest
 
 -- ---- rows that make one object
 
--- one object more, whose room it asks for
+-- one object more
 pub record IsMade (store : Store) (change : Change) : Type 0 where
   pub object : Object
   pub grown : change.store ≡ store ++ object ∷ []
-  pub words : change.asked.words ≡ size_of object
-  pub births : change.asked.births ≡ 1
 
-making_made : (object : Object) (rest : List Value) (store : Store) → Leaving (IsMade store) (making object rest store)
-making_made object rest store = record { such = record { object = object; grown = refl; words = refl; births = refl } }
+making_made : (object : Object) (rest : List Value) (store : Store)
+    → Leaving (IsMade store) (making object rest store)
+making_made object rest store = record { such = record { object = object; grown = refl } }
 
-pub array_made : (store : Store) (operands : List Value) → Leaving (IsMade store) (array_row store operands)
+pub array_made : (store : Store) (operands : List Value)
+    → Leaving (IsMade store) (array_row store operands)
 array_made store [] = leaving_error (IsMade store) StackUnderflow
 array_made store (k ∷ rest) = search (leaving_given, leaving_given_that, making_made)
 
-pub end_array_made : (store : Store) (operands : List Value) → Leaving (IsMade store) (end_array_row store operands)
+pub end_array_made : (store : Store) (operands : List Value)
+    → Leaving (IsMade store) (end_array_row store operands)
 end_array_made store operands = search (leaving_given, making_made)

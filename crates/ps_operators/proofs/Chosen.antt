@@ -3,18 +3,25 @@ use Rattle.std.proofs.Common.{◌≡◌, true, List, refl}
 use Rattle.ps_language.specs.declared.operators.Operator.{Operator}
 use Rattle.ps_language.specs.declared.operators.Operator.TheVariants.{Pop, Exch, Dup, Index, Roll, Clear, Count, Mark, BeginArray, ClearToMark, CountToMark, Add, Sub, Mul, Idiv, Mod, Neg, Abs, And, Or, Xor, Not, Bitshift, Eq, Ne, Gt, Ge, Lt, Le, Length, Get, GetInterval, Aload, Forall, Equals, Array, EndArray, Put, PutInterval, Astore, Copy}
 use Rattle.ps_language.specs.Value.{Value}
-use Rattle.ps_language.specs.Effect.{Around, Scene}
+use Rattle.ps_language.specs.Effect.{Scene}
 use Rattle.ps_language.specs.Outcome.{Outcome}
 use Rattle.ps_language.specs.Rows.{operand_row}
 use Rattle.ps_language.specs.RowsStack.{pop_row, exch_row, dup_row, index_row, roll_row, clear_row, count_row, mark_row, cleartomark_row, counttomark_row}
 use Rattle.ps_language.specs.RowsArithmetic.{add_row, sub_row, mul_row, idiv_row, mod_row, neg_row, abs_row, and_row, or_row, xor_row, not_row, bitshift_row}
 use Rattle.ps_language.specs.SmallRows.{small_row}
 use Rattle.ps_language.specs.Small.{is_small}
-use Rattle.ps_language.specs.Acts.{operands_effect, effect_of}
+use Rattle.ps_language.specs.SmallActs.{Around, operands_effect, effect_of}
 use Rattle.ps_operators.specs.Operates.{is_plain, is_observing, observed}
 
 -- none of the plain operators is not plain
-pub not_plain : (operator : Operator) → (operator ≡ Pop → ⊥) → (operator ≡ Exch → ⊥) → (operator ≡ Dup → ⊥) → (operator ≡ Index → ⊥) → (operator ≡ Roll → ⊥) → (operator ≡ Clear → ⊥) → (operator ≡ Count → ⊥) → (operator ≡ Mark → ⊥) → (operator ≡ BeginArray → ⊥) → (operator ≡ ClearToMark → ⊥) → (operator ≡ CountToMark → ⊥) → (operator ≡ Add → ⊥) → (operator ≡ Sub → ⊥) → (operator ≡ Mul → ⊥) → (operator ≡ Idiv → ⊥) → (operator ≡ Mod → ⊥) → (operator ≡ Neg → ⊥) → (operator ≡ Abs → ⊥) → (operator ≡ And → ⊥) → (operator ≡ Or → ⊥) → (operator ≡ Xor → ⊥) → (operator ≡ Not → ⊥) → (operator ≡ Bitshift → ⊥) → is_plain operator ≡ true → ⊥
+pub not_plain : (operator : Operator) → (operator ≡ Pop → ⊥) → (operator ≡ Exch → ⊥)
+    → (operator ≡ Dup → ⊥) → (operator ≡ Index → ⊥) → (operator ≡ Roll → ⊥) → (operator ≡ Clear → ⊥)
+    → (operator ≡ Count → ⊥) → (operator ≡ Mark → ⊥) → (operator ≡ BeginArray → ⊥)
+    → (operator ≡ ClearToMark → ⊥) → (operator ≡ CountToMark → ⊥) → (operator ≡ Add → ⊥)
+    → (operator ≡ Sub → ⊥) → (operator ≡ Mul → ⊥) → (operator ≡ Idiv → ⊥) → (operator ≡ Mod → ⊥)
+    → (operator ≡ Neg → ⊥) → (operator ≡ Abs → ⊥) → (operator ≡ And → ⊥) → (operator ≡ Or → ⊥)
+    → (operator ≡ Xor → ⊥) → (operator ≡ Not → ⊥) → (operator ≡ Bitshift → ⊥)
+    → is_plain operator ≡ true → ⊥
 not_plain Pop other _ _ _ _ _ _ _ _ _ _ _ _ _ _ _ _ _ _ _ _ _ _ _ = other refl
 not_plain Exch _ other _ _ _ _ _ _ _ _ _ _ _ _ _ _ _ _ _ _ _ _ _ _ = other refl
 not_plain Dup _ _ other _ _ _ _ _ _ _ _ _ _ _ _ _ _ _ _ _ _ _ _ _ = other refl
@@ -41,7 +48,10 @@ not_plain Bitshift _ _ _ _ _ _ _ _ _ _ _ _ _ _ _ _ _ _ _ _ _ _ other _ = other r
 not_plain _ _ _ _ _ _ _ _ _ _ _ _ _ _ _ _ _ _ _ _ _ _ _ _ chosen = cc
 
 -- an operator that observes and is none of those that read objects is plain
-pub rest_plain : (operator : Operator) → (operator ≡ Eq → ⊥) → (operator ≡ Ne → ⊥) → (operator ≡ Gt → ⊥) → (operator ≡ Ge → ⊥) → (operator ≡ Lt → ⊥) → (operator ≡ Le → ⊥) → (operator ≡ Length → ⊥) → (operator ≡ Get → ⊥) → (operator ≡ GetInterval → ⊥) → (operator ≡ Aload → ⊥) → is_observing operator ≡ true → is_plain operator ≡ true
+pub rest_plain : (operator : Operator) → (operator ≡ Eq → ⊥) → (operator ≡ Ne → ⊥)
+    → (operator ≡ Gt → ⊥) → (operator ≡ Ge → ⊥) → (operator ≡ Lt → ⊥) → (operator ≡ Le → ⊥)
+    → (operator ≡ Length → ⊥) → (operator ≡ Get → ⊥) → (operator ≡ GetInterval → ⊥)
+    → (operator ≡ Aload → ⊥) → is_observing operator ≡ true → is_plain operator ≡ true
 rest_plain Eq other _ _ _ _ _ _ _ _ _ _ = absurd (other refl)
 rest_plain Ne _ other _ _ _ _ _ _ _ _ _ = absurd (other refl)
 rest_plain Gt _ _ other _ _ _ _ _ _ _ _ = absurd (other refl)
@@ -78,7 +88,10 @@ rest_plain Bitshift _ _ _ _ _ _ _ _ _ _ _ = refl
 rest_plain _ _ _ _ _ _ _ _ _ _ _ chosen = cc
 
 -- a small operator that is none of those that change, make, print or loop observes
-pub rest_observing : (operator : Operator) → (operator ≡ Forall → ⊥) → (operator ≡ Equals → ⊥) → (operator ≡ Array → ⊥) → (operator ≡ EndArray → ⊥) → (operator ≡ Put → ⊥) → (operator ≡ PutInterval → ⊥) → (operator ≡ Astore → ⊥) → (operator ≡ Copy → ⊥) → is_small operator ≡ true → is_observing operator ≡ true
+pub rest_observing : (operator : Operator) → (operator ≡ Forall → ⊥) → (operator ≡ Equals → ⊥)
+    → (operator ≡ Array → ⊥) → (operator ≡ EndArray → ⊥) → (operator ≡ Put → ⊥)
+    → (operator ≡ PutInterval → ⊥) → (operator ≡ Astore → ⊥) → (operator ≡ Copy → ⊥)
+    → is_small operator ≡ true → is_observing operator ≡ true
 rest_observing Forall other _ _ _ _ _ _ _ _ = absurd (other refl)
 rest_observing Equals _ other _ _ _ _ _ _ _ = absurd (other refl)
 rest_observing Array _ _ other _ _ _ _ _ _ = absurd (other refl)
@@ -154,8 +167,10 @@ plain_row Bitshift _ = record { does = bitshift_row; is = refl }
 plain_row _ chosen = cc
 
 -- an operator that observes leaves operands and nothing else
-pub observing_effect : (operator : Operator) (around : Around) (scene : Scene) → is_observing operator ≡ true
-    → effect_of (small_row operator) around scene ≡ operands_effect scene (observed (small_row operator) scene.store scene.operands)
+pub observing_effect : (operator : Operator) (around : Around) (scene : Scene)
+    → is_observing operator ≡ true
+    → effect_of (small_row operator) around scene ≡ operands_effect scene
+    (observed (small_row operator) scene.store scene.operands)
 observing_effect Eq around scene _ = refl
 observing_effect Ne around scene _ = refl
 observing_effect Gt around scene _ = refl

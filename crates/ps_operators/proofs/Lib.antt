@@ -1,4 +1,10 @@
-pub mod Chosen
 pub mod Asking
+pub mod Chosen
+pub mod Copied
+pub mod IntegerTests
+pub mod Measured
+pub mod NamesDiffer
 pub mod Observing
 pub mod Operating
+pub mod Printed
+pub mod Relating

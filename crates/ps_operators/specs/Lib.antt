@@ -1,2 +1,4 @@
+pub mod Counts
+pub mod Does
 pub mod Operates
 pub mod Reasons

@@ -13,18 +13,20 @@ ghost use Rattle.ps_operands.specs.Kept.{AreFrom};
 ghost use Rattle.ps_ops.specs.Does.{KeepsLogs};
 ghost use Rattle.ps_operators.specs.Operates.{Operates, ObservesBy, raised_of, is_plain, is_observing};
 
+use crate::{copies, lengths, output, relations};
 use ps_language::errors::ErrorName;
 use ps_language::operators::Operator;
 use ps_mem::{Memory, SLOTS};
 use ps_operands::{Operands, arithmetic, logic, stack_operators};
 use ps_ops::failure::Failure;
 use ps_ops::{arrays, changes, makes};
-use ps_values::{copies, lengths, output, relations};
 
 /// An operator that needs the operands alone. Raises the errors of its row.
+#[inline(always)]
 pub fn operate_plain(operator: Operator, operands: &mut Operands) -> Result<(), ErrorName>
     requires { IsTrue (is_plain operator) }
-    ensures row { (row : List language.Value → Outcome (List language.Value)) → small_row operator ≡ operand_row row → Does row result operands.old operands.new }
+    ensures row { (row : List language.Value → Outcome (List language.Value))
+        → small_row operator ≡ operand_row row → Does row result operands.old operands.new }
     ensures kept { AreFrom operands.old operands.new }
 {
     match operator {
@@ -56,6 +58,7 @@ pub fn operate_plain(operator: Operator, operands: &mut Operands) -> Result<(), 
 }
 
 /// What an operator that makes and changes nothing came to.
+#[inline(always)]
 fn raised(outcome: Result<(), ErrorName>) -> Result<(), Failure>
     ensures { result ≡ raised_of outcome }
 {
@@ -65,7 +68,9 @@ fn raised(outcome: Result<(), ErrorName>) -> Result<(), Failure>
     }
 }
 
-/// An operator that compares, reads an array, or needs the operands alone. Raises the errors of its row.
+/// An operator that compares, reads an array, or needs the operands alone. Raises the errors of its
+/// row.
+#[inline(always)]
 fn observe<M: Memory>(
     operator: Operator,
     operands: &mut Operands,
@@ -93,8 +98,10 @@ fn observe<M: Memory>(
     }
 }
 
-/// Does what an operator does to operands, memory and output. Raises the errors of its row; not made where room, a record or the growth of the output is
+/// Does what an operator does to operands, memory and output. Raises the errors of its row; not
+/// made where room, a record or the growth of the output is
 /// refused.
+#[inline(always)]
 pub fn operate<M: Memory>(
     operator: Operator,
     operands: &mut Operands,
@@ -107,7 +114,9 @@ pub fn operate<M: Memory>(
     requires forall { operator ≢ Operator.Forall }
     requires slot { slot < SLOTS }
     requires ready { IsReady (M.heap memory.old) operands.old }
-    ensures operates { Operates operator refused result slot (M.grants memory.old) (M.grants memory.new) (M.heap memory.old) (M.heap memory.new) operands.old operands.new printed.old.items printed.new.items }
+    ensures operates { Operates operator refused result slot (M.grants memory.old)
+        (M.grants memory.new) (M.heap memory.old) (M.heap memory.new) operands.old operands.new
+        printed.old.items printed.new.items }
     ensures ready { IsReady (M.heap memory.new) operands.new }
     ensures keeps { Keeps (M.heap memory.old) (M.heap memory.new) }
     ensures logs { KeepsLogs (M.grants memory.old) (M.grants memory.new) slot }

@@ -72,7 +72,8 @@ pub fn index_below(number: i32, count: u16) -> Option<u16>
 #[tactic(auto, using(crate::proofs::Ready::plain_lemmas))]
 pub fn length<M: Memory>(operands: &mut Operands, memory: &M) -> Result<(), ErrorName>
     requires ready { IsReady (M.heap memory.now) operands.old }
-    ensures does { Observes (λ store. rows.array_length_row) result (M.heap memory.now) operands.old operands.new }
+    ensures does { Observes (λ store. rows.array_length_row) result (M.heap memory.now) operands.old
+        operands.new }
     ensures ready { IsReady (M.heap memory.now) operands.new }
 {
     let Some(top) = operands.top() else {
@@ -88,7 +89,8 @@ pub fn length<M: Memory>(operands: &mut Operands, memory: &M) -> Result<(), Erro
     Ok(())
 }
 
-/// `A i get x`. Raises `stackunderflow`, `typecheck` where `A` is no array or `i` no integer, `invalidaccess` and `rangecheck`.
+/// `A i get x`. Raises `stackunderflow`, `typecheck` where `A` is no array or `i` no integer,
+/// `invalidaccess` and `rangecheck`.
 pub fn get<M: Memory>(operands: &mut Operands, memory: &mut M) -> Result<(), ErrorName>
     requires ready { IsReady (M.heap memory.old) operands.old }
     ensures heap { M.heap memory.new ≡ M.heap memory.old }
@@ -128,11 +130,13 @@ pub fn interval_within(number: i32, count: u32, size: u16) -> Option<u16>
     }
 }
 
-/// `A i n getinterval B`: the `n` elements of `A` from `i` on, shared with it. Raises `stackunderflow`, `typecheck`, `invalidaccess` and
+/// `A i n getinterval B`: the `n` elements of `A` from `i` on, shared with it. Raises
+/// `stackunderflow`, `typecheck`, `invalidaccess` and
 /// `rangecheck`.
 pub fn getinterval<M: Memory>(operands: &mut Operands, memory: &M) -> Result<(), ErrorName>
     requires ready { IsReady (M.heap memory.now) operands.old }
-    ensures does { Observes (λ store. rows.array_getinterval_row) result (M.heap memory.now) operands.old operands.new }
+    ensures does { Observes (λ store. rows.array_getinterval_row) result (M.heap memory.now)
+        operands.old operands.new }
     ensures ready { IsReady (M.heap memory.now) operands.new }
 {
     let Some((count, place, array)) = operands.top_three() else {
@@ -167,16 +171,19 @@ pub fn push_within(operands: &mut Operands, word: Word)
     requires { length operands.old < 500 }
     ensures { operands.new ≡ word ∷ operands.old }
 {
-    let _ = operands.push(word);
+    operands.push_reserved(word);
 }
 
 /// Pushes all elements of a part of an array, in order.
 fn push_elements<M: Memory>(operands: &mut Operands, memory: &mut M, part: Part)
-    requires stands { StandsAs (M.heap memory.old) Kind.Array part.address (part.offset + part.length) }
+    requires stands { StandsAs (M.heap memory.old) Kind.Array part.address
+        (part.offset + part.length) }
     requires room { length operands.old + part.length ≤ 500 }
     ensures heap { M.heap memory.new ≡ M.heap memory.old }
     ensures grants { M.grants memory.new ≡ M.grants memory.old }
-    ensures pushed { operands.new ≡ reverse (slice_range (fields_at (M.heap memory.old) part.address) part.offset (part.offset + part.length)) ++ operands.old }
+    ensures pushed { operands.new ≡ reverse
+        (slice_range (fields_at (M.heap memory.old) part.address) part.offset
+        (part.offset + part.length)) ++ operands.old }
 {
     for index in 0..part.length {
         let word = memory.load(part.address, part.offset as u32 + index as u32);
@@ -184,7 +191,8 @@ fn push_elements<M: Memory>(operands: &mut Operands, memory: &mut M, part: Part)
     }
 }
 
-/// `A aload x1 .. xn A`. Raises `stackunderflow`, `typecheck` where `A` is no array, `invalidaccess` and `stackoverflow`.
+/// `A aload x1 .. xn A`. Raises `stackunderflow`, `typecheck` where `A` is no array,
+/// `invalidaccess` and `stackoverflow`.
 pub fn aload<M: Memory>(operands: &mut Operands, memory: &mut M) -> Result<(), ErrorName>
     requires ready { IsReady (M.heap memory.old) operands.old }
     ensures heap { M.heap memory.new ≡ M.heap memory.old }

@@ -6,7 +6,5 @@ pub mod changes;
 pub mod failure;
 pub mod makes;
 pub mod readers;
-#[cfg(test)]
-mod tests;
 
 pub use ps_operands::Operands;

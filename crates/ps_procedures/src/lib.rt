@@ -5,6 +5,4 @@ pub mod laws;
 pub mod makes;
 pub mod room;
 pub mod small;
-#[cfg(test)]
-mod tests;
 mod words;

@@ -4,6 +4,7 @@ ghost use Rattle.std.specs.Prelude.{◌≡◌, ◌≤◌, ◌<◌, ◌+◌, ◌�
 ghost use Rattle.ps_language.specs.Control.{as_procedure};
 ghost use Rattle.ps_language.specs.Small.{are_small, looks_up_none, small_procedure};
 ghost use Rattle.ps_language.specs.StepTokens.{elements_made};
+ghost use Rattle.ps_mem.specs.Heap.{SameLogs};
 ghost use Rattle.ps_mem.specs.Meaning.{value_of};
 ghost use Rattle.ps_mem.specs.Shows.{IsSound};
 ghost use Rattle.ps_scan.specs.Shown.{token_of};
@@ -20,10 +21,13 @@ use ps_scan::TokenKind;
 use ps_seq::arrays::make_array;
 use ps_word::words::Word;
 
-/// Makes the objects of a procedure of a text, inner before outer and left to right, in room that is asked for once, and gives the word of
-/// the outermost, an executable array. `scratch` is empty before and after; its room is kept for the next call.
+/// Makes the objects of a procedure of a text, inner before outer and left to right, in room that
+/// is asked for once, and gives the word of
+/// the outermost, an executable array. `scratch` is empty before and after; its room is kept for
+/// the next call.
 ///
-/// `NotMade::NeedSpace`, of the words of all objects: they have no room. `NotMade::Memory`: a growth of the memory or of `scratch` was refused,
+/// `NotMade::NeedSpace`, of the words of all objects: they have no room. `NotMade::Memory`: a
+/// growth of the memory or of `scratch` was refused,
 /// or the words are past 32 bits. After an error nothing has changed.
 pub fn make_procedure<M: Memory>(
     memory: &mut M,
@@ -35,12 +39,17 @@ pub fn make_procedure<M: Memory>(
     requires short { IsShort (tokens_in program.now elements.now) }
     requires sound { IsSound (M.heap memory.old) }
     requires scratch { scratch.old.items ≡ [] }
-    ensures made { IfOk result (IsMade (small_procedure (tokens_in program.now elements.now)) (M.heap memory.old) (M.heap memory.new)) }
-    ensures procedure { IfOk result (λ word. (births : ℕ → ℕ) (names : List (List ℕ)) → is_some (as_procedure (value_of births names word)) ≡ true) }
-    ensures refused { IfErr result (λ reason. IsRefused reason (tokens_in program.now elements.now) (M.heap memory.old) (vec_capacity scratch.old)) }
+    ensures made { IfOk result
+        (IsMade (small_procedure (tokens_in program.now elements.now)) (M.heap memory.old)
+        (M.heap memory.new)) }
+    ensures procedure { IfOk result
+        (λ word. (births : ℕ → ℕ) (names : List (List ℕ))
+        → is_some (as_procedure (value_of births names word)) ≡ true) }
+    ensures refused { IfErr result
+        (λ reason. IsRefused reason (tokens_in program.now elements.now) (M.heap memory.old)
+        (vec_capacity scratch.old)) }
     ensures unchanged { OnErr result (M.heap memory.new ≡ M.heap memory.old) }
-    ensures records { (M.grants memory.new).records ≡ (M.grants memory.old).records }
-    ensures closed { (M.grants memory.new).closed ≡ (M.grants memory.old).closed }
+    ensures logs { SameLogs (M.grants memory.old) (M.grants memory.new) }
     ensures scratch { scratch.new.items ≡ [] }
 {
     let Some(room) = room_of(elements) else {
@@ -66,15 +75,21 @@ fn make_elements<M: Memory>(
     requires small { are_small (tokens_in program.now elements.now) ≡ true }
     requires short { IsShort (tokens_in program.now elements.now) }
     requires sound { IsSound (M.heap memory.old) }
-    requires words { procedure_words (tokens_in program.now elements.now) ≤ (M.grants memory.old).words }
-    requires births { procedure_births (tokens_in program.now elements.now) ≤ (M.grants memory.old).births }
-    requires scratch { vec_len scratch.old + procedure_words (tokens_in program.now elements.now) ≤ vec_capacity scratch.old }
-    ensures made { IsMade (small_procedure (tokens_in program.now elements.now)) (M.heap memory.old) (M.heap memory.new) result }
-    ensures procedure { (births : ℕ → ℕ) (names : List (List ℕ)) → is_some (as_procedure (value_of births names result)) ≡ true }
-    ensures words { (M.grants memory.old).words ≤ (M.grants memory.new).words + procedure_words (tokens_in program.now elements.now) }
-    ensures births { (M.grants memory.old).births ≤ (M.grants memory.new).births + procedure_births (tokens_in program.now elements.now) }
-    ensures records { (M.grants memory.new).records ≡ (M.grants memory.old).records }
-    ensures closed { (M.grants memory.new).closed ≡ (M.grants memory.old).closed }
+    requires words { procedure_words (tokens_in program.now elements.now) ≤
+        (M.grants memory.old).words }
+    requires births { procedure_births (tokens_in program.now elements.now) ≤
+        (M.grants memory.old).births }
+    requires scratch { vec_len scratch.old + procedure_words (tokens_in program.now elements.now) ≤
+        vec_capacity scratch.old }
+    ensures made { IsMade (small_procedure (tokens_in program.now elements.now)) (M.heap memory.old)
+        (M.heap memory.new) result }
+    ensures procedure { (births : ℕ → ℕ) (names : List (List ℕ))
+        → is_some (as_procedure (value_of births names result)) ≡ true }
+    ensures words { (M.grants memory.old).words ≤ (M.grants memory.new).words + procedure_words
+        (tokens_in program.now elements.now) }
+    ensures births { (M.grants memory.old).births ≤ (M.grants memory.new).births + procedure_births
+        (tokens_in program.now elements.now) }
+    ensures logs { SameLogs (M.grants memory.old) (M.grants memory.new) }
     ensures items { scratch.new.items ≡ scratch.old.items }
     ensures capacity { vec_capacity scratch.old ≤ vec_capacity scratch.new }
 {
@@ -101,12 +116,15 @@ fn make_element<M: Memory>(
     requires sound { IsSound (M.heap memory.old) }
     requires words { token_words (token_of program.now element.now) ≤ (M.grants memory.old).words }
     requires births { token_births (token_of program.now element.now) ≤ (M.grants memory.old).births }
-    requires scratch { vec_len scratch.old + token_words (token_of program.now element.now) ≤ vec_capacity scratch.old }
-    ensures made { IsMade (elements_made looks_up_none (token_in program.now element.now)) (M.heap memory.old) (M.heap memory.new) result }
-    ensures words { (M.grants memory.old).words ≤ (M.grants memory.new).words + token_words (token_of program.now element.now) }
-    ensures births { (M.grants memory.old).births ≤ (M.grants memory.new).births + token_births (token_of program.now element.now) }
-    ensures records { (M.grants memory.new).records ≡ (M.grants memory.old).records }
-    ensures closed { (M.grants memory.new).closed ≡ (M.grants memory.old).closed }
+    requires scratch { vec_len scratch.old + token_words (token_of program.now element.now) ≤
+        vec_capacity scratch.old }
+    ensures made { IsMade (elements_made looks_up_none (token_in program.now element.now))
+        (M.heap memory.old) (M.heap memory.new) result }
+    ensures words { (M.grants memory.old).words ≤ (M.grants memory.new).words + token_words
+        (token_of program.now element.now) }
+    ensures births { (M.grants memory.old).births ≤ (M.grants memory.new).births + token_births
+        (token_of program.now element.now) }
+    ensures logs { SameLogs (M.grants memory.old) (M.grants memory.new) }
     ensures items { scratch.new.items ≡ scratch.old.items }
     ensures capacity { vec_capacity scratch.old ≤ vec_capacity scratch.new }
 {

@@ -1,4 +1,5 @@
--- The layout of this run time's log: where a record stands, and as which number. Bits that no case sets are zero.
+-- The layout of this run time's log: where a record stands, and as which number. Bits that no case
+-- sets are zero.
 use Rattle.std.specs.Prelude.{ℕ, ◌+◌, ◌*◌, ◌/◌, ◌%◌, ◌^◌, ◌<◌, ◌==◌, Option, Some, None, if◌then◌else◌}
 use Rattle.ps_record.specs.declared.Record.{Record}
 use Rattle.ps_record.specs.declared.Record.TheVariants.{Place, Close}
@@ -7,7 +8,8 @@ use Rattle.ps_record.specs.declared.Record.TheVariants.{Place, Close}
 abbrev pub lap_of : ℕ → ℕ
 lap_of k = (k / 256 + 1) % 2
 
--- a close is bit 62; a place has its address from bit 32 on, its first field from bit 16 on and its count from bit 0 on
+-- a close is bit 62; a place has its address from bit 32 on, its first field from bit 16 on and its
+-- count from bit 0 on
 abbrev pub body_of : Record → ℕ
 body_of (Place address first count) = address * 2 ^ 32 + first * 2 ^ 16 + count
 body_of Close = 2 ^ 62

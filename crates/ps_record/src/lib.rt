@@ -1,4 +1,5 @@
-// Records of the collector's log (Nettles and O'Toole, PLDI 1993, 2: the mutation log), and the places of its rings.
+//! Records of the collector's log (Nettles and O'Toole, PLDI 1993, 2: the mutation log), and the
+//! places of its rings.
 #![tactic(auto)]
 
 ghost use Rattle.std.specs.Prelude.{◌≡◌, ◌≢◌, ◌<◌, ◌+◌, ◌==◌, ℕ};
@@ -129,7 +130,8 @@ impl PackedRecord {
         }
     }
 
-    /// Record `number` of a log, where the word that was found in its place is that record, and none where it is an older one or nothing yet.
+    /// Record `number` of a log, where the word that was found in its place is that record, and
+    /// none where it is an older one or nothing yet.
     #[inline]
     pub fn read(self, number: u64) -> Option<Record>
         ensures { result ≡ layout.read_record number self.0 }
@@ -159,19 +161,26 @@ pub fn ring_place(slot: u64, number: u64) -> u64
     64 + RING * slot + number % RING
 }
 
-/// The laws of the layout: a packed record gives its fields back, and is read as itself; a ring place in its next lap, and one of a ring of zeros, holds no
+/// The laws of the layout: a packed record gives its fields back, and is read as itself; a ring
+/// place in its next lap, and one of a ring of zeros, holds no
 /// record; rings don't overlap, and neither do records of one ring that are less than a lap apart.
 pub fn laws()
-    ensures fields { (k a f c : ℕ) → layout.IsRecord (Record.Place a f c) → (layout.address_in (layout.packed k (Record.Place a f c)) ≡ a) × (layout.first_in (layout.packed k (Record.Place a f c)) ≡ f) × (layout.count_in (layout.packed k (Record.Place a f c)) ≡ c) × (layout.close_in (layout.packed k (Record.Place a f c)) ≡ 0) }
+    ensures fields { (k a f c : ℕ) → layout.IsRecord (Record.Place a f c)
+        → (layout.address_in (layout.packed k (Record.Place a f c)) ≡ a)
+        × (layout.first_in (layout.packed k (Record.Place a f c)) ≡ f)
+        × (layout.count_in (layout.packed k (Record.Place a f c)) ≡ c)
+        × (layout.close_in (layout.packed k (Record.Place a f c)) ≡ 0) }
     ensures close { (k : ℕ) → layout.close_in (layout.packed k Record.Close) ≡ 1 }
-    ensures lap { (k : ℕ) (r : Record) → layout.IsRecord r → layout.lap_in (layout.packed k r) ≡ layout.lap_of k }
-    ensures next_lap { (k : ℕ) → (layout.lap_of (k + 256) ≢ layout.lap_of k) × ((slot : ℕ) → layout.ring_place slot (k + 256) ≡ layout.ring_place slot k) }
-    ensures reads { (k : ℕ) (r : Record) → layout.IsRecord r → layout.read_record k (layout.packed k r) ≡ Some r }
-    ensures stale { (k : ℕ) (r : Record) → layout.IsRecord r → layout.read_record (k + 256) (layout.packed k r) ≡ None }
+    ensures lap { (k : ℕ) (r : Record) → layout.IsRecord r
+        → layout.lap_in (layout.packed k r) ≡ layout.lap_of k }
+    ensures next_lap { (k : ℕ) → (layout.lap_of (k + 256) ≢ layout.lap_of k)
+        × ((slot : ℕ) → layout.ring_place slot (k + 256) ≡ layout.ring_place slot k) }
+    ensures reads { (k : ℕ) (r : Record) → layout.IsRecord r
+        → layout.read_record k (layout.packed k r) ≡ Some r }
+    ensures stale { (k : ℕ) (r : Record) → layout.IsRecord r
+        → layout.read_record (k + 256) (layout.packed k r) ≡ None }
     ensures zeros { (k : ℕ) → k < 256 → layout.read_record k 0 ≡ None }
     ensures slots { (s t j k : ℕ) → s ≢ t → layout.ring_place s j ≢ layout.ring_place t k }
-    ensures turn { (s j k : ℕ) → j < k → k < j + 256 → layout.ring_place s j ≢ layout.ring_place s k }
+    ensures turn { (s j k : ℕ) → j < k → k < j + 256
+        → layout.ring_place s j ≢ layout.ring_place s k }
 {}
-
-#[cfg(test)]
-mod tests;

@@ -1,2 +1,3 @@
 pub mod Counting
-pub mod Writing
+pub mod Written
+pub mod Driven

@@ -1,12 +1,17 @@
 -- The command line of the program, as rules of clap.
-use Rattle.std.specs.Prelude.{ℕ, List, [], ◌∷◌, Option, Some, true, codes, unwrap_or}
+use Rattle.std.specs.Prelude.{◌≡◌, ◌<◌, ◌^◌, ℕ, Bool, List, [], ◌∷◌, Option, Some, true, false, codes, unwrap_or}
+use Rattle.std.specs.Str.Parse.{IsNumeral, digits_value, without_leading_plus}
+use Rattle.ps_vault.specs.declared.reports.Config.{Config}
+use Rattle.ps_vault.specs.Reports.{IsWithin}
+use Rattle.ps_run.specs.Driving.{Asked}
 use Rattle.clap.specs.Words.{App, Rule, Text, new_app, new_rule, with_rule, matches_of, first_of, one_of}
 use Rattle.clap.specs.declared.builder.action.ArgAction.TheVariants.{SetTrue}
 use Rattle.clap.specs.declared.builder.value_parser.ValueParser.TheVariants.{Unsigned}
 
 -- an option with a value, and its text where it is left out
 abbrev pub option_rule : Text → Text → Rule
-option_rule name default = record (new_rule name) { long = Some name; value_names = 1; defaults = default ∷ [] }
+option_rule name default =
+    record (new_rule name) { long = Some name; value_names = 1; defaults = default ∷ [] }
 
 -- a number from least to most
 abbrev pub within : Rule → ℕ → ℕ → Rule
@@ -43,7 +48,8 @@ nameless app = record app { top = record app.top { no_binary_name = true } }
 
 -- the whole: its words come without the program's name
 abbrev pub command_line : App
-command_line = with_rule (with_flags (with_limits (with_sizes (nameless (new_app (codes "dpsrun")))))) file_rule
+command_line = with_rule (with_flags
+    (with_limits (with_sizes (nameless (new_app (codes "dpsrun")))))) file_rule
 
 -- the name of the program's file in such words
 abbrev pub file_in : List Text → Text
@@ -52,3 +58,34 @@ file_in words = unwrap_or (first_of (codes "FILE") (matches_of command_line word
 -- the text of a flag in such words
 abbrev pub flag_in : Text → List Text → Option Text
 flag_in name words = one_of name (matches_of command_line words)
+
+-- the number of an option in such words: that of its text, where it is one of 32 bits
+abbrev pub IsNumber : (name : Text) → List Text → ℕ → Type 0
+IsNumber name words number =
+    (text : Text) → one_of name (matches_of command_line words) ≡ Some text
+    → IsNumeral 10 (without_leading_plus text)
+    → digits_value 10 (without_leading_plus text) < 2 ^ 32
+    → number ≡ digits_value 10 (without_leading_plus text)
+
+-- each number of a run
+pub record AreNumbers (words : List Text) (config : Config) : Type 0 where
+  pub space : IsNumber (codes "space") words config.space
+  pub workers : IsNumber (codes "workers") words config.workers
+  pub quantum : IsNumber (codes "quantum") words config.quantum
+  pub steps : IsNumber (codes "steps") words config.steps
+
+-- whether a flag stands in such words, by its text
+pub record IsFlag (name : Text) (words : List Text) (truth : Bool) : Type 0 where
+  pub set : flag_in name words ≡ Some (codes "true") → truth ≡ true
+  pub unset : flag_in name words ≡ Some (codes "false") → truth ≡ false
+
+-- what the words ask for of a run
+abbrev pub AreAsked : List Text → Asked → Type 0
+AreAsked words asked = IsNumber (codes "steps") words asked.steps
+    × IsFlag (codes "stats") words asked.stats
+
+-- the words' numbers are none of a run: the rules refuse such words
+pub record AreOutOfRange (words : List Text) : Type 0 where
+  pub config : Config
+  pub numbers : AreNumbers words config
+  pub outside : ¬ IsWithin config

@@ -1,7 +1,9 @@
--- What a run from a command line is, and its exit status.
-use Rattle.std.specs.Prelude.{◌≡◌, ◌≤◌, ◌⊎◌, ℕ, List, [], Option, IfSome, length, codes}
+-- What a run from a command line is, its exit status, and what is written.
+use Rattle.std.specs.Prelude.{◌≡◌, ◌<◌, ◌≤◌, ◌⊎◌, ◌++◌, ◌-◌, ◌^◌, min, ℕ, Bool, true, false, List, [], Option, Some, IfSome, length, codes, if◌then◌else◌}
+use Rattle.std.specs.Fmt.{decimal}
 use Rattle.std.specs.Io.KnownBytes.{Appends}
 use Rattle.ps_language.specs.declared.schedules.Entry.{Entry}
+use Rattle.ps_language.specs.Schedules.{count_of}
 use Rattle.ps_vault.specs.declared.reports.Outcome.{Outcome}
 use Rattle.ps_vault.specs.declared.reports.Outcome.TheVariants.{Finished, Faulted, AllWaiting, StepsOut, Memory}
 use Rattle.ps_vault.specs.Reports.{IsRunOf}
@@ -9,12 +11,12 @@ use Rattle.ps_run.specs.declared.driver.Status.{Status}
 use Rattle.ps_run.specs.declared.driver.Status.TheVariants as status
 
 -- the exit status of a run that ended so
-abbrev pub status_of : Outcome → ℕ
-status_of Finished = 0
-status_of Faulted = 1
-status_of AllWaiting = 3
-status_of StepsOut = 4
-status_of Memory = 5
+abbrev pub status_of : Outcome → Status
+status_of Finished = status.Finished
+status_of Faulted = status.Faulted
+status_of AllWaiting = status.AllWaiting
+status_of StepsOut = status.StepsOut
+status_of Memory = status.Memory
 
 -- the exit status as a number
 abbrev pub number_of : Status → ℕ
@@ -34,23 +36,79 @@ line_of status.AllWaiting = codes "dpsrun: all contexts wait\n"
 line_of status.StepsOut = codes "dpsrun: steps used up\n"
 line_of status.Memory = codes "dpsrun: out of memory\n"
 
--- a run of the program with this exit status, of which all that was printed was written to an output with these bytes before and after, as far as they are known
-pub record IsRunWritten (program : List ℕ) (status : ℕ) (old new : Option (List ℕ)) : Type 0 where
-  pub steps : ℕ
-  pub printed : List ℕ
-  pub schedule : List Entry
-  pub outcome : Outcome
-  pub run : IsRunOf program steps printed schedule outcome
-  pub written : Appends old new printed
-  pub status_is : status ≡ status_of outcome
+-- ---- what is written
 
--- such a run of a file's bytes, as far as they are known
-pub record IsFileRun (known : Option (List ℕ)) (status : ℕ) (old new : Option (List ℕ)) : Type 0 where
+-- known bytes grow by a beginning of these
+pub record AppendsPart (old new : Option (List ℕ)) (bytes : List ℕ) : Type 0 where
+  pub part : List ℕ
+  pub rest : List ℕ
+  pub is : bytes ≡ part ++ rest
+  pub written : Appends old new part
+
+-- a line with a label and a number
+abbrev pub number_line : (label : List ℕ) → ℕ → List ℕ
+number_line label number = label ++ (decimal number ++ codes "\n")
+
+-- the lines of the counts of a run without a collector; steps are told up to 18,446,744,073,709,551,615
+abbrev pub count_lines : List Entry → List ℕ
+count_lines schedule =
+    number_line (codes "flips ") 0
+    ++ (number_line (codes "taken ") 0
+    ++ number_line (codes "steps ") (min (count_of schedule) (2 ^ 64 - 1)))
+
+-- where they are asked for
+abbrev pub counts_of : (stats : Bool) → List Entry → List ℕ
+counts_of stats schedule = if stats then count_lines schedule else []
+
+-- ---- a run of a file
+
+-- What the words ask for of a run
+pub record Asked : Type 0 where
+  pub steps : ℕ
+  pub stats : Bool
+
+-- a run of a file's bytes, as far as they are known, with a budget
+pub record IsFileRun (known : Option (List ℕ)) (steps : ℕ) (printed : List ℕ)
+    (schedule : List Entry) (outcome : Outcome) : Type 0 where
   pub program : List ℕ
   pub is_file : IfSome known (λ bytes. program ≡ bytes)
   pub few : length program ≤ 16777215
-  pub run : IsRunWritten program status old new
+  pub run : IsRunOf program steps printed schedule outcome
 
--- what each exit status says: 2, a fault of the command line or of a file; 5, want of memory, before the run or in it; 0, 1 and 4 are a run's
-abbrev pub IsDriven : Option (List ℕ) → (status : ℕ) → (old new : Option (List ℕ)) → Type 0
-IsDriven known status old new = (status ≡ 2) ⊎ (((status ≡ 5) × (new ≡ old)) ⊎ IsFileRun known status old new)
+-- the bytes that outputs hold before and after, where they are known
+pub record Outputs : Type 0 where
+  pub out_old : Option (List ℕ)
+  pub out_new : Option (List ℕ)
+  pub err_old : Option (List ℕ)
+  pub err_new : Option (List ℕ)
+
+-- all that was printed was written, and the status is that of the outcome; or the output took a part of it alone, and the status tells a fault
+abbrev pub IsWritten : (stats : Bool) → (printed : List ℕ) → List Entry → Outcome → Status → Outputs
+    → Type 0
+IsWritten stats printed schedule outcome told outputs =
+    ((told ≡ status.Usage) × AppendsPart outputs.out_old outputs.out_new printed)
+    ⊎ ((told ≡ status_of outcome) × Appends outputs.out_old outputs.out_new printed
+    × AppendsPart outputs.err_old outputs.err_new (counts_of stats schedule ++ line_of told))
+
+-- a run that was written
+pub record IsRunWritten (known : Option (List ℕ)) (IsAsked : Asked → Type 0) (told : Status)
+    (outputs : Outputs) : Type 0 where
+  pub asked : Asked
+  pub is_asked : IsAsked asked
+  pub printed : List ℕ
+  pub schedule : List Entry
+  pub outcome : Outcome
+  pub run : IsFileRun known asked.steps printed schedule outcome
+  pub written : IsWritten asked.stats printed schedule outcome told outputs
+
+-- the file can't be read for what it holds
+abbrev pub IsTooLong : (known : Option (List ℕ)) → Type 0
+IsTooLong known = IfSome known (λ bytes. 16777215 < length bytes)
+
+-- a fault of the words or the file, or want of memory before the run: nothing is written; else a run. IsFault: of the words or the file
+abbrev pub IsDriven : (known : Option (List ℕ)) → (IsAsked : Asked → Type 0) → (IsFault : Type 0)
+    → (told : Status) → Outputs → Type 0
+IsDriven known IsAsked IsFault told outputs =
+    ((told ≡ status.Usage) × (outputs.out_new ≡ outputs.out_old) × IsFault)
+    ⊎ (((told ≡ status.Memory) × (outputs.out_new ≡ outputs.out_old))
+    ⊎ IsRunWritten known IsAsked told outputs)

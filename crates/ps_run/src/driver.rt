@@ -1,36 +1,43 @@
 //! A run from the words of a command line to an exit status.
 
-ghost use Rattle.std.specs.Prelude.{◌≡◌, ◌≢◌, ◌≤◌, ◌⊎◌, ◌-◌, ◌^◌, [], min, map};
+ghost use Rattle.std.specs.Prelude.{◌≡◌, ◌≢◌, ◌++◌, ◌⊎◌, ◌-◌, ◌^◌, [], ℕ, min, map, OnOk, IfSome, length};
 ghost use Rattle.std.specs.Io.KnownBytes.{Appends};
 ghost use Rattle.ps_language.specs.Schedules.{count_of};
-ghost use Rattle.ps_run.specs.CommandLine.{command_line, file_in};
+ghost use Rattle.ps_run.specs.CommandLine.{command_line, file_in, AreAsked, AreOutOfRange};
 ghost use Rattle.clap.specs.Words.{fault_of};
-ghost use Rattle.ps_run.specs.Driving.{status_of, number_of, line_of, IsDriven};
+ghost use Rattle.ps_vault.specs.Reports.{IsWithin};
+ghost use Rattle.ps_run.specs.Driving as driving;
+ghost use Rattle.ps_run.specs.Driving.{AppendsPart, IsWritten, IsTooLong, IsDriven};
 
 use crate::files::{FileSet, ReadFault};
 use crate::options::{Options, parse};
+use crate::writing::{write_number, write_part};
 use clap::error::ErrorKind;
 use ps_vault::{Entry, Outcome, Report, RunFault, run_plain};
 use std::alloc::Global;
-use std::io::Write;
+use std::io::{self, Write};
 
 /// How the program ends, as an exit status.
 #[derive(Clone, Copy, Debug, PartialEq, Eq)]
 enum Status {
     Finished,
     Faulted,
-    /// A fault of the command line or of a file.
+    /// A fault of the command line, of a file or of an output.
     Usage,
     AllWaiting,
     StepsOut,
     Memory,
 }
 
-/// Runs the program that the words name, writes what it printed to `out`, and statistics and faults to `err`. The words are without the program's name.
+/// Runs the program that the words name, writes what it printed to `out`, and statistics and faults
+/// to `err`. The words are without the program's name.
 ///
-/// The result is the exit status: 0 where every context finished, 1 where an error was printed too, 2 for a fault of the command line or of a file, 3 where
-/// every context waits, which no program without contexts brings about, 4 where the steps are used up, 5 for want of memory, before the run or in it. A write to `err` that
-/// fails changes nothing else.
+/// The result is the exit status: 0 where every context finished, 1 where an error was printed too,
+/// 2 for a fault of the command line, of a file or of the output, 3
+/// where every context waits, which no program without contexts brings about, 4 where the steps are
+/// used up, 5 for want of memory, before the run or in it. With 2 the
+/// output has a beginning of what was printed, which is nothing where the words or the file were at
+/// fault. A write to `err` that fails changes nothing else.
 pub fn drive<F: FileSet, W: Write, X: Write>(
     alloc: Global,
     words: &[&str],
@@ -38,10 +45,23 @@ pub fn drive<F: FileSet, W: Write, X: Write>(
     out: &mut W,
     err: &mut X,
 ) -> u8
-    ensures status { result ≤ 5 }
     ensures not_waiting { result ≢ 3 }
-    ensures fault { fault_of command_line (map (λ word. word.now) words.now) ≢ [] → ((result ≡ 2) ⊎ (result ≡ 5)) × (W.contents out.new ≡ W.contents out.old) }
-    ensures run { IsDriven (F.contents files.old (file_in (map (λ word. word.now) words.now))) result (W.contents out.old) (W.contents out.new) }
+    ensures fault { fault_of command_line (map (λ word. word.now) words.now) ≢ []
+        → ((result ≡ 2) ⊎ (result ≡ 5)) × (W.contents out.new ≡ W.contents out.old) }
+    ensures files { F.contents files.new ≡ F.contents files.old }
+    ensures run { (told : Status) × (result ≡ driving.number_of told)
+        × IsDriven (F.contents files.old (file_in (map (λ word. word.now) words.now)))
+        (AreAsked (map (λ word. word.now) words.now))
+        ((fault_of command_line (map (λ word. word.now) words.now) ≢ [])
+        ⊎ (IsTooLong (F.contents files.old (file_in (map (λ word. word.now) words.now)))
+        ⊎ AreOutOfRange (map (λ word. word.now) words.now))) told
+        (record {
+          out_old = W.contents out.old;
+          out_new = W.contents out.new;
+          err_old =
+              X.contents err.old;
+          err_new = X.contents err.new;
+        }) }
 {
     let status = match parse(alloc, words) {
         Ok(options) => run(alloc, &options, files, out, err),
@@ -56,7 +76,7 @@ pub fn drive<F: FileSet, W: Write, X: Write>(
 
 /// The exit status as a number.
 fn number_of(status: Status) -> u8
-    ensures { result ≡ number_of status }
+    ensures { result ≡ driving.number_of status }
 {
     status as u8
 }
@@ -69,8 +89,18 @@ fn run<F: FileSet, W: Write, X: Write>(
     out: &mut W,
     err: &mut X,
 ) -> Status
-    ensures not_waiting { number_of result ≢ 3 }
-    ensures run { IsDriven (F.contents files.old options.now.file.now) (number_of result) (W.contents out.old) (W.contents out.new) }
+    ensures not_waiting { driving.number_of result ≢ 3 }
+    ensures files { F.contents files.new ≡ F.contents files.old }
+    ensures run { IsDriven (F.contents files.old options.now.file.now)
+        (λ asked. (asked.steps ≡ options.now.config.steps) × (asked.stats ≡ options.now.stats))
+        (IsTooLong (F.contents files.old options.now.file.now) ⊎ ¬ IsWithin options.now.config)
+        result (record {
+          out_old = W.contents out.old;
+          out_new = W.contents out.new;
+          err_old =
+              X.contents err.old;
+          err_new = X.contents err.new;
+        }) }
 {
     let program = match files.read(alloc, options.file) {
         Ok(program) => program,
@@ -88,43 +118,82 @@ fn run<F: FileSet, W: Write, X: Write>(
     }
 }
 
-/// Writes the printed bytes, then the counts where they are asked for, then the line that belongs to the status.
+/// Writes the printed bytes, then the counts where they are asked for, then the line that belongs
+/// to the status.
 fn finish<W: Write, X: Write>(report: &Report, stats: bool, out: &mut W, err: &mut X) -> Status
-    ensures { (result ≡ Status.Usage) ⊎ ((number_of result ≡ status_of report.now.outcome) × Appends (W.contents out.old) (W.contents out.new) report.now.printed.items) }
+    requires flips { report.now.flips ≡ 0 }
+    requires taken { report.now.taken ≡ 0 }
+    ensures { IsWritten stats report.now.printed.items report.now.schedule.items report.now.outcome
+        result (record {
+          out_old = W.contents out.old;
+          out_new = W.contents out.new;
+          err_old =
+              X.contents err.old;
+          err_new = X.contents err.new;
+        }) }
 {
-    if out.write_all(report.printed.as_slice()).is_err() || out.flush().is_err() {
+    if write_part(out, report.printed.as_slice()).is_err() || out.flush().is_err() {
         let _ = writeln!(err, "dpsrun: cannot write output");
         return Status::Usage;
     }
-    if stats {
-        let (flips, taken, steps) = (
-            report.flips,
-            report.taken,
-            steps_of(report.schedule.as_slice()),
-        );
-        let _ = writeln!(err, "flips {flips}\ntaken {taken}\nsteps {steps}");
-    }
-    let status = match report.outcome {
+    let status = status_of(report.outcome);
+    let _ = tell(report, stats, status, err);
+    status
+}
+
+/// The exit status of a run that ended so.
+fn status_of(outcome: Outcome) -> Status
+    ensures { result ≡ driving.status_of outcome }
+{
+    match outcome {
         Outcome::Finished => Status::Finished,
         Outcome::Faulted => Status::Faulted,
         Outcome::AllWaiting => Status::AllWaiting,
         Outcome::StepsOut => Status::StepsOut,
         Outcome::Memory => Status::Memory,
-    };
-    end(err, status)
+    }
+}
+
+/// Writes the counts of a run, where they are asked for, and the line of its status. Fails where a
+/// write fails; a beginning is written then.
+fn tell<X: Write>(report: &Report, stats: bool, status: Status, err: &mut X) -> io::Result<()>
+    requires flips { report.now.flips ≡ 0 }
+    requires taken { report.now.taken ≡ 0 }
+    ensures { AppendsPart (X.contents err.old) (X.contents err.new)
+        (driving.counts_of stats report.now.schedule.items ++ driving.line_of status) }
+{
+    if stats {
+        tell_counts(report, err)?;
+    }
+    write_part(err, line_of(status).as_bytes())
+}
+
+/// Writes the counts of a run. Fails where a write fails; a beginning is written then.
+fn tell_counts<X: Write>(report: &Report, err: &mut X) -> io::Result<()>
+    requires flips { report.now.flips ≡ 0 }
+    requires taken { report.now.taken ≡ 0 }
+    ensures part { AppendsPart (X.contents err.old) (X.contents err.new)
+        (driving.count_lines report.now.schedule.items) }
+    ensures whole { OnOk result
+        (Appends (X.contents err.old) (X.contents err.new)
+        (driving.count_lines report.now.schedule.items)) }
+{
+    write_number(err, b"flips ", u64::from(report.flips))?;
+    write_number(err, b"taken ", report.taken)?;
+    write_number(err, b"steps ", steps_of(report.schedule.as_slice()))
 }
 
 /// Writes the line that belongs to a status, where it has one.
 fn end<X: Write>(err: &mut X, status: Status) -> Status
     ensures { result ≡ status }
 {
-    let _ = err.write_all(line_of(status).as_bytes());
+    let _ = write_part(err, line_of(status).as_bytes());
     status
 }
 
 /// The line that belongs to a status, with its newline; empty where it has none.
 fn line_of(status: Status) -> &'static str
-    ensures { result.now ≡ line_of status }
+    ensures { result.now ≡ driving.line_of status }
 {
     match status {
         Status::AllWaiting => "dpsrun: all contexts wait\n",

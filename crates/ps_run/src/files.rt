@@ -1,6 +1,6 @@
 //! The files that the program reads and writes, by name.
 
-ghost use Rattle.std.specs.Prelude.{◌≡◌, ◌≤◌, ℕ, List, Option, None, IfOk, IfSome, vec_len};
+ghost use Rattle.std.specs.Prelude.{◌≡◌, ◌≢◌, ◌≤◌, ℕ, List, Option, None, OnOk, IfOk, IfErr, IfSome, length, vec_len};
 
 use std::alloc::Global;
 use thiserror::Error;
@@ -32,11 +32,21 @@ pub trait FileSet {
     /// The bytes of the file of a name, where they are known: of the system's files they are not.
     ghost contents: { Self → List ℕ → Option (List ℕ) } = { λ _ _. None };
 
-    /// The bytes of a file of at most 16,777,215 bytes.
+    /// The bytes of a file of at most 16,777,215 bytes. A file that is known to have no more is
+    /// refused only for want of memory; no file changes.
     fn read(&mut self, alloc: Global, name: &str) -> Result<Vec<u8>, ReadFault>
         ensures few { IfOk result (λ bytes. vec_len bytes ≤ 16777215) }
-        ensures bytes { IfOk result (λ bytes. IfSome (contents self.old name.now) (λ known. bytes.items ≡ known)) };
+        ensures bytes { IfOk result
+            (λ bytes. IfSome (contents self.old name.now) (λ known. bytes.items ≡ known)) }
+        ensures fault { IfErr result
+            (λ fault. IfSome (contents self.old name.now)
+            (λ known. length known ≤ 16777215 → fault ≡ ReadFault.Memory)) }
+        ensures kept { contents self.new ≡ contents self.old };
 
-    /// Makes a file of these bytes, in the place of any that has the name.
-    fn write(&mut self, name: &str, bytes: &[u8]) -> Result<(), WriteFault>;
+    /// Makes a file of these bytes, in the place of any that has the name. No other file changes.
+    fn write(&mut self, name: &str, bytes: &[u8]) -> Result<(), WriteFault>
+        ensures written { OnOk result
+            (IfSome (contents self.new name.now) (λ known. known ≡ bytes.now)) }
+        ensures kept { (other : List ℕ) → other ≢ name.now
+            → contents self.new other ≡ contents self.old other };
 }

@@ -1,9 +1,11 @@
-//! The program's work over any files and outputs: the command line, the run, and what is written (the profile's own).
+//! The program's work over any files and outputs: the command line, the run, and what is written
+//! (the profile's own).
 #![tactic(auto)]
 
 mod driver;
 mod files;
 mod options;
+mod writing;
 
 pub use driver::drive;
 pub use files::{FileSet, MOST_PROGRAM_BYTES, ReadFault, WriteFault};

@@ -36,8 +36,18 @@ fn command<'a>(alloc: Global) -> Result<Command<'a>, AllocError>
 fn with_sizes<'a>(alloc: Global, command: Command<'a>) -> Result<Command<'a>, AllocError>
     ensures { IfOk result (λ made. app_of made ≡ spec.with_sizes (app_of command.entry)) }
 {
-    let space = number(alloc, "space", "65536", "words of a space of memory");
-    let workers = number(alloc, "workers", "4", "threads that make steps");
+    let space = number(
+        alloc,
+        "space",
+        "65536",
+        "words of a space of memory; no effect yet",
+    );
+    let workers = number(
+        alloc,
+        "workers",
+        "4",
+        "threads that make steps; no effect yet",
+    );
     command
         .arg(within(space, 4096, 1048576))?
         .arg(within(workers, 1, 32))
@@ -47,7 +57,12 @@ fn with_sizes<'a>(alloc: Global, command: Command<'a>) -> Result<Command<'a>, Al
 fn with_limits<'a>(alloc: Global, command: Command<'a>) -> Result<Command<'a>, AllocError>
     ensures { IfOk result (λ made. app_of made ≡ spec.with_limits (app_of command.entry)) }
 {
-    let quantum = number(alloc, "quantum", "100", "most steps of a turn");
+    let quantum = number(
+        alloc,
+        "quantum",
+        "100",
+        "most steps of a turn; no effect yet",
+    );
     let steps = number(alloc, "steps", "1000000000", "most steps of the run");
     command
         .arg(within(quantum, 1, 65535))?
@@ -59,7 +74,11 @@ fn with_flags<'a>(alloc: Global, command: Command<'a>) -> Result<Command<'a>, Al
     ensures { IfOk result (λ made. app_of made ≡ spec.with_flags (app_of command.entry)) }
 {
     command
-        .arg(flag(alloc, "plain", "run over memory that is never collected"))?
+        .arg(flag(
+            alloc,
+            "plain",
+            "run over memory that is never collected, as every run does yet",
+        ))?
         .arg(flag(
             alloc,
             "stats",
@@ -105,12 +124,21 @@ fn flag<'a>(alloc: Global, name: &'a str, help: &'a str) -> Arg<'a>
         .help(help)
 }
 
-/// Reads the words of a command line, without the program's name. The error is the first fault of the words by the rules of the command line, or want of memory.
+/// Reads the words of a command line, without the program's name. The error is the first fault of
+/// the words by the rules of the command line, or want of memory.
 pub fn parse<'a>(alloc: Global, words: &'a [&'a str]) -> Result<Options<'a>, Error>
-    ensures fault { FailsBy (fault_of spec.command_line (map (λ word. word.now) words.entry.now)) result }
-    ensures file { IfOk result (λ options. options.file.now ≡ spec.file_in (map (λ word. word.now) words.entry.now)) }
-    ensures stats { IfOk result (λ options. spec.flag_in (codes "stats") (map (λ word. word.now) words.entry.now) ≡ Some (codes "true") → options.stats ≡ true) }
-    ensures no_stats { IfOk result (λ options. spec.flag_in (codes "stats") (map (λ word. word.now) words.entry.now) ≡ Some (codes "false") → options.stats ≡ false) }
+    ensures fault { FailsBy (fault_of spec.command_line (map (λ word. word.now) words.entry.now))
+        result }
+    ensures file { IfOk result
+        (λ options. options.file.now ≡ spec.file_in (map (λ word. word.now) words.entry.now)) }
+    ensures stats { IfOk result
+        (λ options. spec.flag_in (codes "stats") (map (λ word. word.now) words.entry.now) ≡ Some
+        (codes "true") → options.stats ≡ true) }
+    ensures no_stats { IfOk result
+        (λ options. spec.flag_in (codes "stats") (map (λ word. word.now) words.entry.now) ≡ Some
+        (codes "false") → options.stats ≡ false) }
+    ensures numbers { IfOk result
+        (λ options. spec.AreNumbers (map (λ word. word.now) words.entry.now) options.config) }
 {
     let matches = command(alloc)?.try_get_matches_from(words)?;
     let config = Config {

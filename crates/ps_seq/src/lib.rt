@@ -2,8 +2,4 @@
 #![tactic(auto)]
 
 pub mod arrays;
-#[cfg(test)]
-mod string_tests;
 pub mod strings;
-#[cfg(test)]
-mod tests;

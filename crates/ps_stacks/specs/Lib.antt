@@ -1,1 +1,2 @@
+pub mod Lends
 pub mod Tops

@@ -1,5 +1,6 @@
 ghost use Rattle.std.specs.Prelude.{◌≡◌, ℕ, ◌+◌, ◌-◌, ◌<◌, ◌≤◌, ◌↔◌, IsTrue, List, [], ◌∷◌, ◌++◌, length, take, drop, slice_get, reverse, IfOk, IfSome, IfNone, OnOk, OnErr, Some, None, vec_len, vec_capacity, nat_le};
 ghost use Rattle.ps_stacks.specs.Tops.{first_of, first_two_of, first_three_of, rotated};
+ghost use Rattle.std.specs.Borrow.{sem};
 
 use std::alloc::{AllocError, Global};
 use std::marker::Model;
@@ -29,6 +30,8 @@ impl<T: Copy, const LIMIT: usize> Model for Stack<T, LIMIT> {
 }
 
 impl<T: Copy, const LIMIT: usize> Stack<T, LIMIT> {
+    ghost use Rattle.ps_stacks.specs.Lends.{lends_top};
+
     /// An empty stack. Fails where its room can't be had.
     pub fn new(alloc: Global) -> Result<Self, AllocError>
         ensures { IfOk result (λ stack. stack ≡ []) }
@@ -130,7 +133,7 @@ impl<T: Copy, const LIMIT: usize> Stack<T, LIMIT> {
         if self.items.len() >= LIMIT {
             return Err(StackFull);
         }
-        push_within(&mut self.items, item);
+        self.items.push_reserved(item);
         Ok(())
     }
 
@@ -142,7 +145,37 @@ impl<T: Copy, const LIMIT: usize> Stack<T, LIMIT> {
     {
         let left = self.items.len() - count;
         self.items.truncate(left);
-        push_within(&mut self.items, item);
+        self.items.push_reserved(item);
+    }
+
+    /// Puts an item in the place of the topmost one.
+    #[inline]
+    pub fn set_top(&mut self, item: T)
+        requires { 1 ≤ length self.old }
+        ensures { self.new ≡ item ∷ drop 1 self.old }
+    {
+        let last = self.items.len() - 1;
+        self.items[last] = item;
+    }
+
+    /// The topmost item, which is changed in place.
+    #[inline]
+    pub fn top_mut(&mut self) -> &mut T
+        requires { 1 ≤ length self.old }
+        ensures* writes_back { sem 𝓛 (lends_top T.row LIMIT.row self.entry result) }
+        ensures value { first_of self.old ≡ Some result.now }
+    {
+        let last = self.items.len() - 1;
+        &mut self.items[last]
+    }
+
+    /// Pushes an item for which there is room. It takes no memory.
+    #[inline]
+    pub fn push_reserved(&mut self, item: T)
+        requires { length self.old < LIMIT }
+        ensures { self.new ≡ item ∷ self.old }
+    {
+        self.items.push_reserved(item);
     }
 
     /// Moves the topmost items of a group behind the others of it.
@@ -169,17 +202,8 @@ impl<T: Copy, const LIMIT: usize> Stack<T, LIMIT> {
 /// Moves the last items of a slice in front of those from a place on.
 fn rotate_from<T: Copy>(items: &mut [T], start: usize, places: usize)
     requires within { start + places ≤ length items.old }
-    ensures { let rest = drop start items.old in let kept = length rest - places in items.new ≡ take start items.old ++ (drop kept rest ++ take kept rest) }
+    ensures { let rest = drop start items.old in let kept = length rest - places in
+        items.new ≡ take start items.old ++ (drop kept rest ++ take kept rest) }
 {
     items[start..].rotate_right(places);
-}
-
-/// Pushes an item for which the capacity has room.
-fn push_within<T: Copy>(items: &mut Vec<T>, item: T)
-    requires { vec_len items.old < vec_capacity items.old }
-    ensures items { items.new.items ≡ items.old.items ++ item ∷ [] }
-    ensures len { vec_len items.new ≡ vec_len items.old + 1 }
-    ensures capacity { vec_capacity items.old ≤ vec_capacity items.new }
-{
-    let _ = items.push(item);
 }

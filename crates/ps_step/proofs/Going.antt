@@ -10,7 +10,7 @@ use Rattle.ps_language.specs.Small as small
 use Rattle.ps_language.specs.Small.{small_names, SmallFrame, SmallWorld, small_pushed, small_step, moved_as, frame_turn}
 use Rattle.ps_stacks.specs.Tops.{first_of}
 use Rattle.ps_word.specs.declared.words.Word.{Word}
-use Rattle.ps_mem.specs.Heap.{Heap, Grants, birth_at}
+use Rattle.ps_mem.specs.Heap.{Heap, Grants, birth_at, SameLogs}
 use Rattle.ps_mem.specs.Meaning.{value_of}
 use Rattle.ps_mem.specs.Shows.{IsValue, IsWithin, Shows}
 use Rattle.ps_mem.proofs.KeepsLemmas.{Keeps-Extends, Extends-same}
@@ -28,33 +28,45 @@ use Rattle.ps_step.specs.Goes.{IsBehindErrors, GoesTo, Goes, GoesAlone}
 -- ---- without memory
 
 -- no record was put
-pub same_records : (old new : Grants) (slot : ℕ) → new.closed ≡ old.closed → new.records ≡ old.records → KeepsLogs old new slot
-same_records old new slot closed records = record {
-  closed = closed;
-  others = λ s other. ap (λ (each : ℕ → ℕ). each s) records;
-  used = let same = ap (λ (each : ℕ → ℕ). each slot) records in omega (arith, same);
+pub same_records : (old new : Grants) (slot : ℕ) → SameLogs old new → KeepsLogs old new slot
+same_records old new slot logs = record {
+  cycle_open = logs.cycle_open;
+  closed = logs.closed;
+  others = λ s other. ap (λ (each : ℕ → ℕ). each s) logs.records;
+  used = let same = ap (λ (each : ℕ → ℕ). each slot) logs.records in omega (arith, same);
+  kept = let same = ap (λ (each : ℕ → ℕ). each slot) logs.put in omega (arith, same);
+  put = let same = ap (λ (each : ℕ → ℕ). each slot) logs.put in omega (arith, same);
+  put_no_other = λ s other. ap (λ (each : ℕ → ℕ). each s) logs.put;
 }
 
 pub same_logs : (grants : Grants) (slot : ℕ) → KeepsLogs grants grants slot
-same_logs grants slot = same_records grants grants slot refl refl
+same_logs grants slot = same_records grants grants slot
+    (record { cycle_open = refl; records = refl; put = refl; closed = refl })
 
-pub full_values : (h : Heap) (words : List Word) → is_full (map (value_of (birth_at h) small_names) words) ≡ is_full words
+pub full_values : (h : Heap) (words : List Word)
+    → is_full (map (value_of (birth_at h) small_names) words) ≡ is_full words
 unfolding is_full
 full_values h words = rw (length-map words (value_of (birth_at h) small_names)) refl
 
-module _ (h : Heap) (m : Machine) (good : IsGood h m) (running : m.stage ≡ Running) (grants : Grants) (slot : ℕ) where
+module _ (h : Heap) (m : Machine) (good : IsGood h m) (running : m.stage ≡ Running)
+    (grants : Grants) (slot : ℕ) where
   counted : m.error_lines ≡ 0
   counted = good.counted (rw running refl)
 
   pub good_raised : (error : ErrorName) (command : Command) → IsGood h (raised error command m)
-  good_raised error command = record { ready = good.ready; frames = good.frames; counted = λ steps. counted }
+  good_raised error command =
+      record { ready = good.ready; frames = good.frames; counted = λ steps. counted }
 
   -- an error
-  pub goes_raised : (needs : SmallWorld → Needs) (next : SmallWorld → SmallWorld) (error : ErrorName) (command : Command)
-      → ((store : Store) → Shows h small_names store → next (world_of h m store) ≡ small.with_error error (command_of (birth_at h) m.program command) (world_of h m store))
+  pub goes_raised : (needs : SmallWorld → Needs) (next : SmallWorld → SmallWorld)
+      (error : ErrorName) (command : Command)
+      → ((store : Store) → Shows h small_names store
+      → next (world_of h m store) ≡ small.with_error error
+      (command_of (birth_at h) m.program command) (world_of h m store))
       → Goes needs next (Ok (tt {0})) slot grants grants h h m (raised error command m)
   goes_raised needs next error command is = record {
-    meets = λ store shows within. rw (is store shows) (record { is = refl; shows = shows; within = within });
+    meets = λ store shows within. rw (is store shows)
+        (record { is = refl; shows = shows; within = within });
     good = good_raised error command;
     keeps = Keeps-Extends h h (Extends-same h);
     logs = same_logs grants slot;
@@ -63,113 +75,163 @@ module _ (h : Heap) (m : Machine) (good : IsGood h m) (running : m.stage ≡ Run
   }
 
   -- a word more, or no room for it
-  pub goes_pushed : (needs : SmallWorld → Needs) (next : SmallWorld → SmallWorld) (command : Command) (word : Word)
-      → IsValue h word → ((store : Store) → Shows h small_names store → IsWithin (birth_at h) small_names store word)
-      → ((store : Store) → Shows h small_names store → next (world_of h m store) ≡ small_pushed (command_of (birth_at h) m.program command) (value_of (birth_at h) small_names word) (world_of h m store))
+  pub goes_pushed : (needs : SmallWorld → Needs) (next : SmallWorld → SmallWorld)
+      (command : Command) (word : Word)
+      → IsValue h word → ((store : Store) → Shows h small_names store
+      → IsWithin (birth_at h) small_names store word)
+      → ((store : Store) → Shows h small_names store
+      → next (world_of h m store) ≡ small_pushed (command_of (birth_at h) m.program command)
+      (value_of (birth_at h) small_names word) (world_of h m store))
       → Goes needs next (Ok (tt {0})) slot grants grants h h m (pushed command word m)
   unfolding small_pushed
-  goes_pushed needs next command word held inside is = elim (is_full m.operands) as (λ b. is_full m.operands ≡ b → Goes needs next (Ok (tt {0})) slot grants grants h h m (pushed command word m)) [
-    | true ↦ λ full. rw full (goes_raised needs next StackOverflow command
-        (λ store shows. is store shows ∙ rw (full_values h m.operands, full) refl))
-    | false ↦ λ free. rw free (record {
-      meets = λ store shows within. rw (is store shows, full_values h m.operands, free) (record { is = refl; shows = shows; within = (inside store shows, within) });
-      good = record { ready = record { sound = good.ready.sound; values = (held, good.ready.values) }; frames = good.frames; counted = good.counted };
-      keeps = Keeps-Extends h h (Extends-same h);
-      logs = same_logs grants slot;
-      program = refl;
-      framed = tt;
-    })
-  ] refl
+  goes_pushed needs next command word held inside is =
+      elim (is_full m.operands) as
+      (λ b. is_full m.operands ≡ b
+      → Goes needs next (Ok (tt {0})) slot grants grants h h m (pushed command word m)) [
+        | true ↦ λ full. rw full (goes_raised needs next StackOverflow command
+            (λ store shows. is store shows ∙ rw (full_values h m.operands, full) refl))
+        | false ↦ λ free. rw free (record {
+          meets = λ store shows within. rw (is store shows, full_values h m.operands, free)
+              (record { is = refl; shows = shows; within = (inside store shows, within) });
+          good = record {
+            ready = record
+                { sound = good.ready.sound; values = (held, good.ready.values) };
+            frames =
+                good.frames;
+            counted = good.counted;
+          };
+          keeps = Keeps-Extends h h (Extends-same h);
+          logs = same_logs grants slot;
+          program = refl;
+          framed = tt;
+        })
+      ] refl
 
 -- ---- by the top frame
 
-pub frames_top : (frames : List Frame) (frame : Frame) → first_of frames ≡ Some frame → frames ≡ frame ∷ drop 1 frames
+pub frames_top : (frames : List Frame) (frame : Frame) → first_of frames ≡ Some frame
+    → frames ≡ frame ∷ drop 1 frames
 frames_top [] frame top = cc
 frames_top (first ∷ below) frame top = let same : first ≡ frame = cc in rw same refl
 
-moved_running : (refused : Bool) (stage : small.Stage) (frames : List SmallFrame) (world : SmallWorld) (frame : SmallFrame) (below : List SmallFrame)
-    → stage ≡ small.running → frames ≡ frame ∷ below → moved_as refused stage frames world ≡ frame_turn refused frame below world
+moved_running : (refused : Bool) (stage : small.Stage) (frames : List SmallFrame)
+    (world : SmallWorld) (frame : SmallFrame) (below : List SmallFrame)
+    → stage ≡ small.running → frames ≡ frame ∷ below
+    → moved_as refused stage frames world ≡ frame_turn refused frame below world
 moved_running refused stage frames world frame below running top = rw (running, top) refl
 
-pub step_by : (refused : Bool) (h : Heap) (m : Machine) (store : Store) (frame : Frame) → m.stage ≡ Running → first_of m.frames ≡ Some frame
-    → small_step refused (world_of h m store) ≡ frame_turn refused (frame_of (birth_at h) frame) (map (frame_of (birth_at h)) (drop 1 m.frames)) (world_of h m store)
+pub step_by : (refused : Bool) (h : Heap) (m : Machine) (store : Store) (frame : Frame)
+    → m.stage ≡ Running → first_of m.frames ≡ Some frame
+    → small_step refused (world_of h m store) ≡ frame_turn refused (frame_of (birth_at h) frame)
+    (map (frame_of (birth_at h)) (drop 1 m.frames)) (world_of h m store)
 unfolding small_step
 step_by refused h m store frame running top =
-    moved_running refused (stage_of (birth_at h) m.program m.stage) (map (frame_of (birth_at h)) m.frames) (world_of h m store) (frame_of (birth_at h) frame) (map (frame_of (birth_at h)) (drop 1 m.frames))
+    moved_running refused (stage_of (birth_at h) m.program m.stage)
+    (map (frame_of (birth_at h)) m.frames) (world_of h m store) (frame_of (birth_at h) frame)
+    (map (frame_of (birth_at h)) (drop 1 m.frames))
     (ap (stage_of (birth_at h) m.program) running)
     (ap (map (frame_of (birth_at h))) (frames_top m.frames frame top))
 
-needs_running : (stage : small.Stage) (frames : List SmallFrame) (world : SmallWorld) (frame : SmallFrame) (below : List SmallFrame)
-    → stage ≡ small.running → frames ≡ frame ∷ below → stage_needs stage frames world ≡ frame_needs frame world
+needs_running : (stage : small.Stage) (frames : List SmallFrame) (world : SmallWorld)
+    (frame : SmallFrame) (below : List SmallFrame)
+    → stage ≡ small.running → frames ≡ frame ∷ below
+    → stage_needs stage frames world ≡ frame_needs frame world
 needs_running stage frames world frame below running top = rw (running, top) refl
 
-pub needs_by : (h : Heap) (m : Machine) (store : Store) (frame : Frame) → m.stage ≡ Running → first_of m.frames ≡ Some frame
-    → step_needs (world_of h m store) ≡ frame_needs (frame_of (birth_at h) frame) (world_of h m store)
+pub needs_by : (h : Heap) (m : Machine) (store : Store) (frame : Frame) → m.stage ≡ Running
+    → first_of m.frames ≡ Some frame
+    → step_needs (world_of h m store) ≡ frame_needs (frame_of (birth_at h) frame)
+    (world_of h m store)
 unfolding step_needs
 needs_by h m store frame running top =
-    needs_running (stage_of (birth_at h) m.program m.stage) (map (frame_of (birth_at h)) m.frames) (world_of h m store) (frame_of (birth_at h) frame) (map (frame_of (birth_at h)) (drop 1 m.frames))
+    needs_running (stage_of (birth_at h) m.program m.stage) (map (frame_of (birth_at h)) m.frames)
+    (world_of h m store) (frame_of (birth_at h) frame)
+    (map (frame_of (birth_at h)) (drop 1 m.frames))
     (ap (stage_of (birth_at h) m.program) running)
     (ap (map (frame_of (birth_at h))) (frames_top m.frames frame top))
 
 -- what comes before a part of a step
-pub goes_made : (needs inner_needs : SmallWorld → Needs) (next inner : SmallWorld → SmallWorld) (slot : ℕ) (asked left : Grants) (old new : Heap) (m middle n : Machine)
-    → Goes inner_needs inner (Ok (tt {0})) slot asked left old new middle n → middle.operands ≡ m.operands → middle.program ≡ m.program
-    → ((store : Store) → Shows old small_names store → next (world_of old m store) ≡ inner (world_of old middle store))
+pub goes_made : (needs inner_needs : SmallWorld → Needs) (next inner : SmallWorld → SmallWorld)
+    (slot : ℕ) (asked left : Grants) (old new : Heap) (m middle n : Machine)
+    → Goes inner_needs inner (Ok (tt {0})) slot asked left old new middle n
+    → middle.operands ≡ m.operands → middle.program ≡ m.program
+    → ((store : Store) → Shows old small_names store
+    → next (world_of old m store) ≡ inner (world_of old middle store))
     → Goes needs next (Ok (tt {0})) slot asked left old new m n
-goes_made needs inner_needs next inner slot asked left old new m middle n went operands program is = record {
-  meets = λ store shows within. rw (is store shows) (went.meets store shows (rw operands within));
-  good = went.good;
-  keeps = went.keeps;
-  logs = went.logs;
-  program = went.program ∙ program;
-  framed = tt;
-}
+goes_made needs inner_needs next inner slot asked left old new m middle n went operands program is =
+    record {
+      meets = λ store shows within. rw (is store shows) (went.meets store shows (rw operands within));
+      good = went.good;
+      keeps = went.keeps;
+      logs = went.logs;
+      program = went.program ∙ program;
+      framed = tt;
+    }
 
 -- a step that goes on running
-pub behind_running : (reason : NotMade) (world : SmallWorld) → world.stage ≡ small.running → IsBehindErrors reason world
+pub behind_running : (reason : NotMade) (world : SmallWorld) → world.stage ≡ small.running
+    → IsBehindErrors reason world
 behind_running LogFull world running = running
 behind_running LogClosed world running = running
 behind_running (NeedSpace words) world running = running
 behind_running Memory world running = tt
 
-pub goes_unmade : (needs inner_needs : SmallWorld → Needs) (next inner : SmallWorld → SmallWorld) (reason : NotMade) (slot : ℕ) (asked left : Grants) (old new : Heap) (m middle n back : Machine)
-    → Goes inner_needs inner (Err reason) slot asked left old new middle n → middle.operands ≡ m.operands → back.program ≡ m.program
-    → ((store : Store) → Shows old small_names store → needs (world_of old m store) ≡ inner_needs (world_of old middle store))
-    → ((store : Store) → Shows old small_names store → next (world_of old m store) ≡ inner (world_of old middle store))
-    → (n ≡ middle → back ≡ m) → (n.frames ≡ middle.frames → back.frames ≡ m.frames) → IsGood new back
+pub goes_unmade : (needs inner_needs : SmallWorld → Needs) (next inner : SmallWorld → SmallWorld)
+    (reason : NotMade) (slot : ℕ) (asked left : Grants) (old new : Heap) (m middle n back : Machine)
+    → Goes inner_needs inner (Err reason) slot asked left old new middle n
+    → middle.operands ≡ m.operands → back.program ≡ m.program
+    → ((store : Store) → Shows old small_names store
+    → needs (world_of old m store) ≡ inner_needs (world_of old middle store))
+    → ((store : Store) → Shows old small_names store
+    → next (world_of old m store) ≡ inner (world_of old middle store))
+    → (n ≡ middle → back ≡ m) → (n.frames ≡ middle.frames → back.frames ≡ m.frames)
+    → IsGood new back
     → Goes needs next (Err reason) slot asked left old new m back
-goes_unmade needs inner_needs next inner reason slot asked left old new m middle n back went operands program needed is restored put_back good = record {
-  meets = λ store shows within.
-      let met = went.meets store shows (rw operands within) in
-      rw (needed store shows, is store shows) (met.0, met.1, met.2, restored met.3);
-  good = good;
-  keeps = went.keeps;
-  logs = went.logs;
-  program = program;
-  framed = put_back went.framed;
-}
+goes_unmade needs inner_needs next inner reason slot asked left old new m middle n back went
+    operands program needed is restored put_back good = record {
+      meets = λ store shows within.
+          let met = went.meets store shows (rw operands within) in
+          rw (needed store shows, is store shows) (met.0, met.1, met.2, restored met.3);
+      good = good;
+      keeps = went.keeps;
+      logs = went.logs;
+      program = program;
+      framed = put_back went.framed;
+    }
 
 -- the same step told otherwise
-pub goes_as : {needs inner_needs : SmallWorld → Needs} {next inner : SmallWorld → SmallWorld} {result : Result Unit NotMade} {slot : ℕ} {asked left : Grants} {old new : Heap} {m n : Machine}
-    → ((store : Store) → Shows old small_names store → needs (world_of old m store) ≡ inner_needs (world_of old m store))
-    → ((store : Store) → Shows old small_names store → next (world_of old m store) ≡ inner (world_of old m store))
-    → Goes inner_needs inner result slot asked left old new m n → Goes needs next result slot asked left old new m n
-goes_as {needs} {inner_needs} {next} {inner} {result} {slot} {asked} {left} {old} {new} {m} {n} needed is went = record {
-  meets = λ store shows within.
-      subst (λ (w : SmallWorld). GoesTo (needs (world_of old m store)) w result slot asked left old new m n store) (sym (is store shows))
-      (subst (λ (some : Needs). GoesTo some (inner (world_of old m store)) result slot asked left old new m n store) (sym (needed store shows)) (went.meets store shows within));
-  good = went.good;
-  keeps = went.keeps;
-  logs = went.logs;
-  program = went.program;
-  framed = went.framed;
-}
+pub goes_as : {needs inner_needs : SmallWorld → Needs} {next inner : SmallWorld → SmallWorld}
+    {result : Result Unit NotMade} {slot : ℕ} {asked left : Grants} {old new : Heap} {m n : Machine}
+    → ((store : Store) → Shows old small_names store
+    → needs (world_of old m store) ≡ inner_needs (world_of old m store))
+    → ((store : Store) → Shows old small_names store
+    → next (world_of old m store) ≡ inner (world_of old m store))
+    → Goes inner_needs inner result slot asked left old new m n
+    → Goes needs next result slot asked left old new m n
+goes_as {needs} {inner_needs} {next} {inner} {result} {slot} {asked} {left} {old} {new} {m} {n}
+    needed is went = record {
+      meets = λ store shows within.
+          subst (λ (w : SmallWorld). GoesTo (needs (world_of old m store)) w result slot asked left old
+          new m n store) (sym (is store shows))
+          (subst (λ (some : Needs). GoesTo some (inner (world_of old m store)) result slot asked left
+          old new m n store) (sym (needed store shows)) (went.meets store shows within));
+      good = went.good;
+      keeps = went.keeps;
+      logs = went.logs;
+      program = went.program;
+      framed = went.framed;
+    }
 
 -- ---- a context seen
 
-pub seen_goes : {needs : SmallWorld → Needs} {next : SmallWorld → SmallWorld} {result : Result Unit NotMade} {slot : ℕ} {asked left : Grants} {old new : Heap} {view m n : Machine}
-    → view ≡ m → Goes needs next result slot asked left old new view n → Goes needs next result slot asked left old new m n
-seen_goes {needs} {next} {result} {slot} {asked} {left} {old} {new} {view} {m} {n} is went = subst (λ (x : Machine). Goes needs next result slot asked left old new x n) is went
+pub seen_goes : {needs : SmallWorld → Needs} {next : SmallWorld → SmallWorld}
+    {result : Result Unit NotMade} {slot : ℕ} {asked left : Grants} {old new : Heap}
+    {view m n : Machine}
+    → view ≡ m → Goes needs next result slot asked left old new view n
+    → Goes needs next result slot asked left old new m n
+seen_goes {needs} {next} {result} {slot} {asked} {left} {old} {new} {view} {m} {n} is went =
+    subst (λ (x : Machine). Goes needs next result slot asked left old new x n) is went
 
-pub seen_alone : {next : SmallWorld → SmallWorld} {view m n : Machine} → view ≡ m → GoesAlone next view n → GoesAlone next m n
+pub seen_alone : {next : SmallWorld → SmallWorld} {view m n : Machine} → view ≡ m
+    → GoesAlone next view n → GoesAlone next m n
 seen_alone {next} {view} {m} {n} is went = subst (λ (x : Machine). GoesAlone next x n) is went

@@ -4,7 +4,7 @@ use Rattle.ps_language.specs.declared.errors.ErrorName.{ErrorName}
 use Rattle.ps_language.specs.declared.operators.Operator.{Operator}
 use Rattle.ps_language.specs.declared.operators.Operator.TheVariants.{Pop, Exch, Dup, Copy, Index, Roll, Clear, Count, Mark, ClearToMark, CountToMark, Add, Sub, Mul, Idiv, Mod, Neg, Abs, Eq, Ne, Gt, Ge, Lt, Le, And, Or, Xor, Not, Bitshift, Array, BeginArray, EndArray, MakeString, Length, Get, Put, GetInterval, PutInterval, Aload, Astore, Forall, Search, AnchorSearch, Dict, BeginDict, EndDict, MaxLength, Begin, End, Def, Load, Store, Undef, Known, Where, CurrentDict, CountDictStack, ClearDictStack, ErrorDict, Exec, If, IfElse, For, Repeat, Loop, Exit, Stop, Stopped, Quit, Bind, TypeOf, Cvlit, Cvx, Xcheck, ExecuteOnly, NoAccess, ReadOnly, Rcheck, Wcheck, Cvi, Cvn, Cvs, Equals, EqualsEquals, Stack, Pstack, Print, CurrentContext, Fork, Join, Detach, Lock, Monitor, Condition, Wait, Notify, Yield, VmStatus, VmReclaim}
 use Rattle.ps_language.specs.Value.{Store as StoreOf}
-use Rattle.ps_language.specs.Effect.{Effect, makes, unwinds, raises, starves}
+use Rattle.ps_language.specs.SmallActs.{Effect, makes, unwinds, raises, starves}
 use Rattle.ps_language.specs.Small.{small_names, SmallWorld, small_effect, small_operated, after_effect}
 use Rattle.ps_word.specs.declared.words.Word.{Word}
 use Rattle.ps_mem.specs.Heap.{Heap, Grants}
@@ -24,7 +24,8 @@ use Rattle.ps_step.proofs.Going.{behind_running}
 use Rattle.ps_step.proofs.Standing.{frames_held, frames_kept}
 
 pub operated_other : (refused : Bool) (operator : Operator) (world : SmallWorld) → operator ≢ Forall
-    → small_operated refused operator world ≡ after_effect operator world (small_effect operator refused world.operands world.store)
+    → small_operated refused operator world ≡ after_effect operator world
+    (small_effect operator refused world.operands world.store)
 unfolding small_operated
 operated_other refused Pop world other = refl
 operated_other refused Exch world other = refl
@@ -130,17 +131,29 @@ operated_other refused VmReclaim world other = refl
 abbrev pub left_as : Machine → List Word → List ℕ → Machine
 left_as m operands printed = record m { operands = operands; printed = printed }
 
-module _ (refused : Bool) (operator : Operator) (other : operator ≢ Forall) (slot : ℕ) (asked left : Grants) (old new : Heap) (m : Machine) (good : IsGood old m) (running : m.stage ≡ Running)
-    (after : List Word) (printed : List ℕ) (ready : IsReady new after) (keeps : Keeps old new) (logs : KeepsLogs asked left slot) where
+module _ (refused : Bool) (operator : Operator) (other : operator ≢ Forall) (slot : ℕ)
+    (asked left : Grants) (old new : Heap) (m : Machine) (good : IsGood old m)
+    (running : m.stage ≡ Running)
+    (after : List Word) (printed : List ℕ) (ready : IsReady new after) (keeps : Keeps old new)
+    (logs : KeepsLogs asked left slot) where
   good_left : IsGood new (left_as m after printed)
-  good_left = record { ready = ready; frames = frames_held old new keeps (length m.program) m.frames good.frames; counted = good.counted }
+  good_left = record {
+    ready = ready;
+    frames =
+        frames_held old new keeps (length m.program) m.frames good.frames;
+    counted = good.counted;
+  }
 
   -- the world in the new memory
   left_world : (store : StoreOf) → world_of new (left_as m after printed) store
-      ≡ record (world_of old m store) { operands = values_in new small_names after; printed = printed }
-  left_world store = rw (frames_kept old new keeps (length m.program) m.frames good.frames, running) refl
+      ≡ record (world_of old m store)
+      { operands = values_in new small_names after; printed = printed }
+  left_world store = rw (frames_kept old new keeps (length m.program) m.frames good.frames, running)
+      refl
 
-  ok_shown : (needs : Needs) (store : StoreOf) (effect : Effect) → OperatesAs needs (Ok (tt {0})) effect slot asked left old new m.operands after m.printed printed store
+  ok_shown : (needs : Needs) (store : StoreOf) (effect : Effect)
+      → OperatesAs needs (Ok (tt {0})) effect slot asked left old new m.operands after m.printed
+      printed store
       → IsShown new (left_as m after printed) (after_effect operator (world_of old m store) effect)
   ok_shown needs store (makes scene output) did = record {
     is = sym (left_world scene.store ∙ rw (did.0, did.3) refl);
@@ -151,11 +164,15 @@ module _ (refused : Bool) (operator : Operator) (other : operator ≢ Forall) (s
   ok_shown needs store (raises error) did = absurd did
   ok_shown needs store (starves names) did = absurd did
 
-  pub goes_operated : Operates operator refused (Ok (tt {0})) slot asked left old new m.operands after m.printed printed
-      → Goes (λ world. operator_needs operator world.operands) (small_operated refused operator) (Ok (tt {0})) slot asked left old new m (left_as m after printed)
+  pub goes_operated : Operates operator refused (Ok (tt {0})) slot asked left old new m.operands
+      after m.printed printed
+      → Goes (λ world. operator_needs operator world.operands) (small_operated refused operator)
+      (Ok (tt {0})) slot asked left old new m (left_as m after printed)
   goes_operated operates = record {
     meets = λ store shows within. rw (operated_other refused operator (world_of old m store) other)
-        (ok_shown (operator_needs operator (values_in old small_names m.operands)) store (small_effect operator refused (values_in old small_names m.operands) store) (operates.meets store shows within));
+        (ok_shown (operator_needs operator (values_in old small_names m.operands)) store
+        (small_effect operator refused (values_in old small_names m.operands) store)
+        (operates.meets store shows within));
     good = good_left;
     keeps = keeps;
     logs = logs;
@@ -163,9 +180,12 @@ module _ (refused : Bool) (operator : Operator) (other : operator ≢ Forall) (s
     framed = tt;
   }
 
-  error_shown : (needs : Needs) (error : ErrorName) (store : StoreOf) → Shows old small_names store → AreWithin old small_names store m.operands → (effect : Effect)
-      → OperatesAs needs (Err (Error error)) effect slot asked left old new m.operands after m.printed printed store
-      → IsShown new (raised error (Blamed operator) (left_as m after printed)) (after_effect operator (world_of old m store) effect)
+  error_shown : (needs : Needs) (error : ErrorName) (store : StoreOf) → Shows old small_names store
+      → AreWithin old small_names store m.operands → (effect : Effect)
+      → OperatesAs needs (Err (Error error)) effect slot asked left old new m.operands after
+      m.printed printed store
+      → IsShown new (raised error (Blamed operator) (left_as m after printed))
+      (after_effect operator (world_of old m store) effect)
   error_shown needs error store shows within (makes scene output) did = absurd did
   error_shown needs error store shows within (unwinds cause scene) did = absurd did
   error_shown needs error store shows within (raises which) did = record {
@@ -179,33 +199,57 @@ module _ (refused : Bool) (operator : Operator) (other : operator ≢ Forall) (s
     within = rw (did.1.0, did.1.1) within;
   }
 
-  pub goes_failed : (error : ErrorName) (failure : Failure) → failure ≡ Error error → Operates operator refused (Err failure) slot asked left old new m.operands after m.printed printed
-      → Goes (λ world. operator_needs operator world.operands) (small_operated refused operator) (Ok (tt {0})) slot asked left old new m (raised error (Blamed operator) (left_as m after printed))
-  goes_failed error failure is did = let operates : Operates operator refused (Err (Error error)) slot asked left old new m.operands after m.printed printed = rw (← is) did in record {
-    meets = λ store shows within. rw (operated_other refused operator (world_of old m store) other)
-        (error_shown (operator_needs operator (values_in old small_names m.operands)) error store shows within (small_effect operator refused (values_in old small_names m.operands) store) (operates.meets store shows within));
-    good = record { ready = ready; frames = good_left.frames; counted = λ steps. good.counted (rw running refl) };
-    keeps = keeps;
-    logs = logs;
-    program = refl;
-    framed = tt;
-  }
+  pub goes_failed : (error : ErrorName) (failure : Failure) → failure ≡ Error error
+      → Operates operator refused (Err failure) slot asked left old new m.operands after m.printed
+      printed
+      → Goes (λ world. operator_needs operator world.operands) (small_operated refused operator)
+      (Ok (tt {0})) slot asked left old new m
+      (raised error (Blamed operator) (left_as m after printed))
+  goes_failed error failure is did =
+      let operates : Operates operator refused (Err (Error error)) slot asked left old new
+      m.operands after m.printed printed = rw (← is) did in record {
+        meets = λ store shows within. rw (operated_other refused operator (world_of old m store) other)
+            (error_shown (operator_needs operator (values_in old small_names m.operands)) error store
+            shows within (small_effect operator refused (values_in old small_names m.operands)
+            store) (operates.meets store shows within));
+        good = record {
+          ready = ready;
+          frames = good_left.frames;
+          counted =
+              λ steps. good.counted (rw running refl);
+        };
+        keeps = keeps;
+        logs = logs;
+        program = refl;
+        framed = tt;
+      }
 
-  unmade_shown : (needs : Needs) (reason : Reason) (store : StoreOf) (effect : Effect) → OperatesAs needs (Err (NotMade reason)) effect slot asked left old new m.operands after m.printed printed store
-      → GoesTo needs (after_effect operator (world_of old m store) effect) (Err reason) slot asked left old new m (left_as m after printed) store
-  unmade_shown needs reason store (makes scene output) did = (did.0, behind_running reason _ (rw running refl), did.1.0, rw (did.1.1, did.1.2) refl)
+  unmade_shown : (needs : Needs) (reason : Reason) (store : StoreOf) (effect : Effect)
+      → OperatesAs needs (Err (NotMade reason)) effect slot asked left old new m.operands after
+      m.printed printed store
+      → GoesTo needs (after_effect operator (world_of old m store) effect) (Err reason) slot asked
+      left old new m (left_as m after printed) store
+  unmade_shown needs reason store (makes scene output) did =
+      (did.0, behind_running reason _ (rw running refl), did.1.0, rw (did.1.1, did.1.2) refl)
   unmade_shown needs reason store (unwinds cause scene) did = absurd did
   unmade_shown needs reason store (raises error) did = absurd did
   unmade_shown needs reason store (starves names) did = absurd did
 
-  pub goes_not : (reason : Reason) (failure : Failure) → failure ≡ NotMade reason → Operates operator refused (Err failure) slot asked left old new m.operands after m.printed printed
-      → Goes (λ world. operator_needs operator world.operands) (small_operated refused operator) (Err reason) slot asked left old new m (left_as m after printed)
-  goes_not reason failure is did = let operates : Operates operator refused (Err (NotMade reason)) slot asked left old new m.operands after m.printed printed = rw (← is) did in record {
-    meets = λ store shows within. rw (operated_other refused operator (world_of old m store) other)
-        (unmade_shown (operator_needs operator (values_in old small_names m.operands)) reason store (small_effect operator refused (values_in old small_names m.operands) store) (operates.meets store shows within));
-    good = good_left;
-    keeps = keeps;
-    logs = logs;
-    program = refl;
-    framed = refl;
-  }
+  pub goes_not : (reason : Reason) (failure : Failure) → failure ≡ NotMade reason
+      → Operates operator refused (Err failure) slot asked left old new m.operands after m.printed
+      printed
+      → Goes (λ world. operator_needs operator world.operands) (small_operated refused operator)
+      (Err reason) slot asked left old new m (left_as m after printed)
+  goes_not reason failure is did =
+      let operates : Operates operator refused (Err (NotMade reason)) slot asked left old new
+      m.operands after m.printed printed = rw (← is) did in record {
+        meets = λ store shows within. rw (operated_other refused operator (world_of old m store) other)
+            (unmade_shown (operator_needs operator (values_in old small_names m.operands)) reason store
+            (small_effect operator refused (values_in old small_names m.operands) store)
+            (operates.meets store shows within));
+        good = good_left;
+        keeps = keeps;
+        logs = logs;
+        program = refl;
+        framed = refl;
+      }

@@ -1,11 +1,12 @@
 -- What a step may be refused, by what it does.
-use Rattle.std.specs.Prelude.{ℕ, ◌==◌, ◌||◌, Bool, false, Option, Some, None, List, [], ◌∷◌, drop, if◌then◌else◌}
+use Rattle.std.specs.Prelude.{ℕ, ◌==◌, ◌||◌, nat_le, Bool, false, Option, Some, None, List, [], ◌∷◌, drop, if◌then◌else◌}
 use Rattle.ps_language.specs.Value.{What, operator_value, Value}
 use Rattle.ps_language.specs.Token.{Token, executable_name_token, string_token, procedure_token, Scan, found, exhausted, faulty}
 use Rattle.ps_language.specs.Scan.{behind_blank, scan}
 use Rattle.ps_language.specs.StepFrames.{element_at}
 use Rattle.ps_language.specs.StepValues.{is_executable_name}
-use Rattle.ps_language.specs.Small.{Stage, running, unwinding, SmallFrame, text_frame, procedure_frame, forall_frame, SmallWorld, named, text_in}
+use Rattle.ps_language.specs.Objects.{made_between}
+use Rattle.ps_language.specs.Small.{small_step, Stage, running, unwinding, SmallFrame, text_frame, procedure_frame, forall_frame, SmallWorld, named, text_in}
 use Rattle.ps_operators.specs.Reasons.{Needs, nothing_needed, growth_needed, operator_needs}
 
 -- of what a name stands for: an operator acts, and everything else is pushed
@@ -33,14 +34,18 @@ begins_composite (b ∷ bs) = b == 40 || b == 60 || b == 123
 abbrev pub scan_needs : (text : List ℕ) → Scan → SmallWorld → Needs
 scan_needs text (found token end) world = token_needs token world
 scan_needs text exhausted world = nothing_needed
-scan_needs text (faulty fault) world = if begins_composite text then growth_needed else nothing_needed
+scan_needs text (faulty fault) world =
+    if begins_composite text then growth_needed else nothing_needed
 
 -- an executable name is looked up, and everything else is pushed
 abbrev pub element_needs : Value → SmallWorld → Needs
-element_needs value world = if is_executable_name value then name_needs (named (text_in value.what)) world else nothing_needed
+element_needs value world =
+    if is_executable_name value then name_needs (named (text_in value.what)) world else
+    nothing_needed
 
 abbrev pub frame_needs : SmallFrame → SmallWorld → Needs
-frame_needs (text_frame at) world = scan_needs (behind_blank false (drop at world.program)) (scan world.program at) world
+frame_needs (text_frame at) world =
+    scan_needs (behind_blank false (drop at world.program)) (scan world.program at) world
 frame_needs (procedure_frame rest) world = element_needs (element_at world.store rest 0) world
 frame_needs (forall_frame over at body) world = nothing_needed
 
@@ -52,3 +57,9 @@ stage_needs stage frames world = nothing_needed
 
 unfoldable pub step_needs : SmallWorld → Needs
 step_needs world = stage_needs world.stage world.frames world
+
+-- whether memory may be wanted of a step over a memory that grows: for what is no object, or for an object that it makes
+abbrev pub wants_memory : (refused : Bool) → SmallWorld → Bool
+wants_memory refused world =
+    (step_needs world).growth || nat_le 1
+    (made_between world.store (small_step refused world).store)

@@ -9,8 +9,8 @@ ghost use Rattle.ps_step.specs.Lines.{Grows};
 use ps_language::errors::ErrorName;
 use ps_language::operators::Operator;
 use ps_named::texts::{error_text, operator_name};
+use ps_operators::texts::{append, append_text};
 use ps_scan::Span;
-use ps_values::texts::{append, append_text};
 use ps_word::words::Word;
 use std::alloc::AllocError;
 
@@ -26,7 +26,9 @@ pub enum Command {
 
 /// Appends the text of a command; nothing changes where the growth is refused.
 fn append_command(output: &mut Vec<u8>, command: Command, program: &[u8]) -> Result<(), AllocError>
-    ensures ok { (births : ℕ → ℕ) → OnOk result (output.new.items ≡ output.old.items ++ small_text (command_of births program.now command)) }
+    ensures ok { (births : ℕ → ℕ)
+        → OnOk result (output.new.items ≡ output.old.items
+        ++ small_text (command_of births program.now command)) }
     ensures err { OnErr result (output.new.items ≡ output.old.items) }
 {
     match command {
@@ -43,7 +45,9 @@ fn append_parts(
     command: Command,
     program: &[u8],
 ) -> Result<(), AllocError>
-    ensures ok { (births : ℕ → ℕ) → OnOk result (output.new.items ≡ output.old.items ++ small_error_line error (command_of births program.now command)) }
+    ensures ok { (births : ℕ → ℕ)
+        → OnOk result (output.new.items ≡ output.old.items
+        ++ small_error_line error (command_of births program.now command)) }
     ensures err { OnErr result (Grows output.old.items output.new.items) }
 {
     append(output, b"%%[ Error: ")?;
@@ -61,7 +65,9 @@ pub fn append_error_line(
     command: Command,
     program: &[u8],
 ) -> Result<(), AllocError>
-    ensures ok { (births : ℕ → ℕ) → OnOk result (output.new.items ≡ output.old.items ++ small_error_line error (command_of births program.now command)) }
+    ensures ok { (births : ℕ → ℕ)
+        → OnOk result (output.new.items ≡ output.old.items
+        ++ small_error_line error (command_of births program.now command)) }
     ensures err { OnErr result (output.new.items ≡ output.old.items) }
 {
     let start = output.len();

@@ -22,7 +22,7 @@ ghost use Rattle.ps_step.specs.Machine.{IsGood, command_of, EndsWithLine};
 ghost use Rattle.ps_step.specs.Needs.{name_needs, token_needs, element_needs, step_needs};
 
 use crate::commands::{Command, append_error_line};
-use crate::frames::{Frame, Frames, drop_top, push_within};
+use crate::frames::{Frame, Frames, advance, advance_loop, drop_top, push_within};
 use crate::readers::{executable_name_of, forall_operands};
 use ps_language::errors::ErrorName;
 use ps_language::operators::Operator;
@@ -36,7 +36,7 @@ use ps_procedures::laws::procedure_laws;
 use ps_procedures::makes::make_procedure;
 use ps_procedures::small::is_small;
 use ps_scan::{ScanFault, Span, Token, TokenKind, next_token};
-use ps_seq::arrays::{element, interval};
+use ps_seq::arrays::element;
 use ps_word::values::Part;
 use ps_word::words::Word;
 use std::alloc::{AllocError, Global};
@@ -84,10 +84,13 @@ impl Model for Interpreter {
 }
 
 impl Interpreter {
-    /// A context about to scan the program, which can make its first step in any memory where nothing stands. Fails where its room can't be had.
+    /// A context about to scan the program, which can make its first step in any memory where
+    /// nothing stands. Fails where its room can't be had.
     pub fn new(alloc: Global, program: &[u8]) -> Result<Interpreter, AllocError>
-        ensures starting { IfOk result (λ interpreter. interpreter ≡ machines.starting_machine program.now) }
-        ensures good { IfOk result (λ interpreter. (space : Space) → IsGood (empty_heap space) interpreter) }
+        ensures starting { IfOk result
+            (λ interpreter. interpreter ≡ machines.starting_machine program.now) }
+        ensures good { IfOk result
+            (λ interpreter. (space : Space) → IsGood (empty_heap space) interpreter) }
     {
         let program = Vec::from_slice(alloc, program)?;
         let operands = Operands::new(alloc)?;
@@ -127,11 +130,15 @@ impl Interpreter {
         printed
     }
 
-    /// One step over a memory, whose records go into the log of a slot. A refused step makes no object: one that would raises `VMerror`.
+    /// One step over a memory, whose records go into the log of a slot. A refused step makes no
+    /// object: one that would raises `VMerror`.
     ///
-    /// Not made, with nothing changed: `NeedSpace`, of the words of all that the step would make, where they have no room; `LogClosed`, `LogFull`, where an
-    /// element is to be stored; `Memory`, where a growth was refused: of a memory that grows, for objects that the step would make, else of what a string, a
+    /// Not made, with nothing changed: `NeedSpace`, of the words of all that the step would make,
+    /// where they have no room; `LogClosed`, `LogFull`, where an
+    /// element is to be stored; `Memory`, where a growth was refused: of a memory that grows, for
+    /// objects that the step would make, else of what a string, a
     /// procedure or a fault takes while it is read, or of what is printed.
+    #[inline]
     pub fn step<M: Memory>(
         &mut self,
         memory: &mut M,
@@ -140,7 +147,8 @@ impl Interpreter {
     ) -> Result<(), NotMade>
         requires slot { slot < SLOTS }
         requires good { IsGood (M.heap memory.old) self.old }
-        ensures { Goes step_needs (small_step refused) result slot (M.grants memory.old) (M.grants memory.new) (M.heap memory.old) (M.heap memory.new) self.old self.new }
+        ensures { Goes step_needs (small_step refused) result slot (M.grants memory.old)
+            (M.grants memory.new) (M.heap memory.old) (M.heap memory.new) self.old self.new }
     {
         match self.stage {
             Stage::Running => match self.frames.top() {
@@ -158,6 +166,7 @@ impl Interpreter {
     }
 
     /// Notes an error, and what raised it.
+    #[inline(always)]
     fn raise(&mut self, error: ErrorName, command: Command)
         ensures { self.new ≡ machines.raised error command self.old }
     {
@@ -166,6 +175,7 @@ impl Interpreter {
 
     /// Pushes an operand, or raises `stackoverflow`.
     #[tactic(auto, unfolding(ps_language::specs::Readers::is_full))]
+    #[inline(always)]
     fn push(&mut self, operand: Word, command: Command)
         ensures { self.new ≡ machines.pushed command operand self.old }
     {
@@ -176,7 +186,9 @@ impl Interpreter {
         }
     }
 
-    /// Takes the next token and does it; with none left the frame goes, and the context is finished where it was the last.
+    /// Takes the next token and does it; with none left the frame goes, and the context is finished
+    /// where it was the last.
+    #[inline(never)]
     fn scan<M: Memory>(
         &mut self,
         memory: &mut M,
@@ -188,7 +200,8 @@ impl Interpreter {
         requires good { IsGood (M.heap memory.old) self.old }
         requires running { self.old.stage ≡ Stage.Running }
         requires top { first_of self.old.frames ≡ Some (Frame.Text at) }
-        ensures { Goes step_needs (small_step refused) result slot (M.grants memory.old) (M.grants memory.new) (M.heap memory.old) (M.heap memory.new) self.old self.new }
+        ensures { Goes step_needs (small_step refused) result slot (M.grants memory.old)
+            (M.grants memory.new) (M.heap memory.old) (M.heap memory.new) self.old self.new }
     {
         match next_token(self.alloc, self.program.as_slice(), at) {
             Ok(Some(token)) => self.take_token(memory, slot, refused, at, &token),
@@ -208,7 +221,8 @@ impl Interpreter {
         }
     }
 
-    /// Takes the frame of a text off that is at its end; where it was the last the context is finished.
+    /// Takes the frame of a text off that is at its end; where it was the last the context is
+    /// finished.
     fn leave_text(&mut self)
         requires { 1 ≤ length self.old.frames }
         ensures { self.new ≡ machines.text_left self.old }
@@ -233,14 +247,16 @@ impl Interpreter {
         requires running { self.old.stage ≡ Stage.Running }
         requires top { first_of self.old.frames ≡ Some (Frame.Text at) }
         requires within { token.now.end ≤ length self.old.program }
-        requires scanned { scan self.old.program at ≡ found (token_of self.old.program token.now.kind) token.now.end }
-        ensures { Goes step_needs (small_step refused) result slot (M.grants memory.old) (M.grants memory.new) (M.heap memory.old) (M.heap memory.new) self.old self.new }
+        requires scanned { scan self.old.program at ≡ found
+            (token_of self.old.program token.now.kind) token.now.end }
+        ensures { Goes step_needs (small_step refused) result slot (M.grants memory.old)
+            (M.grants memory.new) (M.heap memory.old) (M.heap memory.new) self.old self.new }
     {
-        self.frames.replace(1, Frame::Text { at: token.end });
+        self.frames.set_top(Frame::Text { at: token.end });
         match self.execute(memory, slot, refused, &token.kind) {
             Ok(()) => Ok(()),
             Err(reason) => {
-                self.frames.replace(1, Frame::Text { at });
+                self.frames.set_top(Frame::Text { at });
                 Err(reason)
             }
         }
@@ -257,8 +273,12 @@ impl Interpreter {
         requires slot { slot < SLOTS }
         requires good { IsGood (M.heap memory.old) self.old }
         requires running { self.old.stage ≡ Stage.Running }
-        requires short { (elements : Tokens) → token_of self.old.program token.now ≡ procedure_token elements → IsShort elements }
-        ensures { Goes (token_needs (token_of self.old.program token.now)) (small.small_done refused (token_of self.old.program token.now)) result slot (M.grants memory.old) (M.grants memory.new) (M.heap memory.old) (M.heap memory.new) self.old self.new }
+        requires short { (elements : Tokens)
+            → token_of self.old.program token.now ≡ procedure_token elements → IsShort elements }
+        ensures { Goes (token_needs (token_of self.old.program token.now))
+            (small.small_done refused (token_of self.old.program token.now)) result slot
+            (M.grants memory.old) (M.grants memory.new) (M.heap memory.old) (M.heap memory.new)
+            self.old self.new }
     {
         match token {
             TokenKind::Integer(number) => {
@@ -280,6 +300,7 @@ impl Interpreter {
     }
 
     /// Does what a name stands for.
+    #[inline(always)]
     fn execute_name<M: Memory>(
         &mut self,
         memory: &mut M,
@@ -292,7 +313,12 @@ impl Interpreter {
         requires good { IsGood (M.heap memory.old) self.old }
         requires running { self.old.stage ≡ Stage.Running }
         requires small { IfSome found (λ named. IsTrue (is_small_named named)) }
-        ensures { (text : List ℕ) → ((births : ℕ → ℕ) → command_of births self.old.program command ≡ executable_name text) → Goes (name_needs (option_map named_value_of found)) (small.name_treated refused text (option_map named_value_of found)) result slot (M.grants memory.old) (M.grants memory.new) (M.heap memory.old) (M.heap memory.new) self.old self.new }
+        ensures { (text : List ℕ)
+            → ((births : ℕ → ℕ) → command_of births self.old.program command ≡ executable_name text)
+            → Goes (name_needs (option_map named_value_of found))
+            (small.name_treated refused text (option_map named_value_of found)) result slot
+            (M.grants memory.old) (M.grants memory.new) (M.heap memory.old) (M.heap memory.new)
+            self.old self.new }
     {
         match found {
             Some(named) => self.execute_named(memory, slot, refused, named, command),
@@ -304,6 +330,7 @@ impl Interpreter {
     }
 
     /// Does what a name stands for: an operator acts, and a value is pushed.
+    #[inline(always)]
     fn execute_named<M: Memory>(
         &mut self,
         memory: &mut M,
@@ -316,7 +343,12 @@ impl Interpreter {
         requires good { IsGood (M.heap memory.old) self.old }
         requires running { self.old.stage ≡ Stage.Running }
         requires small { IsTrue (is_small_named named) }
-        ensures { (text : List ℕ) → ((births : ℕ → ℕ) → command_of births self.old.program command ≡ executable_name text) → Goes (name_needs (Some (named_value_of named))) (small.name_treated refused text (Some (named_value_of named))) result slot (M.grants memory.old) (M.grants memory.new) (M.heap memory.old) (M.heap memory.new) self.old self.new }
+        ensures { (text : List ℕ)
+            → ((births : ℕ → ℕ) → command_of births self.old.program command ≡ executable_name text)
+            → Goes (name_needs (Some (named_value_of named)))
+            (small.name_treated refused text (Some (named_value_of named))) result slot
+            (M.grants memory.old) (M.grants memory.new) (M.heap memory.old) (M.heap memory.new)
+            self.old self.new }
     {
         match named {
             Named::Operator(operator) => self.act(memory, slot, refused, operator),
@@ -332,6 +364,7 @@ impl Interpreter {
     }
 
     /// An operator acts, or raises an error.
+    #[inline(always)]
     fn act<M: Memory>(
         &mut self,
         memory: &mut M,
@@ -343,7 +376,9 @@ impl Interpreter {
         requires good { IsGood (M.heap memory.old) self.old }
         requires running { self.old.stage ≡ Stage.Running }
         requires small { IsTrue (small.is_small operator) }
-        ensures { Goes (λ world. operator_needs operator world.operands) (small.small_operated refused operator) result slot (M.grants memory.old) (M.grants memory.new) (M.heap memory.old) (M.heap memory.new) self.old self.new }
+        ensures { Goes (λ world. operator_needs operator world.operands)
+            (small.small_operated refused operator) result slot (M.grants memory.old)
+            (M.grants memory.new) (M.heap memory.old) (M.heap memory.new) self.old self.new }
     {
         match operator {
             Operator::Forall => {
@@ -355,6 +390,7 @@ impl Interpreter {
     }
 
     /// An operator other than `forall` acts, or raises an error.
+    #[inline(always)]
     fn operate<M: Memory>(
         &mut self,
         memory: &mut M,
@@ -367,7 +403,9 @@ impl Interpreter {
         requires running { self.old.stage ≡ Stage.Running }
         requires small { IsTrue (small.is_small operator) }
         requires other { operator ≢ Operator.Forall }
-        ensures { Goes (λ world. operator_needs operator world.operands) (small.small_operated refused operator) result slot (M.grants memory.old) (M.grants memory.new) (M.heap memory.old) (M.heap memory.new) self.old self.new }
+        ensures { Goes (λ world. operator_needs operator world.operands)
+            (small.small_operated refused operator) result slot (M.grants memory.old)
+            (M.grants memory.new) (M.heap memory.old) (M.heap memory.new) self.old self.new }
     {
         match operate(
             operator,
@@ -386,7 +424,8 @@ impl Interpreter {
         }
     }
 
-    /// Pushes a procedure, whose objects are made. Raises `stackoverflow`, `limitcheck` where it has a token that needs strings or dictionaries, and
+    /// Pushes a procedure, whose objects are made. Raises `stackoverflow`, `limitcheck` where it
+    /// has a token that needs strings or dictionaries, and
     /// `VMerror` in a refused step.
     fn push_procedure<M: Memory>(
         &mut self,
@@ -398,7 +437,10 @@ impl Interpreter {
         requires good { IsGood (M.heap memory.old) self.old }
         requires running { self.old.stage ≡ Stage.Running }
         requires short { IsShort (tokens_in self.old.program elements.now) }
-        ensures { Goes (λ world. growth_needed) (small.procedure_pushed refused (tokens_in self.old.program elements.now)) result slot (M.grants memory.old) (M.grants memory.new) (M.heap memory.old) (M.heap memory.new) self.old self.new }
+        ensures { Goes (λ world. growth_needed)
+            (small.procedure_pushed refused (tokens_in self.old.program elements.now)) result slot
+            (M.grants memory.old) (M.grants memory.new) (M.heap memory.old) (M.heap memory.new)
+            self.old self.new }
     {
         let none = Command::Value(plain::null());
         if self.operands.is_full() {
@@ -424,6 +466,7 @@ impl Interpreter {
     }
 
     /// Takes the next element of a procedure and does it.
+    #[inline(always)]
     fn take_element<M: Memory>(
         &mut self,
         memory: &mut M,
@@ -435,7 +478,8 @@ impl Interpreter {
         requires good { IsGood (M.heap memory.old) self.old }
         requires running { self.old.stage ≡ Stage.Running }
         requires top { first_of self.old.frames ≡ Some (Frame.Procedure rest) }
-        ensures { Goes step_needs (small_step refused) result slot (M.grants memory.old) (M.grants memory.new) (M.heap memory.old) (M.heap memory.new) self.old self.new }
+        ensures { Goes step_needs (small_step refused) result slot (M.grants memory.old)
+            (M.grants memory.new) (M.heap memory.old) (M.heap memory.new) self.old self.new }
     {
         let word = element(memory, rest, 0);
         if rest.length == 1 {
@@ -446,6 +490,7 @@ impl Interpreter {
     }
 
     /// Does the last element of a procedure, whose frame goes with it.
+    #[inline(always)]
     fn take_last<M: Memory>(
         &mut self,
         memory: &mut M,
@@ -459,10 +504,14 @@ impl Interpreter {
         requires running { self.old.stage ≡ Stage.Running }
         requires top { first_of self.old.frames ≡ Some (Frame.Procedure rest) }
         requires held { IsValue (M.heap memory.old) word }
-        requires within { (names : List (List ℕ)) (s : Store) → Shows (M.heap memory.old) names s → IsWithin (birth_at (M.heap memory.old)) names s word }
-        requires value { (names : List (List ℕ)) (s : Store) → Shows (M.heap memory.old) names s → slice_get (elements s (birth_at (M.heap memory.old) rest.address)) (rest.offset + 0) ≡ Some (value_of (birth_at (M.heap memory.old)) names word) }
+        requires within { (names : List (List ℕ)) (s : Store) → Shows (M.heap memory.old) names s
+            → IsWithin (birth_at (M.heap memory.old)) names s word }
+        requires value { (names : List (List ℕ)) (s : Store) → Shows (M.heap memory.old) names s
+            → slice_get (elements s (birth_at (M.heap memory.old) rest.address)) (rest.offset + 0) ≡
+            Some (value_of (birth_at (M.heap memory.old)) names word) }
         requires last { rest.length ≡ 1 }
-        ensures { Goes step_needs (small_step refused) result slot (M.grants memory.old) (M.grants memory.new) (M.heap memory.old) (M.heap memory.new) self.old self.new }
+        ensures { Goes step_needs (small_step refused) result slot (M.grants memory.old)
+            (M.grants memory.new) (M.heap memory.old) (M.heap memory.new) self.old self.new }
     {
         drop_top(&mut self.frames);
         match self.execute_element(memory, slot, refused, word) {
@@ -475,6 +524,7 @@ impl Interpreter {
     }
 
     /// Does the first element of a procedure that has others.
+    #[inline(always)]
     fn take_first<M: Memory>(
         &mut self,
         memory: &mut M,
@@ -488,23 +538,28 @@ impl Interpreter {
         requires running { self.old.stage ≡ Stage.Running }
         requires top { first_of self.old.frames ≡ Some (Frame.Procedure rest) }
         requires held { IsValue (M.heap memory.old) word }
-        requires within { (names : List (List ℕ)) (s : Store) → Shows (M.heap memory.old) names s → IsWithin (birth_at (M.heap memory.old)) names s word }
-        requires value { (names : List (List ℕ)) (s : Store) → Shows (M.heap memory.old) names s → slice_get (elements s (birth_at (M.heap memory.old) rest.address)) (rest.offset + 0) ≡ Some (value_of (birth_at (M.heap memory.old)) names word) }
+        requires within { (names : List (List ℕ)) (s : Store) → Shows (M.heap memory.old) names s
+            → IsWithin (birth_at (M.heap memory.old)) names s word }
+        requires value { (names : List (List ℕ)) (s : Store) → Shows (M.heap memory.old) names s
+            → slice_get (elements s (birth_at (M.heap memory.old) rest.address)) (rest.offset + 0) ≡
+            Some (value_of (birth_at (M.heap memory.old)) names word) }
         requires more { 1 < rest.length }
-        ensures { Goes step_needs (small_step refused) result slot (M.grants memory.old) (M.grants memory.new) (M.heap memory.old) (M.heap memory.new) self.old self.new }
+        ensures { Goes step_needs (small_step refused) result slot (M.grants memory.old)
+            (M.grants memory.new) (M.heap memory.old) (M.heap memory.new) self.old self.new }
     {
-        let others = interval(rest, 1, rest.length - 1);
-        self.frames.replace(1, Frame::Procedure { rest: others });
+        advance(&mut self.frames, rest);
         match self.execute_element(memory, slot, refused, word) {
             Ok(()) => Ok(()),
             Err(reason) => {
-                self.frames.replace(1, Frame::Procedure { rest });
+                self.frames.set_top(Frame::Procedure { rest });
                 Err(reason)
             }
         }
     }
 
-    /// Does an element of a procedure: an executable name is looked up, and everything else is pushed.
+    /// Does an element of a procedure: an executable name is looked up, and everything else is
+    /// pushed.
+    #[inline(always)]
     fn execute_element<M: Memory>(
         &mut self,
         memory: &mut M,
@@ -516,8 +571,12 @@ impl Interpreter {
         requires good { IsGood (M.heap memory.old) self.old }
         requires running { self.old.stage ≡ Stage.Running }
         requires held { IsValue (M.heap memory.old) word }
-        requires within { (names : List (List ℕ)) (s : Store) → Shows (M.heap memory.old) names s → IsWithin (birth_at (M.heap memory.old)) names s word }
-        ensures { Goes (element_needs (value_of (birth_at (M.heap memory.old)) small_names word)) (small.element_done refused (value_of (birth_at (M.heap memory.old)) small_names word)) result slot (M.grants memory.old) (M.grants memory.new) (M.heap memory.old) (M.heap memory.new) self.old self.new }
+        requires within { (names : List (List ℕ)) (s : Store) → Shows (M.heap memory.old) names s
+            → IsWithin (birth_at (M.heap memory.old)) names s word }
+        ensures { Goes (element_needs (value_of (birth_at (M.heap memory.old)) small_names word))
+            (small.element_done refused (value_of (birth_at (M.heap memory.old)) small_names word))
+            result slot (M.grants memory.old) (M.grants memory.new) (M.heap memory.old)
+            (M.heap memory.new) self.old self.new }
     {
         match executable_name_of(word) {
             Some(number) => self.execute_name(
@@ -534,10 +593,13 @@ impl Interpreter {
         }
     }
 
-    /// `A P forall`. Raises `stackunderflow`, `typecheck`, `invalidaccess` and `execstackoverflow`; access is asked for here and no later.
+    /// `A P forall`. Raises `stackunderflow`, `typecheck`, `invalidaccess` and `execstackoverflow`;
+    /// access is asked for here and no later.
+    #[inline(never)]
     fn begin_forall(&mut self)
         requires running { self.old.stage ≡ Stage.Running }
-        ensures { (refused : Bool) → GoesAlone (small.small_operated refused Operator.Forall) self.old self.new }
+        ensures { (refused : Bool)
+            → GoesAlone (small.small_operated refused Operator.Forall) self.old self.new }
     {
         match forall_operands(&self.operands) {
             Err(error) => self.raise(error, Command::Operator(Operator::Forall)),
@@ -555,14 +617,18 @@ impl Interpreter {
         }
     }
 
-    /// A turn of `forall`: the next element is pushed and the procedure entered; past the last the frame goes.
+    /// A turn of `forall`: the next element is pushed and the procedure entered; past the last the
+    /// frame goes.
+    #[inline(always)]
     fn turn<M: Memory>(&mut self, memory: &mut M, over: Part, at: u16, body: Part)
         requires good { IsGood (M.heap memory.old) self.old }
         requires running { self.old.stage ≡ Stage.Running }
         requires top { first_of self.old.frames ≡ Some (Frame.Forall over at body) }
         ensures heap { M.heap memory.new ≡ M.heap memory.old }
         ensures grants { M.grants memory.new ≡ M.grants memory.old }
-        ensures goes { (refused : Bool) (slot : ℕ) → Goes step_needs (small_step refused) (Ok (tt {0})) slot (M.grants memory.old) (M.grants memory.new) (M.heap memory.old) (M.heap memory.new) self.old self.new }
+        ensures goes { (refused : Bool) (slot : ℕ)
+            → Goes step_needs (small_step refused) (Ok (tt {0})) slot (M.grants memory.old)
+            (M.grants memory.new) (M.heap memory.old) (M.heap memory.new) self.old self.new }
     {
         if at >= over.length {
             self.frames.discard(1);
@@ -578,14 +644,7 @@ impl Interpreter {
         if body.length == 0 {
             let word = element(memory, over, at);
             operands::push_within(&mut self.operands, word);
-            self.frames.replace(
-                1,
-                Frame::Forall {
-                    over,
-                    at: at + 1,
-                    body,
-                },
-            );
+            advance_loop(&mut self.frames, over, at, body);
             return;
         }
         if self.frames.is_full() {
@@ -597,23 +656,18 @@ impl Interpreter {
         }
         let word = element(memory, over, at);
         operands::push_within(&mut self.operands, word);
-        self.frames.replace(
-            1,
-            Frame::Forall {
-                over,
-                at: at + 1,
-                body,
-            },
-        );
+        advance_loop(&mut self.frames, over, at, body);
         push_within(&mut self.frames, Frame::Procedure { rest: body });
     }
 
-    /// Takes a frame off for an error; the last goes with the error's line, and the context is finished. Not made, with nothing changed: `Memory`, where the
+    /// Takes a frame off for an error; the last goes with the error's line, and the context is
+    /// finished. Not made, with nothing changed: `Memory`, where the
     /// growth of the output was refused.
     fn unwind(&mut self, error: ErrorName, command: Command) -> Result<(), NotMade>
         requires unwinding { self.old.stage ≡ Stage.Unwinding error command }
         requires counted { self.old.error_lines ≡ 0 }
-        ensures made { OnOk result ((refused : Bool) → GoesAlone (small_step refused) self.old self.new) }
+        ensures made { OnOk result
+            ((refused : Bool) → GoesAlone (small_step refused) self.old self.new) }
         ensures reason { IfErr result (λ reason. reason ≡ NotMade.Memory) }
         ensures last { OnErr result (length self.old.frames ≡ 1) }
         ensures unmade { OnErr result (self.new ≡ self.old) }
@@ -628,11 +682,13 @@ impl Interpreter {
         }
     }
 
-    /// Prints the line of an error and ends. Not made, with nothing changed: `Memory`, where the growth of the output was refused.
+    /// Prints the line of an error and ends. Not made, with nothing changed: `Memory`, where the
+    /// growth of the output was refused.
     fn end_with_line(&mut self, error: ErrorName, command: Command) -> Result<(), NotMade>
         requires counted { self.old.error_lines ≡ 0 }
         requires last { length self.old.frames ≡ 1 }
-        ensures made { OnOk result ((births : ℕ → ℕ) → EndsWithLine births error command self.old self.new) }
+        ensures made { OnOk result
+            ((births : ℕ → ℕ) → EndsWithLine births error command self.old self.new) }
         ensures reason { IfErr result (λ reason. reason ≡ NotMade.Memory) }
         ensures unmade { OnErr result (self.new ≡ self.old) }
     {

@@ -1,6 +1,6 @@
 //! Files and outputs in memory.
 
-ghost use Rattle.std.specs.Prelude.{◌≡◌, ◌+◌, [], Some, Err, OnOk, OnErr, IsErr, IfOk, length};
+ghost use Rattle.std.specs.Prelude.{◌≡◌, ◌≢◌, ◌+◌, ℕ, List, [], Some, Err, OnOk, OnErr, IsErr, IfOk, IfSome, length};
 ghost use Rattle.std.specs.Io.{WritesAtMost};
 ghost use Rattle.std.specs.Io.KnownBytes.{WriteAppends, Keeps};
 ghost use Rattle.ps_tests.specs.Fakes.{bytes_in};
@@ -27,7 +27,11 @@ impl FileSet for OneFile<'_> {
     }
 
     fn write(&mut self, _name: &str, _bytes: &[u8]) -> Result<(), WriteFault>
-        ensures { result ≡ Err WriteFault.NoWrite }
+        ensures refused { result ≡ Err WriteFault.NoWrite }
+        ensures written { OnOk result
+            (IfSome (bytes_in self.new.bytes) (λ known. known ≡ _bytes.now)) }
+        ensures kept { (other : List ℕ) → other ≢ _name.now
+            → bytes_in self.new.bytes ≡ bytes_in self.old.bytes }
     {
         Err(WriteFault::NoWrite)
     }
@@ -72,7 +76,8 @@ impl Write for Output {
 
     fn write(&mut self, bytes: &[u8]) -> io::Result<usize>
         ensures bound { WritesAtMost result bytes.now }
-        ensures bytes { WriteAppends (Some self.old.bytes.items) (Some self.new.bytes.items) result bytes.now }
+        ensures bytes { WriteAppends (Some self.old.bytes.items) (Some self.new.bytes.items) result
+            bytes.now }
 
         // It takes all that it is given, as long as a write is left.
         ensures whole { IfOk result (λ taken. taken ≡ length bytes.now) }

@@ -1,4 +1,3 @@
 pub mod Cuts
 pub mod Rests
 pub mod Shown
-pub mod Worked

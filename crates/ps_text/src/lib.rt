@@ -6,6 +6,4 @@ mod escapes;
 pub mod full;
 pub mod lines;
 pub mod plain;
-#[cfg(test)]
-mod tests;
 pub mod types;

@@ -1,28 +1,33 @@
 -- The world after the steps of entries.
-use Rattle.std.proofs.Common.{◌≡◌, ℕ, zero, suc, ◌+◌, ◌<◌, ◌≤◌, Bool, true, false, None, List, [], ◌∷◌, ◌++◌, length, take, drop, get_or, inl, inr, refl, sym, ◌∙◌, ap, arith, add-one, append-nil, drop-cons, length-append}
+use Rattle.std.proofs.Common.{◌≡◌, ℕ, zero, suc, ◌+◌, ◌<◌, ◌≤◌, Bool, true, false, None, List, [], ◌∷◌, ◌++◌, length, take, drop, get_or, inl, inr, refl, sym, ◌∙◌, ap, ap₂, subst, arith, add-one, append-nil, drop-cons, length-append}
 use Rattle.std.specs.Prelude.{◌==◌, ◌&&◌, not, replicate}
 use Rattle.std.proofs.lemmas.List.{length-replicate, replicate_more, take-append-drop, take_more, take_all, drop_all}
-use Rattle.std.proofs.lemmas.Bool.{cases_lt}
+use Rattle.std.proofs.lemmas.Bool.{true≢false}
 use Rattle.std.proofs.lemmas.Bool.Decides.{nat_tests}
 use Rattle.ps_language.specs.declared.schedules.Entry.{Entry}
 use Rattle.ps_language.specs.Schedules.{Move, plain_move, last_move, moves_of, moves, count_of, Begins}
 use Rattle.ps_language.specs.Small.{has_steps, starting_small_world, SmallWorld, is_small_ready, after_small_move, after_small_moves, small_world}
 use Rattle.ps_vault.specs.declared.reports.Outcome.{Outcome}
 use Rattle.ps_vault.specs.declared.reports.Outcome.TheVariants.{Finished, Faulted, AllWaiting, StepsOut, Memory}
-use Rattle.ps_vault.specs.Reports.{EndsAs, is_memory, is_over}
+use Rattle.ps_vault.specs.Reports.{EndsAs, is_memory, is_over, IsStarved, is_first_refused, is_next_refused}
 use Rattle.ps_language.proofs.ScheduleLaws.{moves-single, moves-append, plain_entry, begins-part}
 use Rattle.ps_language.proofs.SmallLaws.{unready_move, after_small_moves-append, after_small_moves-single, small_world-append}
 
 -- nothing in this language shows the pair of a vmstatus, so a move is told by its context and whether it is refused
-pub same_move : (world : SmallWorld) (first second : Move) → first.context ≡ second.context → first.refused ≡ second.refused → after_small_move world first ≡ after_small_move world second
+pub same_move : (world : SmallWorld) (first second : Move) → first.context ≡ second.context
+    → first.refused ≡ second.refused → after_small_move world first ≡ after_small_move world second
 unfolding after_small_move
 same_move world first second context refused = rw (context, refused) refl
 
 -- one ordinary step more
-after_more : (world : SmallWorld) (context n : ℕ) → after_small_moves world (replicate (n + 1) (plain_move context)) ≡ after_small_move (after_small_moves world (replicate n (plain_move context))) (plain_move context)
+pub after_more : (world : SmallWorld) (context n : ℕ)
+    → after_small_moves world (replicate (n + 1) (plain_move context)) ≡ after_small_move
+    (after_small_moves world (replicate n (plain_move context))) (plain_move context)
 after_more world context n =
     ap (after_small_moves world) (sym (replicate_more n (plain_move context)))
-    ∙ (after_small_moves-append world (replicate n (plain_move context)) (plain_move context ∷ []) ∙ after_small_moves-single (after_small_moves world (replicate n (plain_move context))) (plain_move context))
+    ∙ (after_small_moves-append world (replicate n (plain_move context)) (plain_move context ∷ [])
+    ∙ after_small_moves-single (after_small_moves world (replicate n (plain_move context)))
+    (plain_move context))
 
 -- ---- the first steps of an entry
 
@@ -35,90 +40,111 @@ length_moves_of entry (suc n) =
 
 -- all of them
 pub taken_all : (entry : Entry) (n : ℕ) → take n (moves_of entry n) ≡ moves_of entry n
-taken_all entry n = take_all n (moves_of entry n) (let all = length_moves_of entry n in omega (arith, all))
+taken_all entry n = take_all n (moves_of entry n)
+    (let all = length_moves_of entry n in omega (arith, all))
 
-taken_before : (few many : ℕ) (move : Move) (rest : List Move) → few ≤ many → take few (replicate many move ++ rest) ≡ replicate few move
+taken_before : (few many : ℕ) (move : Move) (rest : List Move) → few ≤ many
+    → take few (replicate many move ++ rest) ≡ replicate few move
 taken_before zero many move rest h = refl
 taken_before (suc few) zero move rest h = absurd (omega arith)
-taken_before (suc few) (suc many) move rest h = ap (λ (steps : List Move). move ∷ steps) (taken_before few many move rest (omega arith))
+taken_before (suc few) (suc many) move rest h =
+    ap (λ (steps : List Move). move ∷ steps) (taken_before few many move rest (omega arith))
 
 -- those before the last are ordinary ones
-pub taken_part : (entry : Entry) (few n : ℕ) → few < n → take few (moves_of entry n) ≡ replicate few (plain_move entry.context)
+pub taken_part : (entry : Entry) (few n : ℕ) → few < n
+    → take few (moves_of entry n) ≡ replicate few (plain_move entry.context)
 taken_part entry few zero h = absurd (omega arith)
-taken_part entry few (suc before) h = taken_before few before (plain_move entry.context) (last_move entry ∷ []) (omega arith)
+taken_part entry few (suc before) h =
+    taken_before few before (plain_move entry.context) (last_move entry ∷ []) (omega arith)
 
--- none were made
-pub after_none : (world : SmallWorld) (entry : Entry) → world ≡ after_small_moves world (take 0 (moves_of entry entry.steps))
-unfolding after_small_moves
-after_none world entry = refl
-
--- the step behind some of an entry
-abbrev pub step_of : Entry → (refused : Bool) → Move
-step_of entry refused = record { context = entry.context; refused = refused; shown = None }
-
-after_last : (world : SmallWorld) (entry : Entry) (before : ℕ)
-    → after_small_moves world (moves_of entry (suc before)) ≡ after_small_move (after_small_moves world (replicate before (plain_move entry.context))) (last_move entry)
+-- all of them, with the last
+pub after_last : (world : SmallWorld) (entry : Entry) (before : ℕ)
+    → after_small_moves world (moves_of entry (suc before)) ≡ after_small_move
+    (after_small_moves world (replicate before (plain_move entry.context))) (last_move entry)
 after_last world entry before =
-    after_small_moves-append world (replicate before (plain_move entry.context)) (last_move entry ∷ [])
-    ∙ after_small_moves-single (after_small_moves world (replicate before (plain_move entry.context))) (last_move entry)
-
-and_false : (a b : Bool) → b ≡ false → false ≡ (a && b)
-and_false true b h = sym h
-and_false false b h = refl
-
-and_true : (a b : Bool) → b ≡ true → a ≡ (a && b)
-and_true true b h = sym h
-and_true false b h = refl
-
--- one step more
-pub after_step : (world : SmallWorld) (entry : Entry) (made n : ℕ) → made < n
-    → after_small_moves world (take (made + 1) (moves_of entry n)) ≡ after_small_move (after_small_moves world (take made (moves_of entry n))) (step_of entry (entry.refused && (made + 1 == n)))
-after_step world entry made n h = elim (cases_lt (made + 1) n) [
-  | inl below ↦
-      let so_far : SmallWorld = after_small_moves world (replicate made (plain_move entry.context)) in
-      let ordinary : (made + 1 == n) ≡ false = grind (arith, nat_tests) in
-      rw (taken_part entry (made + 1) n below, taken_part entry made n h)
-      (after_more world entry.context made
-      ∙ same_move so_far (plain_move entry.context) (step_of entry (entry.refused && (made + 1 == n))) refl (and_false entry.refused (made + 1 == n) ordinary))
-  | inr past ↦
-      let so_far : SmallWorld = after_small_moves world (replicate made (plain_move entry.context)) in
-      let last : n ≡ suc made = omega arith in
-      let test : (made + 1 == n) ≡ true = grind (arith, nat_tests) in
-      let all : take (made + 1) (moves_of entry n) ≡ moves_of entry (suc made) =
-      ap (λ (k : ℕ). take k (moves_of entry n)) (let same : made + 1 ≡ n = omega arith in same) ∙ (taken_all entry n ∙ ap (moves_of entry) last) in
-      rw (all, taken_part entry made n h)
-      (after_last world entry made ∙ same_move so_far (last_move entry) (step_of entry (entry.refused && (made + 1 == n))) refl (and_true entry.refused (made + 1 == n) test))
-]
+    after_small_moves-append world (replicate before (plain_move entry.context))
+    (last_move entry ∷ [])
+    ∙ after_small_moves-single
+    (after_small_moves world (replicate before (plain_move entry.context))) (last_move entry)
 
 -- ---- steps of a context that isn't ready
 
-idle_steps : (world : SmallWorld) (entry : Entry) (before : ℕ) → is_small_ready world entry.context ≡ false
-    → after_small_moves world (replicate before (plain_move entry.context) ++ last_move entry ∷ []) ≡ world
+idle_steps : (world : SmallWorld) (entry : Entry) (before : ℕ)
+    → is_small_ready world entry.context ≡ false
+    → after_small_moves world (replicate before (plain_move entry.context) ++ last_move entry ∷ [])
+    ≡ world
 unfolding after_small_moves
 idle_steps world entry zero unready = unready_move world (last_move entry) unready
 idle_steps world entry (suc before) unready =
-    ap (λ (w : SmallWorld). after_small_moves w (replicate before (plain_move entry.context) ++ last_move entry ∷ [])) (unready_move world (plain_move entry.context) unready)
+    ap (λ (w : SmallWorld). after_small_moves w
+    (replicate before (plain_move entry.context) ++ last_move entry ∷ []))
+    (unready_move world (plain_move entry.context) unready)
     ∙ idle_steps world entry before unready
 
-idle_behind : (world : SmallWorld) (entry : Entry) (made before : ℕ) → is_small_ready world entry.context ≡ false
-    → after_small_moves world (drop made (replicate before (plain_move entry.context) ++ last_move entry ∷ [])) ≡ world
+idle_behind : (world : SmallWorld) (entry : Entry) (made before : ℕ)
+    → is_small_ready world entry.context ≡ false
+    → after_small_moves world
+    (drop made (replicate before (plain_move entry.context) ++ last_move entry ∷ [])) ≡ world
 unfolding after_small_moves
 idle_behind world entry zero before unready = idle_steps world entry before unready
-idle_behind world entry (suc made) zero unready = ap (after_small_moves world) (drop_all made [] (omega arith))
-idle_behind world entry (suc made) (suc before) unready = idle_behind world entry made before unready
+idle_behind world entry (suc made) zero unready =
+    ap (after_small_moves world) (drop_all made [] (omega arith))
+idle_behind world entry (suc made) (suc before) unready =
+    idle_behind world entry made before unready
 
-idle : (world : SmallWorld) (entry : Entry) (made n : ℕ) → is_small_ready world entry.context ≡ false → after_small_moves world (drop made (moves_of entry n)) ≡ world
+idle : (world : SmallWorld) (entry : Entry) (made n : ℕ)
+    → is_small_ready world entry.context ≡ false
+    → after_small_moves world (drop made (moves_of entry n)) ≡ world
 unfolding after_small_moves
 idle world entry made zero unready = ap (after_small_moves world) (drop_all made [] (omega arith))
 idle world entry made (suc before) unready = idle_behind world entry made before unready
 
 -- so where it isn't ready after some, the others of the entry change nothing
-pub after_idle : (old new : SmallWorld) (entry : Entry) (made n : ℕ) → new ≡ after_small_moves old (take made (moves_of entry n)) → is_small_ready new entry.context ≡ false
+pub after_idle : (old new : SmallWorld) (entry : Entry) (made n : ℕ)
+    → new ≡ after_small_moves old (take made (moves_of entry n))
+    → is_small_ready new entry.context ≡ false
     → new ≡ after_small_moves old (moves_of entry n)
 after_idle old new entry made n is unready =
     sym (ap (after_small_moves old) (sym (take-append-drop made (moves_of entry n)))
     ∙ (after_small_moves-append old (take made (moves_of entry n)) (drop made (moves_of entry n))
-    ∙ (ap (λ (w : SmallWorld). after_small_moves w (drop made (moves_of entry n))) (sym is) ∙ idle new entry made n unready)))
+    ∙ (ap (λ (w : SmallWorld). after_small_moves w (drop made (moves_of entry n))) (sym is)
+    ∙ idle new entry made n unready)))
+
+-- the steps before were ordinary ones of the first context
+pub after_idle_part : (old new : SmallWorld) (entry : Entry) (made : ℕ) → made < entry.steps
+    → new ≡ after_small_moves old (replicate made (plain_move entry.context))
+    → is_small_ready new entry.context ≡ false
+    → new ≡ after_small_moves old (moves_of entry entry.steps)
+after_idle_part old new entry made less is unready =
+    after_idle old new entry made entry.steps
+    (is ∙ ap (after_small_moves old) (sym (taken_part entry made entry.steps less))) unready
+
+-- a context that isn't ready before the first step
+pub after_unready : (world : SmallWorld) (entry : Entry)
+    → is_small_ready world entry.context ≡ false
+    → world ≡ after_small_moves world (moves_of entry entry.steps)
+unfolding after_small_moves
+after_unready world entry unready = after_idle world world entry 0 entry.steps refl unready
+
+-- none
+pub after_nothing : (world : SmallWorld) (entry : Entry) → entry.steps ≡ 0
+    → world ≡ after_small_moves world (moves_of entry entry.steps)
+unfolding after_small_moves
+after_nothing world entry none = rw none refl
+
+-- the last behind the others
+pub after_whole : (old so_far new : SmallWorld) (entry : Entry) (before : ℕ) (move : Move)
+    → entry.steps ≡ suc before
+    → so_far ≡ after_small_moves old (replicate before (plain_move entry.context))
+    → new ≡ after_small_move so_far move
+    → move.context ≡ entry.context → move.refused ≡ entry.refused
+    → new ≡ after_small_moves old (moves_of entry entry.steps)
+after_whole old so_far new entry before move count was is context refused =
+    is ∙ (ap (λ (w : SmallWorld). after_small_move w move) was
+    ∙ (same_move (after_small_moves old (replicate before (plain_move entry.context))) move
+    (last_move entry) context refused
+    ∙ (sym (after_last old entry before)
+    ∙ ap (λ (n : ℕ). after_small_moves old (moves_of entry n)) (sym count))))
 
 second_true : (a b : Bool) → (a && b) ≡ true → not b ≡ false
 second_true true true h = refl
@@ -126,96 +152,227 @@ second_true true false h = cc
 second_true false b h = cc
 
 -- a ready context isn't over
-pub ready_not_over : (world : SmallWorld) (context : ℕ) → is_small_ready world context ≡ true → is_over world ≡ false
+pub ready_not_over : (world : SmallWorld) (context : ℕ) → is_small_ready world context ≡ true
+    → is_over world ≡ false
 unfolding is_small_ready
 ready_not_over world context ready = second_true (context == 1) (has_steps world.stage) ready
 
-both_true : (a b : Bool) → (a && b) ≡ true → (a ≡ true) × (b ≡ true)
-both_true true b h = (refl, h)
-both_true false b h = cc
+both_are : (a b : Bool) → (a && b) ≡ true → (a ≡ true) × (b ≡ true)
+both_are true b h = (refl, h)
+both_are false b h = cc
 
 -- and is the first
-pub ready_first : (world : SmallWorld) (context : ℕ) → is_small_ready world context ≡ true → context ≡ 1
+pub ready_first : (world : SmallWorld) (context : ℕ) → is_small_ready world context ≡ true
+    → context ≡ 1
 unfolding is_small_ready
-ready_first world context ready = let same = (both_true (context == 1) (has_steps world.stage) ready).0 in grind (arith, nat_tests)
+ready_first world context ready = let same =
+    (both_are (context == 1) (has_steps world.stage) ready).0 in grind (arith, nat_tests)
+
+-- ordinary steps of the first context are those of an entry of a context that is ready
+pub behind : (old new : SmallWorld) (entry : Entry) (made : ℕ)
+    → is_small_ready old entry.context ≡ true
+    → new ≡ after_small_moves old (replicate made (plain_move 1))
+    → new ≡ after_small_moves old (replicate made (plain_move entry.context))
+behind old new entry made ready is =
+    is ∙ ap (λ n. after_small_moves old (replicate made (plain_move n)))
+    (sym (ready_first old entry.context ready))
 
 -- the world after the whole of the next entry
-pub after_next : (program : List ℕ) (given : List Entry) (i : ℕ) (d : Entry) (world : SmallWorld) → i < length given
-    → world ≡ after_small_moves (small_world program (take i given)) (moves_of (get_or given i d) (get_or given i d).steps) → world ≡ small_world program (take (i + 1) given)
+pub after_next : (program : List ℕ) (given : List Entry) (i : ℕ) (d : Entry) (world : SmallWorld)
+    → i < length given
+    → world ≡ after_small_moves (small_world program (take i given))
+    (moves_of (get_or given i d) (get_or given i d).steps)
+    → world ≡ small_world program (take (i + 1) given)
 after_next program given i d world lt is =
     let entry : Entry = get_or given i d in
     is ∙ sym (ap (small_world program) (take_more given i d lt)
-    ∙ (small_world-append program (take i given) (entry ∷ []) ∙ ap (after_small_moves (small_world program (take i given))) (moves-single entry)))
+    ∙ (small_world-append program (take i given) (entry ∷ [])
+    ∙ ap (after_small_moves (small_world program (take i given))) (moves-single entry)))
 
 -- the world after a part of the next entry
-pub after_part : (program : List ℕ) (before schedule : List Entry) (few context : ℕ) (old new : SmallWorld)
-    → old ≡ small_world program before → new ≡ after_small_moves old (replicate few (plain_move context))
-    → moves schedule ≡ moves before ++ replicate few (plain_move context) → new ≡ small_world program schedule
+pub after_part : (program : List ℕ) (before schedule : List Entry) (few context : ℕ)
+    (old new : SmallWorld)
+    → old ≡ small_world program before
+    → new ≡ after_small_moves old (replicate few (plain_move context))
+    → moves schedule ≡ moves before ++ replicate few (plain_move context)
+    → new ≡ small_world program schedule
 unfolding small_world
 after_part program before schedule few context old new was is steps =
     is ∙ (ap (λ (w : SmallWorld). after_small_moves w (replicate few (plain_move context))) was
-    ∙ sym (ap (after_small_moves (starting_small_world program)) steps ∙ after_small_moves-append (starting_small_world program) (moves before) (replicate few (plain_move context))))
+    ∙ sym (ap (after_small_moves (starting_small_world program)) steps
+    ∙ after_small_moves-append (starting_small_world program) (moves before)
+    (replicate few (plain_move context))))
 
 -- entries are a beginning
 pub begins_front : (given : List Entry) (i : ℕ) → Begins (take i given) given
-begins_front given i = (moves (drop i given), sym (moves-append (take i given) (drop i given)) ∙ ap moves (take-append-drop i given))
+begins_front given i = (
+  moves (drop i given),
+  sym (moves-append (take i given) (drop i given))
+      ∙ ap moves (take-append-drop i given),
+)
 
 -- and with a part of the next one
-pub begins_with_part : (given schedule : List Entry) (i few : ℕ) (d : Entry) → i < length given → few < (get_or given i d).steps
-    → moves schedule ≡ moves (take i given) ++ replicate few (plain_move (get_or given i d).context) → Begins schedule given
+pub begins_with_part : (given schedule : List Entry) (i few : ℕ) (d : Entry) → i < length given
+    → few < (get_or given i d).steps
+    → moves schedule ≡ moves (take i given) ++ replicate few (plain_move (get_or given i d).context)
+    → Begins schedule given
 begins_with_part given schedule i few d lt less steps =
     let entry : Entry = get_or given i d in
-    let part : Entry = record { context = entry.context; steps = few; refused = false; shown = None } in
-    let cut : take i given ++ (entry ∷ drop (i + 1) given) ≡ given = rw (add-one, ← drop-cons given i d) (take-append-drop i given) in
-    let alone : moves (part ∷ []) ≡ replicate few (plain_move entry.context) = moves-single part ∙ plain_entry entry.context few in
+    let part : Entry = record
+    { context = entry.context; steps = few; refused = false; shown = None } in
+    let cut : take i given ++ (entry ∷ drop (i + 1) given) ≡ given =
+    rw (add-one, ← drop-cons given i d) (take-append-drop i given) in
+    let alone : moves (part ∷ []) ≡ replicate few (plain_move entry.context) = moves-single part
+    ∙ plain_entry entry.context few in
     let p = begins-part (take i given) (drop (i + 1) given) entry few (part ∷ []) alone less in
-    let same : moves schedule ≡ moves (take i given ++ part ∷ []) = steps ∙ sym (moves-append (take i given) (part ∷ []) ∙ ap {B = List Move} (λ rest. moves (take i given) ++ rest) alone) in
+    let same : moves schedule ≡ moves (take i given ++ part ∷ []) = steps
+    ∙ sym (moves-append (take i given) (part ∷ [])
+    ∙ ap {B = List Move} (λ rest. moves (take i given) ++ rest) alone) in
     (p.0, ap {B = List Move} (λ front. front ++ p.0) same ∙ (p.1 ∙ ap moves cut))
 
 -- the steps of the first entry and of those behind it
-length_head : (entry : Entry) (rest : List Entry) → length (moves (entry ∷ rest)) ≡ entry.steps + length (moves rest)
+length_head : (entry : Entry) (rest : List Entry)
+    → length (moves (entry ∷ rest)) ≡ entry.steps + length (moves rest)
 length_head entry rest =
     ap {B = ℕ} (λ (steps : List Move). length steps) (moves-append (entry ∷ []) rest)
     ∙ (length-append (moves (entry ∷ [])) (moves rest)
-    ∙ ap (λ k. k + length (moves rest)) (ap {B = ℕ} (λ (steps : List Move). length steps) (moves-single entry) ∙ length_moves_of entry entry.steps))
+    ∙ ap (λ k. k + length (moves rest))
+    (ap {B = ℕ} (λ (steps : List Move). length steps) (moves-single entry)
+    ∙ length_moves_of entry entry.steps))
 
 -- a part of an entry behind those before it has fewer steps than all
-pub fewer_with_part : (given schedule : List Entry) (i few : ℕ) (d : Entry) → i < length given → few < (get_or given i d).steps
-    → moves schedule ≡ moves (take i given) ++ replicate few (plain_move (get_or given i d).context) → count_of schedule < count_of given
+pub fewer_with_part : (given schedule : List Entry) (i few : ℕ) (d : Entry) → i < length given
+    → few < (get_or given i d).steps
+    → moves schedule ≡ moves (take i given) ++ replicate few (plain_move (get_or given i d).context)
+    → count_of schedule < count_of given
 unfolding count_of
 fewer_with_part given schedule i few d lt less steps =
     let entry : Entry = get_or given i d in
     let rest : List Entry = drop (i + 1) given in
     let front : ℕ = length (moves (take i given)) in
-    let cut : take i given ++ (entry ∷ rest) ≡ given = rw (add-one, ← drop-cons given i d) (take-append-drop i given) in
+    let cut : take i given ++ (entry ∷ rest) ≡ given =
+    rw (add-one, ← drop-cons given i d) (take-append-drop i given) in
     let made : length (moves schedule) ≡ front + few =
     ap {B = ℕ} (λ (m : List Move). length m) steps
-    ∙ (length-append (moves (take i given)) (replicate few (plain_move entry.context)) ∙ ap (λ k. front + k) (length-replicate few (plain_move entry.context))) in
+    ∙ (length-append (moves (take i given)) (replicate few (plain_move entry.context))
+    ∙ ap (λ k. front + k) (length-replicate few (plain_move entry.context))) in
     let all : length (moves given) ≡ front + (entry.steps + length (moves rest)) =
     ap {B = ℕ} (λ (entries : List Entry). length (moves entries)) (sym cut)
     ∙ (ap {B = ℕ} (λ (m : List Move). length m) (moves-append (take i given) (entry ∷ rest))
-    ∙ (length-append (moves (take i given)) (moves (entry ∷ rest)) ∙ ap (λ k. front + k) (length_head entry rest))) in
+    ∙ (length-append (moves (take i given)) (moves (entry ∷ rest))
+    ∙ ap (λ k. front + k) (length_head entry rest))) in
     omega (arith, made, all, less)
 
 -- a run that used up its steps doesn't end for want of memory
-pub never_memory : (world : SmallWorld) (outcome : Outcome) → EndsAs world true outcome → is_memory outcome ≡ false
+pub never_memory : (world : SmallWorld) (outcome : Outcome) → EndsAs world true false outcome
+    → is_memory outcome ≡ false
 never_memory world Finished ends = refl
 never_memory world Faulted ends = refl
 never_memory world AllWaiting ends = refl
 never_memory world StepsOut ends = refl
-never_memory world Memory ends = ends.1
+never_memory world Memory ends = ends.0
+
+-- and ends as it does whatever step would come next
+pub ends_used : (world : SmallWorld) (refused : Bool) (outcome : Outcome)
+    → EndsAs world true false outcome → EndsAs world (not (is_memory outcome)) refused outcome
+ends_used world refused Finished ends = ends
+ends_used world refused Faulted ends = ends
+ends_used world refused AllWaiting ends = ends
+ends_used world refused StepsOut ends = ends
+ends_used world refused Memory ends = absurd (true≢false ends.0)
+
+-- ---- the step behind those that were made
+
+and_false : (a b : Bool) → b ≡ false → false ≡ (a && b)
+and_false true b h = sym h
+and_false false b h = refl
+
+both_true : (a : Bool) → a ≡ (a && true)
+both_true true = refl
+both_true false = refl
+
+-- a step before the last is an ordinary one
+pub part_starved : (world : SmallWorld) (entry : Entry) (made : ℕ) → made + 1 < entry.steps
+    → IsStarved false world → IsStarved (entry.refused && (made + 1 == entry.steps)) world
+part_starved world entry made less starved =
+    subst (λ (b : Bool). IsStarved b world)
+    (and_false entry.refused (made + 1 == entry.steps) (grind (arith, nat_tests))) starved
+
+-- the last is as the entry says
+pub last_starved : (world : SmallWorld) (entry : Entry) (made : ℕ) → made + 1 ≡ entry.steps
+    → IsStarved entry.refused world → IsStarved (entry.refused && (made + 1 == entry.steps)) world
+last_starved world entry made last starved =
+    let test : (made + 1 == entry.steps) ≡ true = grind (arith, nat_tests) in
+    subst (λ (b : Bool). IsStarved b world)
+    (both_true entry.refused ∙ ap (λ (b : Bool). entry.refused && b) (sym test)) starved
+
+first_behind : (few before : ℕ) (move last : Move) (rest : List Move) → few ≤ before
+    → move.refused ≡ false
+    → is_first_refused (drop few ((replicate before move ++ last ∷ []) ++ rest)) ≡
+    (last.refused && (few + 1 == suc before))
+first_behind zero zero move last rest h plain = both_true last.refused
+first_behind zero (suc before) move last rest h plain = plain
+    ∙ and_false last.refused (1 == suc (suc before)) (grind (arith, nat_tests))
+first_behind (suc few) zero move last rest h plain = absurd (omega arith)
+first_behind (suc few) (suc before) move last rest h plain =
+    first_behind few before move last rest (omega arith) plain
+    ∙ ap (λ (b : Bool). last.refused && b) (grind (arith, nat_tests))
+
+-- of an entry of which some were made
+first_in : (entry : Entry) (few n : ℕ) (rest : List Move) → few < n
+    → is_first_refused (drop few (moves_of entry n ++ rest)) ≡ (entry.refused && (few + 1 == n))
+first_in entry few zero rest h = absurd (omega arith)
+first_in entry few (suc before) rest h =
+    first_behind few before (plain_move entry.context) (last_move entry) rest (omega arith) refl
 
 -- an entry of ordinary steps at the end
-pub moves_with_part : (old new : List Entry) (context made : ℕ) → new ≡ old ++ record { context = context; steps = made; refused = false; shown = None } ∷ []
+pub moves_with_part : (old new : List Entry) (context made : ℕ) → new ≡ old
+    ++ record { context = context; steps = made; refused = false; shown = None } ∷ []
     → moves new ≡ moves old ++ replicate made (plain_move context)
 moves_with_part old new context made is =
     let part : Entry = record { context = context; steps = made; refused = false; shown = None } in
-    ap moves is ∙ (moves-append old (part ∷ []) ∙ ap {B = List Move} (λ rest. moves old ++ rest) (moves-single part ∙ plain_entry context made))
+    ap moves is ∙ (moves-append old (part ∷ [])
+    ∙ ap {B = List Move} (λ rest. moves old ++ rest)
+    (moves-single part ∙ plain_entry context made))
 
 -- or none
-pub moves_without : (old : List Entry) (context made : ℕ) → made ≤ 0 → moves old ≡ moves old ++ replicate made (plain_move context)
-moves_without old context made none = let zeroed : made ≡ 0 = omega arith in rw (zeroed, append-nil) refl
+pub moves_without : (old : List Entry) (context made : ℕ) → made ≤ 0 → moves old ≡ moves old
+    ++ replicate made (plain_move context)
+moves_without old context made none = let zeroed : made ≡ 0 = omega arith in
+    rw (zeroed, append-nil) refl
 
 pub ruleset part_lemmas = (moves_with_part, moves_without)
 
-pub ruleset entry_lemmas = (after_none, after_step, after_idle, taken_all, taken_part, ready_not_over)
+-- the step behind a part of the next entry
+pub next_with_part : (given schedule : List Entry) (i few : ℕ) (d : Entry) → i < length given
+    → few < (get_or given i d).steps
+    → moves schedule ≡ moves (take i given) ++ replicate few (plain_move (get_or given i d).context)
+    → is_next_refused given schedule ≡
+    ((get_or given i d).refused && (few + 1 == (get_or given i d).steps))
+unfolding count_of
+next_with_part given schedule i few d lt less steps =
+    let entry : Entry = get_or given i d in
+    let rest : List Entry = drop (i + 1) given in
+    let front : List Move = moves (take i given) in
+    let cut : take i given ++ (entry ∷ rest) ≡ given =
+    rw (add-one, ← drop-cons given i d) (take-append-drop i given) in
+    let made : length (moves schedule) ≡ length front + few =
+    ap {B = ℕ} (λ (m : List Move). length m) steps
+    ∙ (length-append front (replicate few (plain_move entry.context))
+    ∙ ap (λ k. length front + k) (length-replicate few (plain_move entry.context))) in
+    let all : moves given ≡ front ++ (moves_of entry entry.steps ++ moves rest) =
+    ap moves (sym cut) ∙ (moves-append (take i given) (entry ∷ rest)
+    ∙ ap {B = List Move} (λ m. front ++ m)
+    (moves-append (entry ∷ []) rest
+    ∙ ap {B = List Move} (λ m. m ++ moves rest) (moves-single entry))) in
+    ap is_first_refused (ap₂ drop made all
+    ∙ drop_front front few (moves_of entry entry.steps ++ moves rest))
+    ∙ first_in entry few entry.steps (moves rest) less
+  where
+    drop_front : (front : List Move) (few : ℕ) (rest : List Move)
+        → drop (length front + few) (front ++ rest) ≡ drop few rest
+    drop_front [] few rest = let none : length {A = Move} [] + few ≡ few = omega arith in
+        ap (λ k. drop k rest) none
+    drop_front (move ∷ front) few rest =
+        let more : length (move ∷ front) + few ≡ suc (length front + few) = omega arith in
+        ap (λ k. drop k (move ∷ (front ++ rest))) more ∙ drop_front front few rest

@@ -4,31 +4,30 @@ ghost use Rattle.std.specs.Prelude.{◌≡◌, ◌↔◌, Err, IfOk};
 ghost use Rattle.ps_vault.specs.Reports.{IsRunOf, IsWithin};
 
 use crate::reports::{Config, Report, RunFault};
-use crate::schedules::FIRST_CONTEXT;
 use crate::vaults::Vault;
 use std::alloc::Global;
 
 /// Runs a program, over memory that is never collected, for at most so many steps.
 ///
-/// The numbers `space` and `workers` are not used, but each must be in its range: else the fault is `Config`. The fault is `Memory` where the room that
-/// the run starts with can't be had; a growth that is refused later ends the run, and the report has what was made so far.
-#[tactic(auto, using(crate::proofs::Kept::count_step, crate::proofs::Kept::ordinary_step))]
+/// The numbers `space` and `workers` are not used, but each must be in its range: else the fault is
+/// `Config`. The fault is `Memory` where the room that
+/// the run starts with can't be had; a growth that is refused later ends the run, and the report
+/// has what was made so far. The outcome is `Memory` only
+/// where the step that comes next may want a growth.
 pub fn run_plain(alloc: Global, program: &[u8], config: Config) -> Result<Report, RunFault>
     ensures config { (result ≡ Err RunFault.Config) ↔ ¬ IsWithin config }
-    ensures run { IfOk result (λ report. IsRunOf program.now config.steps report.printed.items report.schedule.items report.outcome) }
+    ensures run { IfOk result
+        (λ report. IsRunOf program.now config.steps report.printed.items report.schedule.items
+        report.outcome) }
     ensures flips { IfOk result (λ report. report.flips ≡ 0) }
     ensures taken { IfOk result (λ report. report.taken ≡ 0) }
 {
     if !config.is_within() {
         return Err(RunFault::Config);
     }
-    let Ok(mut vault) = Vault::new(alloc, program) else {
+    let Ok(mut vault) = Vault::new(alloc, program, 1) else {
         return Err(RunFault::Memory);
     };
-    for _ in 0..config.steps {
-        if !vault.is_ready(FIRST_CONTEXT) || vault.step(false).is_err() {
-            break;
-        }
-    }
-    Ok(vault.into_report(config.steps))
+    let made = vault.turn(config.steps);
+    Ok(vault.into_report(config.steps, made))
 }

@@ -1,9 +1,9 @@
 //! A run under a given schedule.
 
-ghost use Rattle.std.specs.Prelude.{◌≡◌, ◌≢◌, ◌+◌, ◌<◌, ◌≤◌, ◌++◌, ◌&&◌, ◌==◌, vec_len, vec_capacity, [], true, false, not, replicate, IfOk, Err};
+ghost use Rattle.std.specs.Prelude.{◌≡◌, ◌≢◌, ◌+◌, ◌<◌, ◌≤◌, ◌++◌, ◌&&◌, ◌==◌, vec_len, vec_capacity, [], length, true, false, not, replicate, IfOk, Err};
 ghost use Rattle.ps_language.specs.Schedules.{plain_move, moves_of, moves, count_of, Begins};
 ghost use Rattle.ps_language.specs.Small as small;
-ghost use Rattle.ps_vault.specs.Reports.{EndsAs, is_memory, is_over};
+ghost use Rattle.ps_vault.specs.Reports.{EndsAs, IsStarved, is_memory, is_next_refused};
 ghost use Rattle.ps_vault.specs.Stories.{world_at};
 
 use crate::reports::{Outcome, Report, RunFault};
@@ -12,50 +12,67 @@ use crate::vaults::Vault;
 use ps_language::schedules::Entry;
 use std::alloc::Global;
 
-/// Makes the steps of an entry, of which the last may be refused, as far as memory goes, and tells how many were made; a step of a context that isn't ready is counted
+/// Makes the steps of an entry, of which the last may be refused, as far as memory goes, and tells
+/// how many were made; a step of a context that isn't ready is counted
 /// and changes nothing, nor do those behind it in the entry.
-#[tactic(auto, using(crate::proofs::Following::entry_lemmas))]
 fn follow_entry(vault: &mut Vault, entry: Entry) -> u32
+    requires room { length vault.old.schedule + 2 ≤ vault.old.capacity }
     ensures program { vault.new.program ≡ vault.old.program }
+    ensures longer { length vault.new.schedule ≤ length vault.old.schedule + 2 }
+    ensures capacity { vault.old.capacity ≤ vault.new.capacity }
     ensures within { result ≤ entry.steps }
-    ensures all { result ≡ entry.steps → world_at vault.new ≡ small.after_small_moves (world_at vault.old) (moves_of entry entry.steps) }
-    ensures part { result < entry.steps → world_at vault.new ≡ small.after_small_moves (world_at vault.old) (replicate result (plain_move entry.context)) }
-    ensures stopped { result < entry.steps → is_over (world_at vault.new) ≡ false }
+    ensures all { result ≡ entry.steps
+        → world_at vault.new ≡ small.after_small_moves (world_at vault.old)
+        (moves_of entry entry.steps) }
+    ensures part { result < entry.steps
+        → world_at vault.new ≡ small.after_small_moves (world_at vault.old)
+        (replicate result (plain_move entry.context)) }
+    ensures starved { result < entry.steps
+        → IsStarved (entry.refused && (result + 1 == entry.steps)) (world_at vault.new) }
 {
-    for made in 0..entry.steps {
-        if !vault.is_ready(entry.context) {
-            return entry.steps;
-        }
-        let Ok(()) = vault.step(is_refused(entry, made)) else {
-            return made;
-        };
+    if entry.steps == 0 || !vault.is_ready(entry.context) {
+        return entry.steps;
     }
-    entry.steps
-}
-
-/// Whether the step behind so many of an entry is refused: only the last may be.
-fn is_refused(entry: Entry, made: u32) -> bool
-    requires { made < entry.steps }
-    ensures { result ≡ (entry.refused && (made + 1 == entry.steps)) }
-{
-    entry.refused && made + 1 == entry.steps
+    let ordinary = entry.steps - 1;
+    let made = vault.turn(ordinary);
+    if !vault.is_ready(entry.context) {
+        return entry.steps;
+    }
+    if made < ordinary {
+        return made;
+    }
+    match vault.step(entry.refused) {
+        Ok(()) => entry.steps,
+        Err(_) => ordinary,
+    }
 }
 
 /// Runs the steps of a schedule, over memory that is never collected.
 ///
-/// The report has the given schedule; where a growth was refused, the outcome is `Memory` and the report has the steps that were made, fewer than the given ones. The fault is
+/// The report has the given schedule; where a growth was refused, the outcome is `Memory` and the
+/// report has the steps that were made, fewer than the given ones. The fault is
 /// `Memory` where the room that the run starts with can't be had; there is no other.
 pub fn replay(alloc: Global, program: &[u8], schedule: &[Entry]) -> Result<Report, RunFault>
     ensures fault { result ≢ Err RunFault.Config }
-    ensures prints { IfOk result (λ report. report.printed.items ≡ small.small_printed program.now report.schedule.items) }
+    ensures prints { IfOk result
+        (λ report. report.printed.items ≡ small.small_printed program.now report.schedule.items) }
     ensures begins { IfOk result (λ report. Begins report.schedule.items schedule.now) }
-    ensures whole { IfOk result (λ report. is_memory report.outcome ≡ false → report.schedule.items ≡ schedule.now) }
-    ensures refused { IfOk result (λ report. is_memory report.outcome ≡ true → count_of report.schedule.items < count_of schedule.now) }
-    ensures ends { IfOk result (λ report. EndsAs (small.small_world program.now report.schedule.items) (not (is_memory report.outcome)) report.outcome) }
+    ensures whole { IfOk result
+        (λ report. is_memory report.outcome ≡ false → report.schedule.items ≡ schedule.now) }
+    ensures refused { IfOk result
+        (λ report. is_memory report.outcome ≡ true
+        → count_of report.schedule.items < count_of schedule.now) }
+    ensures ends { IfOk result
+        (λ report. EndsAs (small.small_world program.now report.schedule.items)
+        (not (is_memory report.outcome)) (is_next_refused schedule.now report.schedule.items)
+        report.outcome) }
     ensures flips { IfOk result (λ report. report.flips ≡ 0) }
     ensures taken { IfOk result (λ report. report.taken ≡ 0) }
 {
-    let Ok(mut vault) = Vault::new(alloc, program) else {
+    let Some(entries) = schedule.len().checked_mul(2) else {
+        return Err(RunFault::Memory);
+    };
+    let Ok(mut vault) = Vault::new(alloc, program, entries) else {
         return Err(RunFault::Memory);
     };
     let Ok(mut followed) = Vec::with_capacity(alloc, schedule.len()) else {
@@ -77,7 +94,8 @@ pub fn replay(alloc: Global, program: &[u8], schedule: &[Entry]) -> Result<Repor
 #[tactic(auto, using(crate::proofs::Following::part_lemmas))]
 fn push_part(schedule: &mut Vec<Entry>, context: u32, made: u32)
     requires { vec_len schedule.old < vec_capacity schedule.old }
-    ensures { moves schedule.new.items ≡ moves schedule.old.items ++ replicate made (plain_move context) }
+    ensures { moves schedule.new.items ≡ moves schedule.old.items
+        ++ replicate made (plain_move context) }
 {
     if made > 0 {
         push_within(

@@ -1,8 +1,10 @@
 //! Schedules of the longest entries.
 
-ghost use Rattle.std.specs.Prelude.{◌≡◌, ◌+◌, ◌<◌, ◌≤◌, ◌++◌, ◌∷◌, [], vec_len, vec_capacity};
+ghost use Rattle.std.specs.Prelude.{◌≡◌, false, ◌+◌, ◌<◌, ◌≤◌, ◌++◌, ◌∷◌, [], vec_len, vec_capacity};
 ghost use Rattle.ps_language.specs.Schedules as schedules;
 ghost use Rattle.ps_vault.specs.Stories.{first_move};
+ghost use Rattle.ps_vault.specs.Turns as turning;
+ghost use Rattle.ps_vault.specs.Turns.{added_times};
 
 use ps_language::schedules::Entry;
 
@@ -23,7 +25,9 @@ fn joins(entry: &Entry) -> bool
 #[tactic(auto, using(crate::proofs::Notes::note_lemmas))]
 pub fn note(schedule: &mut Vec<Entry>, refused: bool)
     requires { vec_len schedule.old < vec_capacity schedule.old }
-    ensures { schedule.new.items ≡ schedules.added schedule.old.items (first_move refused) }
+    ensures added { schedule.new.items ≡ schedules.added schedule.old.items (first_move refused) }
+    ensures longer { vec_len schedule.new ≤ vec_len schedule.old + 1 }
+    ensures capacity { vec_capacity schedule.old ≤ vec_capacity schedule.new }
 {
     let single = Entry {
         context: FIRST_CONTEXT,
@@ -49,6 +53,48 @@ pub fn note(schedule: &mut Vec<Entry>, refused: bool)
     }
     push_within(schedule, last);
     push_within(schedule, single);
+}
+
+/// An entry of so many ordinary steps of the first context.
+fn plain_entry(steps: u32) -> Entry
+    ensures { result ≡ turning.plain_entry 1 steps }
+{
+    Entry {
+        context: FIRST_CONTEXT,
+        steps,
+        refused: false,
+        shown: None,
+    }
+}
+
+/// Adds the ordinary steps of a turn of the first context, for which the capacity has room: as many
+/// single ones.
+#[tactic(auto, using(crate::proofs::Turning::turn_lemmas))]
+pub fn note_turn(schedule: &mut Vec<Entry>, steps: u32)
+    requires { vec_len schedule.old < vec_capacity schedule.old }
+    ensures added { schedule.new.items ≡ added_times steps schedule.old.items (first_move false) }
+    ensures longer { vec_len schedule.new ≤ vec_len schedule.old + 1 }
+    ensures capacity { vec_capacity schedule.old ≤ vec_capacity schedule.new }
+{
+    if steps == 0 {
+        return;
+    }
+    let Some(last) = schedule.pop() else {
+        push_within(schedule, plain_entry(steps));
+        return;
+    };
+    if !joins(&last) {
+        push_within(schedule, last);
+        push_within(schedule, plain_entry(steps));
+        return;
+    }
+    let free = u32::MAX - last.steps;
+    if steps <= free {
+        push_within(schedule, plain_entry(last.steps + steps));
+        return;
+    }
+    push_within(schedule, plain_entry(u32::MAX));
+    push_within(schedule, plain_entry(steps - free));
 }
 
 /// Pushes an entry for which the capacity has room.

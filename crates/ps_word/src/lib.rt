@@ -1,9 +1,8 @@
-// The words of this run time: values, headers and forwarding words packed into 64 bits, and read back.
+// The words of this run time: values, headers and forwarding words packed into 64 bits, and read
+// back.
 #![tactic(auto)]
 
 pub mod headers;
 pub mod operators;
-#[cfg(test)]
-mod tests;
 pub mod values;
 pub mod words;

@@ -7,6 +7,7 @@ use Rattle.ps_mem.specs.References.{NamesStanding}
 use Rattle.ps_mem.specs.Meaning.{value_of}
 use Rattle.ps_mem.specs.Shows.{IsNatural, IsSound, Shows}
 use Rattle.ps_dict.specs.Places.{count_at, body_at}
+use Rattle.ps_dict.specs.Puts.{with_body}
 use Rattle.ps_dict.proofs.Shapes.{four}
 use Rattle.ps_dict.proofs.Growing.{grown, grown-fields, four_known, end, end-sound, end-keeps, end-shows}
 use Rattle.ps_dict.proofs.changes.grow_with.Goals as goal
@@ -14,7 +15,11 @@ use Rattle.ps_dict.proofs.changes.grow_with.Goals as goal
 pub load-access-requires : goal.load-access-requires
 load-access-requires g c =
     let h = g.M.Memory.heap c.args.memory.now in
-    record { place = subst (λ (k : Heap). 2 < length (fields_at k c.args.address)) (sym c.length-count.ensures.heap) (let n = four h c.args.address c.requires.known c.requires.sound in omega (arith, n)) }
+    record {
+      place = subst (λ (k : Heap). 2 < length (fields_at k c.args.address))
+          (sym c.length-count.ensures.heap)
+          (let n = four h c.args.address c.requires.known c.requires.sound in omega (arith, n));
+    }
 
 pub store-requires-clause-known : goal.store-requires-clause-known
 store-requires-clause-known g c =
@@ -25,14 +30,29 @@ store-requires-clause-known g c =
     let x = c.natural_word-room.result in
     let y = c.load-access.result in
     let z = c.literal-reference.result in
-    let before : g.M.Memory.heap c.load-access.new.self ≡ h = c.load-access.ensures.heap ∙ c.length-count.ensures.heap in
-    let free : object_at h b ≡ None = ap (λ (k : Heap). object_at k b) (sym before) ∙ c.new_body-body.ensures.free in
-    let now : g.M.Memory.heap c.new_body-body.new.memory ≡ grown h a c.requires.known c.requires.sound b free c.args.capacity c.requires.room c.args.key c.args.value c.requires.key c.requires.value =
+    let before : g.M.Memory.heap c.load-access.new.self ≡ h = c.load-access.ensures.heap
+    ∙ c.length-count.ensures.heap in
+    let free : object_at h b ≡ None = ap (λ (k : Heap). object_at k b) (sym before)
+    ∙ c.new_body-body.ensures.free in
+    let now : g.M.Memory.heap c.new_body-body.new.memory ≡ grown h a c.requires.known
+    c.requires.sound b free c.args.capacity c.requires.room c.requires.capacity c.args.key
+    c.args.value c.requires.key c.requires.value =
     c.new_body-body.ensures.heap
-    ∙ ap (λ (k : Heap). stored (made_body k b (birth_at k a) (3 * c.args.capacity)) b 0 (take (2 * count_at k a) (fields_at k (body_at k a)) ++ c.args.key ∷ c.args.value ∷ [])) before in
-    let count : IsNatural w (count_at h a + 1) = subst (λ n. IsNatural w (n + 1)) c.length-count.ensures.words c.natural_word-more.ensures.value in
-    let access : slice_get (fields_at h a) 2 ≡ Some y = ap (λ (k : Heap). slice_get (fields_at k a) 2) (sym c.length-count.ensures.heap) ∙ c.load-access.ensures.answer in
-    subst (λ (k : Heap). NamesStanding k a (w ∷ x ∷ y ∷ z ∷ [])) (sym now) (record { known = λ o at text. four_known h a c.requires.known c.requires.sound b free c.args.capacity c.requires.room c.args.key c.args.value c.requires.key c.requires.value w x y z count c.natural_word-room.ensures.value access c.literal-reference.ensures.value (c.natural_word-more.ensures.held h) (c.natural_word-room.ensures.held h) })
+    ∙ ap (λ (k : Heap). with_body k a b c.args.capacity c.args.key c.args.value) before in
+    let count : IsNatural w (count_at h a + 1) =
+    subst (λ n. IsNatural w (n + 1)) c.length-count.ensures.words
+    c.natural_word-more.ensures.value in
+    let access : slice_get (fields_at h a) 2 ≡ Some y =
+    ap (λ (k : Heap). slice_get (fields_at k a) 2) (sym c.length-count.ensures.heap)
+    ∙ c.load-access.ensures.answer in
+    subst (λ (k : Heap). NamesStanding k a (w ∷ x ∷ y ∷ z ∷ [])) (sym now)
+    (record {
+      known = λ o at text. four_known h a c.requires.known c.requires.sound b free
+          c.args.capacity c.requires.room c.requires.capacity c.args.key c.args.value c.requires.key
+          c.requires.value w x y z count c.natural_word-room.ensures.value access
+          c.literal-reference.ensures.value (c.natural_word-more.ensures.held h)
+          (c.natural_word-room.ensures.held h);
+    })
 
 pub store-requires-clause-place : goal.store-requires-clause-place
 store-requires-clause-place g c =
@@ -43,15 +63,25 @@ store-requires-clause-place g c =
     let x = c.natural_word-room.result in
     let y = c.load-access.result in
     let z = c.literal-reference.result in
-    let before : g.M.Memory.heap c.load-access.new.self ≡ h = c.load-access.ensures.heap ∙ c.length-count.ensures.heap in
-    let free : object_at h b ≡ None = ap (λ (k : Heap). object_at k b) (sym before) ∙ c.new_body-body.ensures.free in
-    let now : g.M.Memory.heap c.new_body-body.new.memory ≡ grown h a c.requires.known c.requires.sound b free c.args.capacity c.requires.room c.args.key c.args.value c.requires.key c.requires.value =
+    let before : g.M.Memory.heap c.load-access.new.self ≡ h = c.load-access.ensures.heap
+    ∙ c.length-count.ensures.heap in
+    let free : object_at h b ≡ None = ap (λ (k : Heap). object_at k b) (sym before)
+    ∙ c.new_body-body.ensures.free in
+    let now : g.M.Memory.heap c.new_body-body.new.memory ≡ grown h a c.requires.known
+    c.requires.sound b free c.args.capacity c.requires.room c.requires.capacity c.args.key
+    c.args.value c.requires.key c.requires.value =
     c.new_body-body.ensures.heap
-    ∙ ap (λ (k : Heap). stored (made_body k b (birth_at k a) (3 * c.args.capacity)) b 0 (take (2 * count_at k a) (fields_at k (body_at k a)) ++ c.args.key ∷ c.args.value ∷ [])) before in
-    let count : IsNatural w (count_at h a + 1) = subst (λ n. IsNatural w (n + 1)) c.length-count.ensures.words c.natural_word-more.ensures.value in
-    let access : slice_get (fields_at h a) 2 ≡ Some y = ap (λ (k : Heap). slice_get (fields_at k a) 2) (sym c.length-count.ensures.heap) ∙ c.load-access.ensures.answer in
+    ∙ ap (λ (k : Heap). with_body k a b c.args.capacity c.args.key c.args.value) before in
+    let count : IsNatural w (count_at h a + 1) =
+    subst (λ n. IsNatural w (n + 1)) c.length-count.ensures.words
+    c.natural_word-more.ensures.value in
+    let access : slice_get (fields_at h a) 2 ≡ Some y =
+    ap (λ (k : Heap). slice_get (fields_at k a) 2) (sym c.length-count.ensures.heap)
+    ∙ c.load-access.ensures.answer in
     let long = four h a c.requires.known c.requires.sound in
-    let same = ap length (grown-fields h a c.requires.known c.requires.sound b free c.args.capacity c.requires.room c.args.key c.args.value c.requires.key c.requires.value) in
+    let same = ap length (grown-fields h a c.requires.known c.requires.sound b free c.args.capacity
+    c.requires.room c.requires.capacity c.args.key c.args.value c.requires.key
+    c.requires.value) in
     subst (λ (k : Heap). 4 ≤ length (fields_at k a)) (sym now) (omega (arith, long, same))
 
 pub returns-clause-sound : goal.returns-clause-sound
@@ -63,15 +93,31 @@ returns-clause-sound g c =
     let x = c.natural_word-room.result in
     let y = c.load-access.result in
     let z = c.literal-reference.result in
-    let before : g.M.Memory.heap c.load-access.new.self ≡ h = c.load-access.ensures.heap ∙ c.length-count.ensures.heap in
-    let free : object_at h b ≡ None = ap (λ (k : Heap). object_at k b) (sym before) ∙ c.new_body-body.ensures.free in
-    let now : g.M.Memory.heap c.new_body-body.new.memory ≡ grown h a c.requires.known c.requires.sound b free c.args.capacity c.requires.room c.args.key c.args.value c.requires.key c.requires.value =
+    let before : g.M.Memory.heap c.load-access.new.self ≡ h = c.load-access.ensures.heap
+    ∙ c.length-count.ensures.heap in
+    let free : object_at h b ≡ None = ap (λ (k : Heap). object_at k b) (sym before)
+    ∙ c.new_body-body.ensures.free in
+    let now : g.M.Memory.heap c.new_body-body.new.memory ≡ grown h a c.requires.known
+    c.requires.sound b free c.args.capacity c.requires.room c.requires.capacity c.args.key
+    c.args.value c.requires.key c.requires.value =
     c.new_body-body.ensures.heap
-    ∙ ap (λ (k : Heap). stored (made_body k b (birth_at k a) (3 * c.args.capacity)) b 0 (take (2 * count_at k a) (fields_at k (body_at k a)) ++ c.args.key ∷ c.args.value ∷ [])) before in
-    let count : IsNatural w (count_at h a + 1) = subst (λ n. IsNatural w (n + 1)) c.length-count.ensures.words c.natural_word-more.ensures.value in
-    let access : slice_get (fields_at h a) 2 ≡ Some y = ap (λ (k : Heap). slice_get (fields_at k a) 2) (sym c.length-count.ensures.heap) ∙ c.load-access.ensures.answer in
-    let last : g.M.Memory.heap c.store.new.self ≡ end h a c.requires.known c.requires.sound b free c.args.capacity c.requires.room c.args.key c.args.value c.requires.key c.requires.value w x y z count c.natural_word-room.ensures.value access c.literal-reference.ensures.value (c.natural_word-more.ensures.held h) (c.natural_word-room.ensures.held h) = c.store.ensures.heap ∙ ap (λ (k : Heap). stored k a 0 (w ∷ x ∷ y ∷ z ∷ [])) now in
-    subst IsSound (sym last) (end-sound h a c.requires.known c.requires.sound b free c.args.capacity c.requires.room c.args.key c.args.value c.requires.key c.requires.value w x y z count c.natural_word-room.ensures.value access c.literal-reference.ensures.value (c.natural_word-more.ensures.held h) (c.natural_word-room.ensures.held h))
+    ∙ ap (λ (k : Heap). with_body k a b c.args.capacity c.args.key c.args.value) before in
+    let count : IsNatural w (count_at h a + 1) =
+    subst (λ n. IsNatural w (n + 1)) c.length-count.ensures.words
+    c.natural_word-more.ensures.value in
+    let access : slice_get (fields_at h a) 2 ≡ Some y =
+    ap (λ (k : Heap). slice_get (fields_at k a) 2) (sym c.length-count.ensures.heap)
+    ∙ c.load-access.ensures.answer in
+    let last : g.M.Memory.heap c.store.new.self ≡ end h a c.requires.known c.requires.sound b free
+    c.args.capacity c.requires.room c.requires.capacity c.args.key c.args.value c.requires.key
+    c.requires.value w x y z count c.natural_word-room.ensures.value access
+    c.literal-reference.ensures.value (c.natural_word-more.ensures.held h)
+    (c.natural_word-room.ensures.held h) = c.store.ensures.heap
+    ∙ ap (λ (k : Heap). stored k a 0 (w ∷ x ∷ y ∷ z ∷ [])) now in
+    subst IsSound (sym last) (end-sound h a c.requires.known c.requires.sound b free c.args.capacity
+    c.requires.room c.requires.capacity c.args.key c.args.value c.requires.key c.requires.value
+    w x y z count c.natural_word-room.ensures.value access c.literal-reference.ensures.value
+    (c.natural_word-more.ensures.held h) (c.natural_word-room.ensures.held h))
 
 pub returns-clause-keeps : goal.returns-clause-keeps
 returns-clause-keeps g c =
@@ -82,15 +128,32 @@ returns-clause-keeps g c =
     let x = c.natural_word-room.result in
     let y = c.load-access.result in
     let z = c.literal-reference.result in
-    let before : g.M.Memory.heap c.load-access.new.self ≡ h = c.load-access.ensures.heap ∙ c.length-count.ensures.heap in
-    let free : object_at h b ≡ None = ap (λ (k : Heap). object_at k b) (sym before) ∙ c.new_body-body.ensures.free in
-    let now : g.M.Memory.heap c.new_body-body.new.memory ≡ grown h a c.requires.known c.requires.sound b free c.args.capacity c.requires.room c.args.key c.args.value c.requires.key c.requires.value =
+    let before : g.M.Memory.heap c.load-access.new.self ≡ h = c.load-access.ensures.heap
+    ∙ c.length-count.ensures.heap in
+    let free : object_at h b ≡ None = ap (λ (k : Heap). object_at k b) (sym before)
+    ∙ c.new_body-body.ensures.free in
+    let now : g.M.Memory.heap c.new_body-body.new.memory ≡ grown h a c.requires.known
+    c.requires.sound b free c.args.capacity c.requires.room c.requires.capacity c.args.key
+    c.args.value c.requires.key c.requires.value =
     c.new_body-body.ensures.heap
-    ∙ ap (λ (k : Heap). stored (made_body k b (birth_at k a) (3 * c.args.capacity)) b 0 (take (2 * count_at k a) (fields_at k (body_at k a)) ++ c.args.key ∷ c.args.value ∷ [])) before in
-    let count : IsNatural w (count_at h a + 1) = subst (λ n. IsNatural w (n + 1)) c.length-count.ensures.words c.natural_word-more.ensures.value in
-    let access : slice_get (fields_at h a) 2 ≡ Some y = ap (λ (k : Heap). slice_get (fields_at k a) 2) (sym c.length-count.ensures.heap) ∙ c.load-access.ensures.answer in
-    let last : g.M.Memory.heap c.store.new.self ≡ end h a c.requires.known c.requires.sound b free c.args.capacity c.requires.room c.args.key c.args.value c.requires.key c.requires.value w x y z count c.natural_word-room.ensures.value access c.literal-reference.ensures.value (c.natural_word-more.ensures.held h) (c.natural_word-room.ensures.held h) = c.store.ensures.heap ∙ ap (λ (k : Heap). stored k a 0 (w ∷ x ∷ y ∷ z ∷ [])) now in
-    subst (Keeps h) (sym last) (end-keeps h a c.requires.known c.requires.sound b free c.args.capacity c.requires.room c.args.key c.args.value c.requires.key c.requires.value w x y z count c.natural_word-room.ensures.value access c.literal-reference.ensures.value (c.natural_word-more.ensures.held h) (c.natural_word-room.ensures.held h))
+    ∙ ap (λ (k : Heap). with_body k a b c.args.capacity c.args.key c.args.value) before in
+    let count : IsNatural w (count_at h a + 1) =
+    subst (λ n. IsNatural w (n + 1)) c.length-count.ensures.words
+    c.natural_word-more.ensures.value in
+    let access : slice_get (fields_at h a) 2 ≡ Some y =
+    ap (λ (k : Heap). slice_get (fields_at k a) 2) (sym c.length-count.ensures.heap)
+    ∙ c.load-access.ensures.answer in
+    let last : g.M.Memory.heap c.store.new.self ≡ end h a c.requires.known c.requires.sound b free
+    c.args.capacity c.requires.room c.requires.capacity c.args.key c.args.value c.requires.key
+    c.requires.value w x y z count c.natural_word-room.ensures.value access
+    c.literal-reference.ensures.value (c.natural_word-more.ensures.held h)
+    (c.natural_word-room.ensures.held h) = c.store.ensures.heap
+    ∙ ap (λ (k : Heap). stored k a 0 (w ∷ x ∷ y ∷ z ∷ [])) now in
+    subst (Keeps h) (sym last)
+    (end-keeps h a c.requires.known c.requires.sound b free c.args.capacity c.requires.room
+    c.requires.capacity c.args.key c.args.value c.requires.key c.requires.value w x y z count
+    c.natural_word-room.ensures.value access c.literal-reference.ensures.value
+    (c.natural_word-more.ensures.held h) (c.natural_word-room.ensures.held h))
 
 pub returns-clause-shows : goal.returns-clause-shows
 returns-clause-shows g c = λ names s shows first second.
@@ -101,14 +164,38 @@ returns-clause-shows g c = λ names s shows first second.
     let x = c.natural_word-room.result in
     let y = c.load-access.result in
     let z = c.literal-reference.result in
-    let before : g.M.Memory.heap c.load-access.new.self ≡ h = c.load-access.ensures.heap ∙ c.length-count.ensures.heap in
-    let free : object_at h b ≡ None = ap (λ (k : Heap). object_at k b) (sym before) ∙ c.new_body-body.ensures.free in
-    let now : g.M.Memory.heap c.new_body-body.new.memory ≡ grown h a c.requires.known c.requires.sound b free c.args.capacity c.requires.room c.args.key c.args.value c.requires.key c.requires.value =
+    let before : g.M.Memory.heap c.load-access.new.self ≡ h = c.load-access.ensures.heap
+    ∙ c.length-count.ensures.heap in
+    let free : object_at h b ≡ None = ap (λ (k : Heap). object_at k b) (sym before)
+    ∙ c.new_body-body.ensures.free in
+    let now : g.M.Memory.heap c.new_body-body.new.memory ≡ grown h a c.requires.known
+    c.requires.sound b free c.args.capacity c.requires.room c.requires.capacity c.args.key
+    c.args.value c.requires.key c.requires.value =
     c.new_body-body.ensures.heap
-    ∙ ap (λ (k : Heap). stored (made_body k b (birth_at k a) (3 * c.args.capacity)) b 0 (take (2 * count_at k a) (fields_at k (body_at k a)) ++ c.args.key ∷ c.args.value ∷ [])) before in
-    let count : IsNatural w (count_at h a + 1) = subst (λ n. IsNatural w (n + 1)) c.length-count.ensures.words c.natural_word-more.ensures.value in
-    let access : slice_get (fields_at h a) 2 ≡ Some y = ap (λ (k : Heap). slice_get (fields_at k a) 2) (sym c.length-count.ensures.heap) ∙ c.load-access.ensures.answer in
-    let last : g.M.Memory.heap c.store.new.self ≡ end h a c.requires.known c.requires.sound b free c.args.capacity c.requires.room c.args.key c.args.value c.requires.key c.requires.value w x y z count c.natural_word-room.ensures.value access c.literal-reference.ensures.value (c.natural_word-more.ensures.held h) (c.natural_word-room.ensures.held h) = c.store.ensures.heap ∙ ap (λ (k : Heap). stored k a 0 (w ∷ x ∷ y ∷ z ∷ [])) now in
+    ∙ ap (λ (k : Heap). with_body k a b c.args.capacity c.args.key c.args.value) before in
+    let count : IsNatural w (count_at h a + 1) =
+    subst (λ n. IsNatural w (n + 1)) c.length-count.ensures.words
+    c.natural_word-more.ensures.value in
+    let access : slice_get (fields_at h a) 2 ≡ Some y =
+    ap (λ (k : Heap). slice_get (fields_at k a) 2) (sym c.length-count.ensures.heap)
+    ∙ c.load-access.ensures.answer in
+    let last : g.M.Memory.heap c.store.new.self ≡ end h a c.requires.known c.requires.sound b free
+    c.args.capacity c.requires.room c.requires.capacity c.args.key c.args.value c.requires.key
+    c.requires.value w x y z count c.natural_word-room.ensures.value access
+    c.literal-reference.ensures.value (c.natural_word-more.ensures.held h)
+    (c.natural_word-room.ensures.held h) = c.store.ensures.heap
+    ∙ ap (λ (k : Heap). stored k a 0 (w ∷ x ∷ y ∷ z ∷ [])) now in
     let d = dictionary_at s (birth_at h a) in
-    subst (λ (k : Heap). Shows k names (with_dictionary s (birth_at h a) (record d { pairs = d.pairs ++ (value_of (birth_at h) names c.args.key, value_of (birth_at h) names c.args.value) ∷ []; capacity = c.args.capacity }))) (sym last)
-    (end-shows h a c.requires.known c.requires.sound b free c.args.capacity c.requires.room c.args.key c.args.value c.requires.key c.requires.value w x y z count c.natural_word-room.ensures.value access c.literal-reference.ensures.value (c.natural_word-more.ensures.held h) (c.natural_word-room.ensures.held h) names s shows first second)
+    subst (λ (k : Heap). Shows k names
+    (with_dictionary s (birth_at h a)
+    (record d {
+      pairs = d.pairs
+          ++ (value_of (birth_at h) names c.args.key, value_of (birth_at h) names c.args.value)
+          ∷ [];
+      capacity = c.args.capacity;
+    }))) (sym last)
+    (end-shows h a c.requires.known c.requires.sound b free c.args.capacity c.requires.room
+    c.requires.capacity c.args.key c.args.value c.requires.key c.requires.value w x y z count
+    c.natural_word-room.ensures.value access c.literal-reference.ensures.value
+    (c.natural_word-more.ensures.held h) (c.natural_word-room.ensures.held h) names s shows
+    first second)

@@ -1,317 +1,855 @@
-use Rattle.std.proofs.Common.{◌≡◌, ◌<◌, ◌+◌, ◌*◌, ◌++◌, ◌∙◌, [], ◌∷◌, ap, sym, arith, subst, length}
+use Rattle.std.proofs.Common.{◌≡◌, ◌≤◌, ◌<◌, ◌+◌, ◌*◌, ◌++◌, ◌∙◌, [], ◌∷◌, None, ap, sym, arith, subst, length}
 use Rattle.ps_language.specs.Access.{dictionary_at, with_dictionary}
-use Rattle.ps_mem.specs.Heap.{Heap, birth_at, fields_at, stored}
+use Rattle.ps_mem.specs.Heap.{Heap, object_at, birth_at, fields_at, stored}
 use Rattle.ps_mem.specs.Keeps.{Keeps, Extends}
 use Rattle.ps_mem.specs.References.{NamesStanding}
 use Rattle.ps_mem.specs.Meaning.{value_of}
 use Rattle.ps_mem.specs.Shows.{IsNatural, IsSound, Shows}
-use Rattle.ps_mem.proofs.HeapLemmas.{birth_at-stored}
-use Rattle.ps_mem.proofs.KeepsLemmas.{Extends-stored}
 use Rattle.ps_dict.specs.Places.{count_at, capacity_at, body_at}
-use Rattle.ps_dict.proofs.Shapes.{four, small-capacity}
-use Rattle.ps_dict.proofs.Writing.{first-body, appended-sound, appended-keeps, appended-shows}
-use Rattle.ps_dict.proofs.Fresh.{key-place, value-place, key-known, value-known, both-stored, last-count, last-capacity, last-body}
+use Rattle.ps_dict.proofs.Shapes.{four, body-room}
+use Rattle.ps_dict.proofs.Probing.{few-places}
+use Rattle.ps_dict.proofs.Freeing.{place-given}
+use Rattle.ps_dict.proofs.Rewriting.{fits-second, fits-third, known-second, key-then-value, value-place-now, value-known-now, appended-sound, appended-keeps, appended-births, appended-extends, appended-body, appended-capacity, appended-count, appended-shows}
 use Rattle.ps_dict.proofs.makes.fill_last.Goals as goal
 
-pub natural_word-more-requires : goal.natural_word-more-requires
-natural_word-more-requires g c =
-    let small = small-capacity (g.M.Memory.heap c.args.memory.now) c.args.address c.requires.known c.requires.sound in
-    let room = c.requires.room in
-    let count = c.length-count.ensures.words in
-    omega (arith, small, room, count)
+pub free_place-place-requires-clause-few : goal.free_place-place-requires-clause-few
+free_place-place-requires-clause-few g c =
+    let h = g.M.Memory.heap c.args.memory.now in
+    let a = c.args.address in
+    let body_before : g.M.Memory.heap c.body-body.new.memory ≡ h = c.body-body.ensures.heap
+    ∙ c.length-count.ensures.heap in
+    let capacity_before : g.M.Memory.heap c.capacity-capacity.new.memory ≡ h =
+    c.capacity-capacity.ensures.heap ∙ body_before in
+    let is_count : c.length-count.result ≡ count_at h a = c.length-count.ensures.words in
+    let is_body : c.body-body.result ≡ body_at h a = c.body-body.ensures.words
+    ∙ ap (λ (k : Heap). body_at k a) c.length-count.ensures.heap in
+    let is_capacity : c.capacity-capacity.result ≡ capacity_at h a =
+    c.capacity-capacity.ensures.words ∙ ap (λ (k : Heap). capacity_at k a) body_before in
+    let few = few-places h a c.requires.known c.requires.sound in
+    omega (arith, few, is_capacity)
+
+pub free_place-place-requires-clause-room : goal.free_place-place-requires-clause-room
+free_place-place-requires-clause-room g c =
+    let h = g.M.Memory.heap c.args.memory.now in
+    let a = c.args.address in
+    let body_before : g.M.Memory.heap c.body-body.new.memory ≡ h = c.body-body.ensures.heap
+    ∙ c.length-count.ensures.heap in
+    let capacity_before : g.M.Memory.heap c.capacity-capacity.new.memory ≡ h =
+    c.capacity-capacity.ensures.heap ∙ body_before in
+    let is_count : c.length-count.result ≡ count_at h a = c.length-count.ensures.words in
+    let is_body : c.body-body.result ≡ body_at h a = c.body-body.ensures.words
+    ∙ ap (λ (k : Heap). body_at k a) c.length-count.ensures.heap in
+    let is_capacity : c.capacity-capacity.result ≡ capacity_at h a =
+    c.capacity-capacity.ensures.words ∙ ap (λ (k : Heap). capacity_at k a) body_before in
+    let all : length (fields_at (g.M.Memory.heap c.capacity-capacity.new.memory) c.body-body.result)
+    ≡ 3 * capacity_at h a =
+    ap (λ (k : Heap). length (fields_at k c.body-body.result)) capacity_before
+    ∙ (ap (λ b. length (fields_at h b)) is_body
+    ∙ body-room h a c.requires.known c.requires.sound) in
+    omega (arith, all, is_capacity)
 
 pub fill-requires-clause-place : goal.fill-requires-clause-place
 fill-requires-clause-place g c =
     let h = g.M.Memory.heap c.args.memory.now in
-    let same : g.M.Memory.heap c.body-body.new.memory ≡ h = c.body-body.ensures.heap ∙ c.length-count.ensures.heap in
-    subst (λ (k : Heap). 0 < length (fields_at k c.args.address)) (sym same) (let n = four h c.args.address c.requires.known c.requires.sound in omega (arith, n))
+    let a = c.args.address in
+    let body_before : g.M.Memory.heap c.body-body.new.memory ≡ h = c.body-body.ensures.heap
+    ∙ c.length-count.ensures.heap in
+    let capacity_before : g.M.Memory.heap c.capacity-capacity.new.memory ≡ h =
+    c.capacity-capacity.ensures.heap ∙ body_before in
+    let is_count : c.length-count.result ≡ count_at h a = c.length-count.ensures.words in
+    let is_body : c.body-body.result ≡ body_at h a = c.body-body.ensures.words
+    ∙ ap (λ (k : Heap). body_at k a) c.length-count.ensures.heap in
+    let is_capacity : c.capacity-capacity.result ≡ capacity_at h a =
+    c.capacity-capacity.ensures.words ∙ ap (λ (k : Heap). capacity_at k a) body_before in
+    let before : g.M.Memory.heap c.free_place-place.new.memory ≡ h = c.free_place-place.ensures.heap
+    ∙ capacity_before in
+    let w = c.natural_word-more.result in
+    let last = c.natural_word-last.result in
+    let key = c.args.key in
+    let value = c.args.value in
+    let p = c.free_place-place.result in
+    let is : IsNatural w (count_at h a + 1) =
+    subst (λ n. IsNatural w (n + 1)) is_count c.natural_word-more.ensures.value in
+    let last_is : IsNatural last (count_at h a) =
+    subst (λ n. IsNatural last n) is_count c.natural_word-last.ensures.value in
+    let below : p < capacity_at h a =
+    subst (λ n. p < n) is_capacity c.free_place-place.ensures.below in
+    let free = place-given h a c.requires.known c.requires.sound c.requires.room
+    (g.M.Memory.heap c.capacity-capacity.new.memory) c.body-body.result
+    c.capacity-capacity.result p key capacity_before is_body is_capacity
+    c.free_place-place.ensures.placed in
+    subst (λ (k : Heap). 0 < length (fields_at k a)) (sym before)
+    (let n = four h a c.requires.known c.requires.sound in omega (arith, n))
 
 pub fill-requires-2-clause-known : goal.fill-requires-2-clause-known
 fill-requires-2-clause-known g c =
     let h = g.M.Memory.heap c.args.memory.now in
     let a = c.args.address in
+    let body_before : g.M.Memory.heap c.body-body.new.memory ≡ h = c.body-body.ensures.heap
+    ∙ c.length-count.ensures.heap in
+    let capacity_before : g.M.Memory.heap c.capacity-capacity.new.memory ≡ h =
+    c.capacity-capacity.ensures.heap ∙ body_before in
+    let is_count : c.length-count.result ≡ count_at h a = c.length-count.ensures.words in
+    let is_body : c.body-body.result ≡ body_at h a = c.body-body.ensures.words
+    ∙ ap (λ (k : Heap). body_at k a) c.length-count.ensures.heap in
+    let is_capacity : c.capacity-capacity.result ≡ capacity_at h a =
+    c.capacity-capacity.ensures.words ∙ ap (λ (k : Heap). capacity_at k a) body_before in
+    let before : g.M.Memory.heap c.free_place-place.new.memory ≡ h = c.free_place-place.ensures.heap
+    ∙ capacity_before in
     let w = c.natural_word-more.result in
-    let k = c.args.key in
-    let v = c.args.value in
-    let before : g.M.Memory.heap c.body-body.new.memory ≡ h = c.body-body.ensures.heap ∙ c.length-count.ensures.heap in
-    let first : g.M.Memory.heap c.fill.new.self ≡ stored h a 0 (w ∷ []) = c.fill.ensures.heap ∙ ap (λ (m : Heap). stored m a 0 (w ∷ [])) before in
-    let is : IsNatural w (count_at h a + 1) = subst (λ n. IsNatural w (n + 1)) c.length-count.ensures.words c.natural_word-more.ensures.value in
-    let held = c.natural_word-more.ensures.held h in
-    let body : c.body-body.result ≡ body_at (stored h a 0 (w ∷ [])) a =
-    c.body-body.ensures.words ∙ (ap (λ (m : Heap). body_at m a) c.length-count.ensures.heap ∙ sym (first-body h a c.requires.known c.requires.sound c.requires.room w is held k v c.requires.key c.requires.value)) in
-    let at_body = body_at (stored h a 0 (w ∷ [])) a in
-    let n = count_at h a in
-    subst (λ (m : Heap). NamesStanding m c.body-body.result (k ∷ [])) (sym first) (subst (λ b. NamesStanding (stored h a 0 (w ∷ [])) b (k ∷ [])) (sym body) (key-known h a c.requires.known c.requires.sound c.requires.room w is held k v c.requires.key c.requires.value))
+    let last = c.natural_word-last.result in
+    let key = c.args.key in
+    let value = c.args.value in
+    let p = c.free_place-place.result in
+    let is : IsNatural w (count_at h a + 1) =
+    subst (λ n. IsNatural w (n + 1)) is_count c.natural_word-more.ensures.value in
+    let last_is : IsNatural last (count_at h a) =
+    subst (λ n. IsNatural last n) is_count c.natural_word-last.ensures.value in
+    let below : p < capacity_at h a =
+    subst (λ n. p < n) is_capacity c.free_place-place.ensures.below in
+    let free = place-given h a c.requires.known c.requires.sound c.requires.room
+    (g.M.Memory.heap c.capacity-capacity.new.memory) c.body-body.result
+    c.capacity-capacity.result p key capacity_before is_body is_capacity
+    c.free_place-place.ensures.placed in
+    let now1 : g.M.Memory.heap c.fill.new.self ≡ stored h a 0 (w ∷ []) = c.fill.ensures.heap
+    ∙ ap (λ (k : Heap). stored k a 0 (w ∷ [])) before in
+    let both = known-second h a c.requires.known c.requires.sound c.requires.room w last key value
+    is (c.natural_word-more.ensures.held h) last_is (c.natural_word-last.ensures.held h)
+    c.requires.key c.requires.value p below free in
+    subst (λ (k : Heap). NamesStanding k c.body-body.result (key ∷ [])) (sym now1)
+    (record { known = λ o at text. (both.0, tt) })
 
 pub fill-requires-2-clause-place : goal.fill-requires-2-clause-place
 fill-requires-2-clause-place g c =
     let h = g.M.Memory.heap c.args.memory.now in
     let a = c.args.address in
+    let body_before : g.M.Memory.heap c.body-body.new.memory ≡ h = c.body-body.ensures.heap
+    ∙ c.length-count.ensures.heap in
+    let capacity_before : g.M.Memory.heap c.capacity-capacity.new.memory ≡ h =
+    c.capacity-capacity.ensures.heap ∙ body_before in
+    let is_count : c.length-count.result ≡ count_at h a = c.length-count.ensures.words in
+    let is_body : c.body-body.result ≡ body_at h a = c.body-body.ensures.words
+    ∙ ap (λ (k : Heap). body_at k a) c.length-count.ensures.heap in
+    let is_capacity : c.capacity-capacity.result ≡ capacity_at h a =
+    c.capacity-capacity.ensures.words ∙ ap (λ (k : Heap). capacity_at k a) body_before in
+    let before : g.M.Memory.heap c.free_place-place.new.memory ≡ h = c.free_place-place.ensures.heap
+    ∙ capacity_before in
     let w = c.natural_word-more.result in
-    let k = c.args.key in
-    let v = c.args.value in
-    let before : g.M.Memory.heap c.body-body.new.memory ≡ h = c.body-body.ensures.heap ∙ c.length-count.ensures.heap in
-    let first : g.M.Memory.heap c.fill.new.self ≡ stored h a 0 (w ∷ []) = c.fill.ensures.heap ∙ ap (λ (m : Heap). stored m a 0 (w ∷ [])) before in
-    let is : IsNatural w (count_at h a + 1) = subst (λ n. IsNatural w (n + 1)) c.length-count.ensures.words c.natural_word-more.ensures.value in
-    let held = c.natural_word-more.ensures.held h in
-    let body : c.body-body.result ≡ body_at (stored h a 0 (w ∷ [])) a =
-    c.body-body.ensures.words ∙ (ap (λ (m : Heap). body_at m a) c.length-count.ensures.heap ∙ sym (first-body h a c.requires.known c.requires.sound c.requires.room w is held k v c.requires.key c.requires.value)) in
-    let at_body = body_at (stored h a 0 (w ∷ [])) a in
-    let n = count_at h a in
-    subst (λ j. 2 * j < length (fields_at (g.M.Memory.heap c.fill.new.self) c.body-body.result)) (sym c.length-count.ensures.words)
-    (subst (λ (m : Heap). 2 * n < length (fields_at m c.body-body.result)) (sym first) (subst (λ b. 2 * n < length (fields_at (stored h a 0 (w ∷ [])) b)) (sym body) (key-place h a c.requires.known c.requires.sound c.requires.room w is held k v c.requires.key c.requires.value)))
+    let last = c.natural_word-last.result in
+    let key = c.args.key in
+    let value = c.args.value in
+    let p = c.free_place-place.result in
+    let is : IsNatural w (count_at h a + 1) =
+    subst (λ n. IsNatural w (n + 1)) is_count c.natural_word-more.ensures.value in
+    let last_is : IsNatural last (count_at h a) =
+    subst (λ n. IsNatural last n) is_count c.natural_word-last.ensures.value in
+    let below : p < capacity_at h a =
+    subst (λ n. p < n) is_capacity c.free_place-place.ensures.below in
+    let free = place-given h a c.requires.known c.requires.sound c.requires.room
+    (g.M.Memory.heap c.capacity-capacity.new.memory) c.body-body.result
+    c.capacity-capacity.result p key capacity_before is_body is_capacity
+    c.free_place-place.ensures.placed in
+    let now1 : g.M.Memory.heap c.fill.new.self ≡ stored h a 0 (w ∷ []) = c.fill.ensures.heap
+    ∙ ap (λ (k : Heap). stored k a 0 (w ∷ [])) before in
+    let fits = fits-second h a c.requires.known c.requires.sound c.requires.room w last key value is
+    (c.natural_word-more.ensures.held h) last_is (c.natural_word-last.ensures.held h)
+    c.requires.key c.requires.value p below free in
+    subst (λ n. 2 * n < length (fields_at (g.M.Memory.heap c.fill.new.self) c.body-body.result))
+    (sym is_count)
+    (subst (λ b. 2 * count_at h a < length (fields_at (g.M.Memory.heap c.fill.new.self) b))
+    (sym is_body)
+    (subst (λ (k : Heap). 2 * count_at h a < length (fields_at k (body_at h a))) (sym now1)
+    (omega (arith, fits))))
 
 pub fill-requires-3-clause-known : goal.fill-requires-3-clause-known
 fill-requires-3-clause-known g c =
     let h = g.M.Memory.heap c.args.memory.now in
     let a = c.args.address in
+    let body_before : g.M.Memory.heap c.body-body.new.memory ≡ h = c.body-body.ensures.heap
+    ∙ c.length-count.ensures.heap in
+    let capacity_before : g.M.Memory.heap c.capacity-capacity.new.memory ≡ h =
+    c.capacity-capacity.ensures.heap ∙ body_before in
+    let is_count : c.length-count.result ≡ count_at h a = c.length-count.ensures.words in
+    let is_body : c.body-body.result ≡ body_at h a = c.body-body.ensures.words
+    ∙ ap (λ (k : Heap). body_at k a) c.length-count.ensures.heap in
+    let is_capacity : c.capacity-capacity.result ≡ capacity_at h a =
+    c.capacity-capacity.ensures.words ∙ ap (λ (k : Heap). capacity_at k a) body_before in
+    let before : g.M.Memory.heap c.free_place-place.new.memory ≡ h = c.free_place-place.ensures.heap
+    ∙ capacity_before in
     let w = c.natural_word-more.result in
-    let k = c.args.key in
-    let v = c.args.value in
-    let before : g.M.Memory.heap c.body-body.new.memory ≡ h = c.body-body.ensures.heap ∙ c.length-count.ensures.heap in
-    let first : g.M.Memory.heap c.fill.new.self ≡ stored h a 0 (w ∷ []) = c.fill.ensures.heap ∙ ap (λ (m : Heap). stored m a 0 (w ∷ [])) before in
-    let is : IsNatural w (count_at h a + 1) = subst (λ n. IsNatural w (n + 1)) c.length-count.ensures.words c.natural_word-more.ensures.value in
-    let held = c.natural_word-more.ensures.held h in
-    let body : c.body-body.result ≡ body_at (stored h a 0 (w ∷ [])) a =
-    c.body-body.ensures.words ∙ (ap (λ (m : Heap). body_at m a) c.length-count.ensures.heap ∙ sym (first-body h a c.requires.known c.requires.sound c.requires.room w is held k v c.requires.key c.requires.value)) in
-    let at_body = body_at (stored h a 0 (w ∷ [])) a in
-    let n = count_at h a in
-    let second : g.M.Memory.heap c.fill-2.new.self ≡ stored (stored h a 0 (w ∷ [])) at_body (2 * n) (k ∷ []) =
-    c.fill-2.ensures.heap ∙ (ap (λ (m : Heap). stored m c.body-body.result (2 * c.length-count.result) (k ∷ [])) first
-    ∙ (ap (λ b. stored (stored h a 0 (w ∷ [])) b (2 * c.length-count.result) (k ∷ [])) body
-    ∙ ap (λ j. stored (stored h a 0 (w ∷ [])) at_body (2 * j) (k ∷ [])) c.length-count.ensures.words)) in
-    subst (λ (m : Heap). NamesStanding m c.body-body.result (v ∷ [])) (sym second) (subst (λ b. NamesStanding (stored (stored h a 0 (w ∷ [])) at_body (2 * n) (k ∷ [])) b (v ∷ [])) (sym body) (value-known h a c.requires.known c.requires.sound c.requires.room w is held k v c.requires.key c.requires.value))
+    let last = c.natural_word-last.result in
+    let key = c.args.key in
+    let value = c.args.value in
+    let p = c.free_place-place.result in
+    let is : IsNatural w (count_at h a + 1) =
+    subst (λ n. IsNatural w (n + 1)) is_count c.natural_word-more.ensures.value in
+    let last_is : IsNatural last (count_at h a) =
+    subst (λ n. IsNatural last n) is_count c.natural_word-last.ensures.value in
+    let below : p < capacity_at h a =
+    subst (λ n. p < n) is_capacity c.free_place-place.ensures.below in
+    let free = place-given h a c.requires.known c.requires.sound c.requires.room
+    (g.M.Memory.heap c.capacity-capacity.new.memory) c.body-body.result
+    c.capacity-capacity.result p key capacity_before is_body is_capacity
+    c.free_place-place.ensures.placed in
+    let now1 : g.M.Memory.heap c.fill.new.self ≡ stored h a 0 (w ∷ []) = c.fill.ensures.heap
+    ∙ ap (λ (k : Heap). stored k a 0 (w ∷ [])) before in
+    let first = stored h a 0 (w ∷ []) in
+    let now2 : g.M.Memory.heap c.fill-2.new.self ≡ stored first (body_at h a) (2 * count_at h a)
+    (key ∷ []) =
+    c.fill-2.ensures.heap ∙ (ap
+    (λ (k : Heap). stored k c.body-body.result (2 * c.length-count.result) (key ∷ [])) now1
+    ∙ (ap (λ b. stored first b (2 * c.length-count.result) (key ∷ [])) is_body
+    ∙ ap (λ n. stored first (body_at h a) (2 * n) (key ∷ [])) is_count)) in
+    let one = value-known-now h a c.requires.known c.requires.sound c.requires.room w last key value
+    is (c.natural_word-more.ensures.held h) last_is (c.natural_word-last.ensures.held h)
+    c.requires.key c.requires.value p below free in
+    subst (λ (k : Heap). NamesStanding k c.body-body.result (value ∷ [])) (sym now2)
+    (record { known = λ o at text. (one, tt) })
 
 pub fill-requires-3-clause-place : goal.fill-requires-3-clause-place
 fill-requires-3-clause-place g c =
     let h = g.M.Memory.heap c.args.memory.now in
     let a = c.args.address in
+    let body_before : g.M.Memory.heap c.body-body.new.memory ≡ h = c.body-body.ensures.heap
+    ∙ c.length-count.ensures.heap in
+    let capacity_before : g.M.Memory.heap c.capacity-capacity.new.memory ≡ h =
+    c.capacity-capacity.ensures.heap ∙ body_before in
+    let is_count : c.length-count.result ≡ count_at h a = c.length-count.ensures.words in
+    let is_body : c.body-body.result ≡ body_at h a = c.body-body.ensures.words
+    ∙ ap (λ (k : Heap). body_at k a) c.length-count.ensures.heap in
+    let is_capacity : c.capacity-capacity.result ≡ capacity_at h a =
+    c.capacity-capacity.ensures.words ∙ ap (λ (k : Heap). capacity_at k a) body_before in
+    let before : g.M.Memory.heap c.free_place-place.new.memory ≡ h = c.free_place-place.ensures.heap
+    ∙ capacity_before in
     let w = c.natural_word-more.result in
-    let k = c.args.key in
-    let v = c.args.value in
-    let before : g.M.Memory.heap c.body-body.new.memory ≡ h = c.body-body.ensures.heap ∙ c.length-count.ensures.heap in
-    let first : g.M.Memory.heap c.fill.new.self ≡ stored h a 0 (w ∷ []) = c.fill.ensures.heap ∙ ap (λ (m : Heap). stored m a 0 (w ∷ [])) before in
-    let is : IsNatural w (count_at h a + 1) = subst (λ n. IsNatural w (n + 1)) c.length-count.ensures.words c.natural_word-more.ensures.value in
-    let held = c.natural_word-more.ensures.held h in
-    let body : c.body-body.result ≡ body_at (stored h a 0 (w ∷ [])) a =
-    c.body-body.ensures.words ∙ (ap (λ (m : Heap). body_at m a) c.length-count.ensures.heap ∙ sym (first-body h a c.requires.known c.requires.sound c.requires.room w is held k v c.requires.key c.requires.value)) in
-    let at_body = body_at (stored h a 0 (w ∷ [])) a in
-    let n = count_at h a in
-    let second : g.M.Memory.heap c.fill-2.new.self ≡ stored (stored h a 0 (w ∷ [])) at_body (2 * n) (k ∷ []) =
-    c.fill-2.ensures.heap ∙ (ap (λ (m : Heap). stored m c.body-body.result (2 * c.length-count.result) (k ∷ [])) first
-    ∙ (ap (λ b. stored (stored h a 0 (w ∷ [])) b (2 * c.length-count.result) (k ∷ [])) body
-    ∙ ap (λ j. stored (stored h a 0 (w ∷ [])) at_body (2 * j) (k ∷ [])) c.length-count.ensures.words)) in
-    subst (λ j. 2 * j + 1 < length (fields_at (g.M.Memory.heap c.fill-2.new.self) c.body-body.result)) (sym c.length-count.ensures.words)
-    (subst (λ (m : Heap). 2 * n + 1 < length (fields_at m c.body-body.result)) (sym second)
-    (subst (λ b. 2 * n + 1 < length (fields_at (stored (stored h a 0 (w ∷ [])) at_body (2 * n) (k ∷ [])) b)) (sym body) (value-place h a c.requires.known c.requires.sound c.requires.room w is held k v c.requires.key c.requires.value)))
+    let last = c.natural_word-last.result in
+    let key = c.args.key in
+    let value = c.args.value in
+    let p = c.free_place-place.result in
+    let is : IsNatural w (count_at h a + 1) =
+    subst (λ n. IsNatural w (n + 1)) is_count c.natural_word-more.ensures.value in
+    let last_is : IsNatural last (count_at h a) =
+    subst (λ n. IsNatural last n) is_count c.natural_word-last.ensures.value in
+    let below : p < capacity_at h a =
+    subst (λ n. p < n) is_capacity c.free_place-place.ensures.below in
+    let free = place-given h a c.requires.known c.requires.sound c.requires.room
+    (g.M.Memory.heap c.capacity-capacity.new.memory) c.body-body.result
+    c.capacity-capacity.result p key capacity_before is_body is_capacity
+    c.free_place-place.ensures.placed in
+    let now1 : g.M.Memory.heap c.fill.new.self ≡ stored h a 0 (w ∷ []) = c.fill.ensures.heap
+    ∙ ap (λ (k : Heap). stored k a 0 (w ∷ [])) before in
+    let first = stored h a 0 (w ∷ []) in
+    let now2 : g.M.Memory.heap c.fill-2.new.self ≡ stored first (body_at h a) (2 * count_at h a)
+    (key ∷ []) =
+    c.fill-2.ensures.heap ∙ (ap
+    (λ (k : Heap). stored k c.body-body.result (2 * c.length-count.result) (key ∷ [])) now1
+    ∙ (ap (λ b. stored first b (2 * c.length-count.result) (key ∷ [])) is_body
+    ∙ ap (λ n. stored first (body_at h a) (2 * n) (key ∷ [])) is_count)) in
+    subst (λ n. 2 * n + 1 < length
+    (fields_at (g.M.Memory.heap c.fill-2.new.self) c.body-body.result)) (sym is_count)
+    (subst (λ b. 2 * count_at h a + 1 < length (fields_at (g.M.Memory.heap c.fill-2.new.self) b))
+    (sym is_body)
+    (subst (λ (k : Heap). 2 * count_at h a + 1 < length (fields_at k (body_at h a))) (sym now2)
+    (value-place-now h a c.requires.known c.requires.sound c.requires.room w last key value is
+    (c.natural_word-more.ensures.held h) last_is (c.natural_word-last.ensures.held h)
+    c.requires.key c.requires.value p below free)))
+
+pub overflow_add-capacity : goal.overflow_add-capacity
+overflow_add-capacity g c =
+    let h = g.M.Memory.heap c.args.memory.now in
+    let a = c.args.address in
+    let body_before : g.M.Memory.heap c.body-body.new.memory ≡ h = c.body-body.ensures.heap
+    ∙ c.length-count.ensures.heap in
+    let capacity_before : g.M.Memory.heap c.capacity-capacity.new.memory ≡ h =
+    c.capacity-capacity.ensures.heap ∙ body_before in
+    let is_count : c.length-count.result ≡ count_at h a = c.length-count.ensures.words in
+    let is_body : c.body-body.result ≡ body_at h a = c.body-body.ensures.words
+    ∙ ap (λ (k : Heap). body_at k a) c.length-count.ensures.heap in
+    let is_capacity : c.capacity-capacity.result ≡ capacity_at h a =
+    c.capacity-capacity.ensures.words ∙ ap (λ (k : Heap). capacity_at k a) body_before in
+    let before : g.M.Memory.heap c.free_place-place.new.memory ≡ h = c.free_place-place.ensures.heap
+    ∙ capacity_before in
+    let w = c.natural_word-more.result in
+    let last = c.natural_word-last.result in
+    let key = c.args.key in
+    let value = c.args.value in
+    let p = c.free_place-place.result in
+    let is : IsNatural w (count_at h a + 1) =
+    subst (λ n. IsNatural w (n + 1)) is_count c.natural_word-more.ensures.value in
+    let last_is : IsNatural last (count_at h a) =
+    subst (λ n. IsNatural last n) is_count c.natural_word-last.ensures.value in
+    let below : p < capacity_at h a =
+    subst (λ n. p < n) is_capacity c.free_place-place.ensures.below in
+    let free = place-given h a c.requires.known c.requires.sound c.requires.room
+    (g.M.Memory.heap c.capacity-capacity.new.memory) c.body-body.result
+    c.capacity-capacity.result p key capacity_before is_body is_capacity
+    c.free_place-place.ensures.placed in
+    let few = few-places h a c.requires.known c.requires.sound in
+    omega (arith, few, is_capacity, below)
+
+pub fill-requires-4-clause-place : goal.fill-requires-4-clause-place
+fill-requires-4-clause-place g c =
+    let h = g.M.Memory.heap c.args.memory.now in
+    let a = c.args.address in
+    let body_before : g.M.Memory.heap c.body-body.new.memory ≡ h = c.body-body.ensures.heap
+    ∙ c.length-count.ensures.heap in
+    let capacity_before : g.M.Memory.heap c.capacity-capacity.new.memory ≡ h =
+    c.capacity-capacity.ensures.heap ∙ body_before in
+    let is_count : c.length-count.result ≡ count_at h a = c.length-count.ensures.words in
+    let is_body : c.body-body.result ≡ body_at h a = c.body-body.ensures.words
+    ∙ ap (λ (k : Heap). body_at k a) c.length-count.ensures.heap in
+    let is_capacity : c.capacity-capacity.result ≡ capacity_at h a =
+    c.capacity-capacity.ensures.words ∙ ap (λ (k : Heap). capacity_at k a) body_before in
+    let before : g.M.Memory.heap c.free_place-place.new.memory ≡ h = c.free_place-place.ensures.heap
+    ∙ capacity_before in
+    let w = c.natural_word-more.result in
+    let last = c.natural_word-last.result in
+    let key = c.args.key in
+    let value = c.args.value in
+    let p = c.free_place-place.result in
+    let is : IsNatural w (count_at h a + 1) =
+    subst (λ n. IsNatural w (n + 1)) is_count c.natural_word-more.ensures.value in
+    let last_is : IsNatural last (count_at h a) =
+    subst (λ n. IsNatural last n) is_count c.natural_word-last.ensures.value in
+    let below : p < capacity_at h a =
+    subst (λ n. p < n) is_capacity c.free_place-place.ensures.below in
+    let free = place-given h a c.requires.known c.requires.sound c.requires.room
+    (g.M.Memory.heap c.capacity-capacity.new.memory) c.body-body.result
+    c.capacity-capacity.result p key capacity_before is_body is_capacity
+    c.free_place-place.ensures.placed in
+    let now1 : g.M.Memory.heap c.fill.new.self ≡ stored h a 0 (w ∷ []) = c.fill.ensures.heap
+    ∙ ap (λ (k : Heap). stored k a 0 (w ∷ [])) before in
+    let first = stored h a 0 (w ∷ []) in
+    let now2 : g.M.Memory.heap c.fill-2.new.self ≡ stored first (body_at h a) (2 * count_at h a)
+    (key ∷ []) =
+    c.fill-2.ensures.heap ∙ (ap
+    (λ (k : Heap). stored k c.body-body.result (2 * c.length-count.result) (key ∷ [])) now1
+    ∙ (ap (λ b. stored first b (2 * c.length-count.result) (key ∷ [])) is_body
+    ∙ ap (λ n. stored first (body_at h a) (2 * n) (key ∷ [])) is_count)) in
+    let second = stored first (body_at h a) (2 * count_at h a) (key ∷ []) in
+    let now3 : g.M.Memory.heap c.fill-3.new.self ≡ stored first (body_at h a) (2 * count_at h a)
+    (key ∷ value ∷ []) =
+    c.fill-3.ensures.heap ∙ (ap
+    (λ (k : Heap). stored k c.body-body.result (2 * c.length-count.result + 1) (value ∷ []))
+    now2
+    ∙ (ap (λ b. stored second b (2 * c.length-count.result + 1) (value ∷ [])) is_body
+    ∙ (ap (λ n. stored second (body_at h a) (2 * n + 1) (value ∷ [])) is_count
+    ∙ key-then-value h a c.requires.known c.requires.sound c.requires.room w last key value is
+    (c.natural_word-more.ensures.held h) last_is (c.natural_word-last.ensures.held h)
+    c.requires.key c.requires.value p below free))) in
+    let fits = fits-third h a c.requires.known c.requires.sound c.requires.room w last key value is
+    (c.natural_word-more.ensures.held h) last_is (c.natural_word-last.ensures.held h)
+    c.requires.key c.requires.value p below free in
+    subst (λ n. 2 * n + p < length
+    (fields_at (g.M.Memory.heap c.fill-3.new.self) c.body-body.result)) (sym is_capacity)
+    (subst (λ b. 2 * capacity_at h a + p < length (fields_at (g.M.Memory.heap c.fill-3.new.self) b))
+    (sym is_body)
+    (subst (λ (k : Heap). 2 * capacity_at h a + p < length (fields_at k (body_at h a))) (sym now3)
+    (omega (arith, fits))))
 
 pub returns-clause-sound : goal.returns-clause-sound
 returns-clause-sound g c =
     let h = g.M.Memory.heap c.args.memory.now in
     let a = c.args.address in
+    let body_before : g.M.Memory.heap c.body-body.new.memory ≡ h = c.body-body.ensures.heap
+    ∙ c.length-count.ensures.heap in
+    let capacity_before : g.M.Memory.heap c.capacity-capacity.new.memory ≡ h =
+    c.capacity-capacity.ensures.heap ∙ body_before in
+    let is_count : c.length-count.result ≡ count_at h a = c.length-count.ensures.words in
+    let is_body : c.body-body.result ≡ body_at h a = c.body-body.ensures.words
+    ∙ ap (λ (k : Heap). body_at k a) c.length-count.ensures.heap in
+    let is_capacity : c.capacity-capacity.result ≡ capacity_at h a =
+    c.capacity-capacity.ensures.words ∙ ap (λ (k : Heap). capacity_at k a) body_before in
+    let before : g.M.Memory.heap c.free_place-place.new.memory ≡ h = c.free_place-place.ensures.heap
+    ∙ capacity_before in
     let w = c.natural_word-more.result in
-    let k = c.args.key in
-    let v = c.args.value in
-    let before : g.M.Memory.heap c.body-body.new.memory ≡ h = c.body-body.ensures.heap ∙ c.length-count.ensures.heap in
-    let first : g.M.Memory.heap c.fill.new.self ≡ stored h a 0 (w ∷ []) = c.fill.ensures.heap ∙ ap (λ (m : Heap). stored m a 0 (w ∷ [])) before in
-    let is : IsNatural w (count_at h a + 1) = subst (λ n. IsNatural w (n + 1)) c.length-count.ensures.words c.natural_word-more.ensures.value in
-    let held = c.natural_word-more.ensures.held h in
-    let body : c.body-body.result ≡ body_at (stored h a 0 (w ∷ [])) a =
-    c.body-body.ensures.words ∙ (ap (λ (m : Heap). body_at m a) c.length-count.ensures.heap ∙ sym (first-body h a c.requires.known c.requires.sound c.requires.room w is held k v c.requires.key c.requires.value)) in
-    let at_body = body_at (stored h a 0 (w ∷ [])) a in
-    let n = count_at h a in
-    let second : g.M.Memory.heap c.fill-2.new.self ≡ stored (stored h a 0 (w ∷ [])) at_body (2 * n) (k ∷ []) =
-    c.fill-2.ensures.heap ∙ (ap (λ (m : Heap). stored m c.body-body.result (2 * c.length-count.result) (k ∷ [])) first
-    ∙ (ap (λ b. stored (stored h a 0 (w ∷ [])) b (2 * c.length-count.result) (k ∷ [])) body
-    ∙ ap (λ j. stored (stored h a 0 (w ∷ [])) at_body (2 * j) (k ∷ [])) c.length-count.ensures.words)) in
-    let last : g.M.Memory.heap c.fill-3.new.self ≡ stored (stored h a 0 (w ∷ [])) at_body (2 * n) (k ∷ v ∷ []) =
-    c.fill-3.ensures.heap ∙ (ap (λ (m : Heap). stored m c.body-body.result (2 * c.length-count.result + 1) (v ∷ [])) second
-    ∙ (ap (λ b. stored (stored (stored h a 0 (w ∷ [])) at_body (2 * n) (k ∷ [])) b (2 * c.length-count.result + 1) (v ∷ [])) body
-    ∙ (ap (λ j. stored (stored (stored h a 0 (w ∷ [])) at_body (2 * n) (k ∷ [])) at_body (2 * j + 1) (v ∷ [])) c.length-count.ensures.words
-    ∙ both-stored h a c.requires.known c.requires.sound c.requires.room w is held k v c.requires.key c.requires.value))) in
-    subst IsSound (sym last) (appended-sound h a c.requires.known c.requires.sound c.requires.room w is held k v c.requires.key c.requires.value)
+    let last = c.natural_word-last.result in
+    let key = c.args.key in
+    let value = c.args.value in
+    let p = c.free_place-place.result in
+    let is : IsNatural w (count_at h a + 1) =
+    subst (λ n. IsNatural w (n + 1)) is_count c.natural_word-more.ensures.value in
+    let last_is : IsNatural last (count_at h a) =
+    subst (λ n. IsNatural last n) is_count c.natural_word-last.ensures.value in
+    let below : p < capacity_at h a =
+    subst (λ n. p < n) is_capacity c.free_place-place.ensures.below in
+    let free = place-given h a c.requires.known c.requires.sound c.requires.room
+    (g.M.Memory.heap c.capacity-capacity.new.memory) c.body-body.result
+    c.capacity-capacity.result p key capacity_before is_body is_capacity
+    c.free_place-place.ensures.placed in
+    let now1 : g.M.Memory.heap c.fill.new.self ≡ stored h a 0 (w ∷ []) = c.fill.ensures.heap
+    ∙ ap (λ (k : Heap). stored k a 0 (w ∷ [])) before in
+    let first = stored h a 0 (w ∷ []) in
+    let now2 : g.M.Memory.heap c.fill-2.new.self ≡ stored first (body_at h a) (2 * count_at h a)
+    (key ∷ []) =
+    c.fill-2.ensures.heap ∙ (ap
+    (λ (k : Heap). stored k c.body-body.result (2 * c.length-count.result) (key ∷ [])) now1
+    ∙ (ap (λ b. stored first b (2 * c.length-count.result) (key ∷ [])) is_body
+    ∙ ap (λ n. stored first (body_at h a) (2 * n) (key ∷ [])) is_count)) in
+    let second = stored first (body_at h a) (2 * count_at h a) (key ∷ []) in
+    let now3 : g.M.Memory.heap c.fill-3.new.self ≡ stored first (body_at h a) (2 * count_at h a)
+    (key ∷ value ∷ []) =
+    c.fill-3.ensures.heap ∙ (ap
+    (λ (k : Heap). stored k c.body-body.result (2 * c.length-count.result + 1) (value ∷ []))
+    now2
+    ∙ (ap (λ b. stored second b (2 * c.length-count.result + 1) (value ∷ [])) is_body
+    ∙ (ap (λ n. stored second (body_at h a) (2 * n + 1) (value ∷ [])) is_count
+    ∙ key-then-value h a c.requires.known c.requires.sound c.requires.room w last key value is
+    (c.natural_word-more.ensures.held h) last_is (c.natural_word-last.ensures.held h)
+    c.requires.key c.requires.value p below free))) in
+    let third = stored first (body_at h a) (2 * count_at h a) (key ∷ value ∷ []) in
+    let now4 : g.M.Memory.heap c.fill-4.new.self ≡ stored third (body_at h a)
+    (2 * capacity_at h a + p) (last ∷ []) =
+    c.fill-4.ensures.heap ∙ (ap
+    (λ (k : Heap). stored k c.body-body.result (2 * c.capacity-capacity.result + p) (last ∷ []))
+    now3
+    ∙ (ap (λ b. stored third b (2 * c.capacity-capacity.result + p) (last ∷ [])) is_body
+    ∙ ap (λ n. stored third (body_at h a) (2 * n + p) (last ∷ [])) is_capacity)) in
+    subst IsSound (sym now4) (appended-sound h a c.requires.known c.requires.sound c.requires.room w
+    last key value is (c.natural_word-more.ensures.held h) last_is
+    (c.natural_word-last.ensures.held h) c.requires.key c.requires.value p below free)
 
 pub returns-clause-keeps : goal.returns-clause-keeps
 returns-clause-keeps g c =
     let h = g.M.Memory.heap c.args.memory.now in
     let a = c.args.address in
+    let body_before : g.M.Memory.heap c.body-body.new.memory ≡ h = c.body-body.ensures.heap
+    ∙ c.length-count.ensures.heap in
+    let capacity_before : g.M.Memory.heap c.capacity-capacity.new.memory ≡ h =
+    c.capacity-capacity.ensures.heap ∙ body_before in
+    let is_count : c.length-count.result ≡ count_at h a = c.length-count.ensures.words in
+    let is_body : c.body-body.result ≡ body_at h a = c.body-body.ensures.words
+    ∙ ap (λ (k : Heap). body_at k a) c.length-count.ensures.heap in
+    let is_capacity : c.capacity-capacity.result ≡ capacity_at h a =
+    c.capacity-capacity.ensures.words ∙ ap (λ (k : Heap). capacity_at k a) body_before in
+    let before : g.M.Memory.heap c.free_place-place.new.memory ≡ h = c.free_place-place.ensures.heap
+    ∙ capacity_before in
     let w = c.natural_word-more.result in
-    let k = c.args.key in
-    let v = c.args.value in
-    let before : g.M.Memory.heap c.body-body.new.memory ≡ h = c.body-body.ensures.heap ∙ c.length-count.ensures.heap in
-    let first : g.M.Memory.heap c.fill.new.self ≡ stored h a 0 (w ∷ []) = c.fill.ensures.heap ∙ ap (λ (m : Heap). stored m a 0 (w ∷ [])) before in
-    let is : IsNatural w (count_at h a + 1) = subst (λ n. IsNatural w (n + 1)) c.length-count.ensures.words c.natural_word-more.ensures.value in
-    let held = c.natural_word-more.ensures.held h in
-    let body : c.body-body.result ≡ body_at (stored h a 0 (w ∷ [])) a =
-    c.body-body.ensures.words ∙ (ap (λ (m : Heap). body_at m a) c.length-count.ensures.heap ∙ sym (first-body h a c.requires.known c.requires.sound c.requires.room w is held k v c.requires.key c.requires.value)) in
-    let at_body = body_at (stored h a 0 (w ∷ [])) a in
-    let n = count_at h a in
-    let second : g.M.Memory.heap c.fill-2.new.self ≡ stored (stored h a 0 (w ∷ [])) at_body (2 * n) (k ∷ []) =
-    c.fill-2.ensures.heap ∙ (ap (λ (m : Heap). stored m c.body-body.result (2 * c.length-count.result) (k ∷ [])) first
-    ∙ (ap (λ b. stored (stored h a 0 (w ∷ [])) b (2 * c.length-count.result) (k ∷ [])) body
-    ∙ ap (λ j. stored (stored h a 0 (w ∷ [])) at_body (2 * j) (k ∷ [])) c.length-count.ensures.words)) in
-    let last : g.M.Memory.heap c.fill-3.new.self ≡ stored (stored h a 0 (w ∷ [])) at_body (2 * n) (k ∷ v ∷ []) =
-    c.fill-3.ensures.heap ∙ (ap (λ (m : Heap). stored m c.body-body.result (2 * c.length-count.result + 1) (v ∷ [])) second
-    ∙ (ap (λ b. stored (stored (stored h a 0 (w ∷ [])) at_body (2 * n) (k ∷ [])) b (2 * c.length-count.result + 1) (v ∷ [])) body
-    ∙ (ap (λ j. stored (stored (stored h a 0 (w ∷ [])) at_body (2 * n) (k ∷ [])) at_body (2 * j + 1) (v ∷ [])) c.length-count.ensures.words
-    ∙ both-stored h a c.requires.known c.requires.sound c.requires.room w is held k v c.requires.key c.requires.value))) in
-    subst (Keeps h) (sym last) (appended-keeps h a c.requires.known c.requires.sound c.requires.room w is held k v c.requires.key c.requires.value)
+    let last = c.natural_word-last.result in
+    let key = c.args.key in
+    let value = c.args.value in
+    let p = c.free_place-place.result in
+    let is : IsNatural w (count_at h a + 1) =
+    subst (λ n. IsNatural w (n + 1)) is_count c.natural_word-more.ensures.value in
+    let last_is : IsNatural last (count_at h a) =
+    subst (λ n. IsNatural last n) is_count c.natural_word-last.ensures.value in
+    let below : p < capacity_at h a =
+    subst (λ n. p < n) is_capacity c.free_place-place.ensures.below in
+    let free = place-given h a c.requires.known c.requires.sound c.requires.room
+    (g.M.Memory.heap c.capacity-capacity.new.memory) c.body-body.result
+    c.capacity-capacity.result p key capacity_before is_body is_capacity
+    c.free_place-place.ensures.placed in
+    let now1 : g.M.Memory.heap c.fill.new.self ≡ stored h a 0 (w ∷ []) = c.fill.ensures.heap
+    ∙ ap (λ (k : Heap). stored k a 0 (w ∷ [])) before in
+    let first = stored h a 0 (w ∷ []) in
+    let now2 : g.M.Memory.heap c.fill-2.new.self ≡ stored first (body_at h a) (2 * count_at h a)
+    (key ∷ []) =
+    c.fill-2.ensures.heap ∙ (ap
+    (λ (k : Heap). stored k c.body-body.result (2 * c.length-count.result) (key ∷ [])) now1
+    ∙ (ap (λ b. stored first b (2 * c.length-count.result) (key ∷ [])) is_body
+    ∙ ap (λ n. stored first (body_at h a) (2 * n) (key ∷ [])) is_count)) in
+    let second = stored first (body_at h a) (2 * count_at h a) (key ∷ []) in
+    let now3 : g.M.Memory.heap c.fill-3.new.self ≡ stored first (body_at h a) (2 * count_at h a)
+    (key ∷ value ∷ []) =
+    c.fill-3.ensures.heap ∙ (ap
+    (λ (k : Heap). stored k c.body-body.result (2 * c.length-count.result + 1) (value ∷ []))
+    now2
+    ∙ (ap (λ b. stored second b (2 * c.length-count.result + 1) (value ∷ [])) is_body
+    ∙ (ap (λ n. stored second (body_at h a) (2 * n + 1) (value ∷ [])) is_count
+    ∙ key-then-value h a c.requires.known c.requires.sound c.requires.room w last key value is
+    (c.natural_word-more.ensures.held h) last_is (c.natural_word-last.ensures.held h)
+    c.requires.key c.requires.value p below free))) in
+    let third = stored first (body_at h a) (2 * count_at h a) (key ∷ value ∷ []) in
+    let now4 : g.M.Memory.heap c.fill-4.new.self ≡ stored third (body_at h a)
+    (2 * capacity_at h a + p) (last ∷ []) =
+    c.fill-4.ensures.heap ∙ (ap
+    (λ (k : Heap). stored k c.body-body.result (2 * c.capacity-capacity.result + p) (last ∷ []))
+    now3
+    ∙ (ap (λ b. stored third b (2 * c.capacity-capacity.result + p) (last ∷ [])) is_body
+    ∙ ap (λ n. stored third (body_at h a) (2 * n + p) (last ∷ [])) is_capacity)) in
+    subst (Keeps h) (sym now4)
+    (appended-keeps h a c.requires.known c.requires.sound c.requires.room w last key value is
+    (c.natural_word-more.ensures.held h) last_is (c.natural_word-last.ensures.held h)
+    c.requires.key c.requires.value p below free)
 
 pub returns-clause-births : goal.returns-clause-births
 returns-clause-births g c =
     let h = g.M.Memory.heap c.args.memory.now in
     let a = c.args.address in
+    let body_before : g.M.Memory.heap c.body-body.new.memory ≡ h = c.body-body.ensures.heap
+    ∙ c.length-count.ensures.heap in
+    let capacity_before : g.M.Memory.heap c.capacity-capacity.new.memory ≡ h =
+    c.capacity-capacity.ensures.heap ∙ body_before in
+    let is_count : c.length-count.result ≡ count_at h a = c.length-count.ensures.words in
+    let is_body : c.body-body.result ≡ body_at h a = c.body-body.ensures.words
+    ∙ ap (λ (k : Heap). body_at k a) c.length-count.ensures.heap in
+    let is_capacity : c.capacity-capacity.result ≡ capacity_at h a =
+    c.capacity-capacity.ensures.words ∙ ap (λ (k : Heap). capacity_at k a) body_before in
+    let before : g.M.Memory.heap c.free_place-place.new.memory ≡ h = c.free_place-place.ensures.heap
+    ∙ capacity_before in
     let w = c.natural_word-more.result in
-    let k = c.args.key in
-    let v = c.args.value in
-    let before : g.M.Memory.heap c.body-body.new.memory ≡ h = c.body-body.ensures.heap ∙ c.length-count.ensures.heap in
-    let first : g.M.Memory.heap c.fill.new.self ≡ stored h a 0 (w ∷ []) = c.fill.ensures.heap ∙ ap (λ (m : Heap). stored m a 0 (w ∷ [])) before in
-    let is : IsNatural w (count_at h a + 1) = subst (λ n. IsNatural w (n + 1)) c.length-count.ensures.words c.natural_word-more.ensures.value in
-    let held = c.natural_word-more.ensures.held h in
-    let body : c.body-body.result ≡ body_at (stored h a 0 (w ∷ [])) a =
-    c.body-body.ensures.words ∙ (ap (λ (m : Heap). body_at m a) c.length-count.ensures.heap ∙ sym (first-body h a c.requires.known c.requires.sound c.requires.room w is held k v c.requires.key c.requires.value)) in
-    let at_body = body_at (stored h a 0 (w ∷ [])) a in
-    let n = count_at h a in
-    let second : g.M.Memory.heap c.fill-2.new.self ≡ stored (stored h a 0 (w ∷ [])) at_body (2 * n) (k ∷ []) =
-    c.fill-2.ensures.heap ∙ (ap (λ (m : Heap). stored m c.body-body.result (2 * c.length-count.result) (k ∷ [])) first
-    ∙ (ap (λ b. stored (stored h a 0 (w ∷ [])) b (2 * c.length-count.result) (k ∷ [])) body
-    ∙ ap (λ j. stored (stored h a 0 (w ∷ [])) at_body (2 * j) (k ∷ [])) c.length-count.ensures.words)) in
-    let last : g.M.Memory.heap c.fill-3.new.self ≡ stored (stored h a 0 (w ∷ [])) at_body (2 * n) (k ∷ v ∷ []) =
-    c.fill-3.ensures.heap ∙ (ap (λ (m : Heap). stored m c.body-body.result (2 * c.length-count.result + 1) (v ∷ [])) second
-    ∙ (ap (λ b. stored (stored (stored h a 0 (w ∷ [])) at_body (2 * n) (k ∷ [])) b (2 * c.length-count.result + 1) (v ∷ [])) body
-    ∙ (ap (λ j. stored (stored (stored h a 0 (w ∷ [])) at_body (2 * n) (k ∷ [])) at_body (2 * j + 1) (v ∷ [])) c.length-count.ensures.words
-    ∙ both-stored h a c.requires.known c.requires.sound c.requires.room w is held k v c.requires.key c.requires.value))) in
-    ap birth_at last ∙ (birth_at-stored _ _ _ _ ∙ birth_at-stored _ _ _ _)
+    let last = c.natural_word-last.result in
+    let key = c.args.key in
+    let value = c.args.value in
+    let p = c.free_place-place.result in
+    let is : IsNatural w (count_at h a + 1) =
+    subst (λ n. IsNatural w (n + 1)) is_count c.natural_word-more.ensures.value in
+    let last_is : IsNatural last (count_at h a) =
+    subst (λ n. IsNatural last n) is_count c.natural_word-last.ensures.value in
+    let below : p < capacity_at h a =
+    subst (λ n. p < n) is_capacity c.free_place-place.ensures.below in
+    let free = place-given h a c.requires.known c.requires.sound c.requires.room
+    (g.M.Memory.heap c.capacity-capacity.new.memory) c.body-body.result
+    c.capacity-capacity.result p key capacity_before is_body is_capacity
+    c.free_place-place.ensures.placed in
+    let now1 : g.M.Memory.heap c.fill.new.self ≡ stored h a 0 (w ∷ []) = c.fill.ensures.heap
+    ∙ ap (λ (k : Heap). stored k a 0 (w ∷ [])) before in
+    let first = stored h a 0 (w ∷ []) in
+    let now2 : g.M.Memory.heap c.fill-2.new.self ≡ stored first (body_at h a) (2 * count_at h a)
+    (key ∷ []) =
+    c.fill-2.ensures.heap ∙ (ap
+    (λ (k : Heap). stored k c.body-body.result (2 * c.length-count.result) (key ∷ [])) now1
+    ∙ (ap (λ b. stored first b (2 * c.length-count.result) (key ∷ [])) is_body
+    ∙ ap (λ n. stored first (body_at h a) (2 * n) (key ∷ [])) is_count)) in
+    let second = stored first (body_at h a) (2 * count_at h a) (key ∷ []) in
+    let now3 : g.M.Memory.heap c.fill-3.new.self ≡ stored first (body_at h a) (2 * count_at h a)
+    (key ∷ value ∷ []) =
+    c.fill-3.ensures.heap ∙ (ap
+    (λ (k : Heap). stored k c.body-body.result (2 * c.length-count.result + 1) (value ∷ []))
+    now2
+    ∙ (ap (λ b. stored second b (2 * c.length-count.result + 1) (value ∷ [])) is_body
+    ∙ (ap (λ n. stored second (body_at h a) (2 * n + 1) (value ∷ [])) is_count
+    ∙ key-then-value h a c.requires.known c.requires.sound c.requires.room w last key value is
+    (c.natural_word-more.ensures.held h) last_is (c.natural_word-last.ensures.held h)
+    c.requires.key c.requires.value p below free))) in
+    let third = stored first (body_at h a) (2 * count_at h a) (key ∷ value ∷ []) in
+    let now4 : g.M.Memory.heap c.fill-4.new.self ≡ stored third (body_at h a)
+    (2 * capacity_at h a + p) (last ∷ []) =
+    c.fill-4.ensures.heap ∙ (ap
+    (λ (k : Heap). stored k c.body-body.result (2 * c.capacity-capacity.result + p) (last ∷ []))
+    now3
+    ∙ (ap (λ b. stored third b (2 * c.capacity-capacity.result + p) (last ∷ [])) is_body
+    ∙ ap (λ n. stored third (body_at h a) (2 * n + p) (last ∷ [])) is_capacity)) in
+    ap birth_at now4 ∙ appended-births h a c.requires.known c.requires.sound c.requires.room w last
+    key value is (c.natural_word-more.ensures.held h) last_is
+    (c.natural_word-last.ensures.held h) c.requires.key c.requires.value p below free
 
 pub returns-clause-extends : goal.returns-clause-extends
-returns-clause-extends g c =
+returns-clause-extends g c = λ f extends free_a free_b.
     let h = g.M.Memory.heap c.args.memory.now in
     let a = c.args.address in
+    let body_before : g.M.Memory.heap c.body-body.new.memory ≡ h = c.body-body.ensures.heap
+    ∙ c.length-count.ensures.heap in
+    let capacity_before : g.M.Memory.heap c.capacity-capacity.new.memory ≡ h =
+    c.capacity-capacity.ensures.heap ∙ body_before in
+    let is_count : c.length-count.result ≡ count_at h a = c.length-count.ensures.words in
+    let is_body : c.body-body.result ≡ body_at h a = c.body-body.ensures.words
+    ∙ ap (λ (k : Heap). body_at k a) c.length-count.ensures.heap in
+    let is_capacity : c.capacity-capacity.result ≡ capacity_at h a =
+    c.capacity-capacity.ensures.words ∙ ap (λ (k : Heap). capacity_at k a) body_before in
+    let before : g.M.Memory.heap c.free_place-place.new.memory ≡ h = c.free_place-place.ensures.heap
+    ∙ capacity_before in
     let w = c.natural_word-more.result in
-    let k = c.args.key in
-    let v = c.args.value in
-    let before : g.M.Memory.heap c.body-body.new.memory ≡ h = c.body-body.ensures.heap ∙ c.length-count.ensures.heap in
-    let first : g.M.Memory.heap c.fill.new.self ≡ stored h a 0 (w ∷ []) = c.fill.ensures.heap ∙ ap (λ (m : Heap). stored m a 0 (w ∷ [])) before in
-    let is : IsNatural w (count_at h a + 1) = subst (λ n. IsNatural w (n + 1)) c.length-count.ensures.words c.natural_word-more.ensures.value in
-    let held = c.natural_word-more.ensures.held h in
-    let body : c.body-body.result ≡ body_at (stored h a 0 (w ∷ [])) a =
-    c.body-body.ensures.words ∙ (ap (λ (m : Heap). body_at m a) c.length-count.ensures.heap ∙ sym (first-body h a c.requires.known c.requires.sound c.requires.room w is held k v c.requires.key c.requires.value)) in
-    let at_body = body_at (stored h a 0 (w ∷ [])) a in
-    let n = count_at h a in
-    let second : g.M.Memory.heap c.fill-2.new.self ≡ stored (stored h a 0 (w ∷ [])) at_body (2 * n) (k ∷ []) =
-    c.fill-2.ensures.heap ∙ (ap (λ (m : Heap). stored m c.body-body.result (2 * c.length-count.result) (k ∷ [])) first
-    ∙ (ap (λ b. stored (stored h a 0 (w ∷ [])) b (2 * c.length-count.result) (k ∷ [])) body
-    ∙ ap (λ j. stored (stored h a 0 (w ∷ [])) at_body (2 * j) (k ∷ [])) c.length-count.ensures.words)) in
-    let last : g.M.Memory.heap c.fill-3.new.self ≡ stored (stored h a 0 (w ∷ [])) at_body (2 * n) (k ∷ v ∷ []) =
-    c.fill-3.ensures.heap ∙ (ap (λ (m : Heap). stored m c.body-body.result (2 * c.length-count.result + 1) (v ∷ [])) second
-    ∙ (ap (λ b. stored (stored (stored h a 0 (w ∷ [])) at_body (2 * n) (k ∷ [])) b (2 * c.length-count.result + 1) (v ∷ [])) body
-    ∙ (ap (λ j. stored (stored (stored h a 0 (w ∷ [])) at_body (2 * n) (k ∷ [])) at_body (2 * j + 1) (v ∷ [])) c.length-count.ensures.words
-    ∙ both-stored h a c.requires.known c.requires.sound c.requires.room w is held k v c.requires.key c.requires.value))) in
-    λ old extends free body_free. subst (Extends old) (sym last)
-    (subst (λ b. Extends old (stored (stored h a 0 (w ∷ [])) b (2 * n) (k ∷ v ∷ []))) (sym (first-body h a c.requires.known c.requires.sound c.requires.room w is held k v c.requires.key c.requires.value))
-    (Extends-stored old (stored h a 0 (w ∷ [])) (body_at h a) (2 * n) (k ∷ v ∷ []) (Extends-stored old h a 0 (w ∷ []) extends free) body_free))
+    let last = c.natural_word-last.result in
+    let key = c.args.key in
+    let value = c.args.value in
+    let p = c.free_place-place.result in
+    let is : IsNatural w (count_at h a + 1) =
+    subst (λ n. IsNatural w (n + 1)) is_count c.natural_word-more.ensures.value in
+    let last_is : IsNatural last (count_at h a) =
+    subst (λ n. IsNatural last n) is_count c.natural_word-last.ensures.value in
+    let below : p < capacity_at h a =
+    subst (λ n. p < n) is_capacity c.free_place-place.ensures.below in
+    let free = place-given h a c.requires.known c.requires.sound c.requires.room
+    (g.M.Memory.heap c.capacity-capacity.new.memory) c.body-body.result
+    c.capacity-capacity.result p key capacity_before is_body is_capacity
+    c.free_place-place.ensures.placed in
+    let now1 : g.M.Memory.heap c.fill.new.self ≡ stored h a 0 (w ∷ []) = c.fill.ensures.heap
+    ∙ ap (λ (k : Heap). stored k a 0 (w ∷ [])) before in
+    let first = stored h a 0 (w ∷ []) in
+    let now2 : g.M.Memory.heap c.fill-2.new.self ≡ stored first (body_at h a) (2 * count_at h a)
+    (key ∷ []) =
+    c.fill-2.ensures.heap ∙ (ap
+    (λ (k : Heap). stored k c.body-body.result (2 * c.length-count.result) (key ∷ [])) now1
+    ∙ (ap (λ b. stored first b (2 * c.length-count.result) (key ∷ [])) is_body
+    ∙ ap (λ n. stored first (body_at h a) (2 * n) (key ∷ [])) is_count)) in
+    let second = stored first (body_at h a) (2 * count_at h a) (key ∷ []) in
+    let now3 : g.M.Memory.heap c.fill-3.new.self ≡ stored first (body_at h a) (2 * count_at h a)
+    (key ∷ value ∷ []) =
+    c.fill-3.ensures.heap ∙ (ap
+    (λ (k : Heap). stored k c.body-body.result (2 * c.length-count.result + 1) (value ∷ []))
+    now2
+    ∙ (ap (λ b. stored second b (2 * c.length-count.result + 1) (value ∷ [])) is_body
+    ∙ (ap (λ n. stored second (body_at h a) (2 * n + 1) (value ∷ [])) is_count
+    ∙ key-then-value h a c.requires.known c.requires.sound c.requires.room w last key value is
+    (c.natural_word-more.ensures.held h) last_is (c.natural_word-last.ensures.held h)
+    c.requires.key c.requires.value p below free))) in
+    let third = stored first (body_at h a) (2 * count_at h a) (key ∷ value ∷ []) in
+    let now4 : g.M.Memory.heap c.fill-4.new.self ≡ stored third (body_at h a)
+    (2 * capacity_at h a + p) (last ∷ []) =
+    c.fill-4.ensures.heap ∙ (ap
+    (λ (k : Heap). stored k c.body-body.result (2 * c.capacity-capacity.result + p) (last ∷ []))
+    now3
+    ∙ (ap (λ b. stored third b (2 * c.capacity-capacity.result + p) (last ∷ [])) is_body
+    ∙ ap (λ n. stored third (body_at h a) (2 * n + p) (last ∷ [])) is_capacity)) in
+    subst (Extends f) (sym now4)
+    (appended-extends h a c.requires.known c.requires.sound c.requires.room w last key value is
+    (c.natural_word-more.ensures.held h) last_is (c.natural_word-last.ensures.held h)
+    c.requires.key c.requires.value p below free f extends free_a free_b)
 
 pub returns-clause-body : goal.returns-clause-body
 returns-clause-body g c =
     let h = g.M.Memory.heap c.args.memory.now in
     let a = c.args.address in
+    let body_before : g.M.Memory.heap c.body-body.new.memory ≡ h = c.body-body.ensures.heap
+    ∙ c.length-count.ensures.heap in
+    let capacity_before : g.M.Memory.heap c.capacity-capacity.new.memory ≡ h =
+    c.capacity-capacity.ensures.heap ∙ body_before in
+    let is_count : c.length-count.result ≡ count_at h a = c.length-count.ensures.words in
+    let is_body : c.body-body.result ≡ body_at h a = c.body-body.ensures.words
+    ∙ ap (λ (k : Heap). body_at k a) c.length-count.ensures.heap in
+    let is_capacity : c.capacity-capacity.result ≡ capacity_at h a =
+    c.capacity-capacity.ensures.words ∙ ap (λ (k : Heap). capacity_at k a) body_before in
+    let before : g.M.Memory.heap c.free_place-place.new.memory ≡ h = c.free_place-place.ensures.heap
+    ∙ capacity_before in
     let w = c.natural_word-more.result in
-    let k = c.args.key in
-    let v = c.args.value in
-    let before : g.M.Memory.heap c.body-body.new.memory ≡ h = c.body-body.ensures.heap ∙ c.length-count.ensures.heap in
-    let first : g.M.Memory.heap c.fill.new.self ≡ stored h a 0 (w ∷ []) = c.fill.ensures.heap ∙ ap (λ (m : Heap). stored m a 0 (w ∷ [])) before in
-    let is : IsNatural w (count_at h a + 1) = subst (λ n. IsNatural w (n + 1)) c.length-count.ensures.words c.natural_word-more.ensures.value in
-    let held = c.natural_word-more.ensures.held h in
-    let body : c.body-body.result ≡ body_at (stored h a 0 (w ∷ [])) a =
-    c.body-body.ensures.words ∙ (ap (λ (m : Heap). body_at m a) c.length-count.ensures.heap ∙ sym (first-body h a c.requires.known c.requires.sound c.requires.room w is held k v c.requires.key c.requires.value)) in
-    let at_body = body_at (stored h a 0 (w ∷ [])) a in
-    let n = count_at h a in
-    let second : g.M.Memory.heap c.fill-2.new.self ≡ stored (stored h a 0 (w ∷ [])) at_body (2 * n) (k ∷ []) =
-    c.fill-2.ensures.heap ∙ (ap (λ (m : Heap). stored m c.body-body.result (2 * c.length-count.result) (k ∷ [])) first
-    ∙ (ap (λ b. stored (stored h a 0 (w ∷ [])) b (2 * c.length-count.result) (k ∷ [])) body
-    ∙ ap (λ j. stored (stored h a 0 (w ∷ [])) at_body (2 * j) (k ∷ [])) c.length-count.ensures.words)) in
-    let last : g.M.Memory.heap c.fill-3.new.self ≡ stored (stored h a 0 (w ∷ [])) at_body (2 * n) (k ∷ v ∷ []) =
-    c.fill-3.ensures.heap ∙ (ap (λ (m : Heap). stored m c.body-body.result (2 * c.length-count.result + 1) (v ∷ [])) second
-    ∙ (ap (λ b. stored (stored (stored h a 0 (w ∷ [])) at_body (2 * n) (k ∷ [])) b (2 * c.length-count.result + 1) (v ∷ [])) body
-    ∙ (ap (λ j. stored (stored (stored h a 0 (w ∷ [])) at_body (2 * n) (k ∷ [])) at_body (2 * j + 1) (v ∷ [])) c.length-count.ensures.words
-    ∙ both-stored h a c.requires.known c.requires.sound c.requires.room w is held k v c.requires.key c.requires.value))) in
-    ap (λ (m : Heap). body_at m a) last ∙ last-body h a c.requires.known c.requires.sound c.requires.room w is held k v c.requires.key c.requires.value
+    let last = c.natural_word-last.result in
+    let key = c.args.key in
+    let value = c.args.value in
+    let p = c.free_place-place.result in
+    let is : IsNatural w (count_at h a + 1) =
+    subst (λ n. IsNatural w (n + 1)) is_count c.natural_word-more.ensures.value in
+    let last_is : IsNatural last (count_at h a) =
+    subst (λ n. IsNatural last n) is_count c.natural_word-last.ensures.value in
+    let below : p < capacity_at h a =
+    subst (λ n. p < n) is_capacity c.free_place-place.ensures.below in
+    let free = place-given h a c.requires.known c.requires.sound c.requires.room
+    (g.M.Memory.heap c.capacity-capacity.new.memory) c.body-body.result
+    c.capacity-capacity.result p key capacity_before is_body is_capacity
+    c.free_place-place.ensures.placed in
+    let now1 : g.M.Memory.heap c.fill.new.self ≡ stored h a 0 (w ∷ []) = c.fill.ensures.heap
+    ∙ ap (λ (k : Heap). stored k a 0 (w ∷ [])) before in
+    let first = stored h a 0 (w ∷ []) in
+    let now2 : g.M.Memory.heap c.fill-2.new.self ≡ stored first (body_at h a) (2 * count_at h a)
+    (key ∷ []) =
+    c.fill-2.ensures.heap ∙ (ap
+    (λ (k : Heap). stored k c.body-body.result (2 * c.length-count.result) (key ∷ [])) now1
+    ∙ (ap (λ b. stored first b (2 * c.length-count.result) (key ∷ [])) is_body
+    ∙ ap (λ n. stored first (body_at h a) (2 * n) (key ∷ [])) is_count)) in
+    let second = stored first (body_at h a) (2 * count_at h a) (key ∷ []) in
+    let now3 : g.M.Memory.heap c.fill-3.new.self ≡ stored first (body_at h a) (2 * count_at h a)
+    (key ∷ value ∷ []) =
+    c.fill-3.ensures.heap ∙ (ap
+    (λ (k : Heap). stored k c.body-body.result (2 * c.length-count.result + 1) (value ∷ []))
+    now2
+    ∙ (ap (λ b. stored second b (2 * c.length-count.result + 1) (value ∷ [])) is_body
+    ∙ (ap (λ n. stored second (body_at h a) (2 * n + 1) (value ∷ [])) is_count
+    ∙ key-then-value h a c.requires.known c.requires.sound c.requires.room w last key value is
+    (c.natural_word-more.ensures.held h) last_is (c.natural_word-last.ensures.held h)
+    c.requires.key c.requires.value p below free))) in
+    let third = stored first (body_at h a) (2 * count_at h a) (key ∷ value ∷ []) in
+    let now4 : g.M.Memory.heap c.fill-4.new.self ≡ stored third (body_at h a)
+    (2 * capacity_at h a + p) (last ∷ []) =
+    c.fill-4.ensures.heap ∙ (ap
+    (λ (k : Heap). stored k c.body-body.result (2 * c.capacity-capacity.result + p) (last ∷ []))
+    now3
+    ∙ (ap (λ b. stored third b (2 * c.capacity-capacity.result + p) (last ∷ [])) is_body
+    ∙ ap (λ n. stored third (body_at h a) (2 * n + p) (last ∷ [])) is_capacity)) in
+    ap (λ (k : Heap). body_at k a) now4
+    ∙ appended-body h a c.requires.known c.requires.sound c.requires.room w last key value is
+    (c.natural_word-more.ensures.held h) last_is (c.natural_word-last.ensures.held h)
+    c.requires.key c.requires.value p below free
 
 pub returns-clause-capacity : goal.returns-clause-capacity
 returns-clause-capacity g c =
     let h = g.M.Memory.heap c.args.memory.now in
     let a = c.args.address in
+    let body_before : g.M.Memory.heap c.body-body.new.memory ≡ h = c.body-body.ensures.heap
+    ∙ c.length-count.ensures.heap in
+    let capacity_before : g.M.Memory.heap c.capacity-capacity.new.memory ≡ h =
+    c.capacity-capacity.ensures.heap ∙ body_before in
+    let is_count : c.length-count.result ≡ count_at h a = c.length-count.ensures.words in
+    let is_body : c.body-body.result ≡ body_at h a = c.body-body.ensures.words
+    ∙ ap (λ (k : Heap). body_at k a) c.length-count.ensures.heap in
+    let is_capacity : c.capacity-capacity.result ≡ capacity_at h a =
+    c.capacity-capacity.ensures.words ∙ ap (λ (k : Heap). capacity_at k a) body_before in
+    let before : g.M.Memory.heap c.free_place-place.new.memory ≡ h = c.free_place-place.ensures.heap
+    ∙ capacity_before in
     let w = c.natural_word-more.result in
-    let k = c.args.key in
-    let v = c.args.value in
-    let before : g.M.Memory.heap c.body-body.new.memory ≡ h = c.body-body.ensures.heap ∙ c.length-count.ensures.heap in
-    let first : g.M.Memory.heap c.fill.new.self ≡ stored h a 0 (w ∷ []) = c.fill.ensures.heap ∙ ap (λ (m : Heap). stored m a 0 (w ∷ [])) before in
-    let is : IsNatural w (count_at h a + 1) = subst (λ n. IsNatural w (n + 1)) c.length-count.ensures.words c.natural_word-more.ensures.value in
-    let held = c.natural_word-more.ensures.held h in
-    let body : c.body-body.result ≡ body_at (stored h a 0 (w ∷ [])) a =
-    c.body-body.ensures.words ∙ (ap (λ (m : Heap). body_at m a) c.length-count.ensures.heap ∙ sym (first-body h a c.requires.known c.requires.sound c.requires.room w is held k v c.requires.key c.requires.value)) in
-    let at_body = body_at (stored h a 0 (w ∷ [])) a in
-    let n = count_at h a in
-    let second : g.M.Memory.heap c.fill-2.new.self ≡ stored (stored h a 0 (w ∷ [])) at_body (2 * n) (k ∷ []) =
-    c.fill-2.ensures.heap ∙ (ap (λ (m : Heap). stored m c.body-body.result (2 * c.length-count.result) (k ∷ [])) first
-    ∙ (ap (λ b. stored (stored h a 0 (w ∷ [])) b (2 * c.length-count.result) (k ∷ [])) body
-    ∙ ap (λ j. stored (stored h a 0 (w ∷ [])) at_body (2 * j) (k ∷ [])) c.length-count.ensures.words)) in
-    let last : g.M.Memory.heap c.fill-3.new.self ≡ stored (stored h a 0 (w ∷ [])) at_body (2 * n) (k ∷ v ∷ []) =
-    c.fill-3.ensures.heap ∙ (ap (λ (m : Heap). stored m c.body-body.result (2 * c.length-count.result + 1) (v ∷ [])) second
-    ∙ (ap (λ b. stored (stored (stored h a 0 (w ∷ [])) at_body (2 * n) (k ∷ [])) b (2 * c.length-count.result + 1) (v ∷ [])) body
-    ∙ (ap (λ j. stored (stored (stored h a 0 (w ∷ [])) at_body (2 * n) (k ∷ [])) at_body (2 * j + 1) (v ∷ [])) c.length-count.ensures.words
-    ∙ both-stored h a c.requires.known c.requires.sound c.requires.room w is held k v c.requires.key c.requires.value))) in
-    ap (λ (m : Heap). capacity_at m a) last ∙ last-capacity h a c.requires.known c.requires.sound c.requires.room w is held k v c.requires.key c.requires.value
+    let last = c.natural_word-last.result in
+    let key = c.args.key in
+    let value = c.args.value in
+    let p = c.free_place-place.result in
+    let is : IsNatural w (count_at h a + 1) =
+    subst (λ n. IsNatural w (n + 1)) is_count c.natural_word-more.ensures.value in
+    let last_is : IsNatural last (count_at h a) =
+    subst (λ n. IsNatural last n) is_count c.natural_word-last.ensures.value in
+    let below : p < capacity_at h a =
+    subst (λ n. p < n) is_capacity c.free_place-place.ensures.below in
+    let free = place-given h a c.requires.known c.requires.sound c.requires.room
+    (g.M.Memory.heap c.capacity-capacity.new.memory) c.body-body.result
+    c.capacity-capacity.result p key capacity_before is_body is_capacity
+    c.free_place-place.ensures.placed in
+    let now1 : g.M.Memory.heap c.fill.new.self ≡ stored h a 0 (w ∷ []) = c.fill.ensures.heap
+    ∙ ap (λ (k : Heap). stored k a 0 (w ∷ [])) before in
+    let first = stored h a 0 (w ∷ []) in
+    let now2 : g.M.Memory.heap c.fill-2.new.self ≡ stored first (body_at h a) (2 * count_at h a)
+    (key ∷ []) =
+    c.fill-2.ensures.heap ∙ (ap
+    (λ (k : Heap). stored k c.body-body.result (2 * c.length-count.result) (key ∷ [])) now1
+    ∙ (ap (λ b. stored first b (2 * c.length-count.result) (key ∷ [])) is_body
+    ∙ ap (λ n. stored first (body_at h a) (2 * n) (key ∷ [])) is_count)) in
+    let second = stored first (body_at h a) (2 * count_at h a) (key ∷ []) in
+    let now3 : g.M.Memory.heap c.fill-3.new.self ≡ stored first (body_at h a) (2 * count_at h a)
+    (key ∷ value ∷ []) =
+    c.fill-3.ensures.heap ∙ (ap
+    (λ (k : Heap). stored k c.body-body.result (2 * c.length-count.result + 1) (value ∷ []))
+    now2
+    ∙ (ap (λ b. stored second b (2 * c.length-count.result + 1) (value ∷ [])) is_body
+    ∙ (ap (λ n. stored second (body_at h a) (2 * n + 1) (value ∷ [])) is_count
+    ∙ key-then-value h a c.requires.known c.requires.sound c.requires.room w last key value is
+    (c.natural_word-more.ensures.held h) last_is (c.natural_word-last.ensures.held h)
+    c.requires.key c.requires.value p below free))) in
+    let third = stored first (body_at h a) (2 * count_at h a) (key ∷ value ∷ []) in
+    let now4 : g.M.Memory.heap c.fill-4.new.self ≡ stored third (body_at h a)
+    (2 * capacity_at h a + p) (last ∷ []) =
+    c.fill-4.ensures.heap ∙ (ap
+    (λ (k : Heap). stored k c.body-body.result (2 * c.capacity-capacity.result + p) (last ∷ []))
+    now3
+    ∙ (ap (λ b. stored third b (2 * c.capacity-capacity.result + p) (last ∷ [])) is_body
+    ∙ ap (λ n. stored third (body_at h a) (2 * n + p) (last ∷ [])) is_capacity)) in
+    ap (λ (k : Heap). capacity_at k a) now4
+    ∙ appended-capacity h a c.requires.known c.requires.sound c.requires.room w last key value
+    is (c.natural_word-more.ensures.held h) last_is (c.natural_word-last.ensures.held h)
+    c.requires.key c.requires.value p below free
 
 pub returns-clause-count : goal.returns-clause-count
 returns-clause-count g c =
     let h = g.M.Memory.heap c.args.memory.now in
     let a = c.args.address in
+    let body_before : g.M.Memory.heap c.body-body.new.memory ≡ h = c.body-body.ensures.heap
+    ∙ c.length-count.ensures.heap in
+    let capacity_before : g.M.Memory.heap c.capacity-capacity.new.memory ≡ h =
+    c.capacity-capacity.ensures.heap ∙ body_before in
+    let is_count : c.length-count.result ≡ count_at h a = c.length-count.ensures.words in
+    let is_body : c.body-body.result ≡ body_at h a = c.body-body.ensures.words
+    ∙ ap (λ (k : Heap). body_at k a) c.length-count.ensures.heap in
+    let is_capacity : c.capacity-capacity.result ≡ capacity_at h a =
+    c.capacity-capacity.ensures.words ∙ ap (λ (k : Heap). capacity_at k a) body_before in
+    let before : g.M.Memory.heap c.free_place-place.new.memory ≡ h = c.free_place-place.ensures.heap
+    ∙ capacity_before in
     let w = c.natural_word-more.result in
-    let k = c.args.key in
-    let v = c.args.value in
-    let before : g.M.Memory.heap c.body-body.new.memory ≡ h = c.body-body.ensures.heap ∙ c.length-count.ensures.heap in
-    let first : g.M.Memory.heap c.fill.new.self ≡ stored h a 0 (w ∷ []) = c.fill.ensures.heap ∙ ap (λ (m : Heap). stored m a 0 (w ∷ [])) before in
-    let is : IsNatural w (count_at h a + 1) = subst (λ n. IsNatural w (n + 1)) c.length-count.ensures.words c.natural_word-more.ensures.value in
-    let held = c.natural_word-more.ensures.held h in
-    let body : c.body-body.result ≡ body_at (stored h a 0 (w ∷ [])) a =
-    c.body-body.ensures.words ∙ (ap (λ (m : Heap). body_at m a) c.length-count.ensures.heap ∙ sym (first-body h a c.requires.known c.requires.sound c.requires.room w is held k v c.requires.key c.requires.value)) in
-    let at_body = body_at (stored h a 0 (w ∷ [])) a in
-    let n = count_at h a in
-    let second : g.M.Memory.heap c.fill-2.new.self ≡ stored (stored h a 0 (w ∷ [])) at_body (2 * n) (k ∷ []) =
-    c.fill-2.ensures.heap ∙ (ap (λ (m : Heap). stored m c.body-body.result (2 * c.length-count.result) (k ∷ [])) first
-    ∙ (ap (λ b. stored (stored h a 0 (w ∷ [])) b (2 * c.length-count.result) (k ∷ [])) body
-    ∙ ap (λ j. stored (stored h a 0 (w ∷ [])) at_body (2 * j) (k ∷ [])) c.length-count.ensures.words)) in
-    let last : g.M.Memory.heap c.fill-3.new.self ≡ stored (stored h a 0 (w ∷ [])) at_body (2 * n) (k ∷ v ∷ []) =
-    c.fill-3.ensures.heap ∙ (ap (λ (m : Heap). stored m c.body-body.result (2 * c.length-count.result + 1) (v ∷ [])) second
-    ∙ (ap (λ b. stored (stored (stored h a 0 (w ∷ [])) at_body (2 * n) (k ∷ [])) b (2 * c.length-count.result + 1) (v ∷ [])) body
-    ∙ (ap (λ j. stored (stored (stored h a 0 (w ∷ [])) at_body (2 * n) (k ∷ [])) at_body (2 * j + 1) (v ∷ [])) c.length-count.ensures.words
-    ∙ both-stored h a c.requires.known c.requires.sound c.requires.room w is held k v c.requires.key c.requires.value))) in
-    ap (λ (m : Heap). count_at m a) last ∙ last-count h a c.requires.known c.requires.sound c.requires.room w is held k v c.requires.key c.requires.value
+    let last = c.natural_word-last.result in
+    let key = c.args.key in
+    let value = c.args.value in
+    let p = c.free_place-place.result in
+    let is : IsNatural w (count_at h a + 1) =
+    subst (λ n. IsNatural w (n + 1)) is_count c.natural_word-more.ensures.value in
+    let last_is : IsNatural last (count_at h a) =
+    subst (λ n. IsNatural last n) is_count c.natural_word-last.ensures.value in
+    let below : p < capacity_at h a =
+    subst (λ n. p < n) is_capacity c.free_place-place.ensures.below in
+    let free = place-given h a c.requires.known c.requires.sound c.requires.room
+    (g.M.Memory.heap c.capacity-capacity.new.memory) c.body-body.result
+    c.capacity-capacity.result p key capacity_before is_body is_capacity
+    c.free_place-place.ensures.placed in
+    let now1 : g.M.Memory.heap c.fill.new.self ≡ stored h a 0 (w ∷ []) = c.fill.ensures.heap
+    ∙ ap (λ (k : Heap). stored k a 0 (w ∷ [])) before in
+    let first = stored h a 0 (w ∷ []) in
+    let now2 : g.M.Memory.heap c.fill-2.new.self ≡ stored first (body_at h a) (2 * count_at h a)
+    (key ∷ []) =
+    c.fill-2.ensures.heap ∙ (ap
+    (λ (k : Heap). stored k c.body-body.result (2 * c.length-count.result) (key ∷ [])) now1
+    ∙ (ap (λ b. stored first b (2 * c.length-count.result) (key ∷ [])) is_body
+    ∙ ap (λ n. stored first (body_at h a) (2 * n) (key ∷ [])) is_count)) in
+    let second = stored first (body_at h a) (2 * count_at h a) (key ∷ []) in
+    let now3 : g.M.Memory.heap c.fill-3.new.self ≡ stored first (body_at h a) (2 * count_at h a)
+    (key ∷ value ∷ []) =
+    c.fill-3.ensures.heap ∙ (ap
+    (λ (k : Heap). stored k c.body-body.result (2 * c.length-count.result + 1) (value ∷ []))
+    now2
+    ∙ (ap (λ b. stored second b (2 * c.length-count.result + 1) (value ∷ [])) is_body
+    ∙ (ap (λ n. stored second (body_at h a) (2 * n + 1) (value ∷ [])) is_count
+    ∙ key-then-value h a c.requires.known c.requires.sound c.requires.room w last key value is
+    (c.natural_word-more.ensures.held h) last_is (c.natural_word-last.ensures.held h)
+    c.requires.key c.requires.value p below free))) in
+    let third = stored first (body_at h a) (2 * count_at h a) (key ∷ value ∷ []) in
+    let now4 : g.M.Memory.heap c.fill-4.new.self ≡ stored third (body_at h a)
+    (2 * capacity_at h a + p) (last ∷ []) =
+    c.fill-4.ensures.heap ∙ (ap
+    (λ (k : Heap). stored k c.body-body.result (2 * c.capacity-capacity.result + p) (last ∷ []))
+    now3
+    ∙ (ap (λ b. stored third b (2 * c.capacity-capacity.result + p) (last ∷ [])) is_body
+    ∙ ap (λ n. stored third (body_at h a) (2 * n + p) (last ∷ [])) is_capacity)) in
+    ap (λ (k : Heap). count_at k a) now4
+    ∙ appended-count h a c.requires.known c.requires.sound c.requires.room w last key value is
+    (c.natural_word-more.ensures.held h) last_is (c.natural_word-last.ensures.held h)
+    c.requires.key c.requires.value p below free
 
 pub returns-clause-shows : goal.returns-clause-shows
-returns-clause-shows g c =
+returns-clause-shows g c = λ names s shows first' second'.
     let h = g.M.Memory.heap c.args.memory.now in
     let a = c.args.address in
+    let body_before : g.M.Memory.heap c.body-body.new.memory ≡ h = c.body-body.ensures.heap
+    ∙ c.length-count.ensures.heap in
+    let capacity_before : g.M.Memory.heap c.capacity-capacity.new.memory ≡ h =
+    c.capacity-capacity.ensures.heap ∙ body_before in
+    let is_count : c.length-count.result ≡ count_at h a = c.length-count.ensures.words in
+    let is_body : c.body-body.result ≡ body_at h a = c.body-body.ensures.words
+    ∙ ap (λ (k : Heap). body_at k a) c.length-count.ensures.heap in
+    let is_capacity : c.capacity-capacity.result ≡ capacity_at h a =
+    c.capacity-capacity.ensures.words ∙ ap (λ (k : Heap). capacity_at k a) body_before in
+    let before : g.M.Memory.heap c.free_place-place.new.memory ≡ h = c.free_place-place.ensures.heap
+    ∙ capacity_before in
     let w = c.natural_word-more.result in
-    let k = c.args.key in
-    let v = c.args.value in
-    let before : g.M.Memory.heap c.body-body.new.memory ≡ h = c.body-body.ensures.heap ∙ c.length-count.ensures.heap in
-    let first : g.M.Memory.heap c.fill.new.self ≡ stored h a 0 (w ∷ []) = c.fill.ensures.heap ∙ ap (λ (m : Heap). stored m a 0 (w ∷ [])) before in
-    let is : IsNatural w (count_at h a + 1) = subst (λ n. IsNatural w (n + 1)) c.length-count.ensures.words c.natural_word-more.ensures.value in
-    let held = c.natural_word-more.ensures.held h in
-    let body : c.body-body.result ≡ body_at (stored h a 0 (w ∷ [])) a =
-    c.body-body.ensures.words ∙ (ap (λ (m : Heap). body_at m a) c.length-count.ensures.heap ∙ sym (first-body h a c.requires.known c.requires.sound c.requires.room w is held k v c.requires.key c.requires.value)) in
-    let at_body = body_at (stored h a 0 (w ∷ [])) a in
-    let n = count_at h a in
-    let second : g.M.Memory.heap c.fill-2.new.self ≡ stored (stored h a 0 (w ∷ [])) at_body (2 * n) (k ∷ []) =
-    c.fill-2.ensures.heap ∙ (ap (λ (m : Heap). stored m c.body-body.result (2 * c.length-count.result) (k ∷ [])) first
-    ∙ (ap (λ b. stored (stored h a 0 (w ∷ [])) b (2 * c.length-count.result) (k ∷ [])) body
-    ∙ ap (λ j. stored (stored h a 0 (w ∷ [])) at_body (2 * j) (k ∷ [])) c.length-count.ensures.words)) in
-    let last : g.M.Memory.heap c.fill-3.new.self ≡ stored (stored h a 0 (w ∷ [])) at_body (2 * n) (k ∷ v ∷ []) =
-    c.fill-3.ensures.heap ∙ (ap (λ (m : Heap). stored m c.body-body.result (2 * c.length-count.result + 1) (v ∷ [])) second
-    ∙ (ap (λ b. stored (stored (stored h a 0 (w ∷ [])) at_body (2 * n) (k ∷ [])) b (2 * c.length-count.result + 1) (v ∷ [])) body
-    ∙ (ap (λ j. stored (stored (stored h a 0 (w ∷ [])) at_body (2 * n) (k ∷ [])) at_body (2 * j + 1) (v ∷ [])) c.length-count.ensures.words
-    ∙ both-stored h a c.requires.known c.requires.sound c.requires.room w is held k v c.requires.key c.requires.value))) in
+    let last = c.natural_word-last.result in
+    let key = c.args.key in
+    let value = c.args.value in
+    let p = c.free_place-place.result in
+    let is : IsNatural w (count_at h a + 1) =
+    subst (λ n. IsNatural w (n + 1)) is_count c.natural_word-more.ensures.value in
+    let last_is : IsNatural last (count_at h a) =
+    subst (λ n. IsNatural last n) is_count c.natural_word-last.ensures.value in
+    let below : p < capacity_at h a =
+    subst (λ n. p < n) is_capacity c.free_place-place.ensures.below in
+    let free = place-given h a c.requires.known c.requires.sound c.requires.room
+    (g.M.Memory.heap c.capacity-capacity.new.memory) c.body-body.result
+    c.capacity-capacity.result p key capacity_before is_body is_capacity
+    c.free_place-place.ensures.placed in
+    let now1 : g.M.Memory.heap c.fill.new.self ≡ stored h a 0 (w ∷ []) = c.fill.ensures.heap
+    ∙ ap (λ (k : Heap). stored k a 0 (w ∷ [])) before in
+    let first = stored h a 0 (w ∷ []) in
+    let now2 : g.M.Memory.heap c.fill-2.new.self ≡ stored first (body_at h a) (2 * count_at h a)
+    (key ∷ []) =
+    c.fill-2.ensures.heap ∙ (ap
+    (λ (k : Heap). stored k c.body-body.result (2 * c.length-count.result) (key ∷ [])) now1
+    ∙ (ap (λ b. stored first b (2 * c.length-count.result) (key ∷ [])) is_body
+    ∙ ap (λ n. stored first (body_at h a) (2 * n) (key ∷ [])) is_count)) in
+    let second = stored first (body_at h a) (2 * count_at h a) (key ∷ []) in
+    let now3 : g.M.Memory.heap c.fill-3.new.self ≡ stored first (body_at h a) (2 * count_at h a)
+    (key ∷ value ∷ []) =
+    c.fill-3.ensures.heap ∙ (ap
+    (λ (k : Heap). stored k c.body-body.result (2 * c.length-count.result + 1) (value ∷ []))
+    now2
+    ∙ (ap (λ b. stored second b (2 * c.length-count.result + 1) (value ∷ [])) is_body
+    ∙ (ap (λ n. stored second (body_at h a) (2 * n + 1) (value ∷ [])) is_count
+    ∙ key-then-value h a c.requires.known c.requires.sound c.requires.room w last key value is
+    (c.natural_word-more.ensures.held h) last_is (c.natural_word-last.ensures.held h)
+    c.requires.key c.requires.value p below free))) in
+    let third = stored first (body_at h a) (2 * count_at h a) (key ∷ value ∷ []) in
+    let now4 : g.M.Memory.heap c.fill-4.new.self ≡ stored third (body_at h a)
+    (2 * capacity_at h a + p) (last ∷ []) =
+    c.fill-4.ensures.heap ∙ (ap
+    (λ (k : Heap). stored k c.body-body.result (2 * c.capacity-capacity.result + p) (last ∷ []))
+    now3
+    ∙ (ap (λ b. stored third b (2 * c.capacity-capacity.result + p) (last ∷ [])) is_body
+    ∙ ap (λ n. stored third (body_at h a) (2 * n + p) (last ∷ [])) is_capacity)) in
     let b = birth_at h a in
-    λ names s shows within also. subst (λ (m : Heap). Shows m names (with_dictionary s b (record (dictionary_at s b) { pairs = (dictionary_at s b).pairs ++ (value_of (birth_at h) names k, value_of (birth_at h) names v) ∷ [] }))) (sym last) (appended-shows h a c.requires.known c.requires.sound c.requires.room w is held k v c.requires.key c.requires.value names s shows within also)
+    subst (λ (k : Heap). Shows k names
+    (with_dictionary s b (record (dictionary_at s b) {
+      pairs = (dictionary_at s b).pairs
+          ++ (value_of (birth_at h) names key, value_of (birth_at h) names value) ∷ [];
+    }))) (sym now4)
+    (appended-shows h a c.requires.known c.requires.sound c.requires.room w last key value is
+    (c.natural_word-more.ensures.held h) last_is (c.natural_word-last.ensures.held h)
+    c.requires.key c.requires.value p below free names s shows first' second')

@@ -16,7 +16,8 @@ pub alloc_body-body-requires-clause-stands : goal.alloc_body-body-requires-claus
 alloc_body-body-requires-clause-stands g c =
     let h = g.M.Memory.heap c.args.memory.now in
     let a = c.alloc-address.result in
-    subst (λ (k : Heap). IsKind DictionaryKind (object_at k a)) (sym c.alloc-address.ensures.heap) (subst (IsKind DictionaryKind) (sym (object_at-made_same h a DictionaryKind 4)) refl)
+    subst (λ (k : Heap). IsKind DictionaryKind (object_at k a)) (sym c.alloc-address.ensures.heap)
+    (subst (IsKind DictionaryKind) (sym (object_at-made_same h a DictionaryKind 4)) refl)
 
 pub fill_words-requires-clause-target : goal.fill_words-requires-clause-target
 fill_words-requires-clause-target g c =
@@ -26,12 +27,20 @@ fill_words-requires-clause-target g c =
     let w = c.natural_word-none.result in
     let x = c.natural_word-room.result in
     let z = c.literal-reference.result in
-    let one : g.M.Memory.heap c.alloc-address.new.self ≡ made h a DictionaryKind 4 = c.alloc-address.ensures.heap in
-    let free : object_at (made h a DictionaryKind 4) b ≡ None = ap (λ (k : Heap). object_at k b) (sym one) ∙ c.alloc_body-body.ensures.free in
-    let two : g.M.Memory.heap c.alloc_body-body.new.self ≡ both h a c.alloc-address.ensures.free b c.args.capacity free = c.alloc_body-body.ensures.heap ∙ ap (λ (k : Heap). made_body k b (birth_at k a) (3 * c.args.capacity)) one in
-    let held = c.natural_word-none.ensures.held (both h a c.alloc-address.ensures.free b c.args.capacity free) in
-    let room = c.natural_word-room.ensures.held (both h a c.alloc-address.ensures.free b c.args.capacity free) in
-    subst (λ (k : Heap). 4 ≤ length (fields_at k a)) (sym two) (let n = blank-fields h a c.alloc-address.ensures.free b c.args.capacity free in omega (arith, n))
+    let one : g.M.Memory.heap c.alloc-address.new.self ≡ made h a DictionaryKind 4 =
+    c.alloc-address.ensures.heap in
+    let free : object_at (made h a DictionaryKind 4) b ≡ None =
+    ap (λ (k : Heap). object_at k b) (sym one) ∙ c.alloc_body-body.ensures.free in
+    let two : g.M.Memory.heap c.alloc_body-body.new.self ≡ both h a c.alloc-address.ensures.free b
+    c.args.capacity free = c.alloc_body-body.ensures.heap
+    ∙ ap (λ (k : Heap). made_body k b (birth_at k a) (3 * c.args.capacity)) one in
+    let held = c.natural_word-none.ensures.held
+    (both h a c.alloc-address.ensures.free b c.args.capacity free) in
+    let room = c.natural_word-room.ensures.held
+    (both h a c.alloc-address.ensures.free b c.args.capacity free) in
+    subst (λ (k : Heap). 4 ≤ length (fields_at k a)) (sym two)
+    (let n = blank-fields h a c.alloc-address.ensures.free b c.args.capacity free in
+    omega (arith, n))
 
 pub fill_words-requires-clause-known : goal.fill_words-requires-clause-known
 fill_words-requires-clause-known g c =
@@ -41,12 +50,22 @@ fill_words-requires-clause-known g c =
     let w = c.natural_word-none.result in
     let x = c.natural_word-room.result in
     let z = c.literal-reference.result in
-    let one : g.M.Memory.heap c.alloc-address.new.self ≡ made h a DictionaryKind 4 = c.alloc-address.ensures.heap in
-    let free : object_at (made h a DictionaryKind 4) b ≡ None = ap (λ (k : Heap). object_at k b) (sym one) ∙ c.alloc_body-body.ensures.free in
-    let two : g.M.Memory.heap c.alloc_body-body.new.self ≡ both h a c.alloc-address.ensures.free b c.args.capacity free = c.alloc_body-body.ensures.heap ∙ ap (λ (k : Heap). made_body k b (birth_at k a) (3 * c.args.capacity)) one in
-    let held = c.natural_word-none.ensures.held (both h a c.alloc-address.ensures.free b c.args.capacity free) in
-    let room = c.natural_word-room.ensures.held (both h a c.alloc-address.ensures.free b c.args.capacity free) in
-    subst (λ (k : Heap). AreKnown k (w ∷ x ∷ w ∷ z ∷ [])) (sym two) (four-known h a c.alloc-address.ensures.free b c.args.capacity free w x w z c.natural_word-none.ensures.value c.natural_word-room.ensures.value c.natural_word-none.ensures.value c.literal-reference.ensures.value held room held)
+    let one : g.M.Memory.heap c.alloc-address.new.self ≡ made h a DictionaryKind 4 =
+    c.alloc-address.ensures.heap in
+    let free : object_at (made h a DictionaryKind 4) b ≡ None =
+    ap (λ (k : Heap). object_at k b) (sym one) ∙ c.alloc_body-body.ensures.free in
+    let two : g.M.Memory.heap c.alloc_body-body.new.self ≡ both h a c.alloc-address.ensures.free b
+    c.args.capacity free = c.alloc_body-body.ensures.heap
+    ∙ ap (λ (k : Heap). made_body k b (birth_at k a) (3 * c.args.capacity)) one in
+    let held = c.natural_word-none.ensures.held
+    (both h a c.alloc-address.ensures.free b c.args.capacity free) in
+    let room = c.natural_word-room.ensures.held
+    (both h a c.alloc-address.ensures.free b c.args.capacity free) in
+    subst (λ (k : Heap). AreKnown k (w ∷ x ∷ w ∷ z ∷ [])) (sym two)
+    (four-known h a c.alloc-address.ensures.free b c.args.capacity free w x w z
+    c.natural_word-none.ensures.value c.natural_word-room.ensures.value
+    c.natural_word-none.ensures.value c.literal-reference.ensures.value held room held
+    c.requires.limit)
 
 pub returns-clause-body_free : goal.returns-clause-body_free
 returns-clause-body_free g c =
@@ -56,13 +75,27 @@ returns-clause-body_free g c =
     let w = c.natural_word-none.result in
     let x = c.natural_word-room.result in
     let z = c.literal-reference.result in
-    let one : g.M.Memory.heap c.alloc-address.new.self ≡ made h a DictionaryKind 4 = c.alloc-address.ensures.heap in
-    let free : object_at (made h a DictionaryKind 4) b ≡ None = ap (λ (k : Heap). object_at k b) (sym one) ∙ c.alloc_body-body.ensures.free in
-    let two : g.M.Memory.heap c.alloc_body-body.new.self ≡ both h a c.alloc-address.ensures.free b c.args.capacity free = c.alloc_body-body.ensures.heap ∙ ap (λ (k : Heap). made_body k b (birth_at k a) (3 * c.args.capacity)) one in
-    let held = c.natural_word-none.ensures.held (both h a c.alloc-address.ensures.free b c.args.capacity free) in
-    let room = c.natural_word-room.ensures.held (both h a c.alloc-address.ensures.free b c.args.capacity free) in
-    let last : g.M.Memory.heap c.fill_words.new.memory ≡ whole h a c.alloc-address.ensures.free b c.args.capacity free w x w z c.natural_word-none.ensures.value c.natural_word-room.ensures.value c.natural_word-none.ensures.value c.literal-reference.ensures.value held room held = c.fill_words.ensures.heap ∙ ap (λ (k : Heap). stored k a 0 (w ∷ x ∷ w ∷ z ∷ [])) two in
-    subst (λ (k : Heap). object_at h (body_at k a) ≡ None) (sym last) (whole-body_free h a c.alloc-address.ensures.free b c.args.capacity free w x w z c.natural_word-none.ensures.value c.natural_word-room.ensures.value c.natural_word-none.ensures.value c.literal-reference.ensures.value held room held)
+    let one : g.M.Memory.heap c.alloc-address.new.self ≡ made h a DictionaryKind 4 =
+    c.alloc-address.ensures.heap in
+    let free : object_at (made h a DictionaryKind 4) b ≡ None =
+    ap (λ (k : Heap). object_at k b) (sym one) ∙ c.alloc_body-body.ensures.free in
+    let two : g.M.Memory.heap c.alloc_body-body.new.self ≡ both h a c.alloc-address.ensures.free b
+    c.args.capacity free = c.alloc_body-body.ensures.heap
+    ∙ ap (λ (k : Heap). made_body k b (birth_at k a) (3 * c.args.capacity)) one in
+    let held = c.natural_word-none.ensures.held
+    (both h a c.alloc-address.ensures.free b c.args.capacity free) in
+    let room = c.natural_word-room.ensures.held
+    (both h a c.alloc-address.ensures.free b c.args.capacity free) in
+    let last : g.M.Memory.heap c.fill_words.new.memory ≡ whole h a c.alloc-address.ensures.free b
+    c.args.capacity free w x w z c.natural_word-none.ensures.value
+    c.natural_word-room.ensures.value c.natural_word-none.ensures.value
+    c.literal-reference.ensures.value held room held c.requires.limit =
+    c.fill_words.ensures.heap ∙ ap (λ (k : Heap). stored k a 0 (w ∷ x ∷ w ∷ z ∷ [])) two in
+    subst (λ (k : Heap). object_at h (body_at k a) ≡ None) (sym last)
+    (whole-body_free h a c.alloc-address.ensures.free b c.args.capacity free w x w z
+    c.natural_word-none.ensures.value c.natural_word-room.ensures.value
+    c.natural_word-none.ensures.value c.literal-reference.ensures.value held room held
+    c.requires.limit)
 
 pub returns-clause-known : goal.returns-clause-known
 returns-clause-known g c =
@@ -72,13 +105,27 @@ returns-clause-known g c =
     let w = c.natural_word-none.result in
     let x = c.natural_word-room.result in
     let z = c.literal-reference.result in
-    let one : g.M.Memory.heap c.alloc-address.new.self ≡ made h a DictionaryKind 4 = c.alloc-address.ensures.heap in
-    let free : object_at (made h a DictionaryKind 4) b ≡ None = ap (λ (k : Heap). object_at k b) (sym one) ∙ c.alloc_body-body.ensures.free in
-    let two : g.M.Memory.heap c.alloc_body-body.new.self ≡ both h a c.alloc-address.ensures.free b c.args.capacity free = c.alloc_body-body.ensures.heap ∙ ap (λ (k : Heap). made_body k b (birth_at k a) (3 * c.args.capacity)) one in
-    let held = c.natural_word-none.ensures.held (both h a c.alloc-address.ensures.free b c.args.capacity free) in
-    let room = c.natural_word-room.ensures.held (both h a c.alloc-address.ensures.free b c.args.capacity free) in
-    let last : g.M.Memory.heap c.fill_words.new.memory ≡ whole h a c.alloc-address.ensures.free b c.args.capacity free w x w z c.natural_word-none.ensures.value c.natural_word-room.ensures.value c.natural_word-none.ensures.value c.literal-reference.ensures.value held room held = c.fill_words.ensures.heap ∙ ap (λ (k : Heap). stored k a 0 (w ∷ x ∷ w ∷ z ∷ [])) two in
-    subst (λ (k : Heap). StandsAs k DictionaryKind a 4) (sym last) (whole-known h a c.alloc-address.ensures.free b c.args.capacity free w x w z c.natural_word-none.ensures.value c.natural_word-room.ensures.value c.natural_word-none.ensures.value c.literal-reference.ensures.value held room held)
+    let one : g.M.Memory.heap c.alloc-address.new.self ≡ made h a DictionaryKind 4 =
+    c.alloc-address.ensures.heap in
+    let free : object_at (made h a DictionaryKind 4) b ≡ None =
+    ap (λ (k : Heap). object_at k b) (sym one) ∙ c.alloc_body-body.ensures.free in
+    let two : g.M.Memory.heap c.alloc_body-body.new.self ≡ both h a c.alloc-address.ensures.free b
+    c.args.capacity free = c.alloc_body-body.ensures.heap
+    ∙ ap (λ (k : Heap). made_body k b (birth_at k a) (3 * c.args.capacity)) one in
+    let held = c.natural_word-none.ensures.held
+    (both h a c.alloc-address.ensures.free b c.args.capacity free) in
+    let room = c.natural_word-room.ensures.held
+    (both h a c.alloc-address.ensures.free b c.args.capacity free) in
+    let last : g.M.Memory.heap c.fill_words.new.memory ≡ whole h a c.alloc-address.ensures.free b
+    c.args.capacity free w x w z c.natural_word-none.ensures.value
+    c.natural_word-room.ensures.value c.natural_word-none.ensures.value
+    c.literal-reference.ensures.value held room held c.requires.limit =
+    c.fill_words.ensures.heap ∙ ap (λ (k : Heap). stored k a 0 (w ∷ x ∷ w ∷ z ∷ [])) two in
+    subst (λ (k : Heap). StandsAs k DictionaryKind a 4) (sym last)
+    (whole-known h a c.alloc-address.ensures.free b c.args.capacity free w x w z
+    c.natural_word-none.ensures.value c.natural_word-room.ensures.value
+    c.natural_word-none.ensures.value c.literal-reference.ensures.value held room held
+    c.requires.limit)
 
 pub returns-clause-sound : goal.returns-clause-sound
 returns-clause-sound g c =
@@ -88,13 +135,26 @@ returns-clause-sound g c =
     let w = c.natural_word-none.result in
     let x = c.natural_word-room.result in
     let z = c.literal-reference.result in
-    let one : g.M.Memory.heap c.alloc-address.new.self ≡ made h a DictionaryKind 4 = c.alloc-address.ensures.heap in
-    let free : object_at (made h a DictionaryKind 4) b ≡ None = ap (λ (k : Heap). object_at k b) (sym one) ∙ c.alloc_body-body.ensures.free in
-    let two : g.M.Memory.heap c.alloc_body-body.new.self ≡ both h a c.alloc-address.ensures.free b c.args.capacity free = c.alloc_body-body.ensures.heap ∙ ap (λ (k : Heap). made_body k b (birth_at k a) (3 * c.args.capacity)) one in
-    let held = c.natural_word-none.ensures.held (both h a c.alloc-address.ensures.free b c.args.capacity free) in
-    let room = c.natural_word-room.ensures.held (both h a c.alloc-address.ensures.free b c.args.capacity free) in
-    let last : g.M.Memory.heap c.fill_words.new.memory ≡ whole h a c.alloc-address.ensures.free b c.args.capacity free w x w z c.natural_word-none.ensures.value c.natural_word-room.ensures.value c.natural_word-none.ensures.value c.literal-reference.ensures.value held room held = c.fill_words.ensures.heap ∙ ap (λ (k : Heap). stored k a 0 (w ∷ x ∷ w ∷ z ∷ [])) two in
-    subst IsSound (sym last) (whole-sound h a c.alloc-address.ensures.free b c.args.capacity free w x w z c.natural_word-none.ensures.value c.natural_word-room.ensures.value c.natural_word-none.ensures.value c.literal-reference.ensures.value held room held c.requires.sound)
+    let one : g.M.Memory.heap c.alloc-address.new.self ≡ made h a DictionaryKind 4 =
+    c.alloc-address.ensures.heap in
+    let free : object_at (made h a DictionaryKind 4) b ≡ None =
+    ap (λ (k : Heap). object_at k b) (sym one) ∙ c.alloc_body-body.ensures.free in
+    let two : g.M.Memory.heap c.alloc_body-body.new.self ≡ both h a c.alloc-address.ensures.free b
+    c.args.capacity free = c.alloc_body-body.ensures.heap
+    ∙ ap (λ (k : Heap). made_body k b (birth_at k a) (3 * c.args.capacity)) one in
+    let held = c.natural_word-none.ensures.held
+    (both h a c.alloc-address.ensures.free b c.args.capacity free) in
+    let room = c.natural_word-room.ensures.held
+    (both h a c.alloc-address.ensures.free b c.args.capacity free) in
+    let last : g.M.Memory.heap c.fill_words.new.memory ≡ whole h a c.alloc-address.ensures.free b
+    c.args.capacity free w x w z c.natural_word-none.ensures.value
+    c.natural_word-room.ensures.value c.natural_word-none.ensures.value
+    c.literal-reference.ensures.value held room held c.requires.limit =
+    c.fill_words.ensures.heap ∙ ap (λ (k : Heap). stored k a 0 (w ∷ x ∷ w ∷ z ∷ [])) two in
+    subst IsSound (sym last) (whole-sound h a c.alloc-address.ensures.free b c.args.capacity free w
+    x w z c.natural_word-none.ensures.value c.natural_word-room.ensures.value
+    c.natural_word-none.ensures.value c.literal-reference.ensures.value held room held
+    c.requires.limit c.requires.sound)
 
 pub returns-clause-extends : goal.returns-clause-extends
 returns-clause-extends g c =
@@ -104,13 +164,27 @@ returns-clause-extends g c =
     let w = c.natural_word-none.result in
     let x = c.natural_word-room.result in
     let z = c.literal-reference.result in
-    let one : g.M.Memory.heap c.alloc-address.new.self ≡ made h a DictionaryKind 4 = c.alloc-address.ensures.heap in
-    let free : object_at (made h a DictionaryKind 4) b ≡ None = ap (λ (k : Heap). object_at k b) (sym one) ∙ c.alloc_body-body.ensures.free in
-    let two : g.M.Memory.heap c.alloc_body-body.new.self ≡ both h a c.alloc-address.ensures.free b c.args.capacity free = c.alloc_body-body.ensures.heap ∙ ap (λ (k : Heap). made_body k b (birth_at k a) (3 * c.args.capacity)) one in
-    let held = c.natural_word-none.ensures.held (both h a c.alloc-address.ensures.free b c.args.capacity free) in
-    let room = c.natural_word-room.ensures.held (both h a c.alloc-address.ensures.free b c.args.capacity free) in
-    let last : g.M.Memory.heap c.fill_words.new.memory ≡ whole h a c.alloc-address.ensures.free b c.args.capacity free w x w z c.natural_word-none.ensures.value c.natural_word-room.ensures.value c.natural_word-none.ensures.value c.literal-reference.ensures.value held room held = c.fill_words.ensures.heap ∙ ap (λ (k : Heap). stored k a 0 (w ∷ x ∷ w ∷ z ∷ [])) two in
-    subst (Extends h) (sym last) (whole-extends h a c.alloc-address.ensures.free b c.args.capacity free w x w z c.natural_word-none.ensures.value c.natural_word-room.ensures.value c.natural_word-none.ensures.value c.literal-reference.ensures.value held room held)
+    let one : g.M.Memory.heap c.alloc-address.new.self ≡ made h a DictionaryKind 4 =
+    c.alloc-address.ensures.heap in
+    let free : object_at (made h a DictionaryKind 4) b ≡ None =
+    ap (λ (k : Heap). object_at k b) (sym one) ∙ c.alloc_body-body.ensures.free in
+    let two : g.M.Memory.heap c.alloc_body-body.new.self ≡ both h a c.alloc-address.ensures.free b
+    c.args.capacity free = c.alloc_body-body.ensures.heap
+    ∙ ap (λ (k : Heap). made_body k b (birth_at k a) (3 * c.args.capacity)) one in
+    let held = c.natural_word-none.ensures.held
+    (both h a c.alloc-address.ensures.free b c.args.capacity free) in
+    let room = c.natural_word-room.ensures.held
+    (both h a c.alloc-address.ensures.free b c.args.capacity free) in
+    let last : g.M.Memory.heap c.fill_words.new.memory ≡ whole h a c.alloc-address.ensures.free b
+    c.args.capacity free w x w z c.natural_word-none.ensures.value
+    c.natural_word-room.ensures.value c.natural_word-none.ensures.value
+    c.literal-reference.ensures.value held room held c.requires.limit =
+    c.fill_words.ensures.heap ∙ ap (λ (k : Heap). stored k a 0 (w ∷ x ∷ w ∷ z ∷ [])) two in
+    subst (Extends h) (sym last)
+    (whole-extends h a c.alloc-address.ensures.free b c.args.capacity free w x w z
+    c.natural_word-none.ensures.value c.natural_word-room.ensures.value
+    c.natural_word-none.ensures.value c.literal-reference.ensures.value held room held
+    c.requires.limit)
 
 pub returns-clause-birth : goal.returns-clause-birth
 returns-clause-birth g c =
@@ -120,13 +194,27 @@ returns-clause-birth g c =
     let w = c.natural_word-none.result in
     let x = c.natural_word-room.result in
     let z = c.literal-reference.result in
-    let one : g.M.Memory.heap c.alloc-address.new.self ≡ made h a DictionaryKind 4 = c.alloc-address.ensures.heap in
-    let free : object_at (made h a DictionaryKind 4) b ≡ None = ap (λ (k : Heap). object_at k b) (sym one) ∙ c.alloc_body-body.ensures.free in
-    let two : g.M.Memory.heap c.alloc_body-body.new.self ≡ both h a c.alloc-address.ensures.free b c.args.capacity free = c.alloc_body-body.ensures.heap ∙ ap (λ (k : Heap). made_body k b (birth_at k a) (3 * c.args.capacity)) one in
-    let held = c.natural_word-none.ensures.held (both h a c.alloc-address.ensures.free b c.args.capacity free) in
-    let room = c.natural_word-room.ensures.held (both h a c.alloc-address.ensures.free b c.args.capacity free) in
-    let last : g.M.Memory.heap c.fill_words.new.memory ≡ whole h a c.alloc-address.ensures.free b c.args.capacity free w x w z c.natural_word-none.ensures.value c.natural_word-room.ensures.value c.natural_word-none.ensures.value c.literal-reference.ensures.value held room held = c.fill_words.ensures.heap ∙ ap (λ (k : Heap). stored k a 0 (w ∷ x ∷ w ∷ z ∷ [])) two in
-    ap (λ (k : Heap). birth_at k a) last ∙ whole-birth h a c.alloc-address.ensures.free b c.args.capacity free w x w z c.natural_word-none.ensures.value c.natural_word-room.ensures.value c.natural_word-none.ensures.value c.literal-reference.ensures.value held room held
+    let one : g.M.Memory.heap c.alloc-address.new.self ≡ made h a DictionaryKind 4 =
+    c.alloc-address.ensures.heap in
+    let free : object_at (made h a DictionaryKind 4) b ≡ None =
+    ap (λ (k : Heap). object_at k b) (sym one) ∙ c.alloc_body-body.ensures.free in
+    let two : g.M.Memory.heap c.alloc_body-body.new.self ≡ both h a c.alloc-address.ensures.free b
+    c.args.capacity free = c.alloc_body-body.ensures.heap
+    ∙ ap (λ (k : Heap). made_body k b (birth_at k a) (3 * c.args.capacity)) one in
+    let held = c.natural_word-none.ensures.held
+    (both h a c.alloc-address.ensures.free b c.args.capacity free) in
+    let room = c.natural_word-room.ensures.held
+    (both h a c.alloc-address.ensures.free b c.args.capacity free) in
+    let last : g.M.Memory.heap c.fill_words.new.memory ≡ whole h a c.alloc-address.ensures.free b
+    c.args.capacity free w x w z c.natural_word-none.ensures.value
+    c.natural_word-room.ensures.value c.natural_word-none.ensures.value
+    c.literal-reference.ensures.value held room held c.requires.limit =
+    c.fill_words.ensures.heap ∙ ap (λ (k : Heap). stored k a 0 (w ∷ x ∷ w ∷ z ∷ [])) two in
+    ap (λ (k : Heap). birth_at k a) last
+    ∙ whole-birth h a c.alloc-address.ensures.free b c.args.capacity free w x w z
+    c.natural_word-none.ensures.value c.natural_word-room.ensures.value
+    c.natural_word-none.ensures.value c.literal-reference.ensures.value held room held
+    c.requires.limit
 
 pub returns-clause-count : goal.returns-clause-count
 returns-clause-count g c =
@@ -136,13 +224,27 @@ returns-clause-count g c =
     let w = c.natural_word-none.result in
     let x = c.natural_word-room.result in
     let z = c.literal-reference.result in
-    let one : g.M.Memory.heap c.alloc-address.new.self ≡ made h a DictionaryKind 4 = c.alloc-address.ensures.heap in
-    let free : object_at (made h a DictionaryKind 4) b ≡ None = ap (λ (k : Heap). object_at k b) (sym one) ∙ c.alloc_body-body.ensures.free in
-    let two : g.M.Memory.heap c.alloc_body-body.new.self ≡ both h a c.alloc-address.ensures.free b c.args.capacity free = c.alloc_body-body.ensures.heap ∙ ap (λ (k : Heap). made_body k b (birth_at k a) (3 * c.args.capacity)) one in
-    let held = c.natural_word-none.ensures.held (both h a c.alloc-address.ensures.free b c.args.capacity free) in
-    let room = c.natural_word-room.ensures.held (both h a c.alloc-address.ensures.free b c.args.capacity free) in
-    let last : g.M.Memory.heap c.fill_words.new.memory ≡ whole h a c.alloc-address.ensures.free b c.args.capacity free w x w z c.natural_word-none.ensures.value c.natural_word-room.ensures.value c.natural_word-none.ensures.value c.literal-reference.ensures.value held room held = c.fill_words.ensures.heap ∙ ap (λ (k : Heap). stored k a 0 (w ∷ x ∷ w ∷ z ∷ [])) two in
-    ap (λ (k : Heap). count_at k a) last ∙ whole-count h a c.alloc-address.ensures.free b c.args.capacity free w x w z c.natural_word-none.ensures.value c.natural_word-room.ensures.value c.natural_word-none.ensures.value c.literal-reference.ensures.value held room held
+    let one : g.M.Memory.heap c.alloc-address.new.self ≡ made h a DictionaryKind 4 =
+    c.alloc-address.ensures.heap in
+    let free : object_at (made h a DictionaryKind 4) b ≡ None =
+    ap (λ (k : Heap). object_at k b) (sym one) ∙ c.alloc_body-body.ensures.free in
+    let two : g.M.Memory.heap c.alloc_body-body.new.self ≡ both h a c.alloc-address.ensures.free b
+    c.args.capacity free = c.alloc_body-body.ensures.heap
+    ∙ ap (λ (k : Heap). made_body k b (birth_at k a) (3 * c.args.capacity)) one in
+    let held = c.natural_word-none.ensures.held
+    (both h a c.alloc-address.ensures.free b c.args.capacity free) in
+    let room = c.natural_word-room.ensures.held
+    (both h a c.alloc-address.ensures.free b c.args.capacity free) in
+    let last : g.M.Memory.heap c.fill_words.new.memory ≡ whole h a c.alloc-address.ensures.free b
+    c.args.capacity free w x w z c.natural_word-none.ensures.value
+    c.natural_word-room.ensures.value c.natural_word-none.ensures.value
+    c.literal-reference.ensures.value held room held c.requires.limit =
+    c.fill_words.ensures.heap ∙ ap (λ (k : Heap). stored k a 0 (w ∷ x ∷ w ∷ z ∷ [])) two in
+    ap (λ (k : Heap). count_at k a) last
+    ∙ whole-count h a c.alloc-address.ensures.free b c.args.capacity free w x w z
+    c.natural_word-none.ensures.value c.natural_word-room.ensures.value
+    c.natural_word-none.ensures.value c.literal-reference.ensures.value held room held
+    c.requires.limit
 
 pub returns-clause-capacity : goal.returns-clause-capacity
 returns-clause-capacity g c =
@@ -152,13 +254,27 @@ returns-clause-capacity g c =
     let w = c.natural_word-none.result in
     let x = c.natural_word-room.result in
     let z = c.literal-reference.result in
-    let one : g.M.Memory.heap c.alloc-address.new.self ≡ made h a DictionaryKind 4 = c.alloc-address.ensures.heap in
-    let free : object_at (made h a DictionaryKind 4) b ≡ None = ap (λ (k : Heap). object_at k b) (sym one) ∙ c.alloc_body-body.ensures.free in
-    let two : g.M.Memory.heap c.alloc_body-body.new.self ≡ both h a c.alloc-address.ensures.free b c.args.capacity free = c.alloc_body-body.ensures.heap ∙ ap (λ (k : Heap). made_body k b (birth_at k a) (3 * c.args.capacity)) one in
-    let held = c.natural_word-none.ensures.held (both h a c.alloc-address.ensures.free b c.args.capacity free) in
-    let room = c.natural_word-room.ensures.held (both h a c.alloc-address.ensures.free b c.args.capacity free) in
-    let last : g.M.Memory.heap c.fill_words.new.memory ≡ whole h a c.alloc-address.ensures.free b c.args.capacity free w x w z c.natural_word-none.ensures.value c.natural_word-room.ensures.value c.natural_word-none.ensures.value c.literal-reference.ensures.value held room held = c.fill_words.ensures.heap ∙ ap (λ (k : Heap). stored k a 0 (w ∷ x ∷ w ∷ z ∷ [])) two in
-    ap (λ (k : Heap). capacity_at k a) last ∙ whole-capacity h a c.alloc-address.ensures.free b c.args.capacity free w x w z c.natural_word-none.ensures.value c.natural_word-room.ensures.value c.natural_word-none.ensures.value c.literal-reference.ensures.value held room held
+    let one : g.M.Memory.heap c.alloc-address.new.self ≡ made h a DictionaryKind 4 =
+    c.alloc-address.ensures.heap in
+    let free : object_at (made h a DictionaryKind 4) b ≡ None =
+    ap (λ (k : Heap). object_at k b) (sym one) ∙ c.alloc_body-body.ensures.free in
+    let two : g.M.Memory.heap c.alloc_body-body.new.self ≡ both h a c.alloc-address.ensures.free b
+    c.args.capacity free = c.alloc_body-body.ensures.heap
+    ∙ ap (λ (k : Heap). made_body k b (birth_at k a) (3 * c.args.capacity)) one in
+    let held = c.natural_word-none.ensures.held
+    (both h a c.alloc-address.ensures.free b c.args.capacity free) in
+    let room = c.natural_word-room.ensures.held
+    (both h a c.alloc-address.ensures.free b c.args.capacity free) in
+    let last : g.M.Memory.heap c.fill_words.new.memory ≡ whole h a c.alloc-address.ensures.free b
+    c.args.capacity free w x w z c.natural_word-none.ensures.value
+    c.natural_word-room.ensures.value c.natural_word-none.ensures.value
+    c.literal-reference.ensures.value held room held c.requires.limit =
+    c.fill_words.ensures.heap ∙ ap (λ (k : Heap). stored k a 0 (w ∷ x ∷ w ∷ z ∷ [])) two in
+    ap (λ (k : Heap). capacity_at k a) last
+    ∙ whole-capacity h a c.alloc-address.ensures.free b c.args.capacity free w x w z
+    c.natural_word-none.ensures.value c.natural_word-room.ensures.value
+    c.natural_word-none.ensures.value c.literal-reference.ensures.value held room held
+    c.requires.limit
 
 pub returns-clause-body_fresh : goal.returns-clause-body_fresh
 returns-clause-body_fresh g c =
@@ -168,14 +284,30 @@ returns-clause-body_fresh g c =
     let w = c.natural_word-none.result in
     let x = c.natural_word-room.result in
     let z = c.literal-reference.result in
-    let one : g.M.Memory.heap c.alloc-address.new.self ≡ made h a DictionaryKind 4 = c.alloc-address.ensures.heap in
-    let free : object_at (made h a DictionaryKind 4) b ≡ None = ap (λ (k : Heap). object_at k b) (sym one) ∙ c.alloc_body-body.ensures.free in
-    let two : g.M.Memory.heap c.alloc_body-body.new.self ≡ both h a c.alloc-address.ensures.free b c.args.capacity free = c.alloc_body-body.ensures.heap ∙ ap (λ (k : Heap). made_body k b (birth_at k a) (3 * c.args.capacity)) one in
-    let held = c.natural_word-none.ensures.held (both h a c.alloc-address.ensures.free b c.args.capacity free) in
-    let room = c.natural_word-room.ensures.held (both h a c.alloc-address.ensures.free b c.args.capacity free) in
-    let last : g.M.Memory.heap c.fill_words.new.memory ≡ whole h a c.alloc-address.ensures.free b c.args.capacity free w x w z c.natural_word-none.ensures.value c.natural_word-room.ensures.value c.natural_word-none.ensures.value c.literal-reference.ensures.value held room held = c.fill_words.ensures.heap ∙ ap (λ (k : Heap). stored k a 0 (w ∷ x ∷ w ∷ z ∷ [])) two in
-    let is : body_at (g.M.Memory.heap c.fill_words.new.memory) a ≡ b = ap (λ (k : Heap). body_at k a) last ∙ whole-body_at h a c.alloc-address.ensures.free b c.args.capacity free w x w z c.natural_word-none.ensures.value c.natural_word-room.ensures.value c.natural_word-none.ensures.value c.literal-reference.ensures.value held room held in
-    subst (λ n. IsTrue ((g.M.Memory.grants c.fill_words.new.memory).fresh n)) (sym is) (rw c.fill_words.ensures.grants c.alloc_body-body.ensures.grants.fresh)
+    let one : g.M.Memory.heap c.alloc-address.new.self ≡ made h a DictionaryKind 4 =
+    c.alloc-address.ensures.heap in
+    let free : object_at (made h a DictionaryKind 4) b ≡ None =
+    ap (λ (k : Heap). object_at k b) (sym one) ∙ c.alloc_body-body.ensures.free in
+    let two : g.M.Memory.heap c.alloc_body-body.new.self ≡ both h a c.alloc-address.ensures.free b
+    c.args.capacity free = c.alloc_body-body.ensures.heap
+    ∙ ap (λ (k : Heap). made_body k b (birth_at k a) (3 * c.args.capacity)) one in
+    let held = c.natural_word-none.ensures.held
+    (both h a c.alloc-address.ensures.free b c.args.capacity free) in
+    let room = c.natural_word-room.ensures.held
+    (both h a c.alloc-address.ensures.free b c.args.capacity free) in
+    let last : g.M.Memory.heap c.fill_words.new.memory ≡ whole h a c.alloc-address.ensures.free b
+    c.args.capacity free w x w z c.natural_word-none.ensures.value
+    c.natural_word-room.ensures.value c.natural_word-none.ensures.value
+    c.literal-reference.ensures.value held room held c.requires.limit =
+    c.fill_words.ensures.heap ∙ ap (λ (k : Heap). stored k a 0 (w ∷ x ∷ w ∷ z ∷ [])) two in
+    let is : body_at (g.M.Memory.heap c.fill_words.new.memory) a ≡ b =
+    ap (λ (k : Heap). body_at k a) last
+    ∙ whole-body_at h a c.alloc-address.ensures.free b c.args.capacity free w x w z
+    c.natural_word-none.ensures.value c.natural_word-room.ensures.value
+    c.natural_word-none.ensures.value c.literal-reference.ensures.value held room held
+    c.requires.limit in
+    subst (λ n. IsTrue ((g.M.Memory.grants c.fill_words.new.memory).fresh n)) (sym is)
+    (rw c.fill_words.ensures.grants c.alloc_body-body.ensures.grants.fresh)
 
 pub returns-clause-shows : goal.returns-clause-shows
 returns-clause-shows g c = λ names s shows.
@@ -185,10 +317,25 @@ returns-clause-shows g c = λ names s shows.
     let w = c.natural_word-none.result in
     let x = c.natural_word-room.result in
     let z = c.literal-reference.result in
-    let one : g.M.Memory.heap c.alloc-address.new.self ≡ made h a DictionaryKind 4 = c.alloc-address.ensures.heap in
-    let free : object_at (made h a DictionaryKind 4) b ≡ None = ap (λ (k : Heap). object_at k b) (sym one) ∙ c.alloc_body-body.ensures.free in
-    let two : g.M.Memory.heap c.alloc_body-body.new.self ≡ both h a c.alloc-address.ensures.free b c.args.capacity free = c.alloc_body-body.ensures.heap ∙ ap (λ (k : Heap). made_body k b (birth_at k a) (3 * c.args.capacity)) one in
-    let held = c.natural_word-none.ensures.held (both h a c.alloc-address.ensures.free b c.args.capacity free) in
-    let room = c.natural_word-room.ensures.held (both h a c.alloc-address.ensures.free b c.args.capacity free) in
-    let last : g.M.Memory.heap c.fill_words.new.memory ≡ whole h a c.alloc-address.ensures.free b c.args.capacity free w x w z c.natural_word-none.ensures.value c.natural_word-room.ensures.value c.natural_word-none.ensures.value c.literal-reference.ensures.value held room held = c.fill_words.ensures.heap ∙ ap (λ (k : Heap). stored k a 0 (w ∷ x ∷ w ∷ z ∷ [])) two in
-    subst (λ (k : Heap). Shows k names (s ++ dictionary_object (empty_dictionary c.args.capacity) ∷ [])) (sym last) (whole-shows h a c.alloc-address.ensures.free b c.args.capacity free w x w z c.natural_word-none.ensures.value c.natural_word-room.ensures.value c.natural_word-none.ensures.value c.literal-reference.ensures.value held room held c.requires.sound names s shows)
+    let one : g.M.Memory.heap c.alloc-address.new.self ≡ made h a DictionaryKind 4 =
+    c.alloc-address.ensures.heap in
+    let free : object_at (made h a DictionaryKind 4) b ≡ None =
+    ap (λ (k : Heap). object_at k b) (sym one) ∙ c.alloc_body-body.ensures.free in
+    let two : g.M.Memory.heap c.alloc_body-body.new.self ≡ both h a c.alloc-address.ensures.free b
+    c.args.capacity free = c.alloc_body-body.ensures.heap
+    ∙ ap (λ (k : Heap). made_body k b (birth_at k a) (3 * c.args.capacity)) one in
+    let held = c.natural_word-none.ensures.held
+    (both h a c.alloc-address.ensures.free b c.args.capacity free) in
+    let room = c.natural_word-room.ensures.held
+    (both h a c.alloc-address.ensures.free b c.args.capacity free) in
+    let last : g.M.Memory.heap c.fill_words.new.memory ≡ whole h a c.alloc-address.ensures.free b
+    c.args.capacity free w x w z c.natural_word-none.ensures.value
+    c.natural_word-room.ensures.value c.natural_word-none.ensures.value
+    c.literal-reference.ensures.value held room held c.requires.limit =
+    c.fill_words.ensures.heap ∙ ap (λ (k : Heap). stored k a 0 (w ∷ x ∷ w ∷ z ∷ [])) two in
+    subst (λ (k : Heap). Shows k names
+    (s ++ dictionary_object (empty_dictionary c.args.capacity) ∷ [])) (sym last)
+    (whole-shows h a c.alloc-address.ensures.free b c.args.capacity free w x w z
+    c.natural_word-none.ensures.value c.natural_word-room.ensures.value
+    c.natural_word-none.ensures.value c.literal-reference.ensures.value held room held
+    c.requires.limit c.requires.sound names s shows)

@@ -1,15 +1,15 @@
-use Rattle.std.proofs.Common.{◌≡◌, ◌≤◌, ◌+◌, ◌*◌, ◌-◌, ◌∙◌, ap, sym, arith, subst, length}
+use Rattle.std.proofs.Common.{◌≡◌, ◌≤◌, ◌+◌, ◌*◌, ◌-◌, ◌∙◌, ap, sym, arith, subst, length, take, drop}
 use Rattle.std.specs.Prelude.{slice_range}
 use Rattle.ps_language.specs.Access.{dictionary_at, with_dictionary}
 use Rattle.ps_mem.specs.Heap.{Heap, birth_at, fields_at, stored}
 use Rattle.ps_mem.specs.Keeps.{Keeps}
 use Rattle.ps_mem.specs.References.{NamesStanding}
 use Rattle.ps_mem.specs.Shows.{IsSound, Shows}
-use Rattle.ps_mem.proofs.HeapLemmas.{birth_at-stored}
+use Rattle.ps_mem.proofs.HeapLemmas.{stored-nil}
 use Rattle.ps_mem.proofs.KeepsLemmas.{known_values}
 use Rattle.ps_dict.specs.Places.{count_at, body_at}
 use Rattle.ps_dict.specs.Removals.{moved_down}
-use Rattle.ps_dict.proofs.Removing.{behind, behind-values, behind-fits, moved-sound, moved-keeps, moved-count, moved-shows, unmoved-shows}
+use Rattle.ps_dict.proofs.Removing.{behind, behind-values, behind-fits}
 use Rattle.ps_dict.proofs.removals.move_down.Goals as goal
 
 pub copy-requires-clause-source : goal.copy-requires-clause-source
@@ -17,127 +17,94 @@ copy-requires-clause-source g c =
     let h = g.M.Memory.heap c.args.memory.now in
     let a = c.args.address in
     let m = c.length-count.result - c.args.place - 1 in
-    let before : g.M.Memory.heap c.body-body.new.memory ≡ h = c.body-body.ensures.heap ∙ c.length-count.ensures.heap in
-    let body : c.body-body.result ≡ body_at h a = c.body-body.ensures.words ∙ ap (λ (k : Heap). body_at k a) c.length-count.ensures.heap in
+    let before : g.M.Memory.heap c.body-body.new.memory ≡ h = c.body-body.ensures.heap
+    ∙ c.length-count.ensures.heap in
+    let body : c.body-body.result ≡ body_at h a = c.body-body.ensures.words
+    ∙ ap (λ (k : Heap). body_at k a) c.length-count.ensures.heap in
     let count = c.length-count.ensures.words in
     let below = c.requires.place in
-    let is : c.args.place + (c.length-count.result - c.args.place - 1 + 1) ≡ count_at h a = omega (arith, count, below) in
-    subst (λ (k : Heap). 2 * c.args.place + 2 + 2 * m ≤ length (fields_at k c.body-body.result)) (sym before)
-    (subst (λ b. 2 * c.args.place + 2 + 2 * m ≤ length (fields_at h b)) (sym body) (behind-fits h a c.requires.known c.requires.sound c.args.place m is))
+    let is : c.args.place + (c.length-count.result - c.args.place - 1 + 1) ≡ count_at h a =
+    omega (arith, count, below) in
+    subst (λ (k : Heap). 2 * c.args.place + 2 + 2 * m ≤ length (fields_at k c.body-body.result))
+    (sym before)
+    (subst (λ b. 2 * c.args.place + 2 + 2 * m ≤ length (fields_at h b)) (sym body)
+    (behind-fits h a c.requires.known c.requires.sound c.args.place m is))
 
 pub copy-requires-clause-target : goal.copy-requires-clause-target
 copy-requires-clause-target g c =
     let h = g.M.Memory.heap c.args.memory.now in
     let a = c.args.address in
     let m = c.length-count.result - c.args.place - 1 in
-    let before : g.M.Memory.heap c.body-body.new.memory ≡ h = c.body-body.ensures.heap ∙ c.length-count.ensures.heap in
-    let body : c.body-body.result ≡ body_at h a = c.body-body.ensures.words ∙ ap (λ (k : Heap). body_at k a) c.length-count.ensures.heap in
+    let before : g.M.Memory.heap c.body-body.new.memory ≡ h = c.body-body.ensures.heap
+    ∙ c.length-count.ensures.heap in
+    let body : c.body-body.result ≡ body_at h a = c.body-body.ensures.words
+    ∙ ap (λ (k : Heap). body_at k a) c.length-count.ensures.heap in
     let count = c.length-count.ensures.words in
     let below = c.requires.place in
-    let is : c.args.place + (c.length-count.result - c.args.place - 1 + 1) ≡ count_at h a = omega (arith, count, below) in
-    subst (λ (k : Heap). 2 * c.args.place + 2 * m ≤ length (fields_at k c.body-body.result)) (sym before)
-    (subst (λ b. 2 * c.args.place + 2 * m ≤ length (fields_at h b)) (sym body) (let fits = behind-fits h a c.requires.known c.requires.sound c.args.place m is in omega (arith, fits)))
+    let is : c.args.place + (c.length-count.result - c.args.place - 1 + 1) ≡ count_at h a =
+    omega (arith, count, below) in
+    subst (λ (k : Heap). 2 * c.args.place + 2 * m ≤ length (fields_at k c.body-body.result))
+    (sym before)
+    (subst (λ b. 2 * c.args.place + 2 * m ≤ length (fields_at h b)) (sym body)
+    (let fits = behind-fits h a c.requires.known c.requires.sound c.args.place m is in
+    omega (arith, fits)))
 
 pub copy-requires-clause-known : goal.copy-requires-clause-known
 copy-requires-clause-known g c =
     let h = g.M.Memory.heap c.args.memory.now in
     let a = c.args.address in
     let m = c.length-count.result - c.args.place - 1 in
-    let before : g.M.Memory.heap c.body-body.new.memory ≡ h = c.body-body.ensures.heap ∙ c.length-count.ensures.heap in
-    let body : c.body-body.result ≡ body_at h a = c.body-body.ensures.words ∙ ap (λ (k : Heap). body_at k a) c.length-count.ensures.heap in
+    let before : g.M.Memory.heap c.body-body.new.memory ≡ h = c.body-body.ensures.heap
+    ∙ c.length-count.ensures.heap in
+    let body : c.body-body.result ≡ body_at h a = c.body-body.ensures.words
+    ∙ ap (λ (k : Heap). body_at k a) c.length-count.ensures.heap in
     let count = c.length-count.ensures.words in
     let below = c.requires.place in
-    let is : c.args.place + (c.length-count.result - c.args.place - 1 + 1) ≡ count_at h a = omega (arith, count, below) in
-    subst (λ (k : Heap). NamesStanding k c.body-body.result (slice_range (fields_at k c.body-body.result) (2 * c.args.place + 2) (2 * c.args.place + 2 + 2 * m))) (sym before)
-    (subst (λ b. NamesStanding h b (slice_range (fields_at h b) (2 * c.args.place + 2) (2 * c.args.place + 2 + 2 * m))) (sym body)
-    (record { known = λ o at text. known_values h (behind h a c.requires.known c.requires.sound c.args.place m is) (behind-values h a c.requires.known c.requires.sound c.args.place m is) }))
+    let is : c.args.place + (c.length-count.result - c.args.place - 1 + 1) ≡ count_at h a =
+    omega (arith, count, below) in
+    subst (λ (k : Heap). NamesStanding k c.body-body.result
+    (slice_range (fields_at k c.body-body.result) (2 * c.args.place + 2)
+    (2 * c.args.place + 2 + 2 * m))) (sym before)
+    (subst (λ b. NamesStanding h b
+    (slice_range (fields_at h b) (2 * c.args.place + 2) (2 * c.args.place + 2 + 2 * m)))
+    (sym body)
+    (record {
+      known = λ o at text. known_values h
+          (behind h a c.requires.known c.requires.sound c.args.place m is)
+          (behind-values h a c.requires.known c.requires.sound c.args.place m is);
+    }))
 
-pub returns-then-behind-ne0-clause-sound : goal.returns-then-behind-ne0-clause-sound
-returns-then-behind-ne0-clause-sound g c =
+pub returns-then-behind-ne0-clause-heap : goal.returns-then-behind-ne0-clause-heap
+returns-then-behind-ne0-clause-heap g c =
     let h = g.M.Memory.heap c.args.memory.now in
     let a = c.args.address in
     let m = c.length-count.result - c.args.place - 1 in
-    let before : g.M.Memory.heap c.body-body.new.memory ≡ h = c.body-body.ensures.heap ∙ c.length-count.ensures.heap in
-    let body : c.body-body.result ≡ body_at h a = c.body-body.ensures.words ∙ ap (λ (k : Heap). body_at k a) c.length-count.ensures.heap in
+    let before : g.M.Memory.heap c.body-body.new.memory ≡ h = c.body-body.ensures.heap
+    ∙ c.length-count.ensures.heap in
+    let body : c.body-body.result ≡ body_at h a = c.body-body.ensures.words
+    ∙ ap (λ (k : Heap). body_at k a) c.length-count.ensures.heap in
     let count = c.length-count.ensures.words in
     let below = c.requires.place in
-    let is : c.args.place + (c.length-count.result - c.args.place - 1 + 1) ≡ count_at h a = omega (arith, count, below) in
-    let now : g.M.Memory.heap c.copy.new.self ≡ stored h (body_at h a) (2 * c.args.place) (behind h a c.requires.known c.requires.sound c.args.place m is) =
-    c.copy.ensures.heap ∙ (ap (λ (k : Heap). stored k c.body-body.result (2 * c.args.place) (slice_range (fields_at k c.body-body.result) (2 * c.args.place + 2) (2 * c.args.place + 2 + 2 * m))) before
-    ∙ ap (λ b. stored h b (2 * c.args.place) (slice_range (fields_at h b) (2 * c.args.place + 2) (2 * c.args.place + 2 + 2 * m))) body) in
-    subst IsSound (sym now) (moved-sound h a c.requires.known c.requires.sound c.args.place m is)
+    let ends : 2 * c.args.place + 2 + 2 * m ≡ 2 * count_at h a = omega (arith, count, below) in
+    c.copy.ensures.heap
+    ∙ (ap (λ (k : Heap). stored k c.body-body.result (2 * c.args.place)
+    (slice_range (fields_at k c.body-body.result) (2 * c.args.place + 2)
+    (2 * c.args.place + 2 + 2 * m))) before
+    ∙ (ap (λ b. stored h b (2 * c.args.place)
+    (slice_range (fields_at h b) (2 * c.args.place + 2) (2 * c.args.place + 2 + 2 * m))) body
+    ∙ ap (λ n. stored h (body_at h a) (2 * c.args.place)
+    (slice_range (fields_at h (body_at h a)) (2 * c.args.place + 2) n)) ends))
 
-pub returns-then-behind-ne0-clause-keeps : goal.returns-then-behind-ne0-clause-keeps
-returns-then-behind-ne0-clause-keeps g c =
+pub returns-else-behind-ne0-clause-heap : goal.returns-else-behind-ne0-clause-heap
+returns-else-behind-ne0-clause-heap g c =
     let h = g.M.Memory.heap c.args.memory.now in
     let a = c.args.address in
-    let m = c.length-count.result - c.args.place - 1 in
-    let before : g.M.Memory.heap c.body-body.new.memory ≡ h = c.body-body.ensures.heap ∙ c.length-count.ensures.heap in
-    let body : c.body-body.result ≡ body_at h a = c.body-body.ensures.words ∙ ap (λ (k : Heap). body_at k a) c.length-count.ensures.heap in
+    let before : g.M.Memory.heap c.body-body.new.memory ≡ h = c.body-body.ensures.heap
+    ∙ c.length-count.ensures.heap in
     let count = c.length-count.ensures.words in
     let below = c.requires.place in
-    let is : c.args.place + (c.length-count.result - c.args.place - 1 + 1) ≡ count_at h a = omega (arith, count, below) in
-    let now : g.M.Memory.heap c.copy.new.self ≡ stored h (body_at h a) (2 * c.args.place) (behind h a c.requires.known c.requires.sound c.args.place m is) =
-    c.copy.ensures.heap ∙ (ap (λ (k : Heap). stored k c.body-body.result (2 * c.args.place) (slice_range (fields_at k c.body-body.result) (2 * c.args.place + 2) (2 * c.args.place + 2 + 2 * m))) before
-    ∙ ap (λ b. stored h b (2 * c.args.place) (slice_range (fields_at h b) (2 * c.args.place + 2) (2 * c.args.place + 2 + 2 * m))) body) in
-    subst (Keeps h) (sym now) (moved-keeps h a c.requires.known c.requires.sound c.args.place m is)
-
-pub returns-then-behind-ne0-clause-births : goal.returns-then-behind-ne0-clause-births
-returns-then-behind-ne0-clause-births g c =
-    let h = g.M.Memory.heap c.args.memory.now in
-    let a = c.args.address in
-    let m = c.length-count.result - c.args.place - 1 in
-    let before : g.M.Memory.heap c.body-body.new.memory ≡ h = c.body-body.ensures.heap ∙ c.length-count.ensures.heap in
-    let body : c.body-body.result ≡ body_at h a = c.body-body.ensures.words ∙ ap (λ (k : Heap). body_at k a) c.length-count.ensures.heap in
-    let count = c.length-count.ensures.words in
-    let below = c.requires.place in
-    let is : c.args.place + (c.length-count.result - c.args.place - 1 + 1) ≡ count_at h a = omega (arith, count, below) in
-    let now : g.M.Memory.heap c.copy.new.self ≡ stored h (body_at h a) (2 * c.args.place) (behind h a c.requires.known c.requires.sound c.args.place m is) =
-    c.copy.ensures.heap ∙ (ap (λ (k : Heap). stored k c.body-body.result (2 * c.args.place) (slice_range (fields_at k c.body-body.result) (2 * c.args.place + 2) (2 * c.args.place + 2 + 2 * m))) before
-    ∙ ap (λ b. stored h b (2 * c.args.place) (slice_range (fields_at h b) (2 * c.args.place + 2) (2 * c.args.place + 2 + 2 * m))) body) in
-    ap birth_at now ∙ birth_at-stored _ _ _ _
-
-pub returns-then-behind-ne0-clause-count : goal.returns-then-behind-ne0-clause-count
-returns-then-behind-ne0-clause-count g c =
-    let h = g.M.Memory.heap c.args.memory.now in
-    let a = c.args.address in
-    let m = c.length-count.result - c.args.place - 1 in
-    let before : g.M.Memory.heap c.body-body.new.memory ≡ h = c.body-body.ensures.heap ∙ c.length-count.ensures.heap in
-    let body : c.body-body.result ≡ body_at h a = c.body-body.ensures.words ∙ ap (λ (k : Heap). body_at k a) c.length-count.ensures.heap in
-    let count = c.length-count.ensures.words in
-    let below = c.requires.place in
-    let is : c.args.place + (c.length-count.result - c.args.place - 1 + 1) ≡ count_at h a = omega (arith, count, below) in
-    let now : g.M.Memory.heap c.copy.new.self ≡ stored h (body_at h a) (2 * c.args.place) (behind h a c.requires.known c.requires.sound c.args.place m is) =
-    c.copy.ensures.heap ∙ (ap (λ (k : Heap). stored k c.body-body.result (2 * c.args.place) (slice_range (fields_at k c.body-body.result) (2 * c.args.place + 2) (2 * c.args.place + 2 + 2 * m))) before
-    ∙ ap (λ b. stored h b (2 * c.args.place) (slice_range (fields_at h b) (2 * c.args.place + 2) (2 * c.args.place + 2 + 2 * m))) body) in
-    ap (λ (k : Heap). count_at k a) now ∙ moved-count h a c.requires.known c.requires.sound c.args.place m is
-
-pub returns-then-behind-ne0-clause-shows : goal.returns-then-behind-ne0-clause-shows
-returns-then-behind-ne0-clause-shows g c = λ names s shows.
-    let h = g.M.Memory.heap c.args.memory.now in
-    let a = c.args.address in
-    let m = c.length-count.result - c.args.place - 1 in
-    let before : g.M.Memory.heap c.body-body.new.memory ≡ h = c.body-body.ensures.heap ∙ c.length-count.ensures.heap in
-    let body : c.body-body.result ≡ body_at h a = c.body-body.ensures.words ∙ ap (λ (k : Heap). body_at k a) c.length-count.ensures.heap in
-    let count = c.length-count.ensures.words in
-    let below = c.requires.place in
-    let is : c.args.place + (c.length-count.result - c.args.place - 1 + 1) ≡ count_at h a = omega (arith, count, below) in
-    let now : g.M.Memory.heap c.copy.new.self ≡ stored h (body_at h a) (2 * c.args.place) (behind h a c.requires.known c.requires.sound c.args.place m is) =
-    c.copy.ensures.heap ∙ (ap (λ (k : Heap). stored k c.body-body.result (2 * c.args.place) (slice_range (fields_at k c.body-body.result) (2 * c.args.place + 2) (2 * c.args.place + 2 + 2 * m))) before
-    ∙ ap (λ b. stored h b (2 * c.args.place) (slice_range (fields_at h b) (2 * c.args.place + 2) (2 * c.args.place + 2 + 2 * m))) body) in
-    subst (λ (k : Heap). Shows k names (with_dictionary s (birth_at h a) (record (dictionary_at s (birth_at h a)) { pairs = moved_down (dictionary_at s (birth_at h a)).pairs c.args.place }))) (sym now)
-    (moved-shows h a c.requires.known c.requires.sound c.args.place m is names s shows)
-
-pub returns-else-behind-ne0-clause-shows : goal.returns-else-behind-ne0-clause-shows
-returns-else-behind-ne0-clause-shows g c = λ names s shows.
-    let h = g.M.Memory.heap c.args.memory.now in
-    let a = c.args.address in
-    let m = c.length-count.result - c.args.place - 1 in
-    let before : g.M.Memory.heap c.body-body.new.memory ≡ h = c.body-body.ensures.heap ∙ c.length-count.ensures.heap in
-    let body : c.body-body.result ≡ body_at h a = c.body-body.ensures.words ∙ ap (λ (k : Heap). body_at k a) c.length-count.ensures.heap in
-    let count = c.length-count.ensures.words in
-    let below = c.requires.place in
-    let is : c.args.place + (c.length-count.result - c.args.place - 1 + 1) ≡ count_at h a = omega (arith, count, below) in
-    let none = c.if-behind-ne0.false in
-    subst (λ (k : Heap). Shows k names (with_dictionary s (birth_at h a) (record (dictionary_at s (birth_at h a)) { pairs = moved_down (dictionary_at s (birth_at h a)).pairs c.args.place }))) (sym before)
-    (unmoved-shows h a c.requires.known c.requires.sound c.args.place (omega (arith, none, count, below)) names s shows)
+    let none : 2 * count_at h a - (2 * c.args.place + 2) ≡ 0 = omega (arith, count, below) in
+    before
+    ∙ sym (ap (λ n. stored h (body_at h a) (2 * c.args.place)
+    (take n (drop (2 * c.args.place + 2) (fields_at h (body_at h a))))) none
+    ∙ stored-nil h (body_at h a) (2 * c.args.place))

@@ -7,7 +7,7 @@ use Rattle.ps_mem.specs.Shows.{IsValue, IsReady}
 use Rattle.ps_mem.proofs.KeepsLemmas.{Keeps-Extends}
 use Rattle.ps_ops.specs.Does.{Makes}
 use Rattle.ps_ops.proofs.Held.{rest_held}
-use Rattle.ps_ops.proofs.Made.{made_ready, does_makes, array_makes, stands_whole}
+use Rattle.ps_ops.proofs.Made.{made_ready, does_makes, array_makes, array_making, refused_makes, unmade_makes, stands_whole}
 use Rattle.ps_ops.proofs.makes.array.Goals as goal
 
 pub returns-clause-does : goal.returns-clause-does
@@ -18,11 +18,16 @@ returns-clause-does g c =
     let ready = subst (λ (k : Heap). IsReady k old) (sym c.granted.ensures.heap) c.requires.ready in
     let fits : SFits w32 c.in-Some-integer_of.number = search rules in
     let keeps = Keeps-Extends h now c.new_array-part.ensures.extends in
-    subst (λ (k : Heap). Makes array_row c.args.refused (Ok tt) k now old c.replace.new.self) c.granted.ensures.heap
-    (does_makes h now old _ (drop 1 old) keeps (rest_held (IsValue h) old ready.values 1) c.array_word.result c.replace.ensures c.new_array-part.result c.in-Some-count_of.count
-    c.new_array-part.ensures.part c.new_array-part.ensures.birth (λ births names. c.array_word.ensures.value births names) (λ births names s. c.array_word.ensures.within births names s)
+    subst (λ (k : Heap). Makes array_row c.args.refused (Ok tt) k now old c.replace.new.self)
+    c.granted.ensures.heap
+    (does_makes h now old _ (drop 1 old) keeps (rest_held (IsValue h) old ready.values 1)
+    c.array_word.result c.replace.ensures c.new_array-part.result c.in-Some-count_of.count
+    c.new_array-part.ensures.part c.new_array-part.ensures.birth
+    (λ births names. c.array_word.ensures.value births names)
+    (λ births names s. c.array_word.ensures.within births names s)
     array_row c.args.refused c.if-refused.false
-    (array_makes h now old c.in-Some.top c.in-Some-integer_of.number c.in-Some-count_of.count c.in-Some.ensures (λ births names. c.in-Some-integer_of.ensures births names)
+    (array_makes h now old c.in-Some.top c.in-Some-integer_of.number c.in-Some-count_of.count
+    c.in-Some.ensures (λ births names. c.in-Some-integer_of.ensures births names)
     (simp to_z-of_z at c.in-Some-count_of.ensures.count) (omega arith)
     (λ names s shows. c.new_array-part.ensures.shows names s shows)))
 
@@ -33,4 +38,31 @@ returns-clause-ready g c =
     let old = c.args.operands.now in
     let ready = subst (λ (k : Heap). IsReady k old) (sym c.granted.ensures.heap) c.requires.ready in
     let keeps = Keeps-Extends h now c.new_array-part.ensures.extends in
-    made_ready h now old _ (drop 1 old) keeps (rest_held (IsValue h) old ready.values 1) c.array_word.result c.replace.ensures c.new_array-part.ensures.sound (c.array_word.ensures.held now (stands_whole now c.new_array-part.result _ c.new_array-part.ensures.part c.new_array-part.ensures.known))
+    made_ready h now old _ (drop 1 old) keeps (rest_held (IsValue h) old ready.values 1)
+    c.array_word.result c.replace.ensures c.new_array-part.ensures.sound
+    (c.array_word.ensures.held now
+    (stands_whole now c.new_array-part.result _ c.new_array-part.ensures.part
+    c.new_array-part.ensures.known))
+
+pub returns-then-refused-clause-does : goal.returns-then-refused-clause-does
+returns-then-refused-clause-does g c =
+    let h = g.M.Memory.heap c.args.memory.now in
+    let fits : SFits w32 c.in-Some-integer_of.number = search rules in
+    refused_makes array_row c.args.refused h c.in-Some-count_of.count c.args.operands.now
+    c.if-refused.true
+    (array_making h c.args.operands.now c.in-Some.top c.in-Some-integer_of.number
+    c.in-Some-count_of.count c.in-Some.ensures
+    (λ births names. c.in-Some-integer_of.ensures births names)
+    (simp to_z-of_z at c.in-Some-count_of.ensures.count) (omega arith))
+
+pub returns-in-Err-clause-does : goal.returns-in-Err-clause-does
+returns-in-Err-clause-does g c =
+    let h = g.M.Memory.heap c.args.memory.now in
+    let fits : SFits w32 c.in-Some-integer_of.number = search rules in
+    unmade_makes array_row c.args.refused h (g.M.Memory.heap c.granted.new.memory)
+    c.in-Some-count_of.count c.args.operands.now c.in-Err.reason c.if-refused.false
+    c.in-Err.ensures.heap c.in-Err.ensures.reason
+    (array_making h c.args.operands.now c.in-Some.top c.in-Some-integer_of.number
+    c.in-Some-count_of.count c.in-Some.ensures
+    (λ births names. c.in-Some-integer_of.ensures births names)
+    (simp to_z-of_z at c.in-Some-count_of.ensures.count) (omega arith))

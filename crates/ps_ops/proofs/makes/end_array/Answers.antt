@@ -7,7 +7,7 @@ use Rattle.ps_mem.specs.Shows.{IsValue, IsReady, Shows}
 use Rattle.ps_mem.proofs.KeepsLemmas.{Keeps-Extends}
 use Rattle.ps_ops.specs.Does.{Makes}
 use Rattle.ps_ops.proofs.Held.{rest_held}
-use Rattle.ps_ops.proofs.Made.{made_ready, does_makes, end_makes, whole_part, stands_whole}
+use Rattle.ps_ops.proofs.Made.{made_ready, does_makes, end_makes, end_making, refused_makes, unmade_makes, whole_part, stands_whole}
 use Rattle.ps_ops.proofs.Tops.{top_elements, top_within}
 use Rattle.ps_ops.proofs.makes.end_array.Goals as goal
 
@@ -19,15 +19,24 @@ returns-clause-does g c =
     let ready = subst (λ (k : Heap). IsReady k old) (sym c.granted.ensures.heap) c.requires.ready in
     let depth = c.in-Some.depth in
     let keeps = Keeps-Extends h now c.make_array-part.ensures.extends in
-    let size : length c.topmost.result.now ≡ depth = ap length c.topmost.ensures ∙ (length-reverse (take depth old) ∙ length-take-le depth old (omega (arith, c.in-Some.ensures.bound))) in
-    subst (λ (k : Heap). Makes end_array_row c.args.refused (Ok tt) k now old c.replace.new.self) c.granted.ensures.heap
-    (does_makes h now old _ (drop (depth + 1) old) keeps (rest_held (IsValue h) old ready.values (depth + 1)) c.array_word.result c.replace.ensures c.make_array-part.result depth
-    (c.make_array-part.ensures.part ∙ ap (λ n. whole_part c.make_array-part.result.address n) size) c.make_array-part.ensures.birth (λ births names. c.array_word.ensures.value births names) (λ births names s. c.array_word.ensures.within births names s)
+    let size : length c.topmost.result.now ≡ depth = ap length c.topmost.ensures
+    ∙ (length-reverse (take depth old)
+    ∙ length-take-le depth old (omega (arith, c.in-Some.ensures.bound))) in
+    subst (λ (k : Heap). Makes end_array_row c.args.refused (Ok tt) k now old c.replace.new.self)
+    c.granted.ensures.heap
+    (does_makes h now old _ (drop (depth + 1) old) keeps
+    (rest_held (IsValue h) old ready.values (depth + 1)) c.array_word.result c.replace.ensures
+    c.make_array-part.result depth
+    (c.make_array-part.ensures.part ∙ ap (λ n. whole_part c.make_array-part.result.address n) size)
+    c.make_array-part.ensures.birth (λ births names. c.array_word.ensures.value births names)
+    (λ births names s. c.array_word.ensures.within births names s)
     end_array_row c.args.refused c.if-refused.false
     (end_makes h now old depth c.in-Some.ensures.found (omega (arith, c.in-Some.ensures.bound))
     (λ names s shows within.
-    subst (λ vs. Shows now names (s ++ array_object vs ∷ [])) (top_elements h names old depth c.topmost.result.now c.topmost.ensures)
-    (c.make_array-part.ensures.shows names s shows (top_within h names s old depth c.topmost.result.now within c.topmost.ensures)))))
+    subst (λ vs. Shows now names (s ++ array_object vs ∷ []))
+    (top_elements h names old depth c.topmost.result.now c.topmost.ensures)
+    (c.make_array-part.ensures.shows names s shows
+    (top_within h names s old depth c.topmost.result.now within c.topmost.ensures)))))
 
 pub returns-clause-ready : goal.returns-clause-ready
 returns-clause-ready g c =
@@ -37,4 +46,26 @@ returns-clause-ready g c =
     let ready = subst (λ (k : Heap). IsReady k old) (sym c.granted.ensures.heap) c.requires.ready in
     let depth = c.in-Some.depth in
     let keeps = Keeps-Extends h now c.make_array-part.ensures.extends in
-    made_ready h now old _ (drop (depth + 1) old) keeps (rest_held (IsValue h) old ready.values (depth + 1)) c.array_word.result c.replace.ensures c.make_array-part.ensures.sound (c.array_word.ensures.held now (stands_whole now c.make_array-part.result _ c.make_array-part.ensures.part c.make_array-part.ensures.known))
+    made_ready h now old _ (drop (depth + 1) old) keeps
+    (rest_held (IsValue h) old ready.values (depth + 1)) c.array_word.result c.replace.ensures
+    c.make_array-part.ensures.sound
+    (c.array_word.ensures.held now
+    (stands_whole now c.make_array-part.result _ c.make_array-part.ensures.part
+    c.make_array-part.ensures.known))
+
+pub returns-then-refused-clause-does : goal.returns-then-refused-clause-does
+returns-then-refused-clause-does g c =
+    let h = g.M.Memory.heap c.args.memory.now in
+    refused_makes end_array_row c.args.refused h c.in-Some.depth c.args.operands.now
+    c.if-refused.true
+    (end_making h c.args.operands.now c.in-Some.depth c.in-Some.ensures.found
+    (omega (arith, c.in-Some.ensures.bound)))
+
+pub returns-in-Err-clause-does : goal.returns-in-Err-clause-does
+returns-in-Err-clause-does g c =
+    let h = g.M.Memory.heap c.args.memory.now in
+    unmade_makes end_array_row c.args.refused h (g.M.Memory.heap c.granted.new.memory)
+    c.in-Some.depth c.args.operands.now c.in-Err.reason c.if-refused.false c.in-Err.ensures.heap
+    c.in-Err.ensures.reason
+    (end_making h c.args.operands.now c.in-Some.depth c.in-Some.ensures.found
+    (omega (arith, c.in-Some.ensures.bound)))

@@ -1,13 +1,23 @@
-use Rattle.std.proofs.Common.{◌≡◌, ap, arith, ◌∙◌, subst, sym}
+use Rattle.std.proofs.Common.{◌≡◌, ◌+◌, ap, arith, ◌∙◌, subst, sym}
 use Rattle.ps_language.specs.Schedules.{count_of}
 use Rattle.ps_language.proofs.ScheduleLaws.{count_of-nil}
 use Rattle.ps_vault.specs.Reports.{AreOrdinary}
-use Rattle.ps_vault.specs.Stories.{Story}
 use Rattle.ps_vault.proofs.Kept.{ordinary_start}
+use Rattle.ps_vault.proofs.Turning.{count_times, ordinary_times}
 use Rattle.ps_vault.proofs.plain.run_plain.Goals as goal
 
-pub loop-init : goal.loop-init
-loop-init c =
-    let none : count_of c.in-Ok.vault.schedule ≡ 0 = ap (λ (story : Story). count_of story.schedule) c.in-Ok.ensures ∙ count_of-nil in
-    let ordinary : AreOrdinary c.in-Ok.vault.schedule = subst (λ (story : Story). AreOrdinary story.schedule) (sym c.in-Ok.ensures) ordinary_start in
-    record { program = ap (λ (story : Story). story.program) c.in-Ok.ensures; few = omega arith; ordinary = ordinary }
+pub into_report-requires-clause-counted : goal.into_report-requires-clause-counted
+into_report-requires-clause-counted c =
+    let none : count_of c.in-Ok.vault.schedule ≡ 0 = ap count_of c.in-Ok.ensures.schedule
+    ∙ count_of-nil in
+    let count : count_of c.turn-made.new.self.schedule ≡ count_of c.in-Ok.vault.schedule +
+    c.turn-made.result =
+    ap count_of c.turn-made.ensures.made ∙ count_times c.turn-made.result c.in-Ok.vault.schedule in
+    omega (arith, none, count)
+
+pub into_report-requires-clause-ordinary : goal.into_report-requires-clause-ordinary
+into_report-requires-clause-ordinary c =
+    let ordinary : AreOrdinary c.in-Ok.vault.schedule =
+    subst AreOrdinary (sym c.in-Ok.ensures.schedule) ordinary_start in
+    subst AreOrdinary (sym c.turn-made.ensures.made)
+    (ordinary_times c.turn-made.result c.in-Ok.vault.schedule ordinary)

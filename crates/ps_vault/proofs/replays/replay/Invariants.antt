@@ -1,4 +1,4 @@
-use Rattle.std.proofs.Common.{◌≡◌, ◌≤◌, take, length, vec_len, vec_capacity}
+use Rattle.std.proofs.Common.{◌≡◌, ◌≤◌, ◌+◌, ◌-◌, ◌*◌, take, length, vec_len, vec_capacity}
 use Rattle.ps_language.specs.Small.{small_world}
 use Rattle.ps_vault.specs.Stories.{world_at}
 use Rattle.ps_vault.proofs.replays.replay.Given as goal
@@ -10,5 +10,6 @@ invariant-loop-entry l = record {
   followed : l.followed.items ≡ take l.entry-index l.schedule;
   count : vec_len l.followed ≡ l.entry-index;
   room : length l.schedule ≤ vec_capacity l.followed;
+  spare : length l.vault.schedule + 2 * (length l.schedule - l.entry-index) ≤ l.vault.capacity;
   world : world_at l.vault ≡ small_world l.program (take l.entry-index l.schedule);
 }

@@ -11,17 +11,19 @@ returns-then-words-self c =
     let within = r.within in
     let births = r.births in
     let filled = m.filled in
-    let used = c.used.ensures in
+    let used = c.used.ensures.answer in
     let test = c.if-words-self.true in
     ap (λ k. nat_le c.args.births (1099511627776 - k)) c.next.ensures
-    ∙ has_room-words r.words r.used r.next m.size c.args.words c.args.births filled (omega (arith, limited, within, births)) (omega (arith, test, used))
+    ∙ has_room-words r.words r.used r.next m.size c.args.words c.args.births filled
+    (omega (arith, limited, within, births)) (omega (arith, test, used))
 
 pub returns-else-words-self : goal.returns-else-words-self
 returns-else-words-self c =
     let m = c.args.self.now in
     let r = m.region in
     let filled = m.filled in
-    let used = c.used.ensures in
+    let used = c.used.ensures.answer in
     let test = c.if-words-self.false in
-    ap (λ k. nat_le c.args.words (m.size - k)) c.used.ensures
-    ∙ has_room-no_words r.words r.used r.next m.size c.args.words c.args.births filled (omega (arith, test, used))
+    ap (λ k. nat_le c.args.words (m.size - k)) c.used.ensures.answer
+    ∙ has_room-no_words r.words r.used r.next m.size c.args.words c.args.births filled
+    (omega (arith, test, used))

@@ -4,4 +4,10 @@ use Rattle.ps_mem.specs.Bounded.{bounded_space}
 use Rattle.ps_mem.proofs.bounded.BoundedMemoryMemory.used.Goals as goal
 
 pub returns-clause-answer : goal.returns-clause-answer
-returns-clause-answer c = let r = c.args.self.now.region in c.used.ensures ∙ sym (used-plain r.words r.used r.next (bounded_space c.args.self.now.size))
+returns-clause-answer c = let r = c.args.self.now.region in c.used.ensures.answer
+    ∙ sym (used-plain r.words r.used r.next (bounded_space c.args.self.now.size))
+
+pub returns-clause-counted : goal.returns-clause-counted
+returns-clause-counted c = let r = c.args.self.now.region in
+    used-plain r.words r.used r.next (bounded_space c.args.self.now.size)
+    ∙ sym (c.used.ensures.counted (bounded_space c.args.self.now.size))

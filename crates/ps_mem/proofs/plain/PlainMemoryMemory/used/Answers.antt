@@ -4,4 +4,9 @@ use Rattle.ps_mem.specs.Plain.{plain_space}
 use Rattle.ps_mem.proofs.plain.PlainMemoryMemory.used.Goals as goal
 
 pub returns-clause-answer : goal.returns-clause-answer
-returns-clause-answer c = let r = c.args.self.now.region in c.used.ensures ∙ sym (used-plain r.words r.used r.next plain_space)
+returns-clause-answer c = let r = c.args.self.now.region in c.used.ensures.answer
+    ∙ sym (used-plain r.words r.used r.next plain_space)
+
+pub returns-clause-counted : goal.returns-clause-counted
+returns-clause-counted c = let r = c.args.self.now.region in
+    used-plain r.words r.used r.next plain_space ∙ sym (c.used.ensures.counted plain_space)

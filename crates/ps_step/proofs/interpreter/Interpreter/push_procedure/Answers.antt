@@ -21,9 +21,13 @@ returns-then-is_full g c =
     let h = g.M.Memory.heap c.args.memory.now in
     let view = c.self.view_is in
     let elements = tokens_in c.args.self.now.program c.args.elements.now in
-    let went = goes_raised h c.args.self.now c.requires.good c.requires.running (g.M.Memory.grants c.args.memory.now) c.args.slot (λ world. growth_needed)
+    let went = goes_raised h c.args.self.now c.requires.good c.requires.running
+    (g.M.Memory.grants c.args.memory.now) c.args.slot (λ world. growth_needed)
     (procedure_pushed c.args.refused elements) StackOverflow (Value c.null.result)
-    (λ store shows. pushed_full c.args.refused elements h c.args.self.now store (ap (λ (m : Machine). is_full m.operands) (sym view) ∙ (sym c.is_full.ensures ∙ c.if-is_full.true)) ∙ rw (c.null.ensures.value (birth_at h) small_names) refl) in
+    (λ store shows. pushed_full c.args.refused elements h c.args.self.now store
+    (ap (λ (m : Machine). is_full m.operands) (sym view)
+    ∙ (sym c.is_full.ensures ∙ c.if-is_full.true))
+    ∙ rw (c.null.ensures.value (birth_at h) small_names) refl) in
     rw c.raise.ensures went
 
 pub returns-then-not-is_small : goal.returns-then-not-is_small
@@ -32,9 +36,16 @@ returns-then-not-is_small g c =
     let h = g.M.Memory.heap c.args.memory.now in
     let view = c.self.view_is in
     let elements = tokens_in c.args.self.now.program c.args.elements.now in
-    let went = goes_raised h c.args.self.now c.requires.good c.requires.running (g.M.Memory.grants c.args.memory.now) c.args.slot (λ world. growth_needed)
+    let went = goes_raised h c.args.self.now c.requires.good c.requires.running
+    (g.M.Memory.grants c.args.memory.now) c.args.slot (λ world. growth_needed)
     (procedure_pushed c.args.refused elements) LimitCheck (Value c.null.result)
-    (λ store shows. pushed_foreign c.args.refused elements h c.args.self.now store (ap (λ (m : Machine). is_full m.operands) (sym view) ∙ (sym c.is_full.ensures ∙ c.if-is_full.false)) (ap (λ (program : List ℕ). are_small (tokens_in program c.args.elements.now)) (sym (ap (λ (m : Machine). m.program) view) ∙ sym c.as_slice.ensures.value) ∙ (sym c.is_small.ensures ∙ c.if-not-is_small.true)) ∙ rw (c.null.ensures.value (birth_at h) small_names) refl) in
+    (λ store shows. pushed_foreign c.args.refused elements h c.args.self.now store
+    (ap (λ (m : Machine). is_full m.operands) (sym view)
+    ∙ (sym c.is_full.ensures ∙ c.if-is_full.false))
+    (ap (λ (program : List ℕ). are_small (tokens_in program c.args.elements.now))
+    (sym (ap (λ (m : Machine). m.program) view) ∙ sym c.as_slice.ensures.value)
+    ∙ (sym c.is_small.ensures ∙ c.if-not-is_small.true))
+    ∙ rw (c.null.ensures.value (birth_at h) small_names) refl) in
     rw c.raise-then-not-is_small.ensures went
 
 pub returns-then-refused : goal.returns-then-refused
@@ -43,9 +54,16 @@ returns-then-refused g c =
     let h = g.M.Memory.heap c.args.memory.now in
     let view = c.self.view_is in
     let elements = tokens_in c.args.self.now.program c.args.elements.now in
-    let went = goes_raised h c.args.self.now c.requires.good c.requires.running (g.M.Memory.grants c.args.memory.now) c.args.slot (λ world. growth_needed)
+    let went = goes_raised h c.args.self.now c.requires.good c.requires.running
+    (g.M.Memory.grants c.args.memory.now) c.args.slot (λ world. growth_needed)
     (procedure_pushed c.args.refused elements) VmError (Value c.null.result)
-    (λ store shows. pushed_refused c.args.refused elements h c.args.self.now store (ap (λ (m : Machine). is_full m.operands) (sym view) ∙ (sym c.is_full.ensures ∙ c.if-is_full.false)) (ap (λ (program : List ℕ). are_small (tokens_in program c.args.elements.now)) (sym (ap (λ (m : Machine). m.program) view) ∙ sym c.as_slice.ensures.value) ∙ (sym c.is_small.ensures ∙ c.if-not-is_small.false)) c.if-refused.true ∙ rw (c.null.ensures.value (birth_at h) small_names) refl) in
+    (λ store shows. pushed_refused c.args.refused elements h c.args.self.now store
+    (ap (λ (m : Machine). is_full m.operands) (sym view)
+    ∙ (sym c.is_full.ensures ∙ c.if-is_full.false))
+    (ap (λ (program : List ℕ). are_small (tokens_in program c.args.elements.now))
+    (sym (ap (λ (m : Machine). m.program) view) ∙ sym c.as_slice.ensures.value)
+    ∙ (sym c.is_small.ensures ∙ c.if-not-is_small.false)) c.if-refused.true
+    ∙ rw (c.null.ensures.value (birth_at h) small_names) refl) in
     rw c.raise-then-refused.ensures went
 
 pub returns-in-Ok : goal.returns-in-Ok
@@ -54,15 +72,28 @@ returns-in-Ok g c =
     let old = g.M.Memory.heap c.args.memory.now in
     let new = g.M.Memory.heap c.make_procedure.new.memory in
     let view = c.self.view_is in
-    let text : c.args.self.now.program ≡ c.self.inside.program.items = sym (ap (λ (m : Machine). m.program) view) in
+    let text : c.args.self.now.program ≡ c.self.inside.program.items =
+    sym (ap (λ (m : Machine). m.program) view) in
     let elements = tokens_in c.args.self.now.program c.args.elements.now in
-    let small : are_small elements ≡ true = ap (λ (program : List ℕ). are_small (tokens_in program c.args.elements.now)) (text ∙ sym c.as_slice.ensures.value) ∙ (sym c.is_small.ensures ∙ c.if-not-is_small.false) in
-    let made = subst (λ (program : List ℕ). IsMade (small_procedure (tokens_in program c.args.elements.now)) old new c.in-Ok.word) (c.as_slice-2.ensures.value ∙ sym text) c.in-Ok.ensures.made in
-    let went = goes_made_procedure c.args.refused elements c.args.slot (g.M.Memory.grants c.args.memory.now) (g.M.Memory.grants c.make_procedure.new.memory) old new c.args.self.now c.requires.good c.requires.running
-    (ap (λ (m : Machine). is_full m.operands) (sym view) ∙ (sym c.is_full.ensures ∙ c.if-is_full.false)) small c.if-refused.false (λ store. c.procedure_laws.ensures.room elements store small) c.in-Ok.word made
-    (same_records _ _ c.args.slot c.make_procedure.ensures.closed c.make_procedure.ensures.records) in
+    let small : are_small elements ≡ true =
+    ap (λ (program : List ℕ). are_small (tokens_in program c.args.elements.now))
+    (text ∙ sym c.as_slice.ensures.value)
+    ∙ (sym c.is_small.ensures ∙ c.if-not-is_small.false) in
+    let made = subst (λ (program : List ℕ). IsMade
+    (small_procedure (tokens_in program c.args.elements.now)) old new c.in-Ok.word)
+    (c.as_slice-2.ensures.value ∙ sym text) c.in-Ok.ensures.made in
+    let went = goes_made_procedure c.args.refused elements c.args.slot
+    (g.M.Memory.grants c.args.memory.now) (g.M.Memory.grants c.make_procedure.new.memory) old
+    new c.args.self.now c.requires.good c.requires.running
+    (ap (λ (m : Machine). is_full m.operands) (sym view)
+    ∙ (sym c.is_full.ensures ∙ c.if-is_full.false)) small c.if-refused.false
+    (λ store. c.procedure_laws.ensures.room elements store small) c.in-Ok.word made
+    (same_records _ _ c.args.slot c.make_procedure.ensures.logs) in
     rw c.push_within.ensures
-    (subst (λ (m : Machine). Goes (λ world. growth_needed) (procedure_pushed c.args.refused elements) (Ok (tt {0})) c.args.slot (g.M.Memory.grants c.args.memory.now) (g.M.Memory.grants c.make_procedure.new.memory) old new c.args.self.now m)
+    (subst (λ (m : Machine). Goes (λ world. growth_needed)
+    (procedure_pushed c.args.refused elements) (Ok (tt {0})) c.args.slot
+    (g.M.Memory.grants c.args.memory.now) (g.M.Memory.grants c.make_procedure.new.memory) old
+    new c.args.self.now m)
     (ap (λ (m : Machine). record m { operands = c.in-Ok.word ∷ m.operands }) (sym view)) went)
 
 pub returns-in-Err : goal.returns-in-Err
@@ -71,12 +102,25 @@ returns-in-Err g c =
     let old = g.M.Memory.heap c.args.memory.now in
     let new = g.M.Memory.heap c.make_procedure.new.memory in
     let view = c.self.view_is in
-    let text : c.args.self.now.program ≡ c.self.inside.program.items = sym (ap (λ (m : Machine). m.program) view) in
+    let text : c.args.self.now.program ≡ c.self.inside.program.items =
+    sym (ap (λ (m : Machine). m.program) view) in
     let elements = tokens_in c.args.self.now.program c.args.elements.now in
-    let small : are_small elements ≡ true = ap (λ (program : List ℕ). are_small (tokens_in program c.args.elements.now)) (text ∙ sym c.as_slice.ensures.value) ∙ (sym c.is_small.ensures ∙ c.if-not-is_small.false) in
-    let reason = subst (λ (program : List ℕ). IsRefused c.in-Err.reason (tokens_in program c.args.elements.now) old (vec_capacity c.self.inside.scratch)) (c.as_slice-2.ensures.value ∙ sym text) c.in-Err.ensures.refused in
-    let went = goes_no_procedure c.args.refused elements c.args.slot (g.M.Memory.grants c.args.memory.now) (g.M.Memory.grants c.make_procedure.new.memory) old new c.args.self.now c.requires.good c.requires.running
-    (ap (λ (m : Machine). is_full m.operands) (sym view) ∙ (sym c.is_full.ensures ∙ c.if-is_full.false)) small c.if-refused.false (λ store. c.procedure_laws.ensures.room elements store small) c.in-Err.reason (vec_capacity c.self.inside.scratch) reason
-    c.in-Err.ensures.unchanged (same_records _ _ c.args.slot c.make_procedure.ensures.closed c.make_procedure.ensures.records) in
-    subst (λ (m : Machine). Goes (λ world. growth_needed) (procedure_pushed c.args.refused elements) (Err c.in-Err.reason) c.args.slot (g.M.Memory.grants c.args.memory.now) (g.M.Memory.grants c.make_procedure.new.memory) old new c.args.self.now m)
+    let small : are_small elements ≡ true =
+    ap (λ (program : List ℕ). are_small (tokens_in program c.args.elements.now))
+    (text ∙ sym c.as_slice.ensures.value)
+    ∙ (sym c.is_small.ensures ∙ c.if-not-is_small.false) in
+    let reason = subst (λ (program : List ℕ). IsRefused c.in-Err.reason
+    (tokens_in program c.args.elements.now) old (vec_capacity c.self.inside.scratch))
+    (c.as_slice-2.ensures.value ∙ sym text) c.in-Err.ensures.refused in
+    let went = goes_no_procedure c.args.refused elements c.args.slot
+    (g.M.Memory.grants c.args.memory.now) (g.M.Memory.grants c.make_procedure.new.memory) old
+    new c.args.self.now c.requires.good c.requires.running
+    (ap (λ (m : Machine). is_full m.operands) (sym view)
+    ∙ (sym c.is_full.ensures ∙ c.if-is_full.false)) small c.if-refused.false
+    (λ store. c.procedure_laws.ensures.room elements store small) c.in-Err.reason
+    (vec_capacity c.self.inside.scratch) reason
+    c.in-Err.ensures.unchanged (same_records _ _ c.args.slot c.make_procedure.ensures.logs) in
+    subst (λ (m : Machine). Goes (λ world. growth_needed) (procedure_pushed c.args.refused elements)
+    (Err c.in-Err.reason) c.args.slot (g.M.Memory.grants c.args.memory.now)
+    (g.M.Memory.grants c.make_procedure.new.memory) old new c.args.self.now m)
     (sym view) went

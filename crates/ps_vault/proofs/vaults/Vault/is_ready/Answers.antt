@@ -7,7 +7,9 @@ pub returns-then-context-eq-FIRST_CONTEXT : goal.returns-then-context-eq-FIRST_C
 returns-then-context-eq-FIRST_CONTEXT c =
     c.has_steps.ensures
     ∙ ready_shown _ c.self.inside.interpreter (world_at c.args.self.now) c.args.context
-    (shown_at _ c.self.inside.interpreter c.self.inside.schedule.items c.self.inside.made c.args.self.now c.self.invariant c.self.view_is) c.if-context-eq-FIRST_CONTEXT.true
+    (shown_at _ c.self.inside.interpreter c.self.inside.schedule.items _ c.args.self.now
+    c.self.invariant c.self.view_is) c.if-context-eq-FIRST_CONTEXT.true
 
 pub returns-else-context-eq-FIRST_CONTEXT : goal.returns-else-context-eq-FIRST_CONTEXT
-returns-else-context-eq-FIRST_CONTEXT c = unready_other (world_at c.args.self.now) c.args.context c.if-context-eq-FIRST_CONTEXT.false
+returns-else-context-eq-FIRST_CONTEXT c =
+    unready_other (world_at c.args.self.now) c.args.context c.if-context-eq-FIRST_CONTEXT.false

@@ -7,5 +7,7 @@ use Rattle.ps_vault.proofs.vaults.Vault.new.Goals as goal
 
 pub invariant_of-result : goal.invariant_of-result
 invariant_of-result c =
-    let good = subst (λ (m : Machine). IsGood (empty_heap plain_space) m) c.in_ok-interpreter.ensures.starting (c.in_ok-interpreter.ensures.good plain_space) in
-    rw (c.in_ok-interpreter.ensures.starting, c.new-2.ensures, c.new-3.ensures.items) (keeps_start c.args.program.now good)
+    let good = subst (λ (m : Machine). IsGood (empty_heap plain_space) m)
+    c.in_ok-interpreter.ensures.starting (c.in_ok-interpreter.ensures.good plain_space) in
+    rw (c.in_ok-interpreter.ensures.starting, c.new-2.ensures, c.in_ok-schedule.ensures.items)
+    (keeps_start c.args.program.now good)

@@ -1,0 +1,111 @@
+//! The index of a dictionary's keys, in the last words of its body: the position of each pair,
+//! placed by the hash number of its key.
+
+ghost use Rattle.std.specs.Prelude.{◌≡◌, ℕ, ◌+◌, ◌-◌, ◌*◌, ◌%◌, ◌<◌, ◌≤◌, ◌^◌, true, [], ◌∷◌, List, Option, Some, None, drop, length, map, slice_get, slice_set, option_map, if◌then◌else◌, nat_lt};
+ghost use Rattle.ps_word.specs.declared.words.Word.{Word as TheWord};
+ghost use Rattle.ps_mem.specs.Heap.{birth_at, fields_at};
+ghost use Rattle.ps_mem.specs.Index.{hash_of};
+ghost use Rattle.ps_mem.specs.Shows.{IsValue};
+ghost use Rattle.ps_dict.specs.Places.{IsPlaceFor};
+
+use ps_mem::Memory;
+use ps_word::operators::number_of;
+use ps_word::values::Content;
+use ps_word::words::Word;
+
+/// The hash number of a key: of a reference by the birth number of what it names, which stays where
+/// that moves.
+pub fn hash_number<M: Memory>(memory: &mut M, key: Word) -> u64
+    requires held { IsValue (M.heap memory.old) key }
+    ensures heap { M.heap memory.new ≡ M.heap memory.old }
+    ensures grants { M.grants memory.new ≡ M.grants memory.old }
+    ensures answer { result ≡ hash_of (birth_at (M.heap memory.old)) key }
+{
+    match key.content() {
+        Content::Null => 0,
+        Content::Mark => 0,
+        Content::Integer(number) => number.cast_unsigned() as u64,
+        Content::Boolean(truth) => truth as u64,
+        Content::Name(number) => number as u64,
+        Content::Operator(operator) => number_of(operator) as u64,
+        Content::Array(part) => memory.header(part.address).birth
+            + part.offset as u64
+            + part.length as u64,
+        Content::Text(part) => memory.header(part.address).birth,
+        Content::Dictionary(address) => memory.header(address).birth,
+        Content::Lock(address) => memory.header(address).birth,
+        Content::Condition(address) => memory.header(address).birth,
+        Content::Body(address) => memory.header(address).birth,
+    }
+}
+
+/// The place at which a key is looked for first, of so many.
+pub(crate) fn first_place<M: Memory>(memory: &mut M, key: Word, capacity: u32) -> u32
+    requires held { IsValue (M.heap memory.old) key }
+    requires some { 0 < capacity }
+    ensures heap { M.heap memory.new ≡ M.heap memory.old }
+    ensures grants { M.grants memory.new ≡ M.grants memory.old }
+    ensures answer { result ≡ hash_of (birth_at (M.heap memory.old)) key % capacity }
+    ensures below { result < capacity }
+{
+    (hash_number(memory, key) % capacity as u64) as u32
+}
+
+/// The place so many behind another, going round.
+#[inline]
+pub(crate) fn place_behind(start: u32, behind: u32, capacity: u32) -> u32
+    requires start { start < capacity }
+    requires behind { behind < capacity }
+    requires few { capacity ≤ 21845 }
+    ensures answer { result ≡
+        (if nat_lt (start + behind) capacity then start + behind else start + behind - capacity) }
+    ensures below { result < capacity }
+{
+    let place = start + behind;
+    if place < capacity {
+        place
+    } else {
+        place - capacity
+    }
+}
+
+/// The free place of a body's index in which the position of a new key goes.
+pub(crate) fn free_place<M: Memory>(memory: &mut M, body: u32, capacity: u32, key: Word) -> u32
+    requires some { 0 < capacity }
+    requires few { capacity ≤ 21845 }
+    requires held { IsValue (M.heap memory.old) key }
+    requires room { 3 * capacity ≤ length (fields_at (M.heap memory.old) body) }
+    ensures heap { M.heap memory.new ≡ M.heap memory.old }
+    ensures grants { M.grants memory.new ≡ M.grants memory.old }
+    ensures below { result < capacity }
+    ensures placed { IsPlaceFor (drop (2 * capacity) (fields_at (M.heap memory.old) body)) capacity
+        (hash_of (birth_at (M.heap memory.old)) key % capacity) result }
+{
+    let start = first_place(memory, key, capacity);
+    for behind in 0..capacity {
+        let place = place_behind(start, behind, capacity);
+        match memory.load(body, 2 * capacity + place).as_integer() {
+            Some(_) => {}
+            None => return place,
+        }
+    }
+    start
+}
+
+/// The free place of an index outside the memory in which the next position goes.
+pub(crate) fn free_in(places: &[Word], start: u32, capacity: u32) -> u32
+    requires start { start < capacity }
+    requires few { capacity ≤ 21845 }
+    requires all { length places.now ≡ capacity }
+    ensures below { result < capacity }
+    ensures placed { IsPlaceFor places.now capacity start result }
+{
+    for behind in 0..capacity {
+        let place = place_behind(start, behind, capacity);
+        match places[place as usize].as_integer() {
+            Some(_) => {}
+            None => return place,
+        }
+    }
+    start
+}

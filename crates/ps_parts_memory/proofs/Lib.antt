@@ -1,0 +1,10 @@
+pub mod Bodies
+pub mod Cycles
+pub mod Facts
+pub mod GoesOn
+pub mod Logged
+pub mod Made
+pub mod Room
+pub mod Standing
+pub mod Stored
+pub mod Written

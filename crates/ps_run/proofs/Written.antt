@@ -1,0 +1,105 @@
+-- What an output holds after writes.
+use Rattle.std.proofs.Common.{◌≡◌, ◌+◌, ◌-◌, ◌≤◌, ℕ, zero, suc, List, [], ◌∷◌, ◌++◌, Option, Some, None, take, drop, length, refl, sym, ap, ◌∙◌, subst, arith, append_assoc, append-nil, take-append-drop, length-drop}
+use Rattle.std.specs.Prelude.{Result, Ok, Err, OnOk}
+use Rattle.std.specs.Io.KnownBytes.{Appends, WriteAppends}
+use Rattle.std.proofs.KnownBytes.{Appends-trans}
+use Rattle.std.proofs.lemmas.List.{take_all}
+use Rattle.ps_run.specs.Driving.{AppendsPart}
+
+-- ---- beginnings
+
+-- bytes, and then a beginning of others
+pub part_behind : (a b c : Option (List ℕ)) (xs ys : List ℕ) → Appends a b xs → AppendsPart b c ys
+    → AppendsPart a c (xs ++ ys)
+part_behind a b c xs ys first second = record {
+  part = xs ++ second.part;
+  rest = second.rest;
+  is = ap (λ bytes. xs ++ bytes) second.is ∙ sym (append_assoc xs second.part second.rest);
+  written = Appends-trans a b c xs second.part first second.written;
+}
+
+-- a beginning of bytes is one of those with others behind them
+pub part_before : (a b : Option (List ℕ)) (xs ys : List ℕ) → AppendsPart a b xs
+    → AppendsPart a b (xs ++ ys)
+part_before a b xs ys some = record {
+  part = some.part;
+  rest = some.rest ++ ys;
+  is = ap (λ bytes. bytes ++ ys) some.is ∙ append_assoc some.part some.rest ys;
+  written = some.written;
+}
+
+-- all bytes are one
+pub part_whole : (a b : Option (List ℕ)) (xs : List ℕ) → Appends a b xs → AppendsPart a b xs
+part_whole a b xs all = record { part = xs; rest = []; is = sym (append-nil xs); written = all }
+
+-- what was taken of them
+pub part_taken : (a b : Option (List ℕ)) (bytes : List ℕ) (n : ℕ) → Appends a b (take n bytes)
+    → AppendsPart a b bytes
+part_taken a b bytes n some =
+    record {
+      part = take n bytes;
+      rest = drop n bytes;
+      is =
+          sym (take-append-drop n bytes);
+      written = some;
+    }
+
+-- a write of some behind those that were taken
+abbrev the_nil : List ℕ
+the_nil = []
+
+take_none : (n : ℕ) → take n the_nil ≡ the_nil
+take_none zero = refl
+take_none (suc n) = refl
+
+take_behind : (m n : ℕ) (xs : List ℕ) → take (m + n) xs ≡ take m xs ++ take n (drop m xs)
+take_behind zero n xs = let same : zero + n ≡ n = omega arith in ap (λ k. take k xs) same
+take_behind (suc m) n [] = let more : suc m + n ≡ suc (m + n) = omega arith in
+    ap (λ k. take k (the_nil)) more ∙ sym (take_none n)
+take_behind (suc m) n (x ∷ xs) = let more : suc m + n ≡ suc (m + n) = omega arith in
+    ap (λ k. take k (x ∷ xs)) more ∙ ap (λ bytes. x ∷ bytes) (take_behind m n xs)
+
+taken_more : (a b c : Option (List ℕ)) (bytes : List ℕ) (m n : ℕ) → Appends a b (take m bytes)
+    → Appends b c (take n (drop m bytes)) → Appends a c (take (m + n) bytes)
+taken_more a b c bytes m n first second =
+    subst (Appends a c) (sym (take_behind m n bytes)) (Appends-trans a b c _ _ first second)
+
+-- what is left is taken whole
+rest_whole : (bytes : List ℕ) (m : ℕ) → take (length bytes - m) (drop m bytes) ≡ drop m bytes
+rest_whole bytes m = take_all (length bytes - m) (drop m bytes)
+    (let left = length-drop m bytes in omega (arith, left))
+
+pub taken_slice : (a b c : Option (List ℕ)) (bytes : List ℕ) (m n : ℕ) → Appends a b (take m bytes)
+    → Appends b c (take n (take (length bytes - m) (drop m bytes)))
+    → Appends a c (take (m + n) bytes)
+taken_slice a b c bytes m n first second =
+    taken_more a b c bytes m n first
+    (subst (λ (rest : List ℕ). Appends b c (take n rest)) (rest_whole bytes m) second)
+
+pub taken_few : (bytes : List ℕ) (m n : ℕ) → m ≤ length bytes
+    → n ≤ length (take (length bytes - m) (drop m bytes)) → m + n ≤ length bytes
+taken_few bytes m n few more =
+    let rest = ap {B = ℕ} (λ (r : List ℕ). length r) (rest_whole bytes m) in
+    let left = length-drop m bytes in
+    omega (arith, few, more, rest, left)
+
+-- what a write took, and that it took none
+pub wrote : {E : Type 0} (a b : Option (List ℕ)) (r : Result ℕ E) (n : ℕ) (bytes : List ℕ)
+    → r ≡ Ok n → WriteAppends a b r bytes → Appends a b (take n bytes)
+wrote a b (Ok k) n bytes is took =
+    subst (λ m. Appends a b (take m bytes)) (let same : k ≡ n = cc in same) took
+wrote a b (Err e) n bytes is took = cc
+
+-- bytes that are behind one another
+pub joined_three : (a b c d : Option (List ℕ)) (xs ys zs : List ℕ) → Appends a b xs → Appends b c ys
+    → Appends c d zs → Appends a d (xs ++ (ys ++ zs))
+joined_three a b c d xs ys zs first second third =
+    Appends-trans a b d xs (ys ++ zs) first (Appends-trans b c d ys zs second third)
+
+pub on_ok : {A E : Type 0} {P : Type 0} (r : Result A E) → P → OnOk r P
+on_ok (Ok done) p = p
+on_ok (Err error) p = tt
+
+pub ok_map : {A E : Type 0} {P Q : Type 0} (r : Result A E) → (P → Q) → OnOk r P → OnOk r Q
+ok_map (Ok done) next p = next p
+ok_map (Err error) next p = tt

@@ -1,0 +1,43 @@
+//! Bytes written as far as an output takes them.
+
+ghost use Rattle.std.specs.Prelude.{◌≡◌, ◌++◌, OnOk, codes};
+ghost use Rattle.std.specs.Fmt.{decimal};
+ghost use Rattle.std.specs.Io.KnownBytes.{Appends};
+ghost use Rattle.ps_run.specs.Driving.{AppendsPart, number_line};
+
+use itoa::Buffer;
+use std::io::{self, ErrorKind, Write};
+
+/// Writes bytes; where a write fails the output has a beginning of them.
+pub fn write_part<W: Write>(out: &mut W, bytes: &[u8]) -> io::Result<()>
+    ensures part { AppendsPart (W.contents out.old) (W.contents out.new) bytes.now }
+    ensures whole { OnOk result (Appends (W.contents out.old) (W.contents out.new) bytes.now) }
+{
+    let mut written = 0;
+    for _ in 0..u64::MAX {
+        if written == bytes.len() {
+            return Ok(());
+        }
+        match out.write(&bytes[written..]) {
+            Ok(0) => return Err(io::Error::from(ErrorKind::WriteZero)),
+            Ok(count) => written += count,
+            Err(error) if error.kind() == ErrorKind::Interrupted => {}
+            Err(error) => return Err(error),
+        }
+    }
+    Err(io::Error::from(ErrorKind::Interrupted))
+}
+
+/// Writes a label, a number and the end of the line; where a write fails the output has a beginning
+/// of them.
+pub fn write_number<W: Write>(out: &mut W, label: &[u8], number: u64) -> io::Result<()>
+    ensures part { AppendsPart (W.contents out.old) (W.contents out.new)
+        (number_line label.now number) }
+    ensures whole { OnOk result
+        (Appends (W.contents out.old) (W.contents out.new) (number_line label.now number)) }
+{
+    let mut digits = Buffer::new();
+    write_part(out, label)?;
+    write_part(out, digits.format(number).as_bytes())?;
+    write_part(out, b"\n")
+}
