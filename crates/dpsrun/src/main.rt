@@ -1,7 +1,9 @@
 //! `dpsrun`: runs a program in the PostScript language.
 #![tactic(auto)]
 
-use ps_run::{FileSet, MOST_PROGRAM_BYTES, ReadFault, WriteFault, drive};
+ghost use Rattle.std.specs.Prelude.{◌≤◌, IfOk, vec_len};
+
+use ps_run::{FileSet, Flushed, MOST_PROGRAM_BYTES, ReadFault, WriteFault, drive};
 use std::alloc::Global;
 use std::env;
 use std::fs::{self, File};
@@ -12,10 +14,15 @@ use std::process::ExitCode;
 #[derive(Drop)]
 struct SystemFiles<'a> {
     rt: &'a HostRuntime,
+    /// Why the last read that failed did.
+    last_fault: Option<ReadFault>,
 }
 
-impl FileSet for SystemFiles<'_> {
-    fn read(&mut self, alloc: Global, name: &str) -> Result<Vec<u8>, ReadFault> {
+impl SystemFiles<'_> {
+    /// The bytes of a file.
+    fn bytes_of(&self, alloc: Global, name: &str) -> Result<Vec<u8>, ReadFault>
+        ensures { IfOk result (λ bytes. vec_len bytes ≤ 16777215) }
+    {
         let mut bytes = Vec::new(alloc);
         let Ok(file) = File::open(self.rt, name) else {
             return Err(ReadFault::NoRead);
@@ -30,6 +37,18 @@ impl FileSet for SystemFiles<'_> {
             Err(_) => Err(ReadFault::NoRead),
         }
     }
+}
+
+impl FileSet for SystemFiles<'_> {
+    ghost last_fault = { λ files. files.last_fault };
+
+    fn read(&mut self, alloc: Global, name: &str) -> Result<Vec<u8>, ReadFault> {
+        let read = self.bytes_of(alloc, name);
+        if let Err(fault) = &read {
+            self.last_fault = Some(*fault);
+        }
+        read
+    }
 
     fn write(&mut self, name: &str, bytes: &[u8]) -> Result<(), WriteFault> {
         fs::write(self.rt, name, bytes).map_err(|_| WriteFault::NoWrite)
@@ -41,12 +60,15 @@ fn run(rt: &HostRuntime) -> io::Result<u8> {
     let alloc = rt.alloc();
     let arguments: Vec<String> = env::args(rt)?.skip(1).collect(alloc)?;
     let words: Vec<&str> = arguments.iter().map(|word| word.as_str()).collect(alloc)?;
-    let mut files = SystemFiles { rt };
+    let mut files = SystemFiles {
+        rt,
+        last_fault: None,
+    };
     Ok(drive(
         alloc,
         words.as_slice(),
         &mut files,
-        &mut rt.stdout(),
+        &mut Flushed::new(rt.stdout()),
         &mut rt.stderr(),
     ))
 }

@@ -24,7 +24,7 @@ use Rattle.ps_ops.specs.declared.failure.NotMade.TheVariants.{LogFull, LogClosed
 use Rattle.ps_ops.specs.declared.failure.Failure.{Failure}
 use Rattle.ps_ops.specs.declared.failure.Failure.TheVariants.{Error, NotMade}
 use Rattle.ps_ops.specs.Does.{values_in, ObservesAs, Agrees, KeepsLogs, IsRecordReason, Changes, refusing, IsRoomReason, Makes}
-use Rattle.ps_operators.specs.Does.{PrintsAs, Prints}
+use Rattle.ps_operators.specs.Does.{outgrows, PrintsAs, Prints}
 use Rattle.ps_operators.specs.Reasons.{Needs, stores_needed, operator_needs, IsReason}
 use Rattle.ps_operators.specs.Operates.{OperatesAs, Operates, is_observing, observed, ObservesBy, raised_of}
 use Rattle.ps_operators.proofs.Chosen.{observing_effect}
@@ -41,11 +41,12 @@ small_effect-row operator which row refused operands store is named =
     (ap small_row named ∙ is)
 
 -- and what it needs
-operator_needs-which : (operator which : Operator) (operands : List Value) (needs : Needs)
-    → operator_needs which operands ≡ needs → operator ≡ which
-    → operator_needs operator operands ≡ needs
-operator_needs-which operator which operands needs are named =
-    ap (λ (o : Operator). operator_needs o operands) named ∙ are
+operator_needs-which : (room : ℕ) (operator which : Operator) (operands : List Value) (needs :
+    Needs)
+    → operator_needs room which operands ≡ needs → operator ≡ which
+    → operator_needs room operator operands ≡ needs
+operator_needs-which room operator which operands needs are named =
+    ap (λ (o : Operator). operator_needs room o operands) named ∙ are
 
 -- ---- operators that change nothing but operands
 
@@ -65,36 +66,42 @@ observed_operates needs (Err error) (leaves operands) slot asked left h before a
 observed_operates needs (Err error) (fails raised) slot asked left h before after printed store
     shows did = (did.0, (refl, did.1, refl))
 
-observing_same : (operator : Operator) (refused : Bool) (result : Result Unit ErrorName) (slot : ℕ)
+observing_same : (operator : Operator) (refused : Bool) (result : Result Unit ErrorName) (room slot
+    : ℕ)
     (asked left : Grants) (h : Heap) (before after : List Word) (printed : List ℕ)
     → is_observing operator ≡ true → ObservesBy operator result h before after
-    → Operates operator refused (raised_of result) slot asked left h h before after printed
+    → Operates operator refused (raised_of result) room slot asked left h h before after printed
     printed
 unfolding small_effect
-observing_same operator refused result slot asked left h before after printed chosen did = record {
-  meets = λ store shows within.
-      let operands : List Value = values_in h small_names before in
-      let needs : Needs = operator_needs operator operands in
-      subst (λ (effect : Effect). OperatesAs needs (raised_of result) effect slot asked left h h
-      before after printed printed store)
-      (sym (observing_effect operator (small_around refused) (small_scene operands store) chosen))
-      (observed_operates needs result (observed (small_row operator) store operands) slot asked left
-      h before after printed store shows (did.meets store shows within));
-}
+observing_same operator refused result room slot asked left h before after printed chosen did =
+    record {
+      meets = λ store shows within.
+          let operands : List Value = values_in h small_names before in
+          let needs : Needs = operator_needs room operator operands in
+          subst (λ (effect : Effect). OperatesAs needs (raised_of result) effect slot asked left h h
+          before after printed printed store)
+          (sym (observing_effect operator (small_around refused) (small_scene operands store)
+          chosen))
+          (observed_operates needs result (observed (small_row operator) store operands) slot asked
+          left
+          h before after printed store shows (did.meets store shows within));
+    }
 
 pub observing_operates : (operator : Operator) (refused : Bool) (result : Result Unit ErrorName)
-    (outcome : Result Unit Failure) (slot : ℕ) (asked left : Grants) (old new : Heap)
+    (outcome : Result Unit Failure) (room slot : ℕ) (asked left : Grants) (old new : Heap)
     (before after : List Word) (printed : List ℕ)
     → is_observing operator ≡ true → ObservesBy operator result old before after → new ≡ old
     → outcome ≡ raised_of result
-    → Operates operator refused outcome slot asked left old new before after printed printed
-observing_operates operator refused result outcome slot asked left old new before after printed
+    → Operates operator refused outcome room slot asked left old new before after printed printed
+observing_operates operator refused result outcome room slot asked left old new before after printed
     chosen did same raised =
-    subst (λ (h : Heap). Operates operator refused outcome slot asked left old h before after
+    subst (λ (h : Heap). Operates operator refused outcome room slot asked left old h before after
     printed printed) (sym same)
-    (subst (λ (o : Result Unit Failure). Operates operator refused o slot asked left old old before
+    (subst (λ (o : Result Unit Failure). Operates operator refused o room slot asked left old old
+    before
     after printed printed) (sym raised)
-    (observing_same operator refused result slot asked left old before after printed chosen did))
+    (observing_same operator refused result room slot asked left old before after printed chosen
+    did))
 
 -- a heap that is as it was
 pub keeps_same : (old new : Heap) → new ≡ old → Keeps old new
@@ -114,55 +121,60 @@ keeps_logs_same old new slot same =
 
 -- ---- an operator that prints
 
-prints_operates : (needs : Needs) (result : Result Unit Failure) (outcome : Outcome Printing)
-    (slot : ℕ) (asked left : Grants) (h : Heap) (before after : List Word)
-    (printed_before printed_after : List ℕ) (store : Store)
-    → ((printing : Printing) → outcome ≡ leaves printing → needs.growth ≡ true)
+prints_operates : (needs : Needs) (room : ℕ) (result : Result Unit Failure)
+    (outcome : Outcome Printing) (slot : ℕ) (asked left : Grants) (h : Heap)
+    (before after : List Word) (printed_before printed_after : List ℕ) (store : Store)
+    → ((printing : Printing) → outcome ≡ leaves printing
+    → needs.growth ≡ outgrows room printing.output)
     → Shows h small_names store
-    → PrintsAs result outcome store h before after printed_before printed_after
+    → PrintsAs result outcome room store h before after printed_before printed_after
     → OperatesAs needs result
     (printing_effect (small_scene (values_in h small_names before) store) outcome) slot asked
     left h h before after printed_before printed_after store
-prints_operates needs (Ok _) (leaves printing) slot asked left h before after printed_before
+prints_operates needs room (Ok _) (leaves printing) slot asked left h before after printed_before
     printed_after store needed shows did = (did.0, shows, did.1, did.2)
-prints_operates needs (Ok _) (fails raised) slot asked left h before after printed_before
+prints_operates needs room (Ok _) (fails raised) slot asked left h before after printed_before
     printed_after store needed shows did = absurd did
-prints_operates needs (Err (Error error)) (leaves printing) slot asked left h before after
+prints_operates needs room (Err (Error error)) (leaves printing) slot asked left h before after
     printed_before printed_after store needed shows did = absurd did
-prints_operates needs (Err (Error error)) (fails raised) slot asked left h before after
+prints_operates needs room (Err (Error error)) (fails raised) slot asked left h before after
     printed_before printed_after store needed shows did = (did.0, (refl, did.1, did.2))
-prints_operates needs (Err (NotMade reason)) (leaves printing) slot asked left h before after
+prints_operates needs room (Err (NotMade reason)) (leaves printing) slot asked left h before after
     printed_before printed_after store needed shows did = (
       subst (λ (why : Reason). IsReason needs why h slot asked left store store) (sym did.0)
-          (rw (needed printing refl) refl),
-      (refl, did.1, did.2),
+          (rw (needed printing refl ∙ did.1) refl),
+      (refl, did.2, did.3),
     )
-prints_operates needs (Err (NotMade reason)) (fails raised) slot asked left h before after
+prints_operates needs room (Err (NotMade reason)) (fails raised) slot asked left h before after
     printed_before printed_after store needed shows did = absurd did
 
 pub printing_operates : (operator which : Operator) (row : List Value → Outcome Printing)
-    (refused : Bool) (result : Result Unit Failure) (slot : ℕ) (asked left : Grants) (h : Heap)
+    (refused : Bool) (result : Result Unit Failure) (room slot : ℕ) (asked left : Grants) (h : Heap)
     (before after : List Word) (printed_before printed_after : List ℕ)
     → small_row which ≡ printing_row (λ store. row)
     → ((operands : List Value) (printing : Printing) → row operands ≡ leaves printing
-    → (operator_needs which operands).growth ≡ true) → operator ≡ which
-    → Prints row result h before after printed_before printed_after
-    → Operates operator refused result slot asked left h h before after printed_before printed_after
-printing_operates operator which row refused result slot asked left h before after printed_before
-    printed_after is needed named did = record {
+    → (operator_needs room which operands).growth ≡ outgrows room printing.output)
+    → operator ≡ which
+    → Prints row result room h before after printed_before printed_after
+    → Operates operator refused result room slot asked left h h before after printed_before
+    printed_after
+printing_operates operator which row refused result room slot asked left h before after
+    printed_before printed_after is needed named did = record {
       meets = λ store shows within.
           let operands : List Value = values_in h small_names before in
           subst (λ (needs : Needs). OperatesAs needs result
           (small_effect operator refused operands store) slot asked left h h before after
           printed_before printed_after store)
-          (sym (operator_needs-which operator which operands (operator_needs which operands) refl
+          (sym (operator_needs-which room operator which operands
+          (operator_needs room which operands) refl named))
+          (subst (λ (effect : Effect). OperatesAs (operator_needs room which operands) result effect
+          slot asked left h h before after printed_before printed_after store)
+          (sym (small_effect-row operator which (printing_row (λ store. row)) refused operands store
+          is
           named))
-          (subst (λ (effect : Effect). OperatesAs (operator_needs which operands) result effect slot
-          asked left h h before after printed_before printed_after store)
-          (sym (small_effect-row operator which (printing_row (λ store. row)) refused operands store is
-          named))
-          (prints_operates (operator_needs which operands) result (row operands) slot asked left h
-          before after printed_before printed_after store (needed operands) shows
+          (prints_operates (operator_needs room which operands) room result (row operands) slot
+          asked
+          left h before after printed_before printed_after store (needed operands) shows
           (did.meets store shows within)));
     }
 
@@ -170,11 +182,18 @@ abbrev has_left : Outcome Printing → Type 0
 has_left (leaves printing) = Unit {0}
 has_left (fails error) = ⊥
 
--- where `=` leaves something, it appends
-pub equals_needed : (operands : List Value) (printing : Printing)
-    → small_equals_row operands ≡ leaves printing → (operator_needs Equals operands).growth ≡ true
-equals_needed [] printing is = absurd (subst has_left (sym is) tt)
-equals_needed (x ∷ rest) printing is = refl
+-- the bytes that a row leaves
+abbrev output_of : Outcome Printing → List ℕ
+output_of (leaves printing) = printing.output
+output_of (fails error) = []
+
+-- where `=` leaves something, it needs the room for that
+pub equals_needed : (room : ℕ) (operands : List Value) (printing : Printing)
+    → small_equals_row operands ≡ leaves printing
+    → (operator_needs room Equals operands).growth ≡ outgrows room printing.output
+equals_needed room [] printing is = absurd (subst has_left (sym is) tt)
+equals_needed room (x ∷ rest) printing is =
+    ap (λ (outcome : Outcome Printing). outgrows room (output_of outcome)) is
 
 -- ---- operators that change objects and make none
 
@@ -256,15 +275,15 @@ changes_operates result (fails raised) refused operands count slot asked left ol
     operands slot asked left old new before after printed store did
 
 pub changing_operates : (operator which : Operator) (row : Store → List Value → Outcome Change)
-    (stores : List Value → ℕ) (refused : Bool) (result : Result Unit Failure) (slot : ℕ)
+    (stores : List Value → ℕ) (refused : Bool) (result : Result Unit Failure) (room slot : ℕ)
     (asked left : Grants) (old new : Heap) (before after : List Word) (printed : List ℕ)
     → small_row which ≡ changing_row row
     → ((store : Store) (operands : List Value) → Leaving (IsUnasked store) (row store operands))
     → ((operands : List Value)
-    → operator_needs which operands ≡ stores_needed (stores operands)) → operator ≡ which
+    → operator_needs room which operands ≡ stores_needed (stores operands)) → operator ≡ which
     → Changes row stores result slot asked left old new before after
-    → Operates operator refused result slot asked left old new before after printed printed
-changing_operates operator which row stores refused result slot asked left old new before after
+    → Operates operator refused result room slot asked left old new before after printed printed
+changing_operates operator which row stores refused result room slot asked left old new before after
     printed is none needed named did = record {
       meets = λ store shows within.
           let operands : List Value = values_in old small_names before in
@@ -272,11 +291,12 @@ changing_operates operator which row stores refused result slot asked left old n
           subst (λ (needs : Needs). OperatesAs needs result
           (small_effect operator refused operands store) slot asked left old new before after
           printed printed store)
-          (sym (operator_needs-which operator which operands needs (needed operands) named))
+          (sym (operator_needs-which room operator which operands needs (needed operands) named))
           (subst (λ (effect : Effect). OperatesAs needs result effect slot asked left old new before
           after printed printed store)
           (sym (small_effect-row operator which (changing_row row) refused operands store is named))
-          (changes_operates result (row store operands) refused operands (stores operands) slot asked
+          (changes_operates result (row store operands) refused operands (stores operands) slot
+          asked
           left old new before after printed store (none store operands)
           (did.meets small_names store shows within)));
     }
@@ -362,18 +382,19 @@ makes_operates needs result (fails raised) refused operands slot asked left old 
     refused operands slot asked left old new before after printed store did
 
 pub making_operates : (operator which : Operator) (row : Store → List Value → Outcome Change)
-    (refused : Bool) (result : Result Unit Failure) (slot : ℕ) (asked left : Grants)
+    (refused : Bool) (result : Result Unit Failure) (room slot : ℕ) (asked left : Grants)
     (old new : Heap) (before after : List Word) (printed : List ℕ)
     → small_row which ≡ changing_row row
     → ((store : Store) (operands : List Value) → Leaving (IsMade store) (row store operands))
     → operator ≡ which
     → Makes row refused result old new before after
-    → Operates operator refused result slot asked left old new before after printed printed
-making_operates operator which row refused result slot asked left old new before after printed is
+    → Operates operator refused result room slot asked left old new before after printed printed
+making_operates operator which row refused result room slot asked left old new before after printed
+    is
     made named did = record {
       meets = λ store shows within.
           let operands : List Value = values_in old small_names before in
-          let needs : Needs = operator_needs operator operands in
+          let needs : Needs = operator_needs room operator operands in
           subst (λ (effect : Effect). OperatesAs needs result effect slot asked left old new before
           after printed printed store)
           (sym (small_effect-row operator which (changing_row row) refused operands store is named))

@@ -1,6 +1,7 @@
 -- The texts of words, and what `=` leaves.
-use Rattle.std.proofs.Common.{◌≡◌, ℕ, ℤ, List, [], ◌∷◌, ◌++◌, drop, Bool, false, Some, Result, Ok, Err, refl, sym, ◌∙◌, ap, subst}
-use Rattle.std.specs.Prelude.{OnOk}
+use Rattle.std.proofs.Common.{◌≡◌, ℕ, ℤ, List, [], ◌∷◌, ◌++◌, drop, Bool, true, false, Some, Result, Ok, Err, refl, sym, ◌∙◌, ap, subst, ◌<◌, length, arith}
+use Rattle.std.proofs.lemmas.Bool.{lt-leb}
+use Rattle.std.specs.Prelude.{OnOk, OnErr, not, IsTrue}
 use Rattle.std.specs.Result.{is_err}
 use Rattle.std.specs.declared.alloc.AllocError.{AllocError}
 use Rattle.std.specs.Fmt.{signed_decimal}
@@ -21,7 +22,9 @@ use Rattle.ps_mem.specs.Shows.{IsWithin, AreWithin}
 use Rattle.ps_ops.specs.Does.{values_in}
 use Rattle.ps_ops.proofs.Operands.{first_split}
 use Rattle.ps_ops.proofs.Held.{rest_held}
-use Rattle.ps_operators.specs.Does.{PrintsAs, Prints}
+use Rattle.ps_ops.specs.declared.failure.NotMade.TheVariants.{Memory}
+use Rattle.ps_ops.specs.declared.failure.Failure.TheVariants.{NotMade}
+use Rattle.ps_operators.specs.Does.{outgrows, PrintsAs, Prints}
 
 -- ---- texts
 
@@ -69,9 +72,24 @@ pub ruleset text_lemmas = (integer_text, truth_text, name_text, operator_text)
 
 -- ---- what `=` leaves
 
+-- more bytes than there is room for
+pub outgrown : (room : ℕ) (bytes : List ℕ) → room < length bytes → IsTrue (outgrows room bytes)
+outgrown room [] short = absurd (omega (arith, short))
+outgrown room (byte ∷ bytes) short = ap not (lt-leb (length (byte ∷ bytes)) room short)
+
+-- so are they for an output that takes none
+pub outgrown_sooner : (room : ℕ) (bytes : List ℕ) → IsTrue (outgrows room bytes)
+    → IsTrue (outgrows 0 bytes)
+outgrown_sooner room [] is = is
+outgrown_sooner room (byte ∷ bytes) is = outgrown 0 (byte ∷ bytes) (omega arith)
+
 pub was_ok : (P : Type 0) (r : Result Unit AllocError) → false ≡ is_err r → OnOk r P → P
 was_ok P (Ok done) is holds = holds
 was_ok P (Err error) is holds = cc
+
+pub was_err : (P : Type 0) (r : Result Unit AllocError) → true ≡ is_err r → OnErr r P → P
+was_err P (Ok done) is holds = cc
+was_err P (Err error) is holds = holds
 
 module _ (h : Heap) (old : List Word) (top : Word) (is_top : Some top ≡ first_of old)
     (before : List ℕ) where
@@ -85,16 +103,30 @@ module _ (h : Heap) (old : List Word) (top : Word) (is_top : Some top ≡ first_
   row-is : small_equals_row (values_in h small_names old) ≡ leaves left
   row-is = ap (λ ws. small_equals_row (values_in h small_names ws)) (first_split old top is_top)
 
-  pub prints_line : (new : List Word) (after : List ℕ) → new ≡ drop 1 old
-      → ((births : ℕ → ℕ) → after ≡ before
-      ++ (small_text (value_of births small_names top) ++ 10 ∷ []))
-      → Prints small_equals_row (Ok tt) h old new before after
-  prints_line new after are line = record {
-    meets = λ s shows within. subst (λ outcome. PrintsAs (Ok tt) outcome s h old new before after)
-        (sym row-is) (
-          ap (values_in h small_names) are,
-          subst (AreWithin h small_names s) (sym are)
-              (rest_held (IsWithin (birth_at h) small_names s) old within 1),
-          line (birth_at h),
-        );
-  }
+  module _ (room : ℕ) where
+    pub prints_line : (new : List Word) (after : List ℕ) → new ≡ drop 1 old
+        → ((births : ℕ → ℕ) → after ≡ before
+        ++ (small_text (value_of births small_names top) ++ 10 ∷ []))
+        → Prints small_equals_row (Ok tt) room h old new before after
+    prints_line new after are line = record {
+      meets = λ s shows within.
+          subst (λ outcome. PrintsAs (Ok tt) outcome room s h old new before after)
+          (sym row-is) (
+            ap (values_in h small_names) are,
+            subst (AreWithin h small_names s) (sym are)
+                (rest_held (IsWithin (birth_at h) small_names s) old within 1),
+            line (birth_at h),
+          );
+    }
+
+    -- a line for which there is no room
+    pub prints_none : (after : List ℕ) → after ≡ before
+        → ((births : ℕ → ℕ)
+        → room < length (small_text (value_of births small_names top) ++ 10 ∷ []))
+        → Prints small_equals_row (Err (NotMade Memory)) room h old old before after
+    prints_none after same short = record {
+      meets = λ s shows within.
+          subst (λ outcome. PrintsAs (Err (NotMade Memory)) outcome room s h old old before after)
+          (sym row-is)
+          (refl, outgrown room left.output (short (birth_at h)), refl, same);
+    }

@@ -26,7 +26,8 @@ abbrev pub AreSame : (old new : Heap) → (before after : List Word)
 AreSame old new before after printed_before printed_after = (new ≡ old) × (after ≡ before)
     × (printed_after ≡ printed_before)
 
--- of an operator that needs so much: what the effect makes is shown, or its error was raised, or there is a reason why not; but for the first nothing changed
+-- of an operator that needs so much: what the effect makes is shown, or its error was raised, or
+-- there is a reason why not; but for the first nothing changed
 abbrev pub OperatesAs : Needs → Result Unit Failure → Effect → (slot : ℕ) → (asked left : Grants)
     → (old new : Heap) → (before after : List Word) → (printed_before printed_after : List ℕ)
     → Store → Type 0
@@ -51,13 +52,13 @@ OperatesAs needs (Err (NotMade reason)) (makes scene output) slot asked left old
 OperatesAs needs (Err (NotMade reason)) _ slot asked left old new before after printed_before
     printed_after store = ⊥
 
--- for every store that the memory shows
-pub record Operates (operator : Operator) (refused : Bool) (result : Result Unit Failure) (slot : ℕ)
-    (asked left : Grants) (old new : Heap) (before after : List Word)
+-- for every store that the memory shows; room: how many bytes the output takes before it grows
+pub record Operates (operator : Operator) (refused : Bool) (result : Result Unit Failure)
+    (room slot : ℕ) (asked left : Grants) (old new : Heap) (before after : List Word)
     (printed_before printed_after : List ℕ) : Type 0 where
   pub meets : (store : Store) → Shows old small_names store → AreWithin old small_names store before
       →
-      OperatesAs (operator_needs operator (values_in old small_names before)) result
+      OperatesAs (operator_needs room operator (values_in old small_names before)) result
       (small_effect operator refused (values_in old small_names before) store) slot asked left
       old new before after printed_before printed_after store
 

@@ -1,6 +1,6 @@
 //! The operators of the small language but `forall`, by what they need (PLRM2, 8).
 
-ghost use Rattle.std.specs.Prelude.{◌≡◌, ◌≢◌, ◌<◌, List, IsTrue};
+ghost use Rattle.std.specs.Prelude.{◌≡◌, ◌≢◌, ◌-◌, ◌<◌, List, IsTrue, OnErr, vec_len, vec_capacity};
 ghost use Rattle.ps_language.specs.Outcome.{Outcome};
 ghost use Rattle.ps_language.specs.Rows.{operand_row};
 ghost use Rattle.ps_language.specs.Small.{is_small};
@@ -114,9 +114,12 @@ pub fn operate<M: Memory>(
     requires forall { operator ≢ Operator.Forall }
     requires slot { slot < SLOTS }
     requires ready { IsReady (M.heap memory.old) operands.old }
-    ensures operates { Operates operator refused result slot (M.grants memory.old)
+    ensures operates { Operates operator refused result
+        (vec_capacity printed.old - vec_len printed.old) slot (M.grants memory.old)
         (M.grants memory.new) (M.heap memory.old) (M.heap memory.new) operands.old operands.new
         printed.old.items printed.new.items }
+    ensures room { OnErr result (vec_capacity printed.new - vec_len printed.new
+        ≡ vec_capacity printed.old - vec_len printed.old) }
     ensures ready { IsReady (M.heap memory.new) operands.new }
     ensures keeps { Keeps (M.heap memory.old) (M.heap memory.new) }
     ensures logs { KeepsLogs (M.grants memory.old) (M.grants memory.new) slot }

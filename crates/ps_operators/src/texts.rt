@@ -1,7 +1,6 @@
 //! The texts of values, as `=` shows them, and lines of them.
 
-ghost use Rattle.std.specs.Prelude.{◌≡◌, ◌++◌, ◌∷◌, ◌<◌, [], ℕ, length, OnOk, OnErr};
-ghost use Rattle.std.specs.Fmt.{signed_decimal};
+ghost use Rattle.std.specs.Prelude.{◌≡◌, ◌-◌, ◌++◌, ◌∷◌, ◌<◌, [], ℕ, length, OnOk, OnErr, vec_len, vec_capacity};
 ghost use Rattle.ps_language.specs.Small.{small_names};
 ghost use Rattle.ps_language.specs.SmallRows.{small_text};
 ghost use Rattle.ps_language.specs.Texts as texts;
@@ -35,53 +34,36 @@ fn boolean_text(truth: bool) -> &'static [u8]
     if truth { b"true" } else { b"false" }
 }
 
-/// Appends bytes; nothing changes where the growth is refused.
-pub fn append(output: &mut Vec<u8>, bytes: &[u8]) -> Result<(), AllocError>
-    ensures ok { OnOk result (output.new.items ≡ output.old.items ++ bytes.now) }
-    ensures err { OnErr result (output.new.items ≡ output.old.items) }
-{
-    output.extend_from_slice(bytes)
-}
-
-/// Appends an integer in decimal; nothing changes where the growth is refused.
-pub fn append_integer(output: &mut Vec<u8>, number: i32) -> Result<(), AllocError>
-    ensures ok { OnOk result (output.new.items ≡ output.old.items ++ signed_decimal number) }
-    ensures err { OnErr result (output.new.items ≡ output.old.items) }
-{
-    let mut buffer = Buffer::new();
-    append(output, buffer.format(number).as_bytes())
-}
-
-/// Appends the text of a value; nothing changes where the growth is refused.
+/// The text of a value; that of an integer stands in the buffer.
 #[tactic(auto, using(crate::proofs::Printed::text_lemmas))]
-pub fn append_text(output: &mut Vec<u8>, word: Word) -> Result<(), AllocError>
-    ensures ok { (births : ℕ → ℕ)
-        → OnOk result (output.new.items ≡ output.old.items
-        ++ small_text (value_of births small_names word)) }
-    ensures err { OnErr result (output.new.items ≡ output.old.items) }
+pub fn text_of<'a>(word: Word, buffer: &'a mut Buffer) -> &'a [u8]
+    ensures { (births : ℕ → ℕ) → result.now ≡ small_text (value_of births small_names word) }
 {
     match word.content() {
-        Content::Integer(number) => append_integer(output, number),
-        Content::Boolean(truth) => append(output, boolean_text(truth)),
-        Content::Name(number) => append(output, name_text(number)),
-        Content::Operator(operator) => append(output, operator_name(operator)),
-        _ => append(output, NO_TEXT),
+        Content::Integer(number) => buffer.format(number).as_bytes(),
+        Content::Boolean(truth) => boolean_text(truth),
+        Content::Name(number) => name_text(number),
+        Content::Operator(operator) => operator_name(operator),
+        _ => NO_TEXT,
     }
 }
 
-/// Appends the text of a value and the end of the line; nothing changes where the growth is
-/// refused.
+/// Appends the text of a value and the end of the line. Fails where the growth for the whole line
+/// is refused; nothing changes then.
 pub fn append_line(output: &mut Vec<u8>, word: Word) -> Result<(), AllocError>
     ensures ok { (births : ℕ → ℕ)
         → OnOk result (output.new.items ≡ output.old.items
         ++ (small_text (value_of births small_names word) ++ 10 ∷ [])) }
+    ensures full { (births : ℕ → ℕ)
+        → OnErr result (vec_capacity output.old - vec_len output.old <
+        length (small_text (value_of births small_names word) ++ 10 ∷ [])) }
     ensures err { OnErr result (output.new.items ≡ output.old.items) }
+    ensures capacity { OnErr result (vec_capacity output.new ≡ vec_capacity output.old) }
 {
-    let start = output.len();
-    append_text(output, word)?;
-    if append(output, b"\n").is_err() {
-        output.truncate(start);
-        return Err(AllocError);
-    }
+    let mut buffer = Buffer::new();
+    let text = text_of(word, &mut buffer);
+    output.reserve(text.len() + 1)?;
+    let _ = output.extend_from_slice(text);
+    let _ = output.push(b'\n');
     Ok(())
 }

@@ -51,6 +51,7 @@ pub fn make_procedure<M: Memory>(
     ensures unchanged { OnErr result (M.heap memory.new ≡ M.heap memory.old) }
     ensures logs { SameLogs (M.grants memory.old) (M.grants memory.new) }
     ensures scratch { scratch.new.items ≡ [] }
+    ensures capacity { OnErr result (vec_capacity scratch.new ≡ vec_capacity scratch.old) }
 {
     let Some(room) = room_of(elements) else {
         return Err(NotMade::Memory);

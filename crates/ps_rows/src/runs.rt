@@ -1,7 +1,7 @@
 //! A program by the command line, and again under the schedule that its run returned.
 
 use crate::rows::Verdict;
-use ps_run::drive;
+use ps_run::{Flushed, drive};
 use ps_tests::fakes::{OneFile, Output};
 use ps_vault::{Config, Outcome, Report, RunFault, replay, run_plain};
 use std::alloc::Global;
@@ -22,21 +22,26 @@ const CONFIG: Config = Config {
 
 /// Whether `drive` prints this, with this status and nothing told.
 pub fn driven(alloc: Global, program: &[u8], printed: &[u8], status: u8) -> Verdict {
-    let mut files = OneFile { bytes: Ok(program) };
-    let mut out = Output::new(alloc, AMPLE);
-    let mut err = Output::new(alloc, AMPLE);
-    if out.bytes.reserve(printed.len()).is_err() {
+    let mut files = OneFile {
+        bytes: Ok(program),
+        last_fault: None,
+    };
+    let mut output = Output::new(alloc, AMPLE);
+    if output.bytes.reserve(printed.len()).is_err() {
         return Verdict::WantsMemory;
     }
+    let mut out = Flushed::new(output);
+    let mut err = Output::new(alloc, AMPLE);
     let given = drive(alloc, &["--plain", "f"], &mut files, &mut out, &mut err);
+    let Output { bytes: written, .. } = out.into_inner();
     if given == MEMORY {
-        return if printed.starts_with(out.bytes.as_slice()) {
+        return if printed.starts_with(written.as_slice()) {
             Verdict::WantsMemory
         } else {
             Verdict::Different
         };
     }
-    Verdict::of(given == status && out.bytes.as_slice() == printed && err.bytes.is_empty())
+    Verdict::of(given == status && written.as_slice() == printed && err.bytes.is_empty())
 }
 
 /// Whether a run prints this, or a beginning of it where memory is wanted, and prints the same bytes again under its schedule.

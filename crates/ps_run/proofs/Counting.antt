@@ -22,7 +22,8 @@ count_next given i d lt =
     ap (λ (entries : List Entry). length (moves entries)) (take_more given i d lt)
     ∙ (ap {B = ℕ} (λ (steps : List Move). length steps) (moves-append (take i given) (entry ∷ []))
     ∙ (length-append (moves (take i given)) (moves (entry ∷ []))
-    ∙ ap (λ n. length (moves (take i given)) + n) (ap {B = ℕ} (λ (steps : List Move). length steps) (moves-single entry) ∙ length_moves_of entry entry.steps)))
+    ∙ ap (λ n. length (moves (take i given)) + n) (ap {B = ℕ} (λ (steps : List Move). length steps)
+    (moves-single entry) ∙ length_moves_of entry entry.steps)))
 
 -- a sum that stops at a limit, with one more
 pub saturated_more : (few n limit : ℕ) → min (min few limit + n) limit ≡ min (few + n) limit

@@ -1,5 +1,5 @@
 -- What a run from a command line is, its exit status, and what is written.
-use Rattle.std.specs.Prelude.{◌≡◌, ◌<◌, ◌≤◌, ◌⊎◌, ◌++◌, ◌-◌, ◌^◌, min, ℕ, Bool, true, false, List, [], Option, Some, IfSome, length, codes, if◌then◌else◌}
+use Rattle.std.specs.Prelude.{◌≡◌, ◌<◌, ◌≤◌, ◌⊎◌, ◌++◌, ◌-◌, ◌^◌, min, ℕ, Bool, true, List, [], Option, IfSome, length, codes, if◌then◌else◌}
 use Rattle.std.specs.Fmt.{decimal}
 use Rattle.std.specs.Io.KnownBytes.{Appends}
 use Rattle.ps_language.specs.declared.schedules.Entry.{Entry}
@@ -7,6 +7,8 @@ use Rattle.ps_language.specs.Schedules.{count_of}
 use Rattle.ps_vault.specs.declared.reports.Outcome.{Outcome}
 use Rattle.ps_vault.specs.declared.reports.Outcome.TheVariants.{Finished, Faulted, AllWaiting, StepsOut, Memory}
 use Rattle.ps_vault.specs.Reports.{IsRunOf}
+use Rattle.ps_run.specs.declared.files.ReadFault.{ReadFault}
+use Rattle.ps_run.specs.declared.files.ReadFault.TheVariants as fault
 use Rattle.ps_run.specs.declared.driver.Status.{Status}
 use Rattle.ps_run.specs.declared.driver.Status.TheVariants as status
 
@@ -36,6 +38,11 @@ line_of status.AllWaiting = codes "dpsrun: all contexts wait\n"
 line_of status.StepsOut = codes "dpsrun: steps used up\n"
 line_of status.Memory = codes "dpsrun: out of memory\n"
 
+-- the status of a run whose file was not read
+abbrev pub unread : ReadFault → Status
+unread fault.Memory = status.Memory
+unread _ = status.Usage
+
 -- ---- what is written
 
 -- known bytes grow by a beginning of these
@@ -49,7 +56,8 @@ pub record AppendsPart (old new : Option (List ℕ)) (bytes : List ℕ) : Type 0
 abbrev pub number_line : (label : List ℕ) → ℕ → List ℕ
 number_line label number = label ++ (decimal number ++ codes "\n")
 
--- the lines of the counts of a run without a collector; steps are told up to 18,446,744,073,709,551,615
+-- the lines of the counts of a run without a collector; steps are told up to
+-- 18,446,744,073,709,551,615
 abbrev pub count_lines : List Entry → List ℕ
 count_lines schedule =
     number_line (codes "flips ") 0
@@ -75,20 +83,24 @@ pub record IsFileRun (known : Option (List ℕ)) (steps : ℕ) (printed : List �
   pub few : length program ≤ 16777215
   pub run : IsRunOf program steps printed schedule outcome
 
--- the bytes that outputs hold before and after, where they are known
+-- the bytes that outputs hold before and after, where they are known; flushed: whether the first
+-- was flushed after its last write
 pub record Outputs : Type 0 where
   pub out_old : Option (List ℕ)
   pub out_new : Option (List ℕ)
   pub err_old : Option (List ℕ)
   pub err_new : Option (List ℕ)
+  pub flushed : Bool
 
--- all that was printed was written, and the status is that of the outcome; or the output took a part of it alone, and the status tells a fault
+-- all that was printed was written and flushed, and the status is that of the outcome; or the
+-- output took a part of it alone, and the status tells a fault
 abbrev pub IsWritten : (stats : Bool) → (printed : List ℕ) → List Entry → Outcome → Status → Outputs
     → Type 0
 IsWritten stats printed schedule outcome told outputs =
     ((told ≡ status.Usage) × AppendsPart outputs.out_old outputs.out_new printed)
     ⊎ ((told ≡ status_of outcome) × Appends outputs.out_old outputs.out_new printed
-    × AppendsPart outputs.err_old outputs.err_new (counts_of stats schedule ++ line_of told))
+    × AppendsPart outputs.err_old outputs.err_new (counts_of stats schedule ++ line_of told)
+    × (outputs.flushed ≡ true))
 
 -- a run that was written
 pub record IsRunWritten (known : Option (List ℕ)) (IsAsked : Asked → Type 0) (told : Status)
@@ -105,7 +117,8 @@ pub record IsRunWritten (known : Option (List ℕ)) (IsAsked : Asked → Type 0)
 abbrev pub IsTooLong : (known : Option (List ℕ)) → Type 0
 IsTooLong known = IfSome known (λ bytes. 16777215 < length bytes)
 
--- a fault of the words or the file, or want of memory before the run: nothing is written; else a run. IsFault: of the words or the file
+-- a fault of the words or the file, or want of memory before the run: nothing is written; else a
+-- run. IsFault: of the words or the file
 abbrev pub IsDriven : (known : Option (List ℕ)) → (IsAsked : Asked → Type 0) → (IsFault : Type 0)
     → (told : Status) → Outputs → Type 0
 IsDriven known IsAsked IsFault told outputs =

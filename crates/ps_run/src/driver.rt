@@ -1,6 +1,6 @@
 //! A run from the words of a command line to an exit status.
 
-ghost use Rattle.std.specs.Prelude.{◌≡◌, ◌≢◌, ◌++◌, ◌⊎◌, ◌-◌, ◌^◌, [], ℕ, min, map, OnOk, IfSome, length};
+ghost use Rattle.std.specs.Prelude.{◌≡◌, ◌≢◌, ◌++◌, ◌⊎◌, ◌-◌, ◌^◌, [], ℕ, min, map, OnOk, IfSome, None, length};
 ghost use Rattle.std.specs.Io.KnownBytes.{Appends};
 ghost use Rattle.ps_language.specs.Schedules.{count_of};
 ghost use Rattle.ps_run.specs.CommandLine.{command_line, file_in, AreAsked, AreOutOfRange};
@@ -11,6 +11,7 @@ ghost use Rattle.ps_run.specs.Driving.{AppendsPart, IsWritten, IsTooLong, IsDriv
 
 use crate::files::{FileSet, ReadFault};
 use crate::options::{Options, parse};
+use crate::outputs::Flushing;
 use crate::writing::{write_number, write_part};
 use clap::error::ErrorKind;
 use ps_vault::{Entry, Outcome, Report, RunFault, run_plain};
@@ -37,8 +38,9 @@ enum Status {
 /// where every context waits, which no program without contexts brings about, 4 where the steps are
 /// used up, 5 for want of memory, before the run or in it. With 2 the
 /// output has a beginning of what was printed, which is nothing where the words or the file were at
-/// fault. A write to `err` that fails changes nothing else.
-pub fn drive<F: FileSet, W: Write, X: Write>(
+/// fault. After a run whose output took everything the output is flushed. A write to `err` that
+/// fails changes nothing else.
+pub fn drive<F: FileSet, W: Flushing, X: Write>(
     alloc: Global,
     words: &[&str],
     files: &mut F,
@@ -49,6 +51,9 @@ pub fn drive<F: FileSet, W: Write, X: Write>(
     ensures fault { fault_of command_line (map (λ word. word.now) words.now) ≢ []
         → ((result ≡ 2) ⊎ (result ≡ 5)) × (W.contents out.new ≡ W.contents out.old) }
     ensures files { F.contents files.new ≡ F.contents files.old }
+    ensures unread { F.last_fault files.old ≡ None
+        → IfSome (F.last_fault files.new)
+        (λ fault. result ≡ driving.number_of (driving.unread fault)) }
     ensures run { (told : Status) × (result ≡ driving.number_of told)
         × IsDriven (F.contents files.old (file_in (map (λ word. word.now) words.now)))
         (AreAsked (map (λ word. word.now) words.now))
@@ -61,6 +66,7 @@ pub fn drive<F: FileSet, W: Write, X: Write>(
           err_old =
               X.contents err.old;
           err_new = X.contents err.new;
+          flushed = W.is_flushed out.new;
         }) }
 {
     let status = match parse(alloc, words) {
@@ -82,7 +88,7 @@ fn number_of(status: Status) -> u8
 }
 
 /// Reads the program, runs it and writes what it printed.
-fn run<F: FileSet, W: Write, X: Write>(
+fn run<F: FileSet, W: Flushing, X: Write>(
     alloc: Global,
     options: &Options<'_>,
     files: &mut F,
@@ -91,6 +97,8 @@ fn run<F: FileSet, W: Write, X: Write>(
 ) -> Status
     ensures not_waiting { driving.number_of result ≢ 3 }
     ensures files { F.contents files.new ≡ F.contents files.old }
+    ensures unread { F.last_fault files.old ≡ None
+        → IfSome (F.last_fault files.new) (λ fault. result ≡ driving.unread fault) }
     ensures run { IsDriven (F.contents files.old options.now.file.now)
         (λ asked. (asked.steps ≡ options.now.config.steps) × (asked.stats ≡ options.now.stats))
         (IsTooLong (F.contents files.old options.now.file.now) ⊎ ¬ IsWithin options.now.config)
@@ -100,6 +108,7 @@ fn run<F: FileSet, W: Write, X: Write>(
           err_old =
               X.contents err.old;
           err_new = X.contents err.new;
+          flushed = W.is_flushed out.new;
         }) }
 {
     let program = match files.read(alloc, options.file) {
@@ -120,7 +129,7 @@ fn run<F: FileSet, W: Write, X: Write>(
 
 /// Writes the printed bytes, then the counts where they are asked for, then the line that belongs
 /// to the status.
-fn finish<W: Write, X: Write>(report: &Report, stats: bool, out: &mut W, err: &mut X) -> Status
+fn finish<W: Flushing, X: Write>(report: &Report, stats: bool, out: &mut W, err: &mut X) -> Status
     requires flips { report.now.flips ≡ 0 }
     requires taken { report.now.taken ≡ 0 }
     ensures { IsWritten stats report.now.printed.items report.now.schedule.items report.now.outcome
@@ -130,9 +139,10 @@ fn finish<W: Write, X: Write>(report: &Report, stats: bool, out: &mut W, err: &m
           err_old =
               X.contents err.old;
           err_new = X.contents err.new;
+          flushed = W.is_flushed out.new;
         }) }
 {
-    if write_part(out, report.printed.as_slice()).is_err() || out.flush().is_err() {
+    if write_part(out, report.printed.as_slice()).is_err() || out.hand_on().is_err() {
         let _ = writeln!(err, "dpsrun: cannot write output");
         return Status::Usage;
     }

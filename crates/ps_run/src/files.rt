@@ -1,6 +1,6 @@
 //! The files that the program reads and writes, by name.
 
-ghost use Rattle.std.specs.Prelude.{◌≡◌, ◌≢◌, ◌≤◌, ℕ, List, Option, None, OnOk, IfOk, IfErr, IfSome, length, vec_len};
+ghost use Rattle.std.specs.Prelude.{◌≡◌, ◌≢◌, ◌≤◌, ℕ, List, Option, Some, None, OnOk, IfOk, IfErr, IfSome, length, vec_len};
 
 use std::alloc::Global;
 use thiserror::Error;
@@ -29,8 +29,13 @@ pub enum WriteFault {
 
 /// Files by name.
 pub trait FileSet {
+    ghost use Rattle.ps_run.specs.declared.files.ReadFault.{ReadFault};
+
     /// The bytes of the file of a name, where they are known: of the system's files they are not.
     ghost contents: { Self → List ℕ → Option (List ℕ) } = { λ _ _. None };
+
+    /// Why the last read that failed did.
+    ghost last_fault: { Self → Option ReadFault };
 
     /// The bytes of a file of at most 16,777,215 bytes. A file that is known to have no more is
     /// refused only for want of memory; no file changes.
@@ -41,7 +46,9 @@ pub trait FileSet {
         ensures fault { IfErr result
             (λ fault. IfSome (contents self.old name.now)
             (λ known. length known ≤ 16777215 → fault ≡ ReadFault.Memory)) }
-        ensures kept { contents self.new ≡ contents self.old };
+        ensures kept { contents self.new ≡ contents self.old }
+        ensures failed { IfErr result (λ fault. last_fault self.new ≡ Some fault) }
+        ensures succeeded { OnOk result (last_fault self.new ≡ last_fault self.old) };
 
     /// Makes a file of these bytes, in the place of any that has the name. No other file changes.
     fn write(&mut self, name: &str, bytes: &[u8]) -> Result<(), WriteFault>

@@ -5,7 +5,9 @@
 mod driver;
 mod files;
 mod options;
+mod outputs;
 mod writing;
 
 pub use driver::drive;
 pub use files::{FileSet, MOST_PROGRAM_BYTES, ReadFault, WriteFault};
+pub use outputs::{Flushed, Flushing};

@@ -132,19 +132,20 @@ step_by refused h m store frame running top =
     (ap (stage_of (birth_at h) m.program) running)
     (ap (map (frame_of (birth_at h))) (frames_top m.frames frame top))
 
-needs_running : (stage : small.Stage) (frames : List SmallFrame) (world : SmallWorld)
+needs_running : (room : ℕ) (stage : small.Stage) (frames : List SmallFrame) (world : SmallWorld)
     (frame : SmallFrame) (below : List SmallFrame)
     → stage ≡ small.running → frames ≡ frame ∷ below
-    → stage_needs stage frames world ≡ frame_needs frame world
-needs_running stage frames world frame below running top = rw (running, top) refl
+    → stage_needs room stage frames world ≡ frame_needs room frame world
+needs_running room stage frames world frame below running top = rw (running, top) refl
 
 pub needs_by : (h : Heap) (m : Machine) (store : Store) (frame : Frame) → m.stage ≡ Running
     → first_of m.frames ≡ Some frame
-    → step_needs (world_of h m store) ≡ frame_needs (frame_of (birth_at h) frame)
+    → step_needs m.room (world_of h m store) ≡ frame_needs m.room (frame_of (birth_at h) frame)
     (world_of h m store)
 unfolding step_needs
 needs_by h m store frame running top =
-    needs_running (stage_of (birth_at h) m.program m.stage) (map (frame_of (birth_at h)) m.frames)
+    needs_running m.room (stage_of (birth_at h) m.program m.stage) (map (frame_of (birth_at h))
+    m.frames)
     (world_of h m store) (frame_of (birth_at h) frame)
     (map (frame_of (birth_at h)) (drop 1 m.frames))
     (ap (stage_of (birth_at h) m.program) running)
@@ -160,7 +161,8 @@ pub goes_made : (needs inner_needs : SmallWorld → Needs) (next inner : SmallWo
     → Goes needs next (Ok (tt {0})) slot asked left old new m n
 goes_made needs inner_needs next inner slot asked left old new m middle n went operands program is =
     record {
-      meets = λ store shows within. rw (is store shows) (went.meets store shows (rw operands within));
+      meets = λ store shows within. rw (is store shows) (went.meets store shows (rw operands
+          within));
       good = went.good;
       keeps = went.keeps;
       logs = went.logs;
@@ -211,9 +213,11 @@ pub goes_as : {needs inner_needs : SmallWorld → Needs} {next inner : SmallWorl
 goes_as {needs} {inner_needs} {next} {inner} {result} {slot} {asked} {left} {old} {new} {m} {n}
     needed is went = record {
       meets = λ store shows within.
-          subst (λ (w : SmallWorld). GoesTo (needs (world_of old m store)) w result slot asked left old
+          subst (λ (w : SmallWorld). GoesTo (needs (world_of old m store)) w result slot asked left
+          old
           new m n store) (sym (is store shows))
-          (subst (λ (some : Needs). GoesTo some (inner (world_of old m store)) result slot asked left
+          (subst (λ (some : Needs). GoesTo some (inner (world_of old m store)) result slot asked
+          left
           old new m n store) (sym (needed store shows)) (went.meets store shows within));
       good = went.good;
       keeps = went.keeps;
@@ -224,13 +228,14 @@ goes_as {needs} {inner_needs} {next} {inner} {result} {slot} {asked} {left} {old
 
 -- ---- a context seen
 
-pub seen_goes : {needs : SmallWorld → Needs} {next : SmallWorld → SmallWorld}
+-- needs: what a step needs of it
+pub seen_by : (needs : Machine → SmallWorld → Needs) {next : SmallWorld → SmallWorld}
     {result : Result Unit NotMade} {slot : ℕ} {asked left : Grants} {old new : Heap}
     {view m n : Machine}
-    → view ≡ m → Goes needs next result slot asked left old new view n
-    → Goes needs next result slot asked left old new m n
-seen_goes {needs} {next} {result} {slot} {asked} {left} {old} {new} {view} {m} {n} is went =
-    subst (λ (x : Machine). Goes needs next result slot asked left old new x n) is went
+    → view ≡ m → Goes (needs view) next result slot asked left old new view n
+    → Goes (needs m) next result slot asked left old new m n
+seen_by needs {next} {result} {slot} {asked} {left} {old} {new} {view} {m} {n} is went =
+    subst (λ (x : Machine). Goes (needs x) next result slot asked left old new x n) is went
 
 pub seen_alone : {next : SmallWorld → SmallWorld} {view m n : Machine} → view ≡ m
     → GoesAlone next view n → GoesAlone next m n

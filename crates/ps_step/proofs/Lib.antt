@@ -1,10 +1,10 @@
 pub mod Ending
 pub mod Going
-pub mod LineParts
 pub mod Looping
 pub mod NameWords
 pub mod Operated
 pub mod Procedural
+pub mod Sooner
 pub mod Standing
 pub mod Starting
 pub mod Taking

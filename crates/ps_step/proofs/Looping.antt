@@ -43,42 +43,77 @@ parts_by executable body over =
     given_that (is_executable b.access && is_readable o.access) InvalidAccess
     (leaves (o, b))
 
-pub parts_of_two : (births : ℕ → ℕ) (names : List (List ℕ)) (operands : List Word) (p x : Word) → Some (p, x) ≡ first_two_of operands
-    → forall_parts (map (value_of births names) operands) ≡ parts_by (executable_in p.0) (as_array (value_of births names p)) (as_array (value_of births names x))
+pub parts_of_two : (births : ℕ → ℕ) (names : List (List ℕ)) (operands : List Word) (p x : Word) →
+    Some (p, x) ≡ first_two_of operands
+    → forall_parts (map (value_of births names) operands) ≡ parts_by (executable_in p.0) (as_array
+    (value_of births names p)) (as_array (value_of births names x))
 unfolding as_procedure as_array value_of
 parts_of_two births names operands p x two = rw (first_two_split operands p x two) refl
 
 -- ---- the frame
 
-room_left : (frames : List Frame) (h : Heap) (full : Bool) → nat_le 250 (length frames) ≡ full → has_frame_room (map (frame_of (birth_at h)) frames) ≡ not full
-room_left frames h true is = rw (length-map frames (frame_of (birth_at h))) (grind (arith, nat_tests))
-room_left frames h false is = rw (length-map frames (frame_of (birth_at h))) (grind (arith, nat_tests))
+room_left : (frames : List Frame) (h : Heap) (full : Bool) → nat_le 250 (length frames) ≡ full →
+    has_frame_room (map (frame_of (birth_at h)) frames) ≡ not full
+room_left frames h true is = rw (length-map frames (frame_of (birth_at h))) (grind (
+  arith,
+  nat_tests,
+))
+room_left frames h false is = rw (length-map frames (frame_of (birth_at h))) (grind (
+  arith,
+  nat_tests,
+))
 
 module _ (refused : Bool) (m : Machine) (running : m.stage ≡ Running) where
-  pub alone_failed : (error : ErrorName) → ((births : ℕ → ℕ) (names : List (List ℕ)) → forall_parts (map (value_of births names) m.operands) ≡ fails error)
+  pub alone_failed : (error : ErrorName) → ((births : ℕ → ℕ) (names : List (List ℕ)) → forall_parts
+      (map (value_of births names) m.operands) ≡ fails error)
       → GoesAlone (small_operated refused Forall) m (raised error (Blamed Forall) m)
   unfolding small_operated
   alone_failed error parts = record {
-    goes = λ needs h grants slot good. goes_raised h m good running grants slot needs (small_operated refused Forall) error (Blamed Forall)
+    goes = λ needs h grants slot good. goes_raised h m good running grants slot needs
+        (small_operated refused Forall) error (Blamed Forall)
         (λ store shows. rw (parts (birth_at h) small_names) refl);
   }
 
-  module _ (over body : Part) (parts : (births : ℕ → ℕ) (names : List (List ℕ)) → forall_parts (map (value_of births names) m.operands) ≡ leaves (part_of births over, part_of births body)) where
-    pub alone_full : nat_le 250 (length m.frames) ≡ true → GoesAlone (small_operated refused Forall) m (raised ExecStackOverflow (Blamed Forall) m)
+  module _ (over body : Part) (parts : (births : ℕ → ℕ) (names : List (List ℕ)) → forall_parts (map
+      (value_of births names) m.operands) ≡ leaves (part_of births over, part_of births body)) where
+    pub alone_full : nat_le 250 (length m.frames) ≡ true → GoesAlone (small_operated refused Forall)
+        m (raised ExecStackOverflow (Blamed Forall) m)
     unfolding small_operated
     alone_full full = record {
-      goes = λ needs h grants slot good. goes_raised h m good running grants slot needs (small_operated refused Forall) ExecStackOverflow (Blamed Forall)
+      goes = λ needs h grants slot good. goes_raised h m good running grants slot needs
+          (small_operated refused Forall) ExecStackOverflow (Blamed Forall)
           (λ store shows. rw (parts (birth_at h) small_names, room_left m.frames h true full) refl);
     }
 
-    pub alone_begun : nat_le 250 (length m.frames) ≡ false → ((h : Heap) → IsReady h m.operands → IsHeld h over × IsHeld h body)
-        → GoesAlone (small_operated refused Forall) m (record m { operands = drop 2 m.operands; frames = Loop over 0 body ∷ m.frames })
+    pub alone_begun : nat_le 250 (length m.frames) ≡ false → ((h : Heap) → IsReady h m.operands →
+        IsHeld h over × IsHeld h body)
+        → GoesAlone (small_operated refused Forall) m (record m {
+          operands = drop 2 m.operands;
+          frames = Loop over 0 body ∷ m.frames;
+        })
     unfolding small_operated
     alone_begun room held = record {
       goes = λ needs h grants slot good. record {
-        meets = λ store shows within. rw (parts (birth_at h) small_names, room_left m.frames h false room, drop-map (value_of (birth_at h) small_names) 2 m.operands)
-            (record { is = refl; shows = shows; within = rest_held (IsWithin (birth_at h) small_names store) m.operands within 2 });
-        good = record { ready = ready_drop h m.operands 2 good.ready; frames = (held h good.ready, good.frames); counted = good.counted };
+        meets = λ store shows within. rw (
+          parts (birth_at h) small_names,
+          room_left m.frames h false
+              room,
+          drop-map (value_of (birth_at h) small_names) 2 m.operands,
+        )
+            (record {
+              is = refl;
+              shows = shows;
+              within = rest_held (IsWithin (birth_at h)
+                  small_names store) m.operands within 2;
+            });
+        good = record {
+          ready = ready_drop h m.operands 2 good.ready;
+          frames = (
+            held h good.ready,
+            good.frames,
+          );
+          counted = good.counted;
+        };
         keeps = Keeps-Extends h h (Extends-same h);
         logs = same_logs grants slot;
         program = refl;

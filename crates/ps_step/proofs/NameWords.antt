@@ -10,7 +10,8 @@ use Rattle.ps_word.specs.Format.{content_in, executable_in}
 use Rattle.ps_word.specs.Readers as words
 use Rattle.ps_mem.specs.Meaning.{value_of, what_of, text_of_name}
 
-named_content : (births : ℕ → ℕ) (names : List (List ℕ)) (c : Content) (number : ℕ) → Some number ≡ words.as_name c → what_of births names c ≡ name_value (text_of_name names number)
+named_content : (births : ℕ → ℕ) (names : List (List ℕ)) (c : Content) (number : ℕ) → Some number ≡
+    words.as_name c → what_of births names c ≡ name_value (text_of_name names number)
 named_content births names Null number is = cc
 named_content births names (Integer x) number is = cc
 named_content births names (Boolean x) number is = cc
@@ -24,7 +25,8 @@ named_content births names (Lock x) number is = cc
 named_content births names (Condition x) number is = cc
 named_content births names (Body x) number is = cc
 
-unnamed_content : (births : ℕ → ℕ) (names : List (List ℕ)) (c : Content) → None ≡ words.as_name c → name_in (what_of births names c) ≡ false
+unnamed_content : (births : ℕ → ℕ) (names : List (List ℕ)) (c : Content) → None ≡ words.as_name c →
+    name_in (what_of births names c) ≡ false
 unnamed_content births names Null is = refl
 unnamed_content births names (Integer x) is = refl
 unnamed_content births names (Boolean x) is = refl
@@ -38,18 +40,27 @@ unnamed_content births names (Lock x) is = refl
 unnamed_content births names (Condition x) is = refl
 unnamed_content births names (Body x) is = refl
 
-pub name_value_of : (w : Word) (number : ℕ) → executable_in w.0 ≡ true → Some number ≡ words.as_name (content_in w.0) → (births : ℕ → ℕ) (names : List (List ℕ)) → value_of births names w ≡ executable_name (text_of_name names number)
+pub name_value_of : (w : Word) (number : ℕ) → executable_in w.0 ≡ true → Some number ≡ words.as_name
+    (content_in w.0) → (births : ℕ → ℕ) (names : List (List ℕ)) → value_of births names w ≡
+    executable_name (text_of_name names number)
 unfolding value_of
-name_value_of w number executable is births names = rw (executable, named_content births names (content_in w.0) number is) refl
+name_value_of w number executable is births names = rw (
+  executable,
+  named_content births names
+      (content_in w.0) number is,
+) refl
 
-pub other_value_of : (w : Word) → None ≡ words.as_name (content_in w.0) → (births : ℕ → ℕ) (names : List (List ℕ)) → is_executable_name (value_of births names w) ≡ false
+pub other_value_of : (w : Word) → None ≡ words.as_name (content_in w.0) → (births : ℕ → ℕ) (names :
+    List (List ℕ)) → is_executable_name (value_of births names w) ≡ false
 unfolding value_of is_executable_name
-other_value_of w is births names = rw (unnamed_content births names (content_in w.0) is) (and_false (executable_in w.0))
+other_value_of w is births names = rw (unnamed_content births names (content_in w.0) is) (and_false
+    (executable_in w.0))
   where
     and_false : (b : Bool) → (b && false) ≡ false
     and_false true = refl
     and_false false = refl
 
-pub literal_value_of : (w : Word) → executable_in w.0 ≡ false → (births : ℕ → ℕ) (names : List (List ℕ)) → is_executable_name (value_of births names w) ≡ false
+pub literal_value_of : (w : Word) → executable_in w.0 ≡ false → (births : ℕ → ℕ) (names : List (List
+    ℕ)) → is_executable_name (value_of births names w) ≡ false
 unfolding value_of is_executable_name
 literal_value_of w literal births names = rw literal refl

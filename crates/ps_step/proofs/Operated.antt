@@ -127,16 +127,17 @@ operated_other refused Yield world other = refl
 operated_other refused VmStatus world other = refl
 operated_other refused VmReclaim world other = refl
 
--- other operands and output
-abbrev pub left_as : Machine → List Word → List ℕ → Machine
-left_as m operands printed = record m { operands = operands; printed = printed }
+-- other operands and output, which may have grown
+abbrev pub left_as : Machine → List Word → List ℕ → (room : ℕ) → Machine
+left_as m operands printed room = record m { operands = operands; printed = printed; room = room }
 
 module _ (refused : Bool) (operator : Operator) (other : operator ≢ Forall) (slot : ℕ)
     (asked left : Grants) (old new : Heap) (m : Machine) (good : IsGood old m)
     (running : m.stage ≡ Running)
-    (after : List Word) (printed : List ℕ) (ready : IsReady new after) (keeps : Keeps old new)
+    (after : List Word) (printed : List ℕ) (room : ℕ) (ready : IsReady new after) (keeps : Keeps old
+    new)
     (logs : KeepsLogs asked left slot) where
-  good_left : IsGood new (left_as m after printed)
+  good_left : IsGood new (left_as m after printed room)
   good_left = record {
     ready = ready;
     frames =
@@ -145,7 +146,7 @@ module _ (refused : Bool) (operator : Operator) (other : operator ≢ Forall) (s
   }
 
   -- the world in the new memory
-  left_world : (store : StoreOf) → world_of new (left_as m after printed) store
+  left_world : (store : StoreOf) → world_of new (left_as m after printed room) store
       ≡ record (world_of old m store)
       { operands = values_in new small_names after; printed = printed }
   left_world store = rw (frames_kept old new keeps (length m.program) m.frames good.frames, running)
@@ -154,7 +155,8 @@ module _ (refused : Bool) (operator : Operator) (other : operator ≢ Forall) (s
   ok_shown : (needs : Needs) (store : StoreOf) (effect : Effect)
       → OperatesAs needs (Ok (tt {0})) effect slot asked left old new m.operands after m.printed
       printed store
-      → IsShown new (left_as m after printed) (after_effect operator (world_of old m store) effect)
+      → IsShown new (left_as m after printed room) (after_effect operator (world_of old m store)
+      effect)
   ok_shown needs store (makes scene output) did = record {
     is = sym (left_world scene.store ∙ rw (did.0, did.3) refl);
     shows = did.1;
@@ -164,13 +166,14 @@ module _ (refused : Bool) (operator : Operator) (other : operator ≢ Forall) (s
   ok_shown needs store (raises error) did = absurd did
   ok_shown needs store (starves names) did = absurd did
 
-  pub goes_operated : Operates operator refused (Ok (tt {0})) slot asked left old new m.operands
-      after m.printed printed
-      → Goes (λ world. operator_needs operator world.operands) (small_operated refused operator)
-      (Ok (tt {0})) slot asked left old new m (left_as m after printed)
+  pub goes_operated : Operates operator refused (Ok (tt {0})) m.room slot asked left old new
+      m.operands after m.printed printed
+      → Goes (λ world. operator_needs m.room operator world.operands) (small_operated refused
+      operator)
+      (Ok (tt {0})) slot asked left old new m (left_as m after printed room)
   goes_operated operates = record {
     meets = λ store shows within. rw (operated_other refused operator (world_of old m store) other)
-        (ok_shown (operator_needs operator (values_in old small_names m.operands)) store
+        (ok_shown (operator_needs m.room operator (values_in old small_names m.operands)) store
         (small_effect operator refused (values_in old small_names m.operands) store)
         (operates.meets store shows within));
     good = good_left;
@@ -184,7 +187,7 @@ module _ (refused : Bool) (operator : Operator) (other : operator ≢ Forall) (s
       → AreWithin old small_names store m.operands → (effect : Effect)
       → OperatesAs needs (Err (Error error)) effect slot asked left old new m.operands after
       m.printed printed store
-      → IsShown new (raised error (Blamed operator) (left_as m after printed))
+      → IsShown new (raised error (Blamed operator) (left_as m after printed room))
       (after_effect operator (world_of old m store) effect)
   error_shown needs error store shows within (makes scene output) did = absurd did
   error_shown needs error store shows within (unwinds cause scene) did = absurd did
@@ -200,16 +203,20 @@ module _ (refused : Bool) (operator : Operator) (other : operator ≢ Forall) (s
   }
 
   pub goes_failed : (error : ErrorName) (failure : Failure) → failure ≡ Error error
-      → Operates operator refused (Err failure) slot asked left old new m.operands after m.printed
+      → Operates operator refused (Err failure) m.room slot asked left old new m.operands after
+      m.printed
       printed
-      → Goes (λ world. operator_needs operator world.operands) (small_operated refused operator)
+      → Goes (λ world. operator_needs m.room operator world.operands) (small_operated refused
+      operator)
       (Ok (tt {0})) slot asked left old new m
-      (raised error (Blamed operator) (left_as m after printed))
+      (raised error (Blamed operator) (left_as m after printed room))
   goes_failed error failure is did =
-      let operates : Operates operator refused (Err (Error error)) slot asked left old new
-      m.operands after m.printed printed = rw (← is) did in record {
-        meets = λ store shows within. rw (operated_other refused operator (world_of old m store) other)
-            (error_shown (operator_needs operator (values_in old small_names m.operands)) error store
+      let operates : Operates operator refused (Err (Error error)) m.room slot asked left old
+      new m.operands after m.printed printed = rw (← is) did in record {
+        meets = λ store shows within. rw (operated_other refused operator (world_of old m store)
+            other)
+            (error_shown (operator_needs m.room operator (values_in old small_names m.operands))
+            error store
             shows within (small_effect operator refused (values_in old small_names m.operands)
             store) (operates.meets store shows within));
         good = record {
@@ -227,26 +234,31 @@ module _ (refused : Bool) (operator : Operator) (other : operator ≢ Forall) (s
   unmade_shown : (needs : Needs) (reason : Reason) (store : StoreOf) (effect : Effect)
       → OperatesAs needs (Err (NotMade reason)) effect slot asked left old new m.operands after
       m.printed printed store
+      → room ≡ m.room
       → GoesTo needs (after_effect operator (world_of old m store) effect) (Err reason) slot asked
-      left old new m (left_as m after printed) store
-  unmade_shown needs reason store (makes scene output) did =
-      (did.0, behind_running reason _ (rw running refl), did.1.0, rw (did.1.1, did.1.2) refl)
-  unmade_shown needs reason store (unwinds cause scene) did = absurd did
-  unmade_shown needs reason store (raises error) did = absurd did
-  unmade_shown needs reason store (starves names) did = absurd did
+      left old new m (left_as m after printed room) store
+  unmade_shown needs reason store (makes scene output) did same =
+      (did.0, behind_running reason _ (rw running refl), did.1.0, rw (did.1.1, did.1.2, same) refl)
+  unmade_shown needs reason store (unwinds cause scene) did same = absurd did
+  unmade_shown needs reason store (raises error) did same = absurd did
+  unmade_shown needs reason store (starves names) did same = absurd did
 
-  pub goes_not : (reason : Reason) (failure : Failure) → failure ≡ NotMade reason
-      → Operates operator refused (Err failure) slot asked left old new m.operands after m.printed
+  pub goes_not : (reason : Reason) (failure : Failure) → failure ≡ NotMade reason → room ≡ m.room
+      → Operates operator refused (Err failure) m.room slot asked left old new m.operands after
+      m.printed
       printed
-      → Goes (λ world. operator_needs operator world.operands) (small_operated refused operator)
-      (Err reason) slot asked left old new m (left_as m after printed)
-  goes_not reason failure is did =
-      let operates : Operates operator refused (Err (NotMade reason)) slot asked left old new
-      m.operands after m.printed printed = rw (← is) did in record {
-        meets = λ store shows within. rw (operated_other refused operator (world_of old m store) other)
-            (unmade_shown (operator_needs operator (values_in old small_names m.operands)) reason store
+      → Goes (λ world. operator_needs m.room operator world.operands) (small_operated refused
+      operator)
+      (Err reason) slot asked left old new m (left_as m after printed room)
+  goes_not reason failure is same did =
+      let operates : Operates operator refused (Err (NotMade reason)) m.room slot asked left old
+      new m.operands after m.printed printed = rw (← is) did in record {
+        meets = λ store shows within. rw (operated_other refused operator (world_of old m store)
+            other)
+            (unmade_shown (operator_needs m.room operator (values_in old small_names m.operands))
+            reason store
             (small_effect operator refused (values_in old small_names m.operands) store)
-            (operates.meets store shows within));
+            (operates.meets store shows within) same);
         good = good_left;
         keeps = keeps;
         logs = logs;

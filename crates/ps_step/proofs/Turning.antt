@@ -29,21 +29,28 @@ use Rattle.ps_step.proofs.Taking.{without_top, good_below, top_frame}
 
 -- the frames once an element was taken: the procedure is entered where it has one
 abbrev pub turned_frames : (over : Part) (at : ℕ) (body : Part) → List Frame → List Frame
-turned_frames over at body below = if body.length == 0 then Loop over (at + 1) body ∷ below else Procedure body ∷ Loop over (at + 1) body ∷ below
+turned_frames over at body below = if body.length == 0 then Loop over (at + 1) body ∷ below else
+    Procedure body ∷ Loop over (at + 1) body ∷ below
 
-room_above : (h : Heap) (frames : List Frame) (frame : Frame) (other : SmallFrame) (full : Bool) → first_of frames ≡ Some frame → nat_le 250 (length frames) ≡ full
+room_above : (h : Heap) (frames : List Frame) (frame : Frame) (other : SmallFrame) (full : Bool) →
+    first_of frames ≡ Some frame → nat_le 250 (length frames) ≡ full
     → has_frame_room (other ∷ map (frame_of (birth_at h)) (drop 1 frames)) ≡ not full
 room_above h frames frame other full top is =
-    let count : length frames ≡ suc (length (drop 1 frames)) = ap (λ (all : List Frame). length all) (frames_top frames frame top) in
-    let same : length (map (frame_of (birth_at h)) (drop 1 frames)) ≡ length (drop 1 frames) = length-map (drop 1 frames) (frame_of (birth_at h)) in
+    let count : length frames ≡ suc (length (drop 1 frames)) = ap (λ (all : List Frame). length all)
+    (frames_top frames frame top) in
+    let same : length (map (frame_of (birth_at h)) (drop 1 frames)) ≡ length (drop 1 frames) =
+    length-map (drop 1 frames) (frame_of (birth_at h)) in
     rw same (by full is count)
   where
-    by : (b : Bool) → nat_le 250 (length frames) ≡ b → length frames ≡ suc (length (drop 1 frames)) → nat_lt (suc (length (drop 1 frames))) 250 ≡ not b
+    by : (b : Bool) → nat_le 250 (length frames) ≡ b → length frames ≡ suc (length (drop 1 frames))
+        → nat_lt (suc (length (drop 1 frames))) 250 ≡ not b
     by true is count = grind (arith, nat_tests)
     by false is count = grind (arith, nat_tests)
 
-module _ (refused : Bool) (h : Heap) (m : Machine) (over : Part) (at : ℕ) (body : Part) (running : m.stage ≡ Running) (top : first_of m.frames ≡ Some (Loop over at body)) (store : StoreOf) where
-  pub loop_past : over.length ≤ at → small_step refused (world_of h m store) ≡ world_of h (without_top m) store
+module _ (refused : Bool) (h : Heap) (m : Machine) (over : Part) (at : ℕ) (body : Part) (running :
+    m.stage ≡ Running) (top : first_of m.frames ≡ Some (Loop over at body)) (store : StoreOf) where
+  pub loop_past : over.length ≤ at → small_step refused (world_of h m store) ≡ world_of h
+      (without_top m) store
   unfolding forall_turn
   loop_past past =
       let test : nat_lt at over.length ≡ false = grind (arith, nat_tests) in
@@ -54,36 +61,83 @@ module _ (refused : Bool) (h : Heap) (m : Machine) (over : Part) (at : ℕ) (bod
     test = grind (arith, nat_tests)
 
     pub loop_no_room : is_full m.operands ≡ true
-        → small_step refused (world_of h m store) ≡ small.with_error StackOverflow (steps.command_of Forall) (world_of h m store)
+        → small_step refused (world_of h m store) ≡ small.with_error StackOverflow (steps.command_of
+        Forall) (world_of h m store)
     unfolding forall_turn
-    loop_no_room full = step_by refused h m store (Loop over at body) running top ∙ rw (test, full_values h m.operands, full) refl
+    loop_no_room full = step_by refused h m store (Loop over at body) running top ∙ rw (
+      test,
+      full_values h m.operands,
+      full,
+    ) refl
 
     module _ (free : is_full m.operands ≡ false) where
       pub loop_no_frame : (body.length == 0) ≡ false → nat_le 250 (length m.frames) ≡ true
-          → small_step refused (world_of h m store) ≡ small.with_error ExecStackOverflow (steps.command_of Forall) (world_of h m store)
+          → small_step refused (world_of h m store) ≡ small.with_error ExecStackOverflow
+          (steps.command_of Forall) (world_of h m store)
       unfolding forall_turn
       loop_no_frame some full = step_by refused h m store (Loop over at body) running top
-          ∙ rw (test, full_values h m.operands, free, some, room_above h m.frames (Loop over at body) (small.forall_frame (part_of (birth_at h) over) (at + 1) (part_of (birth_at h) body)) true top full) refl
+          ∙ rw (
+            test,
+            full_values h m.operands,
+            free,
+            some,
+            room_above h m.frames (Loop over at
+                body) (small.forall_frame (part_of (birth_at h) over) (at + 1) (part_of (birth_at h)
+                body)) true top full,
+          ) refl
 
-      module _ (word : Word) (value : slice_get (elements store (birth_at h over.address)) (over.offset + at) ≡ Some (value_of (birth_at h) small_names word)) where
+      module _ (word : Word) (value : slice_get (elements store (birth_at h over.address))
+          (over.offset + at) ≡ Some (value_of (birth_at h) small_names word)) where
         pub loop_empty : (body.length == 0) ≡ true
-            → small_step refused (world_of h m store) ≡ world_of h (record m { operands = word ∷ m.operands; frames = Loop over (at + 1) body ∷ drop 1 m.frames }) store
+            → small_step refused (world_of h m store) ≡ world_of h (record m {
+              operands = word ∷
+                  m.operands;
+              frames = Loop over (at + 1) body ∷ drop 1 m.frames;
+            }) store
         unfolding forall_turn
-        loop_empty none = step_by refused h m store (Loop over at body) running top ∙ rw (test, full_values h m.operands, free, none, value) refl
+        loop_empty none = step_by refused h m store (Loop over at body) running top ∙ rw (
+          test,
+          full_values h m.operands,
+          free,
+          none,
+          value,
+        ) refl
 
         pub loop_entered : (body.length == 0) ≡ false → nat_le 250 (length m.frames) ≡ false
-            → small_step refused (world_of h m store) ≡ world_of h (record m { operands = word ∷ m.operands; frames = Procedure body ∷ Loop over (at + 1) body ∷ drop 1 m.frames }) store
+            → small_step refused (world_of h m store) ≡ world_of h (record m {
+              operands = word ∷
+                  m.operands;
+              frames = Procedure body ∷ Loop over (at + 1) body ∷ drop 1 m.frames;
+            })
+            store
         unfolding forall_turn
         loop_entered some room = step_by refused h m store (Loop over at body) running top
-            ∙ rw (test, full_values h m.operands, free, some, room_above h m.frames (Loop over at body) (small.forall_frame (part_of (birth_at h) over) (at + 1) (part_of (birth_at h) body)) false top room, value) refl
+            ∙ rw (
+              test,
+              full_values h m.operands,
+              free,
+              some,
+              room_above h m.frames (Loop over at
+                  body) (small.forall_frame (part_of (birth_at h) over) (at + 1) (part_of (birth_at h)
+                  body)) false top room,
+              value,
+            ) refl
 
 -- a step that leaves a context in the same memory
-pub goes_seen : (needs : SmallWorld → Needs) (next : SmallWorld → SmallWorld) (slot : ℕ) (grants : Grants) (h : Heap) (m n : Machine) → IsGood h n → n.program ≡ m.program
-    → ((store : StoreOf) → Shows h small_names store → AreWithin h small_names store m.operands → AreWithin h small_names store n.operands)
-    → ((store : StoreOf) → Shows h small_names store → next (world_of h m store) ≡ world_of h n store)
+pub goes_seen : (needs : SmallWorld → Needs) (next : SmallWorld → SmallWorld) (slot : ℕ) (grants :
+    Grants) (h : Heap) (m n : Machine) → IsGood h n → n.program ≡ m.program
+    → ((store : StoreOf) → Shows h small_names store → AreWithin h small_names store m.operands →
+    AreWithin h small_names store n.operands)
+    → ((store : StoreOf) → Shows h small_names store → next (world_of h m store) ≡ world_of h n
+    store)
     → Goes needs next (Ok (tt {0})) slot grants grants h h m n
 goes_seen needs next slot grants h m n good program inside is = record {
-  meets = λ store shows within. rw (is store shows) (record { is = refl; shows = shows; within = inside store shows within });
+  meets = λ store shows within. rw (is store shows) (record {
+    is = refl;
+    shows = shows;
+    within =
+        inside store shows within;
+  });
   good = good;
   keeps = Keeps-Extends h h (Extends-same h);
   logs = same_logs grants slot;
@@ -99,15 +153,24 @@ is_zero n is = grind (arith, nat_tests)
 pub not_zero : (n : ℕ) → n ≢ 0 → (n == 0) ≡ false
 not_zero n other = grind (arith, nat_tests)
 
-module _ (h : Heap) (m : Machine) (over : Part) (at : ℕ) (body : Part) (good : IsGood h m) (top : first_of m.frames ≡ Some (Loop over at body)) (word : Word) (held : IsValue h word) where
-  pub good_turned : IsGood h (record m { operands = word ∷ m.operands; frames = Loop over (at + 1) body ∷ drop 1 m.frames })
+module _ (h : Heap) (m : Machine) (over : Part) (at : ℕ) (body : Part) (good : IsGood h m) (top :
+    first_of m.frames ≡ Some (Loop over at body)) (word : Word) (held : IsValue h word) where
+  pub good_turned : IsGood h (record m {
+    operands = word ∷ m.operands;
+    frames = Loop over (at + 1)
+        body ∷ drop 1 m.frames;
+  })
   good_turned = record {
     ready = record { sound = good.ready.sound; values = (held, good.ready.values) };
     frames = (top_frame h m (Loop over at body) good top, (good_below h m good).frames);
     counted = good.counted;
   }
 
-  pub good_entered : 1 ≤ body.length → IsGood h (record m { operands = word ∷ m.operands; frames = Procedure body ∷ Loop over (at + 1) body ∷ drop 1 m.frames })
+  pub good_entered : 1 ≤ body.length → IsGood h (record m {
+    operands = word ∷ m.operands;
+    frames =
+        Procedure body ∷ Loop over (at + 1) body ∷ drop 1 m.frames;
+  })
   good_entered some = record {
     ready = good_turned.ready;
     frames = (((top_frame h m (Loop over at body) good top).1, some), good_turned.frames);

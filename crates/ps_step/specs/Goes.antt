@@ -17,7 +17,8 @@ abbrev pub IsBehindErrors : NotMade → (next : SmallWorld) → Type 0
 IsBehindErrors Memory next = Unit {0}
 IsBehindErrors reason next = next.stage ≡ running
 
--- the world that follows is shown, or there is a reason by what the step needs, and nothing has changed
+-- the world that follows is shown, or there is a reason by what the step needs, and nothing has
+-- changed
 abbrev pub GoesTo : Needs → (next : SmallWorld) → Result Unit NotMade → (slot : ℕ)
     → (asked left : Grants) → (old new : Heap) → (before after : Machine) → Store → Type 0
 GoesTo needs next (Ok _) slot asked left old new before after store = IsShown new after next
@@ -25,7 +26,8 @@ GoesTo needs next (Err reason) slot asked left old new before after store =
     IsReason needs reason old slot asked left store next.store × IsBehindErrors reason next
     × (new ≡ old) × (after ≡ before)
 
--- For every store that the memory shows; what a context refers to goes on standing, and the step keeps to its log. needs: what a step from a world needs
+-- For every store that the memory shows; what a context refers to goes on standing, and the step
+-- keeps to its log. needs: what a step from a world needs
 pub record Goes (needs : SmallWorld → Needs) (next : SmallWorld → SmallWorld)
     (result : Result Unit NotMade) (slot : ℕ) (asked left : Grants) (old new : Heap)
     (before after : Machine) : Type 0 where
@@ -44,10 +46,11 @@ pub record GoesAlone (next : SmallWorld → SmallWorld) (before after : Machine)
   pub goes : (needs : SmallWorld → Needs) (h : Heap) (grants : Grants) (slot : ℕ) → IsGood h before
       → Goes needs next (Ok (tt {0})) slot grants grants h h before after
 
--- the next step of a context, which has one, is not made: for every store that the memory shows, the reason is so
+-- the next step of a context, which has one, is not made: for every store that the memory shows,
+-- the reason is so
 pub record IsHeldUp (refused : Bool) (reason : NotMade) (slot : ℕ) (grants : Grants) (h : Heap)
     (m : Machine) : Type 0 where
   pub steps : has_steps m.stage ≡ true
   pub why : (store : Store) → Shows h small_names store → AreWithin h small_names store m.operands →
-      IsReason (step_needs (world_of h m store)) reason h slot grants grants store
+      IsReason (step_needs m.room (world_of h m store)) reason h slot grants grants store
       (small_step refused (world_of h m store)).store

@@ -1,4 +1,3 @@
 pub mod Machine
 pub mod Goes
-pub mod Lines
 pub mod Needs

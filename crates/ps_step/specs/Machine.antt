@@ -24,7 +24,9 @@ use Rattle.ps_step.specs.declared.frames.Frame.TheVariants.{Text, Procedure, For
 use Rattle.ps_step.specs.declared.interpreter.Stage.{Stage}
 use Rattle.ps_step.specs.declared.interpreter.Stage.TheVariants.{Running, Unwinding, Finished}
 
--- what a context holds; the topmost first
+-- What a context holds; the topmost first. room: how many bytes the output takes before it grows;
+-- scratch: how many words a procedure that is made may have before the list that
+-- gathers them grows
 pub record Machine : Type 0 where
   pub program : List ℕ
   pub operands : List Word
@@ -32,10 +34,22 @@ pub record Machine : Type 0 where
   pub stage : Stage
   pub printed : List ℕ
   pub error_lines : ℕ
+  pub room : ℕ
+  pub scratch : ℕ
 
 -- before the first step
 abbrev pub starting_machine : (program : List ℕ) → Machine
-starting_machine program = record { program = program; operands = []; frames = Text 0 ∷ []; stage = Running; printed = []; error_lines = 0 }
+starting_machine program = record {
+  program = program;
+  operands = [];
+  frames = Text 0 ∷ [];
+  stage =
+      Running;
+  printed = [];
+  error_lines = 0;
+  room = 0;
+  scratch = 0;
+}
 
 -- with an unwinding that begins
 abbrev pub raised : ErrorName → Command → Machine → Machine
@@ -43,24 +57,29 @@ raised error command m = record m { stage = Unwinding error command }
 
 -- with a word more
 abbrev pub pushed : Command → Word → Machine → Machine
-pushed command word m = if is_full m.operands then raised StackOverflow command m else record m { operands = word ∷ m.operands }
+pushed command word m = if is_full m.operands then raised StackOverflow command m else record m {
+  operands = word ∷ m.operands;
+}
 
 -- ---- what it stands for
 
 abbrev pub frame_of : (births : ℕ → ℕ) → Frame → SmallFrame
 frame_of births (Text at) = small.text_frame at
 frame_of births (Procedure rest) = small.procedure_frame (part_of births rest)
-frame_of births (Forall over at body) = small.forall_frame (part_of births over) at (part_of births body)
+frame_of births (Forall over at body) = small.forall_frame (part_of births over) at (part_of births
+    body)
 
 -- the value that $error would have
 abbrev pub command_of : (births : ℕ → ℕ) → (program : List ℕ) → Command → Value
 command_of births program (ValueOf word) = value_of births small_names word
-command_of births program (Name span) = readers.executable_name (slice_range program span.start span.end)
+command_of births program (Name span) = readers.executable_name (slice_range program span.start
+    span.end)
 command_of births program (Operator operator) = steps.command_of operator
 
 abbrev pub stage_of : (births : ℕ → ℕ) → (program : List ℕ) → Stage → small.Stage
 stage_of births program Running = small.running
-stage_of births program (Unwinding error command) = small.unwinding error (command_of births program command)
+stage_of births program (Unwinding error command) = small.unwinding error (command_of births program
+    command)
 stage_of births program Finished = small.finished
 
 -- the world over a store
@@ -84,7 +103,8 @@ pub record IsShown (h : Heap) (m : Machine) (w : SmallWorld) : Type 0 where
 -- ---- parts of a step
 
 -- the array and the procedure of forall, or an error
-abbrev pub parts_outcome : (births : ℕ → ℕ) → Result (Part × Part) ErrorName → Outcome (PartValue × PartValue)
+abbrev pub parts_outcome : (births : ℕ → ℕ) → Result (Part × Part) ErrorName → Outcome (PartValue ×
+    PartValue)
 parts_outcome births (Ok parts) = leaves (part_of births parts.0, part_of births parts.1)
 parts_outcome births (Err error) = fails error
 
@@ -102,8 +122,17 @@ abbrev pub text_left : Machine → Machine
 text_left m = text_left_with (drop 1 m.frames) m
 
 -- the line of an error was printed, and the context is finished
-pub record EndsWithLine (births : ℕ → ℕ) (error : ErrorName) (command : Command) (before after : Machine) : Type 0 where
-  pub is : after ≡ record before { frames = []; stage = Finished; printed = before.printed ++ small.small_error_line error (command_of births before.program command); error_lines = before.error_lines + 1 }
+pub record EndsWithLine (births : ℕ → ℕ) (error : ErrorName) (command : Command) (before after :
+    Machine) : Type 0 where
+  pub is : after ≡ record before {
+    frames = [];
+    stage = Finished;
+    printed = before.printed ++
+        small.small_error_line error (command_of births before.program command);
+    error_lines =
+        before.error_lines + 1;
+    room = after.room;
+  }
 
 -- ---- what holds of it in every memory
 
@@ -112,7 +141,8 @@ IsFrame h size (Text at) = at ≤ size
 IsFrame h size (Procedure rest) = IsHeld h rest × (1 ≤ rest.length)
 IsFrame h size (Forall over at body) = IsHeld h over × IsHeld h body
 
--- operands and frames refer to what stands, places lie in the program, and no line of an error was printed before the end
+-- operands and frames refer to what stands, places lie in the program, and no line of an error was
+-- printed before the end
 pub record IsGood (h : Heap) (m : Machine) : Type 0 where
   pub ready : IsReady h m.operands
   pub frames : AllByRecursion (IsFrame h (length m.program)) m.frames

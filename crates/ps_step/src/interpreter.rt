@@ -12,14 +12,15 @@ ghost use Rattle.ps_mem.specs.Heap.{Space, Heap, Grants, empty_heap, birth_at};
 ghost use Rattle.ps_mem.specs.Meaning.{value_of};
 ghost use Rattle.ps_mem.specs.Shows.{IsValue, IsWithin, Shows};
 ghost use Rattle.ps_named.specs.Names.{named_value_of, is_small_named};
-ghost use Rattle.ps_operators.specs.Reasons.{growth_needed, operator_needs};
+ghost use Rattle.ps_operators.specs.Does.{outgrows};
+ghost use Rattle.ps_operators.specs.Reasons.{operator_needs};
 ghost use Rattle.ps_procedures.specs.Procedures.{tokens_in, IsShort};
 ghost use Rattle.ps_scan.specs.Shown.{token_of};
 ghost use Rattle.ps_stacks.specs.Tops.{first_of};
 ghost use Rattle.ps_step.specs.Goes.{Goes, GoesAlone};
 ghost use Rattle.ps_step.specs.Machine as machines;
 ghost use Rattle.ps_step.specs.Machine.{IsGood, command_of, EndsWithLine};
-ghost use Rattle.ps_step.specs.Needs.{name_needs, token_needs, element_needs, step_needs};
+ghost use Rattle.ps_step.specs.Needs.{name_needs, token_needs, element_needs, step_needs, procedure_needs};
 
 use crate::commands::{Command, append_error_line};
 use crate::frames::{Frame, Frames, advance, advance_loop, drop_top, push_within};
@@ -66,7 +67,7 @@ pub struct Interpreter {
 }
 
 impl Model for Interpreter {
-    ghost use Rattle.std.specs.Prelude.{◌≡◌, []};
+    ghost use Rattle.std.specs.Prelude.{◌≡◌, ◌-◌, [], vec_len, vec_capacity};
     ghost use Rattle.ps_step.specs.Machine.{Machine};
 
     ghost Value = { Machine };
@@ -78,6 +79,8 @@ impl Model for Interpreter {
       stage = i.stage;
       printed = i.printed.items;
       error_lines = i.error_lines;
+      room = vec_capacity i.printed - vec_len i.printed;
+      scratch = vec_capacity i.scratch;
     } };
 
     ghost invariant = { λ i. i.scratch.items ≡ [] };
@@ -147,7 +150,8 @@ impl Interpreter {
     ) -> Result<(), NotMade>
         requires slot { slot < SLOTS }
         requires good { IsGood (M.heap memory.old) self.old }
-        ensures { Goes step_needs (small_step refused) result slot (M.grants memory.old)
+        ensures { Goes (step_needs self.old.room) (small_step refused) result slot (M.grants
+            memory.old)
             (M.grants memory.new) (M.heap memory.old) (M.heap memory.new) self.old self.new }
     {
         match self.stage {
@@ -200,7 +204,8 @@ impl Interpreter {
         requires good { IsGood (M.heap memory.old) self.old }
         requires running { self.old.stage ≡ Stage.Running }
         requires top { first_of self.old.frames ≡ Some (Frame.Text at) }
-        ensures { Goes step_needs (small_step refused) result slot (M.grants memory.old)
+        ensures { Goes (step_needs self.old.room) (small_step refused) result slot (M.grants
+            memory.old)
             (M.grants memory.new) (M.heap memory.old) (M.heap memory.new) self.old self.new }
     {
         match next_token(self.alloc, self.program.as_slice(), at) {
@@ -249,7 +254,8 @@ impl Interpreter {
         requires within { token.now.end ≤ length self.old.program }
         requires scanned { scan self.old.program at ≡ found
             (token_of self.old.program token.now.kind) token.now.end }
-        ensures { Goes step_needs (small_step refused) result slot (M.grants memory.old)
+        ensures { Goes (step_needs self.old.room) (small_step refused) result slot (M.grants
+            memory.old)
             (M.grants memory.new) (M.heap memory.old) (M.heap memory.new) self.old self.new }
     {
         self.frames.set_top(Frame::Text { at: token.end });
@@ -275,7 +281,7 @@ impl Interpreter {
         requires running { self.old.stage ≡ Stage.Running }
         requires short { (elements : Tokens)
             → token_of self.old.program token.now ≡ procedure_token elements → IsShort elements }
-        ensures { Goes (token_needs (token_of self.old.program token.now))
+        ensures { Goes (token_needs self.old.room (token_of self.old.program token.now))
             (small.small_done refused (token_of self.old.program token.now)) result slot
             (M.grants memory.old) (M.grants memory.new) (M.heap memory.old) (M.heap memory.new)
             self.old self.new }
@@ -315,7 +321,7 @@ impl Interpreter {
         requires small { IfSome found (λ named. IsTrue (is_small_named named)) }
         ensures { (text : List ℕ)
             → ((births : ℕ → ℕ) → command_of births self.old.program command ≡ executable_name text)
-            → Goes (name_needs (option_map named_value_of found))
+            → Goes (name_needs self.old.room (option_map named_value_of found))
             (small.name_treated refused text (option_map named_value_of found)) result slot
             (M.grants memory.old) (M.grants memory.new) (M.heap memory.old) (M.heap memory.new)
             self.old self.new }
@@ -345,7 +351,7 @@ impl Interpreter {
         requires small { IsTrue (is_small_named named) }
         ensures { (text : List ℕ)
             → ((births : ℕ → ℕ) → command_of births self.old.program command ≡ executable_name text)
-            → Goes (name_needs (Some (named_value_of named)))
+            → Goes (name_needs self.old.room (Some (named_value_of named)))
             (small.name_treated refused text (Some (named_value_of named))) result slot
             (M.grants memory.old) (M.grants memory.new) (M.heap memory.old) (M.heap memory.new)
             self.old self.new }
@@ -376,7 +382,7 @@ impl Interpreter {
         requires good { IsGood (M.heap memory.old) self.old }
         requires running { self.old.stage ≡ Stage.Running }
         requires small { IsTrue (small.is_small operator) }
-        ensures { Goes (λ world. operator_needs operator world.operands)
+        ensures { Goes (λ world. operator_needs self.old.room operator world.operands)
             (small.small_operated refused operator) result slot (M.grants memory.old)
             (M.grants memory.new) (M.heap memory.old) (M.heap memory.new) self.old self.new }
     {
@@ -403,7 +409,7 @@ impl Interpreter {
         requires running { self.old.stage ≡ Stage.Running }
         requires small { IsTrue (small.is_small operator) }
         requires other { operator ≢ Operator.Forall }
-        ensures { Goes (λ world. operator_needs operator world.operands)
+        ensures { Goes (λ world. operator_needs self.old.room operator world.operands)
             (small.small_operated refused operator) result slot (M.grants memory.old)
             (M.grants memory.new) (M.heap memory.old) (M.heap memory.new) self.old self.new }
     {
@@ -437,7 +443,8 @@ impl Interpreter {
         requires good { IsGood (M.heap memory.old) self.old }
         requires running { self.old.stage ≡ Stage.Running }
         requires short { IsShort (tokens_in self.old.program elements.now) }
-        ensures { Goes (λ world. growth_needed)
+        ensures { Goes (λ world. procedure_needs self.old.scratch
+            (tokens_in self.old.program elements.now))
             (small.procedure_pushed refused (tokens_in self.old.program elements.now)) result slot
             (M.grants memory.old) (M.grants memory.new) (M.heap memory.old) (M.heap memory.new)
             self.old self.new }
@@ -478,7 +485,8 @@ impl Interpreter {
         requires good { IsGood (M.heap memory.old) self.old }
         requires running { self.old.stage ≡ Stage.Running }
         requires top { first_of self.old.frames ≡ Some (Frame.Procedure rest) }
-        ensures { Goes step_needs (small_step refused) result slot (M.grants memory.old)
+        ensures { Goes (step_needs self.old.room) (small_step refused) result slot (M.grants
+            memory.old)
             (M.grants memory.new) (M.heap memory.old) (M.heap memory.new) self.old self.new }
     {
         let word = element(memory, rest, 0);
@@ -510,7 +518,8 @@ impl Interpreter {
             → slice_get (elements s (birth_at (M.heap memory.old) rest.address)) (rest.offset + 0) ≡
             Some (value_of (birth_at (M.heap memory.old)) names word) }
         requires last { rest.length ≡ 1 }
-        ensures { Goes step_needs (small_step refused) result slot (M.grants memory.old)
+        ensures { Goes (step_needs self.old.room) (small_step refused) result slot (M.grants
+            memory.old)
             (M.grants memory.new) (M.heap memory.old) (M.heap memory.new) self.old self.new }
     {
         drop_top(&mut self.frames);
@@ -544,7 +553,8 @@ impl Interpreter {
             → slice_get (elements s (birth_at (M.heap memory.old) rest.address)) (rest.offset + 0) ≡
             Some (value_of (birth_at (M.heap memory.old)) names word) }
         requires more { 1 < rest.length }
-        ensures { Goes step_needs (small_step refused) result slot (M.grants memory.old)
+        ensures { Goes (step_needs self.old.room) (small_step refused) result slot (M.grants
+            memory.old)
             (M.grants memory.new) (M.heap memory.old) (M.heap memory.new) self.old self.new }
     {
         advance(&mut self.frames, rest);
@@ -573,7 +583,8 @@ impl Interpreter {
         requires held { IsValue (M.heap memory.old) word }
         requires within { (names : List (List ℕ)) (s : Store) → Shows (M.heap memory.old) names s
             → IsWithin (birth_at (M.heap memory.old)) names s word }
-        ensures { Goes (element_needs (value_of (birth_at (M.heap memory.old)) small_names word))
+        ensures { Goes (element_needs self.old.room (value_of (birth_at (M.heap memory.old))
+            small_names word))
             (small.element_done refused (value_of (birth_at (M.heap memory.old)) small_names word))
             result slot (M.grants memory.old) (M.grants memory.new) (M.heap memory.old)
             (M.heap memory.new) self.old self.new }
@@ -627,8 +638,8 @@ impl Interpreter {
         ensures heap { M.heap memory.new ≡ M.heap memory.old }
         ensures grants { M.grants memory.new ≡ M.grants memory.old }
         ensures goes { (refused : Bool) (slot : ℕ)
-            → Goes step_needs (small_step refused) (Ok (tt {0})) slot (M.grants memory.old)
-            (M.grants memory.new) (M.heap memory.old) (M.heap memory.new) self.old self.new }
+            → Goes (step_needs self.old.room) (small_step refused) (Ok (tt {0})) slot
+            (M.grants memory.old) (M.grants memory.new) (M.heap memory.old) (M.heap memory.new) self.old self.new }
     {
         if at >= over.length {
             self.frames.discard(1);
@@ -669,6 +680,10 @@ impl Interpreter {
         ensures made { OnOk result
             ((refused : Bool) → GoesAlone (small_step refused) self.old self.new) }
         ensures reason { IfErr result (λ reason. reason ≡ NotMade.Memory) }
+        ensures full { OnErr result
+            ((births : ℕ → ℕ)
+            → IsTrue (outgrows self.old.room
+            (small.small_error_line error (command_of births self.old.program command)))) }
         ensures last { OnErr result (length self.old.frames ≡ 1) }
         ensures unmade { OnErr result (self.new ≡ self.old) }
     {
@@ -690,6 +705,10 @@ impl Interpreter {
         ensures made { OnOk result
             ((births : ℕ → ℕ) → EndsWithLine births error command self.old self.new) }
         ensures reason { IfErr result (λ reason. reason ≡ NotMade.Memory) }
+        ensures full { OnErr result
+            ((births : ℕ → ℕ)
+            → IsTrue (outgrows self.old.room
+            (small.small_error_line error (command_of births self.old.program command)))) }
         ensures unmade { OnErr result (self.new ≡ self.old) }
     {
         if append_error_line(&mut self.printed, error, command, self.program.as_slice()).is_err() {

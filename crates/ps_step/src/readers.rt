@@ -20,8 +20,10 @@ use ps_word::words::Word;
 /// The number of the name, if the word is an executable name.
 #[inline]
 pub fn executable_name_of(word: Word) -> Option<u16>
-    ensures some { IfSome result (λ number. (births : ℕ → ℕ) (names : List (List ℕ)) → value_of births names word ≡ executable_name (text_of_name names number)) }
-    ensures none { IfNone result ((births : ℕ → ℕ) (names : List (List ℕ)) → is_executable_name (value_of births names word) ≡ false) }
+    ensures some { IfSome result (λ number. (births : ℕ → ℕ) (names : List (List ℕ)) → value_of
+        births names word ≡ executable_name (text_of_name names number)) }
+    ensures none { IfNone result ((births : ℕ → ℕ) (names : List (List ℕ)) → is_executable_name
+        (value_of births names word) ≡ false) }
 {
     if !word.is_executable() {
         return None;
@@ -32,11 +34,14 @@ pub fn executable_name_of(word: Word) -> Option<u16>
     }
 }
 
-/// The array and the procedure of `forall`. Raises `stackunderflow`, `typecheck` and `invalidaccess`.
+/// The array and the procedure of `forall`. Raises `stackunderflow`, `typecheck` and
+/// `invalidaccess`.
 pub fn forall_operands(operands: &Operands) -> Result<(Part, Part), ErrorName>
-    ensures parts { (births : ℕ → ℕ) (names : List (List ℕ)) → forall_parts (map (value_of births names) operands.now) ≡ parts_outcome births result }
+    ensures parts { (births : ℕ → ℕ) (names : List (List ℕ)) → forall_parts (map (value_of births
+        names) operands.now) ≡ parts_outcome births result }
     ensures two { OnOk result (2 ≤ length operands.now) }
-    ensures held { (h : Heap) → IsReady h operands.now → IfOk result (λ parts. IsHeld h parts.0 × IsHeld h parts.1) }
+    ensures held { (h : Heap) → IsReady h operands.now → IfOk result (λ parts. IsHeld h parts.0 ×
+        IsHeld h parts.1) }
 {
     let Some((procedure, array)) = operands.top_two() else {
         return Err(ErrorName::StackUnderflow);

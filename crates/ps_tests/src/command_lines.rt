@@ -1,7 +1,7 @@
 //! Rows of the command line: what is run, and what it gives.
 
 use crate::fakes::{OneFile, Output};
-use ps_run::{ReadFault, drive};
+use ps_run::{Flushed, ReadFault, drive};
 use std::alloc::Global;
 use std::test::Fail;
 
@@ -24,11 +24,14 @@ fn driven(
     out_writes: u32,
     err_writes: u32,
 ) -> Given {
-    let mut files = OneFile { bytes };
-    let mut out = Output::new(alloc, out_writes);
+    let mut files = OneFile {
+        bytes,
+        last_fault: None,
+    };
+    let mut out = Flushed::new(Output::new(alloc, out_writes));
     let mut err = Output::new(alloc, err_writes);
     let status = drive(alloc, words, &mut files, &mut out, &mut err);
-    let Output { bytes: printed, .. } = out;
+    let Output { bytes: printed, .. } = out.into_inner();
     let Output { bytes: told, .. } = err;
     Given {
         status,

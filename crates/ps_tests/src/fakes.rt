@@ -13,17 +13,25 @@ use std::io::{self, ErrorKind, Write};
 #[derive(Drop)]
 pub struct OneFile<'a> {
     pub bytes: Result<&'a [u8], ReadFault>,
+    /// Why the last read that failed did.
+    pub last_fault: Option<ReadFault>,
 }
 
 impl FileSet for OneFile<'_> {
     ghost contents = { λ file name. bytes_in file.bytes };
 
+    ghost last_fault = { λ file. file.last_fault };
+
     fn read(&mut self, alloc: Global, _name: &str) -> Result<Vec<u8>, ReadFault> {
-        match self.bytes {
+        let read = match self.bytes {
             Ok(bytes) if bytes.len() > MOST_PROGRAM_BYTES => Err(ReadFault::TooLong),
             Ok(bytes) => Vec::from_slice(alloc, bytes).map_err(|_| ReadFault::Memory),
             Err(fault) => Err(fault),
+        };
+        if let Err(fault) = &read {
+            self.last_fault = Some(*fault);
         }
+        read
     }
 
     fn write(&mut self, _name: &str, _bytes: &[u8]) -> Result<(), WriteFault>

@@ -1,5 +1,5 @@
 -- The world after the steps of entries.
-use Rattle.std.proofs.Common.{◌≡◌, ℕ, zero, suc, ◌+◌, ◌<◌, ◌≤◌, Bool, true, false, None, List, [], ◌∷◌, ◌++◌, length, take, drop, get_or, inl, inr, refl, sym, ◌∙◌, ap, ap₂, subst, arith, add-one, append-nil, drop-cons, length-append}
+use Rattle.std.proofs.Common.{◌≡◌, ℕ, zero, suc, ◌+◌, ◌<◌, ◌≤◌, Bool, true, false, None, List, [], ◌∷◌, ◌++◌, length, take, drop, get_or, refl, sym, ◌∙◌, ap, ap₂, subst, arith, add-one, append-nil, drop-cons, length-append}
 use Rattle.std.specs.Prelude.{◌==◌, ◌&&◌, not, replicate}
 use Rattle.std.proofs.lemmas.List.{length-replicate, replicate_more, take-append-drop, take_more, take_all, drop_all}
 use Rattle.std.proofs.lemmas.Bool.{true≢false}
@@ -13,7 +13,8 @@ use Rattle.ps_vault.specs.Reports.{EndsAs, is_memory, is_over, IsStarved, is_fir
 use Rattle.ps_language.proofs.ScheduleLaws.{moves-single, moves-append, plain_entry, begins-part}
 use Rattle.ps_language.proofs.SmallLaws.{unready_move, after_small_moves-append, after_small_moves-single, small_world-append}
 
--- nothing in this language shows the pair of a vmstatus, so a move is told by its context and whether it is refused
+-- nothing in this language shows the pair of a vmstatus, so a move is told by its context and
+-- whether it is refused
 pub same_move : (world : SmallWorld) (first second : Move) → first.context ≡ second.context
     → first.refused ≡ second.refused → after_small_move world first ≡ after_small_move world second
 unfolding after_small_move

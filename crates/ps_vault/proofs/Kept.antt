@@ -24,6 +24,7 @@ use Rattle.ps_step.specs.Machine.{Machine, world_of, starting_machine, stage_of,
 use Rattle.ps_operators.specs.Reasons.{Needs, IsReason}
 use Rattle.ps_step.specs.Goes.{Goes, GoesTo, IsHeldUp}
 use Rattle.ps_step.specs.Needs.{step_needs, wants_memory}
+use Rattle.ps_step.proofs.Sooner.{grows_without_room}
 use Rattle.ps_vault.specs.declared.reports.Outcome.{Outcome}
 use Rattle.ps_vault.specs.Reports.{AreOrdinary, EndsAs, IsRunOf, IsStarved}
 use Rattle.ps_vault.specs.Stories.{Story, world_at, first_move, Keeps}
@@ -87,15 +88,18 @@ module _ (old new : Heap) (before after : Machine) (schedule : List Entry) (slot
     (asked left : Grants) (refused : Bool) (keeps : Keeps old before schedule) where
   -- what the step says of the world that was shown
   here : (result : Result Unit NotMade)
-      → Goes step_needs (small_step refused) result slot asked left old new before after
-      → GoesTo (step_needs (world_of old before (small_world before.program schedule).store))
+      → Goes (step_needs before.room) (small_step refused) result slot asked left old new before
+      after
+      → GoesTo (step_needs before.room (world_of old before (small_world before.program
+      schedule).store))
       (small_step refused (world_of old before (small_world before.program schedule).store))
       result slot asked left old new before after (small_world before.program schedule).store
   here result goes = goes.meets (small_world before.program schedule).store keeps.shows.shows
       keeps.shows.within
 
   -- one more
-  pub keeps_step : Goes step_needs (small_step refused) (Ok (tt {0})) slot asked left old new before
+  pub keeps_step : Goes (step_needs before.room) (small_step refused) (Ok (tt {0})) slot asked left
+      old new before
       after → is_small_ready (small_world before.program schedule) 1 ≡ true
       → Keeps new after (added schedule (first_move refused))
   keeps_step goes ready =
@@ -116,7 +120,8 @@ module _ (old new : Heap) (before after : Machine) (schedule : List Entry) (slot
 
   -- or none
   pub keeps_none : (reason : NotMade)
-      → Goes step_needs (small_step refused) (Err reason) slot asked left old new before after
+      → Goes (step_needs before.room) (small_step refused) (Err reason) slot asked left old new
+      before after
       → Keeps new after schedule
   keeps_none reason goes =
       let same = here (Err reason) goes in
@@ -125,7 +130,8 @@ module _ (old new : Heap) (before after : Machine) (schedule : List Entry) (slot
 
   -- which is held up
   pub held_up : (reason : NotMade)
-      → Goes step_needs (small_step refused) (Err reason) slot asked left old new before after
+      → Goes (step_needs before.room) (small_step refused) (Err reason) slot asked left old new
+      before after
       → machines.has_steps before.stage ≡ true
       → IsHeldUp refused reason slot left new after
   held_up reason goes steps =
@@ -133,10 +139,18 @@ module _ (old new : Heap) (before after : Machine) (schedule : List Entry) (slot
       subst (λ (m : Machine). IsHeldUp refused reason slot left new m) (sym same.3)
       (subst (λ (h : Heap). IsHeldUp refused reason slot left h before) (sym same.2) (record {
         steps = steps;
-        why = λ store shows within. as_left (step_needs (world_of old before store)) reason old slot
+        why = λ store shows within. as_left (step_needs before.room (world_of old before store))
+            reason old slot
             asked left store (small_step refused (world_of old before store)).store
             goes.logs.closed (goes.meets store shows within).0;
       }))
+
+-- of two reasons, where the first of one is one of another
+either_way : (first second other : Bool) → (IsTrue first → IsTrue second) → IsTrue (first || other)
+    → IsTrue (second || other)
+either_way true second other turns is = rw (turns refl) refl
+either_way false true other turns is = refl
+either_way false false other turns is = is
 
 -- of a step that is held up over a memory that grows and keeps no log
 module _ (h : Heap) (m : Machine) (schedule : List Entry) (slot : ℕ) (grants : Grants)
@@ -147,7 +161,7 @@ module _ (h : Heap) (m : Machine) (schedule : List Entry) (slot : ℕ) (grants :
   here_shown = small_world m.program schedule
 
   why_here : (reason : NotMade) → IsHeldUp refused reason slot grants h m
-      → IsReason (step_needs (world_of h m here_shown.store)) reason h slot grants grants
+      → IsReason (step_needs m.room (world_of h m here_shown.store)) reason h slot grants grants
       here_shown.store (small_step refused (world_of h m here_shown.store)).store
   why_here reason held = held.why here_shown.store keeps.shows.shows keeps.shows.within
 
@@ -166,13 +180,14 @@ module _ (h : Heap) (m : Machine) (schedule : List Entry) (slot : ℕ) (grants :
       let object : Bool = nat_le 1
       (made_between here_shown.store
       (small_step refused (world_of h m here_shown.store)).store) in
-      let why : IsTrue ((step_needs (world_of h m here_shown.store)).growth || object) =
+      let why : IsTrue ((step_needs m.room (world_of h m here_shown.store)).growth || object) =
       subst (λ (b : Bool). IsTrue
-      ((step_needs (world_of h m here_shown.store)).growth || (b && object))) grows
+      ((step_needs m.room (world_of h m here_shown.store)).growth || (b && object))) grows
       (why_here Memory held) in
       subst (λ (w : SmallWorld). IsTrue
-      ((step_needs w).growth || nat_le 1
-      (made_between here_shown.store (small_step refused w).store))) (sym keeps.shows.is) why
+      ((step_needs 0 w).growth || nat_le 1
+      (made_between here_shown.store (small_step refused w).store))) (sym keeps.shows.is)
+      (either_way _ _ object (grows_without_room m.room (world_of h m here_shown.store)) why)
 
   -- which the step may want
   pub starved : (reason : NotMade) → IsHeldUp refused reason slot grants h m

@@ -1,9 +1,9 @@
 -- Many steps at once are so many single ones.
-use Rattle.std.proofs.Common.{◌≡◌, ◌≢◌, ℕ, ℤ, zero, suc, ◌+◌, ◌-◌, ◌<◌, ◌≤◌, Bool, true, false, not, ◌&&◌, Option, Some, None, List, [], ◌∷◌, ◌++◌, refl, sym, ◌∙◌, ap, arith, add-one, append_assoc, subst}
-use Rattle.std.specs.Prelude.{nat_lt, is_none, ◌==◌, Ok, IfSome, IfNone, replicate}
+use Rattle.std.proofs.Common.{◌≡◌, ◌≢◌, ℕ, ℤ, zero, suc, ◌+◌, ◌-◌, ◌<◌, ◌≤◌, true, false, not, Option, Some, None, List, [], ◌∷◌, ◌++◌, refl, sym, ◌∙◌, ap, arith, append_assoc, subst}
+use Rattle.std.specs.Prelude.{is_none, Ok, IfSome, IfNone, replicate}
 use Rattle.std.proofs.lemmas.Bool.Decides.{nat_tests}
 use Rattle.ps_language.specs.declared.schedules.Entry.{Entry}
-use Rattle.ps_language.specs.Schedules.{Move, plain_move, added, joins, joined, single, count_of, steps_limit}
+use Rattle.ps_language.specs.Schedules.{Move, plain_move, added, joins, count_of, steps_limit}
 use Rattle.ps_language.proofs.ScheduleLaws.{added-last, count_of-added}
 use Rattle.std.proofs.lemmas.Bool.{true≢false}
 use Rattle.ps_ops.specs.declared.failure.NotMade.{NotMade}
@@ -155,7 +155,8 @@ keeps_start_times h m schedule keeps = keeps
 pub keeps_times : (old new : Heap) (before after : Machine) (schedule : List Entry) (n slot : ℕ)
     (asked left : Grants)
     → Keeps old before (added_times n schedule (first_move false))
-    → Goes step_needs (small_step false) (Ok (tt {0})) slot asked left old new before after
+    → Goes (step_needs before.room) (small_step false) (Ok (tt {0})) slot asked left old new before
+    after
     → machines.has_steps before.stage ≡ true
     → Keeps new after (added_times (n + 1) schedule (first_move false))
 unfolding added_times

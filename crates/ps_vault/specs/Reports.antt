@@ -26,7 +26,8 @@ is_over world = not (has_steps world.stage)
 abbrev pub IsStarved : (refused : Bool) → SmallWorld → Type 0
 IsStarved refused world = (is_over world ≡ false) × IsTrue (wants_memory refused world)
 
--- how a run ended in this world; used up says that no step is left, refused whether the next is to be refused. The one context never waits, and want of memory
+-- how a run ended in this world; used up says that no step is left, refused whether the next is to
+-- be refused. The one context never waits, and want of memory
 -- comes only before any other end, where the next step may want it
 abbrev pub EndsAs : SmallWorld → (used_up refused : Bool) → Outcome → Type 0
 EndsAs world used_up refused Finished = (is_over world ≡ true) × (world.error_lines ≡ 0)
@@ -39,7 +40,8 @@ EndsAs world used_up refused Memory = (used_up ≡ false) × IsStarved refused w
 abbrev pub AreOrdinary : List Entry → Type 0
 AreOrdinary schedule = moves schedule ≡ replicate (count_of schedule) (plain_move 1)
 
--- a run of a program with a budget of steps: its bytes are those that its schedule prints, the schedule is proper, of ordinary steps and of the longest entries, and the outcome is
+-- a run of a program with a budget of steps: its bytes are those that its schedule prints, the
+-- schedule is proper, of ordinary steps and of the longest entries, and the outcome is
 -- that of its world
 pub record IsRunOf (program : List ℕ) (steps : ℕ) (printed : List ℕ) (schedule : List Entry)
     (outcome : Outcome) : Type 0 where

@@ -11,37 +11,37 @@ use Rattle.ps_operators.proofs.operators.operate.Goals as goal
 
 pub returns-in-Equals-clause-operates : goal.returns-in-Equals-clause-operates
 returns-in-Equals-clause-operates g c =
-    printing_operates _ Equals small_equals_row _ _ _ _ _ _ _ _ _ _ refl equals_needed
+    printing_operates _ Equals small_equals_row _ _ _ _ _ _ _ _ _ _ _ refl (equals_needed _)
     c.in-Equals.is c.equals.ensures.does
 
 pub returns-in-Array-clause-operates : goal.returns-in-Array-clause-operates
 returns-in-Array-clause-operates g c =
-    making_operates _ Array array_row _ _ _ _ _ _ _ _ _ _ refl array_made c.in-Array.is
+    making_operates _ Array array_row _ _ _ _ _ _ _ _ _ _ _ refl array_made c.in-Array.is
     c.array.ensures.does
 
 pub returns-in-EndArray-clause-operates : goal.returns-in-EndArray-clause-operates
 returns-in-EndArray-clause-operates g c =
-    making_operates _ EndArray end_array_row _ _ _ _ _ _ _ _ _ _ refl end_array_made
+    making_operates _ EndArray end_array_row _ _ _ _ _ _ _ _ _ _ _ refl end_array_made
     c.in-EndArray.is c.end_array.ensures.does
 
 pub returns-in-Put-clause-operates : goal.returns-in-Put-clause-operates
 returns-in-Put-clause-operates g c =
-    changing_operates _ Put array_put_row one_stored _ _ _ _ _ _ _ _ _ _ refl put_unasked
+    changing_operates _ Put array_put_row one_stored _ _ _ _ _ _ _ _ _ _ _ refl put_unasked
     (λ operands. refl) c.in-Put.is c.put.ensures.does
 
 pub returns-in-PutInterval-clause-operates : goal.returns-in-PutInterval-clause-operates
 returns-in-PutInterval-clause-operates g c =
-    changing_operates _ PutInterval array_putinterval_row topmost_count _ _ _ _ _ _ _ _ _ _ refl
+    changing_operates _ PutInterval array_putinterval_row topmost_count _ _ _ _ _ _ _ _ _ _ _ refl
     putinterval_unasked (λ operands. refl) c.in-PutInterval.is c.putinterval.ensures.does
 
 pub returns-in-Astore-clause-operates : goal.returns-in-Astore-clause-operates
 returns-in-Astore-clause-operates g c =
-    changing_operates _ Astore astore_row topmost_count _ _ _ _ _ _ _ _ _ _ refl astore_unasked
+    changing_operates _ Astore astore_row topmost_count _ _ _ _ _ _ _ _ _ _ _ refl astore_unasked
     (λ operands. refl) c.in-Astore.is c.astore.ensures.does
 
 pub returns-in-Copy-clause-operates : goal.returns-in-Copy-clause-operates
 returns-in-Copy-clause-operates g c =
-    changing_operates _ Copy small_copy_row copied_count _ _ _ _ _ _ _ _ _ _ refl copy_unasked
+    changing_operates _ Copy small_copy_row copied_count _ _ _ _ _ _ _ _ _ _ _ refl copy_unasked
     (λ operands. refl) c.in-Copy.is c.copy.ensures.does
 
 pub observe-requires-clause-observing : goal.observe-requires-clause-observing
@@ -52,7 +52,7 @@ observe-requires-clause-observing g c =
 
 pub returns-in_default-clause-operates : goal.returns-in_default-clause-operates
 returns-in_default-clause-operates g c =
-    observing_operates _ _ _ _ _ _ _ _ _ _ _ _
+    observing_operates _ _ _ _ _ _ _ _ _ _ _ _ _
     (rest_observing _ c.requires.forall c.in_default.not-Equals c.in_default.not-Array
     c.in_default.not-EndArray c.in_default.not-Put c.in_default.not-PutInterval
     c.in_default.not-Astore c.in_default.not-Copy c.requires.small) c.observe.ensures.observes

@@ -1,4 +1,3 @@
-use Rattle.std.proofs.Common.{true, false, ◌++◌}
 use Rattle.ps_run.proofs.Written.{part_before, part_behind}
 use Rattle.ps_run.proofs.driver.tell.Goals as goal
 use Rattle.ps_run.proofs.driver.tell.Goals.{then-stats+in_ok-tell_counts, else-stats}

@@ -1,4 +1,3 @@
-use Rattle.std.proofs.Common.{◌++◌, ◌∙◌}
 use Rattle.ps_run.proofs.Written.{part_before, part_behind, joined_three, ok_map}
 use Rattle.ps_run.proofs.driver.tell_counts.Goals as goal
 

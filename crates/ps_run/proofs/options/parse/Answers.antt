@@ -1,5 +1,5 @@
 use Rattle.std.proofs.Common.{◌≡◌, ◌<◌, ◌^◌, ℕ, ap, sym, subst, ◌∙◌, refl, codes, rules, true, map, List, Option, Some, None}
-use Rattle.std.specs.Prelude.{option_map, unwrap_or, Result, Ok, Err}
+use Rattle.std.specs.Prelude.{option_map, unwrap_or, Result, Err}
 use Rattle.std.specs.Str.Parse.{IsNumeral, ParsesUnsigned, ExplainsUnsignedError, HasUnsignedDigitsIfOk, digits_value, without_leading_plus}
 use Rattle.std.specs.Borrow.{Bor}
 use Rattle.clap.specs.Words.{App, Text, app_of, fault_of, found_of, first_value, first_of, one_text, one_of, is_simple, is_simple_and_free, matches_of, rows_of, HasKind, HasMatchesOf, ReadsOne}

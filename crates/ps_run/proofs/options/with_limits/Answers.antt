@@ -8,8 +8,11 @@ pub returns : goal.returns
 returns c =
     let quantum : rule_of c.within.result ≡ number_rule (codes "quantum") (codes "100") 1 65535 =
     c.within.ensures.rule ∙ ap (λ (r : Rule). within r 1 65535) c.number-quantum.ensures.rule in
-    let steps : rule_of c.within-2.result ≡ number_rule (codes "steps") (codes "1000000000") 1 4294967295 =
-    c.within-2.ensures.rule ∙ ap (λ (r : Rule). within r 1 4294967295) c.number-steps.ensures.rule in
+    let steps : rule_of c.within-2.result ≡ number_rule (codes "steps") (codes "1000000000") 1
+    4294967295 =
+    c.within-2.ensures.rule ∙ ap (λ (r : Rule). within r 1 4294967295) c.number-steps.ensures.rule
+    in
     IfOk-weaker c.arg-2.result _ _ (λ made added.
     added.shape (c.within-2.ensures.local ∙ c.number-steps.ensures.local)
-    ∙ ap₂ with_rule (c.in_ok-arg.ensures.shape (c.within.ensures.local ∙ c.number-quantum.ensures.local) ∙ ap₂ with_rule refl quantum) steps) c.arg-2.ensures
+    ∙ ap₂ with_rule (c.in_ok-arg.ensures.shape (c.within.ensures.local ∙
+    c.number-quantum.ensures.local) ∙ ap₂ with_rule refl quantum) steps) c.arg-2.ensures

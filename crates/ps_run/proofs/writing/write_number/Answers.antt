@@ -1,4 +1,3 @@
-use Rattle.std.proofs.Common.{◌++◌, rules}
 use Rattle.ps_run.proofs.Written.{part_before, part_behind, joined_three, ok_map}
 use Rattle.ps_run.proofs.writing.write_number.Goals as goal
 

@@ -1,5 +1,4 @@
-use Rattle.std.proofs.Common.{◌≡◌, ◌+◌, ◌≤◌, ◌∙◌, refl, sym, ap, arith, subst, take, length}
-use Rattle.std.specs.Io.KnownBytes.{Appends}
+use Rattle.std.proofs.Common.{◌+◌}
 use Rattle.std.proofs.KnownBytes.{Appends-kept}
 use Rattle.ps_run.proofs.Written.{part_taken, taken_slice, taken_few, wrote}
 use Rattle.ps_run.proofs.writing.write_part.Goals as goal

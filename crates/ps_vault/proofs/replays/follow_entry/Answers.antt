@@ -1,5 +1,5 @@
-use Rattle.std.proofs.Common.{◌≡◌, ◌<◌, ◌-◌, ◌+◌, ◌&&◌, suc, true, false, refl, sym, ◌∙◌, ap, arith, subst}
-use Rattle.std.specs.Prelude.{◌==◌, replicate}
+use Rattle.std.proofs.Common.{◌≡◌, ◌-◌, suc, true, refl, sym, ◌∙◌, ap, arith, subst}
+use Rattle.std.specs.Prelude.{replicate}
 use Rattle.ps_language.specs.Schedules.{plain_move}
 use Rattle.ps_language.specs.Small.{SmallWorld, is_small_ready, after_small_moves}
 use Rattle.ps_vault.specs.Reports.{IsStarved}

@@ -1,4 +1,4 @@
-use Rattle.std.proofs.Common.{◌≡◌, List, false, refl, sym, arith, ◌∙◌, subst}
+use Rattle.std.proofs.Common.{◌≡◌, false, refl, sym, arith, ◌∙◌, subst}
 use Rattle.ps_vault.specs.Stories.{Keeps, first_move}
 use Rattle.ps_vault.specs.Turns.{added_times}
 use Rattle.ps_vault.proofs.Kept.{keeps_none, held_up}

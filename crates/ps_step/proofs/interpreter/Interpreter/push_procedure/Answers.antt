@@ -1,7 +1,7 @@
 -- The errors in their order, and what is made.
 use Rattle.std.proofs.Common.{◌≡◌, ℕ, List, Ok, Err, true, ◌∷◌, sym, ◌∙◌, ap, refl, subst}
 use Rattle.ps_language.specs.declared.errors.ErrorName.TheVariants.{StackOverflow, LimitCheck, VmError}
-use Rattle.std.specs.Prelude.{vec_capacity}
+use Rattle.std.specs.Prelude.{◌-◌, vec_len, vec_capacity}
 use Rattle.ps_language.specs.Readers.{is_full}
 use Rattle.ps_language.specs.Small.{small_names, are_small, small_procedure, procedure_pushed}
 use Rattle.ps_mem.specs.Heap.{birth_at}
@@ -9,7 +9,7 @@ use Rattle.ps_procedures.specs.Procedures.{tokens_in, IsMade}
 use Rattle.ps_procedures.specs.Refused.{IsRefused}
 use Rattle.ps_step.specs.declared.commands.Command.TheVariants.{Value}
 use Rattle.ps_step.specs.Machine.{Machine}
-use Rattle.ps_operators.specs.Reasons.{growth_needed}
+use Rattle.ps_step.specs.Needs.{procedure_needs}
 use Rattle.ps_step.specs.Goes.{Goes}
 use Rattle.ps_step.proofs.Going.{same_records, goes_raised}
 use Rattle.ps_step.proofs.Procedural.{pushed_full, pushed_foreign, pushed_refused, goes_made_procedure, goes_no_procedure}
@@ -22,7 +22,8 @@ returns-then-is_full g c =
     let view = c.self.view_is in
     let elements = tokens_in c.args.self.now.program c.args.elements.now in
     let went = goes_raised h c.args.self.now c.requires.good c.requires.running
-    (g.M.Memory.grants c.args.memory.now) c.args.slot (λ world. growth_needed)
+    (g.M.Memory.grants c.args.memory.now) c.args.slot (λ world. procedure_needs
+    c.args.self.now.scratch elements)
     (procedure_pushed c.args.refused elements) StackOverflow (Value c.null.result)
     (λ store shows. pushed_full c.args.refused elements h c.args.self.now store
     (ap (λ (m : Machine). is_full m.operands) (sym view)
@@ -37,7 +38,8 @@ returns-then-not-is_small g c =
     let view = c.self.view_is in
     let elements = tokens_in c.args.self.now.program c.args.elements.now in
     let went = goes_raised h c.args.self.now c.requires.good c.requires.running
-    (g.M.Memory.grants c.args.memory.now) c.args.slot (λ world. growth_needed)
+    (g.M.Memory.grants c.args.memory.now) c.args.slot (λ world. procedure_needs
+    c.args.self.now.scratch elements)
     (procedure_pushed c.args.refused elements) LimitCheck (Value c.null.result)
     (λ store shows. pushed_foreign c.args.refused elements h c.args.self.now store
     (ap (λ (m : Machine). is_full m.operands) (sym view)
@@ -55,7 +57,8 @@ returns-then-refused g c =
     let view = c.self.view_is in
     let elements = tokens_in c.args.self.now.program c.args.elements.now in
     let went = goes_raised h c.args.self.now c.requires.good c.requires.running
-    (g.M.Memory.grants c.args.memory.now) c.args.slot (λ world. growth_needed)
+    (g.M.Memory.grants c.args.memory.now) c.args.slot (λ world. procedure_needs
+    c.args.self.now.scratch elements)
     (procedure_pushed c.args.refused elements) VmError (Value c.null.result)
     (λ store shows. pushed_refused c.args.refused elements h c.args.self.now store
     (ap (λ (m : Machine). is_full m.operands) (sym view)
@@ -87,14 +90,19 @@ returns-in-Ok g c =
     new c.args.self.now c.requires.good c.requires.running
     (ap (λ (m : Machine). is_full m.operands) (sym view)
     ∙ (sym c.is_full.ensures ∙ c.if-is_full.false)) small c.if-refused.false
-    (λ store. c.procedure_laws.ensures.room elements store small) c.in-Ok.word made
+    (λ store. c.procedure_laws.ensures.room elements store small) c.in-Ok.word
+    (λ world. procedure_needs c.args.self.now.scratch elements)
+    (vec_capacity c.make_procedure.new.scratch) made
     (same_records _ _ c.args.slot c.make_procedure.ensures.logs) in
     rw c.push_within.ensures
-    (subst (λ (m : Machine). Goes (λ world. growth_needed)
+    (subst (λ (m : Machine). Goes (λ world. procedure_needs c.args.self.now.scratch elements)
     (procedure_pushed c.args.refused elements) (Ok (tt {0})) c.args.slot
     (g.M.Memory.grants c.args.memory.now) (g.M.Memory.grants c.make_procedure.new.memory) old
     new c.args.self.now m)
-    (ap (λ (m : Machine). record m { operands = c.in-Ok.word ∷ m.operands }) (sym view)) went)
+    (ap (λ (m : Machine). record m {
+      operands = c.in-Ok.word ∷ m.operands;
+      scratch = vec_capacity c.make_procedure.new.scratch;
+    }) (sym view)) went)
 
 pub returns-in-Err : goal.returns-in-Err
 unfolding is_full
@@ -112,15 +120,28 @@ returns-in-Err g c =
     let reason = subst (λ (program : List ℕ). IsRefused c.in-Err.reason
     (tokens_in program c.args.elements.now) old (vec_capacity c.self.inside.scratch))
     (c.as_slice-2.ensures.value ∙ sym text) c.in-Err.ensures.refused in
+    let why = subst (λ (capacity : ℕ). IsRefused c.in-Err.reason elements old capacity)
+    (ap (λ (m : Machine). m.scratch) view) reason in
     let went = goes_no_procedure c.args.refused elements c.args.slot
     (g.M.Memory.grants c.args.memory.now) (g.M.Memory.grants c.make_procedure.new.memory) old
     new c.args.self.now c.requires.good c.requires.running
     (ap (λ (m : Machine). is_full m.operands) (sym view)
     ∙ (sym c.is_full.ensures ∙ c.if-is_full.false)) small c.if-refused.false
     (λ store. c.procedure_laws.ensures.room elements store small) c.in-Err.reason
-    (vec_capacity c.self.inside.scratch) reason
+    c.args.self.now.scratch why
     c.in-Err.ensures.unchanged (same_records _ _ c.args.slot c.make_procedure.ensures.logs) in
-    subst (λ (m : Machine). Goes (λ world. growth_needed) (procedure_pushed c.args.refused elements)
+    let with_scratch : ℕ → Machine = λ scratch. record {
+      program = c.self.inside.program.items;
+      operands = c.self.inside.operands;
+      frames = c.self.inside.frames;
+      stage = c.self.inside.stage;
+      printed = c.self.inside.printed.items;
+      error_lines = c.self.inside.error_lines;
+      room = vec_capacity c.self.inside.printed - vec_len c.self.inside.printed;
+      scratch = scratch;
+    } in
+    subst (λ (m : Machine). Goes (λ world. procedure_needs c.args.self.now.scratch elements)
+    (procedure_pushed c.args.refused elements)
     (Err c.in-Err.reason) c.args.slot (g.M.Memory.grants c.args.memory.now)
     (g.M.Memory.grants c.make_procedure.new.memory) old new c.args.self.now m)
-    (sym view) went
+    (sym (ap with_scratch c.in-Err.ensures.capacity ∙ view)) went

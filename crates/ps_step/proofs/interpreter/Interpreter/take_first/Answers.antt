@@ -1,6 +1,6 @@
 -- The frame has one element less, or is put back.
 use Rattle.std.proofs.Common.{◌≡◌, ◌+◌, ◌-◌, List, ◌∷◌, length, arith, Ok, Err, sym, ◌∙◌, ap, refl, subst}
-use Rattle.std.specs.Prelude.{drop}
+use Rattle.std.specs.Prelude.{drop, vec_len, vec_capacity}
 use Rattle.ps_language.specs.Small.{small_names, small_step, element_done}
 use Rattle.ps_stacks.specs.Tops.{first_of}
 use Rattle.ps_mem.specs.Heap.{birth_at}
@@ -11,7 +11,7 @@ use Rattle.ps_step.specs.declared.frames.Frame.TheVariants.{Procedure}
 use Rattle.ps_step.specs.Machine.{Machine, IsGood}
 use Rattle.ps_step.specs.Needs.{element_needs, step_needs}
 use Rattle.ps_step.specs.Goes.{Goes}
-use Rattle.ps_step.proofs.Going.{goes_made, seen_goes}
+use Rattle.ps_step.proofs.Going.{goes_made, seen_by}
 use Rattle.ps_step.proofs.Taking.{with_top, good_top, top_frame, held_rest, goes_back, first_taken, element_needed}
 use Rattle.ps_step.proofs.interpreter.Interpreter.take_first.Goals as goal
 
@@ -42,19 +42,22 @@ returns-in-Ok g c =
       printed = c.self.inside.printed.items;
       error_lines =
           c.self.inside.error_lines;
+      room = vec_capacity c.self.inside.printed - vec_len c.self.inside.printed;
+      scratch = vec_capacity c.self.inside.scratch;
     } in
     let inner = element_done c.args.refused (value_of (birth_at old) small_names c.args.word) in
-    let went : Goes (element_needs (value_of (birth_at old) small_names c.args.word)) inner
+    let went : Goes (element_needs V.room (value_of (birth_at old) small_names c.args.word)) inner
     (Ok (tt {0})) c.args.slot (g.M.Memory.grants c.args.memory.now)
     (g.M.Memory.grants c.execute_element.new.memory) old new
     (with_top (Procedure (others c.args.rest)) V) c.execute_element.new.self =
-    subst (λ (frames : List Frame). Goes
-    (element_needs (value_of (birth_at old) small_names c.args.word)) inner (Ok (tt {0}))
+    subst (λ (frames : List Frame). Goes (element_needs V.room (value_of (birth_at old) small_names
+    c.args.word)) inner (Ok (tt {0}))
     c.args.slot (g.M.Memory.grants c.args.memory.now)
     (g.M.Memory.grants c.execute_element.new.memory) old new (record V { frames = frames })
     c.execute_element.new.self) c.advance.ensures c.in-Ok.ensures in
-    seen_goes view
-    (goes_made step_needs (element_needs (value_of (birth_at old) small_names c.args.word))
+    seen_by (λ (m : Machine). step_needs m.room) view
+    (goes_made (step_needs V.room) (element_needs V.room (value_of (birth_at old) small_names
+    c.args.word))
     (small_step c.args.refused) inner c.args.slot _ _ old new V
     (with_top (Procedure (others c.args.rest)) V) c.execute_element.new.self went refl refl
     (λ store shows. first_taken c.args.refused old V c.args.rest
@@ -77,14 +80,16 @@ returns-in-Err g c =
       printed = c.self.inside.printed.items;
       error_lines =
           c.self.inside.error_lines;
+      room = vec_capacity c.self.inside.printed - vec_len c.self.inside.printed;
+      scratch = vec_capacity c.self.inside.scratch;
     } in
     let inner = element_done c.args.refused (value_of (birth_at old) small_names c.args.word) in
-    let went : Goes (element_needs (value_of (birth_at old) small_names c.args.word)) inner
+    let went : Goes (element_needs V.room (value_of (birth_at old) small_names c.args.word)) inner
     (Err c.in-Err.reason) c.args.slot (g.M.Memory.grants c.args.memory.now)
     (g.M.Memory.grants c.execute_element.new.memory) old new
     (with_top (Procedure (others c.args.rest)) V) c.execute_element.new.self =
-    subst (λ (frames : List Frame). Goes
-    (element_needs (value_of (birth_at old) small_names c.args.word)) inner
+    subst (λ (frames : List Frame). Goes (element_needs V.room (value_of (birth_at old) small_names
+    c.args.word)) inner
     (Err c.in-Err.reason) c.args.slot (g.M.Memory.grants c.args.memory.now)
     (g.M.Memory.grants c.execute_element.new.memory) old new (record V { frames = frames })
     c.execute_element.new.self) c.advance.ensures c.in-Err.ensures in
@@ -98,18 +103,22 @@ returns-in-Err g c =
       printed = c.self-2.inside.printed.items;
       error_lines =
           c.self-2.inside.error_lines;
+      room = vec_capacity c.self-2.inside.printed - vec_len c.self-2.inside.printed;
+      scratch = vec_capacity c.self-2.inside.scratch;
     } in
-    let seen : Goes (element_needs (value_of (birth_at old) small_names c.args.word)) inner
+    let seen : Goes (element_needs V.room (value_of (birth_at old) small_names c.args.word)) inner
     (Err c.in-Err.reason) c.args.slot (g.M.Memory.grants c.args.memory.now)
     (g.M.Memory.grants c.execute_element.new.memory) old new
     (with_top (Procedure (others c.args.rest)) V) W =
-    subst (λ (n : Machine). Goes (element_needs (value_of (birth_at old) small_names c.args.word))
+    subst (λ (n : Machine). Goes (element_needs V.room (value_of (birth_at old) small_names
+    c.args.word))
     inner (Err c.in-Err.reason) c.args.slot (g.M.Memory.grants c.args.memory.now)
     (g.M.Memory.grants c.execute_element.new.memory) old new
     (with_top (Procedure (others c.args.rest)) V) n) (sym c.self-2.view_is) went in
     rw c.set_top.ensures
-    (seen_goes view
-    (goes_back step_needs (element_needs (value_of (birth_at old) small_names c.args.word))
+    (seen_by (λ (m : Machine). step_needs m.room) view
+    (goes_back (step_needs V.room) (element_needs V.room (value_of (birth_at old) small_names
+    c.args.word))
     (small_step c.args.refused) inner c.args.slot _ _ old new V (Procedure c.args.rest)
     (subst (IsGood old) (sym view) c.requires.good)
     (ap (λ (m : Machine). first_of m.frames) view ∙ c.requires.top)

@@ -1,4 +1,5 @@
 -- The last element takes the frame with it, or the frame is put back.
+use Rattle.std.specs.Prelude.{◌-◌, vec_len, vec_capacity}
 use Rattle.std.proofs.Common.{◌≡◌, List, length, arith, Ok, Err, sym, ◌∙◌, ap, refl, subst}
 use Rattle.ps_language.specs.Small.{small_names, small_step, element_done}
 use Rattle.ps_stacks.specs.Tops.{first_of}
@@ -9,7 +10,7 @@ use Rattle.ps_step.specs.declared.frames.Frame.TheVariants.{Procedure}
 use Rattle.ps_step.specs.Machine.{Machine, IsGood}
 use Rattle.ps_step.specs.Needs.{element_needs, step_needs}
 use Rattle.ps_step.specs.Goes.{Goes}
-use Rattle.ps_step.proofs.Going.{goes_made, seen_goes}
+use Rattle.ps_step.proofs.Going.{goes_made, seen_by}
 use Rattle.ps_step.proofs.Taking.{without_top, good_below, goes_back_above, last_taken, element_needed}
 use Rattle.ps_step.proofs.interpreter.Interpreter.take_last.Goals as goal
 
@@ -18,37 +19,104 @@ returns-in-Ok g c =
     let old = g.M.Memory.heap c.args.memory.now in
     let new = g.M.Memory.heap c.execute_element.new.memory in
     let view = c.self.view_is in
-    let V : Machine = record { program = c.self.inside.program.items; operands = c.self.inside.operands; frames = c.self.inside.frames; stage = c.self.inside.stage; printed = c.self.inside.printed.items; error_lines = c.self.inside.error_lines } in
+    let V : Machine = record {
+      program = c.self.inside.program.items;
+      operands =
+          c.self.inside.operands;
+      frames = c.self.inside.frames;
+      stage = c.self.inside.stage;
+      printed
+          = c.self.inside.printed.items;
+      error_lines = c.self.inside.error_lines;
+      room = vec_capacity
+          c.self.inside.printed - vec_len c.self.inside.printed;
+      scratch = vec_capacity
+          c.self.inside.scratch;
+    } in
     let inner = element_done c.args.refused (value_of (birth_at old) small_names c.args.word) in
-    let went : Goes (element_needs (value_of (birth_at old) small_names c.args.word)) inner (Ok (tt {0})) c.args.slot (g.M.Memory.grants c.args.memory.now) (g.M.Memory.grants c.execute_element.new.memory) old new (without_top V) c.execute_element.new.self =
-    subst (λ (frames : List Frame). Goes (element_needs (value_of (birth_at old) small_names c.args.word)) inner (Ok (tt {0})) c.args.slot (g.M.Memory.grants c.args.memory.now) (g.M.Memory.grants c.execute_element.new.memory) old new (record V { frames = frames }) c.execute_element.new.self) c.drop_top.ensures.frames c.in-Ok.ensures in
-    seen_goes view
-    (goes_made step_needs (element_needs (value_of (birth_at old) small_names c.args.word)) (small_step c.args.refused) inner c.args.slot _ _ old new V (without_top V) c.execute_element.new.self went refl refl
-    (λ store shows. last_taken c.args.refused old V c.args.rest (ap (λ (m : Machine). m.stage) view ∙ c.requires.running) (ap (λ (m : Machine). first_of m.frames) view ∙ c.requires.top) c.args.word store (c.requires.value small_names store shows) c.requires.last))
+    let went : Goes (element_needs V.room (value_of (birth_at old) small_names c.args.word)) inner
+    (Ok (tt {0})) c.args.slot (g.M.Memory.grants c.args.memory.now) (g.M.Memory.grants
+    c.execute_element.new.memory) old new (without_top V) c.execute_element.new.self =
+    subst (λ (frames : List Frame). Goes (element_needs V.room (value_of (birth_at old) small_names
+    c.args.word)) inner (Ok (tt {0})) c.args.slot (g.M.Memory.grants c.args.memory.now)
+    (g.M.Memory.grants c.execute_element.new.memory) old new (record V { frames = frames })
+    c.execute_element.new.self) c.drop_top.ensures.frames c.in-Ok.ensures in
+    seen_by (λ (m : Machine). step_needs m.room) view
+    (goes_made (step_needs V.room) (element_needs V.room (value_of (birth_at old) small_names
+    c.args.word)) (small_step c.args.refused) inner c.args.slot _ _ old new V (without_top V)
+    c.execute_element.new.self went refl refl
+    (λ store shows. last_taken c.args.refused old V c.args.rest (ap (λ (m : Machine). m.stage) view
+    ∙ c.requires.running) (ap (λ (m : Machine). first_of m.frames) view ∙ c.requires.top)
+    c.args.word store (c.requires.value small_names store shows) c.requires.last))
 
 pub returns-in-Err : goal.returns-in-Err
 returns-in-Err g c =
     let old = g.M.Memory.heap c.args.memory.now in
     let new = g.M.Memory.heap c.execute_element.new.memory in
     let view = c.self.view_is in
-    let V : Machine = record { program = c.self.inside.program.items; operands = c.self.inside.operands; frames = c.self.inside.frames; stage = c.self.inside.stage; printed = c.self.inside.printed.items; error_lines = c.self.inside.error_lines } in
+    let V : Machine = record {
+      program = c.self.inside.program.items;
+      operands =
+          c.self.inside.operands;
+      frames = c.self.inside.frames;
+      stage = c.self.inside.stage;
+      printed
+          = c.self.inside.printed.items;
+      error_lines = c.self.inside.error_lines;
+      room = vec_capacity
+          c.self.inside.printed - vec_len c.self.inside.printed;
+      scratch = vec_capacity
+          c.self.inside.scratch;
+    } in
     let inner = element_done c.args.refused (value_of (birth_at old) small_names c.args.word) in
-    let went : Goes (element_needs (value_of (birth_at old) small_names c.args.word)) inner (Err c.in-Err.reason) c.args.slot (g.M.Memory.grants c.args.memory.now) (g.M.Memory.grants c.execute_element.new.memory) old new (without_top V) c.execute_element.new.self =
-    subst (λ (frames : List Frame). Goes (element_needs (value_of (birth_at old) small_names c.args.word)) inner (Err c.in-Err.reason) c.args.slot (g.M.Memory.grants c.args.memory.now) (g.M.Memory.grants c.execute_element.new.memory) old new (record V { frames = frames }) c.execute_element.new.self) c.drop_top.ensures.frames c.in-Err.ensures in
-    let W : Machine = record { program = c.self-2.inside.program.items; operands = c.self-2.inside.operands; frames = c.self-2.inside.frames; stage = c.self-2.inside.stage; printed = c.self-2.inside.printed.items; error_lines = c.self-2.inside.error_lines } in
-    let seen : Goes (element_needs (value_of (birth_at old) small_names c.args.word)) inner (Err c.in-Err.reason) c.args.slot (g.M.Memory.grants c.args.memory.now) (g.M.Memory.grants c.execute_element.new.memory) old new (without_top V) W =
-    subst (λ (n : Machine). Goes (element_needs (value_of (birth_at old) small_names c.args.word)) inner (Err c.in-Err.reason) c.args.slot (g.M.Memory.grants c.args.memory.now) (g.M.Memory.grants c.execute_element.new.memory) old new (without_top V) n) (sym c.self-2.view_is) went in
+    let went : Goes (element_needs V.room (value_of (birth_at old) small_names c.args.word)) inner
+    (Err c.in-Err.reason) c.args.slot (g.M.Memory.grants c.args.memory.now) (g.M.Memory.grants
+    c.execute_element.new.memory) old new (without_top V) c.execute_element.new.self =
+    subst (λ (frames : List Frame). Goes (element_needs V.room (value_of (birth_at old) small_names
+    c.args.word)) inner (Err c.in-Err.reason) c.args.slot (g.M.Memory.grants c.args.memory.now)
+    (g.M.Memory.grants c.execute_element.new.memory) old new (record V { frames = frames })
+    c.execute_element.new.self) c.drop_top.ensures.frames c.in-Err.ensures in
+    let W : Machine = record {
+      program = c.self-2.inside.program.items;
+      operands =
+          c.self-2.inside.operands;
+      frames = c.self-2.inside.frames;
+      stage = c.self-2.inside.stage;
+      printed = c.self-2.inside.printed.items;
+      error_lines = c.self-2.inside.error_lines;
+      room =
+          vec_capacity c.self-2.inside.printed - vec_len c.self-2.inside.printed;
+      scratch =
+          vec_capacity c.self-2.inside.scratch;
+    } in
+    let seen : Goes (element_needs V.room (value_of (birth_at old) small_names c.args.word)) inner
+    (Err c.in-Err.reason) c.args.slot (g.M.Memory.grants c.args.memory.now) (g.M.Memory.grants
+    c.execute_element.new.memory) old new (without_top V) W =
+    subst (λ (n : Machine). Goes (element_needs V.room (value_of (birth_at old) small_names
+    c.args.word)) inner (Err c.in-Err.reason) c.args.slot (g.M.Memory.grants c.args.memory.now)
+    (g.M.Memory.grants c.execute_element.new.memory) old new (without_top V) n) (sym
+    c.self-2.view_is) went in
     rw c.push_within.ensures
-    (seen_goes view
-    (goes_back_above step_needs (element_needs (value_of (birth_at old) small_names c.args.word)) (small_step c.args.refused) inner c.args.slot _ _ old new V (Procedure c.args.rest) (subst (IsGood old) (sym view) c.requires.good) (ap (λ (m : Machine). first_of m.frames) view ∙ c.requires.top) c.in-Err.reason W
-    (λ store shows. element_needed c.args.refused old V c.args.rest (ap (λ (m : Machine). m.stage) view ∙ c.requires.running) (ap (λ (m : Machine). first_of m.frames) view ∙ c.requires.top) c.args.word store (c.requires.value small_names store shows) (without_top V) refl)
-    (λ store shows. last_taken c.args.refused old V c.args.rest (ap (λ (m : Machine). m.stage) view ∙ c.requires.running) (ap (λ (m : Machine). first_of m.frames) view ∙ c.requires.top) c.args.word store (c.requires.value small_names store shows) c.requires.last) seen))
+    (seen_by (λ (m : Machine). step_needs m.room) view
+    (goes_back_above (step_needs V.room) (element_needs V.room (value_of (birth_at old) small_names
+    c.args.word)) (small_step c.args.refused) inner c.args.slot _ _ old new V (Procedure
+    c.args.rest) (subst (IsGood old) (sym view) c.requires.good) (ap (λ (m : Machine). first_of
+    m.frames) view ∙ c.requires.top) c.in-Err.reason W
+    (λ store shows. element_needed c.args.refused old V c.args.rest (ap (λ (m : Machine). m.stage)
+    view ∙ c.requires.running) (ap (λ (m : Machine). first_of m.frames) view ∙ c.requires.top)
+    c.args.word store (c.requires.value small_names store shows) (without_top V) refl)
+    (λ store shows. last_taken c.args.refused old V c.args.rest (ap (λ (m : Machine). m.stage) view
+    ∙ c.requires.running) (ap (λ (m : Machine). first_of m.frames) view ∙ c.requires.top)
+    c.args.word store (c.requires.value small_names store shows) c.requires.last) seen))
 
 pub execute_element-requires-clause-good : goal.execute_element-requires-clause-good
 execute_element-requires-clause-good g c =
-    rw c.drop_top.ensures.frames (good_below (g.M.Memory.heap c.args.memory.now) _ (subst (IsGood (g.M.Memory.heap c.args.memory.now)) (sym c.self.view_is) c.requires.good))
+    rw c.drop_top.ensures.frames (good_below (g.M.Memory.heap c.args.memory.now) _ (subst (IsGood
+    (g.M.Memory.heap c.args.memory.now)) (sym c.self.view_is) c.requires.good))
 
 pub push_within-requires : goal.push_within-requires
 push_within-requires g c =
-    let count : length c.self-2.inside.frames ≡ length c.drop_top.new.frames = ap (λ (frames : List Frame). length frames) (ap (λ (m : Machine). m.frames) c.self-2.view_is ∙ c.in-Err.ensures.framed) in
+    let count : length c.self-2.inside.frames ≡ length c.drop_top.new.frames = ap (λ (frames : List
+    Frame). length frames) (ap (λ (m : Machine). m.frames) c.self-2.view_is ∙
+    c.in-Err.ensures.framed) in
     omega (arith, count, c.drop_top.ensures.room)

@@ -1,6 +1,6 @@
 -- The text's frame goes behind the token, or back.
 use Rattle.std.proofs.Common.{◌≡◌, ℕ, List, ◌∷◌, length, arith, Ok, Err, sym, ◌∙◌, ap, refl, subst}
-use Rattle.std.specs.Prelude.{drop}
+use Rattle.std.specs.Prelude.{drop, ◌-◌, vec_len, vec_capacity}
 use Rattle.ps_language.specs.Scan.{scan}
 use Rattle.ps_language.specs.Small.{small_step, small_done}
 use Rattle.ps_language.specs.Token.{found}
@@ -12,7 +12,7 @@ use Rattle.ps_step.specs.declared.frames.Frame.TheVariants.{Text}
 use Rattle.ps_step.specs.Machine.{Machine, IsGood}
 use Rattle.ps_step.specs.Needs.{token_needs, step_needs}
 use Rattle.ps_step.specs.Goes.{Goes}
-use Rattle.ps_step.proofs.Going.{goes_made, seen_goes}
+use Rattle.ps_step.proofs.Going.{goes_made, seen_by}
 use Rattle.ps_step.proofs.Taking.{with_top, goes_back, token_taken, token_needed}
 use Rattle.ps_step.proofs.interpreter.Interpreter.take_token.Goals as goal
 
@@ -48,19 +48,23 @@ returns-in-Ok g c =
       printed = c.self.inside.printed.items;
       error_lines =
           c.self.inside.error_lines;
+      room = vec_capacity c.self.inside.printed - vec_len c.self.inside.printed;
+      scratch = vec_capacity c.self.inside.scratch;
     } in
     let kind = c.args.token.now.kind in
     let end = c.args.token.now.end in
     let inner = small_done c.args.refused (token_of V.program kind) in
-    let went : Goes (token_needs (token_of V.program kind)) inner (Ok (tt {0})) c.args.slot
+    let went : Goes (token_needs V.room (token_of V.program kind)) inner (Ok (tt {0})) c.args.slot
     (g.M.Memory.grants c.args.memory.now) (g.M.Memory.grants c.execute.new.memory) old new
     (with_top (Text end) V) c.execute.new.self =
-    subst (λ (frames : List Frame). Goes (token_needs (token_of V.program kind)) inner (Ok (tt {0}))
+    subst (λ (frames : List Frame). Goes (token_needs V.room (token_of V.program kind)) inner (Ok
+    (tt {0}))
     c.args.slot (g.M.Memory.grants c.args.memory.now) (g.M.Memory.grants c.execute.new.memory)
     old new (record V { frames = frames }) c.execute.new.self) c.set_top.ensures
     c.in-Ok.ensures in
-    seen_goes view
-    (goes_made step_needs (token_needs (token_of V.program kind)) (small_step c.args.refused) inner
+    seen_by (λ (m : Machine). step_needs m.room) view
+    (goes_made (step_needs V.room) (token_needs V.room (token_of V.program kind)) (small_step
+    c.args.refused) inner
     c.args.slot _ _ old new V (with_top (Text end) V) c.execute.new.self went refl refl
     (λ store shows. token_taken c.args.refused old V c.args.at
     (ap (λ (m : Machine). m.stage) view ∙ c.requires.running)
@@ -84,6 +88,8 @@ returns-in-Err g c =
       printed = c.self.inside.printed.items;
       error_lines =
           c.self.inside.error_lines;
+      room = vec_capacity c.self.inside.printed - vec_len c.self.inside.printed;
+      scratch = vec_capacity c.self.inside.scratch;
     } in
     let W : Machine = record {
       program = c.self-2.inside.program.items;
@@ -95,26 +101,32 @@ returns-in-Err g c =
       printed = c.self-2.inside.printed.items;
       error_lines =
           c.self-2.inside.error_lines;
+      room = vec_capacity c.self-2.inside.printed - vec_len c.self-2.inside.printed;
+      scratch = vec_capacity c.self-2.inside.scratch;
     } in
     let kind = c.args.token.now.kind in
     let end = c.args.token.now.end in
     let inner = small_done c.args.refused (token_of V.program kind) in
-    let went : Goes (token_needs (token_of V.program kind)) inner (Err c.in-Err.reason) c.args.slot
+    let went : Goes (token_needs V.room (token_of V.program kind)) inner (Err c.in-Err.reason)
+    c.args.slot
     (g.M.Memory.grants c.args.memory.now) (g.M.Memory.grants c.execute.new.memory) old new
     (with_top (Text end) V) c.execute.new.self =
-    subst (λ (frames : List Frame). Goes (token_needs (token_of V.program kind)) inner
+    subst (λ (frames : List Frame). Goes (token_needs V.room (token_of V.program kind)) inner
     (Err c.in-Err.reason) c.args.slot (g.M.Memory.grants c.args.memory.now)
     (g.M.Memory.grants c.execute.new.memory) old new (record V { frames = frames })
     c.execute.new.self) c.set_top.ensures c.in-Err.ensures in
-    let seen : Goes (token_needs (token_of V.program kind)) inner (Err c.in-Err.reason) c.args.slot
+    let seen : Goes (token_needs V.room (token_of V.program kind)) inner (Err c.in-Err.reason)
+    c.args.slot
     (g.M.Memory.grants c.args.memory.now) (g.M.Memory.grants c.execute.new.memory) old new
     (with_top (Text end) V) W =
-    subst (λ (n : Machine). Goes (token_needs (token_of V.program kind)) inner (Err c.in-Err.reason)
+    subst (λ (n : Machine). Goes (token_needs V.room (token_of V.program kind)) inner (Err
+    c.in-Err.reason)
     c.args.slot (g.M.Memory.grants c.args.memory.now) (g.M.Memory.grants c.execute.new.memory)
     old new (with_top (Text end) V) n) (sym c.self-2.view_is) went in
     rw c.set_top-in-Err.ensures
-    (seen_goes view
-    (goes_back step_needs (token_needs (token_of V.program kind)) (small_step c.args.refused) inner
+    (seen_by (λ (m : Machine). step_needs m.room) view
+    (goes_back (step_needs V.room) (token_needs V.room (token_of V.program kind)) (small_step
+    c.args.refused) inner
     c.args.slot _ _ old new V (Text c.args.at) (subst (IsGood old) (sym view) c.requires.good)
     (ap (λ (m : Machine). first_of m.frames) view ∙ c.requires.top) (Text end) c.in-Err.reason W
     (λ store shows. token_needed c.args.refused old V c.args.at

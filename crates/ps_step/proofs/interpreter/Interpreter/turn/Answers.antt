@@ -1,6 +1,6 @@
 -- A turn of forall in each of its ways.
 use Rattle.std.proofs.Common.{◌≡◌, ◌+◌, ◌∷◌, true, false, length, arith, sym, ◌∙◌, ap, refl, subst}
-use Rattle.std.specs.Prelude.{drop, nat_le}
+use Rattle.std.specs.Prelude.{drop, nat_le, ◌-◌, vec_len, vec_capacity}
 use Rattle.ps_language.specs.declared.errors.ErrorName.TheVariants.{StackOverflow, ExecStackOverflow}
 use Rattle.ps_language.specs.declared.operators.Operator.TheVariants.{Forall}
 use Rattle.ps_language.specs.Readers.{is_full}
@@ -10,7 +10,7 @@ use Rattle.ps_step.specs.declared.commands.Command.TheVariants.{Operator as Blam
 use Rattle.ps_step.specs.declared.frames.Frame.TheVariants.{Procedure, Forall as Loop}
 use Rattle.ps_step.specs.Machine.{Machine, IsGood}
 use Rattle.ps_step.specs.Needs.{step_needs}
-use Rattle.ps_step.proofs.Going.{goes_raised, seen_goes}
+use Rattle.ps_step.proofs.Going.{goes_raised, seen_by}
 use Rattle.ps_step.proofs.Taking.{without_top, good_below}
 use Rattle.ps_step.proofs.Turning.{goes_seen, loop_past, loop_no_room, loop_no_frame, loop_empty, loop_entered, good_turned, good_entered, is_zero, not_zero}
 use Rattle.ps_step.proofs.interpreter.Interpreter.turn.Goals as goal
@@ -29,12 +29,15 @@ returns-then-at-over-clause-goes g c = λ refused slot.
       printed = c.self.inside.printed.items;
       error_lines =
           c.self.inside.error_lines;
+      room = vec_capacity c.self.inside.printed - vec_len c.self.inside.printed;
+      scratch = vec_capacity c.self.inside.scratch;
     } in
     let good = subst (IsGood h) (sym view) c.requires.good in
     let running = ap (λ (m : Machine). m.stage) view ∙ c.requires.running in
     let top = ap (λ (m : Machine). first_of m.frames) view ∙ c.requires.top in
     rw c.discard.ensures
-    (seen_goes view (goes_seen step_needs (small_step refused) slot
+    (seen_by (λ (m : Machine). step_needs m.room) view (goes_seen (step_needs V.room) (small_step
+    refused) slot
     (g.M.Memory.grants c.args.memory.now) h V (without_top V) (good_below h V good) refl
     (λ store shows within. within)
     (λ store shows. loop_past refused h V c.args.over c.args.at c.args.body running top store
@@ -50,7 +53,7 @@ returns-then-is_full-clause-goes g c = λ refused slot.
     ∙ (sym c.is_full.ensures ∙ c.if-is_full.true) in
     rw c.raise.ensures
     (goes_raised h m c.requires.good c.requires.running (g.M.Memory.grants c.args.memory.now) slot
-    step_needs (small_step refused) StackOverflow (Blamed Forall)
+    (step_needs m.room) (small_step refused) StackOverflow (Blamed Forall)
     (λ store shows. loop_no_room refused h m c.args.over c.args.at c.args.body c.requires.running
     c.requires.top store c.if-at-over.false full))
 
@@ -64,7 +67,7 @@ returns-then-is_full-2-clause-goes g c = λ refused slot.
     ∙ (sym c.is_full.ensures ∙ c.if-is_full.false) in
     rw c.raise-then-is_full-2.ensures
     (goes_raised h m c.requires.good c.requires.running (g.M.Memory.grants c.args.memory.now) slot
-    step_needs (small_step refused) ExecStackOverflow (Blamed Forall)
+    (step_needs m.room) (small_step refused) ExecStackOverflow (Blamed Forall)
     (λ store shows. loop_no_frame refused h m c.args.over c.args.at c.args.body c.requires.running
     c.requires.top store c.if-at-over.false free
     (not_zero c.args.body.length c.if-body-eq0.false)
@@ -86,6 +89,8 @@ returns-then-body-eq0-clause-goes g c = λ refused slot.
       printed = c.self.inside.printed.items;
       error_lines =
           c.self.inside.error_lines;
+      room = vec_capacity c.self.inside.printed - vec_len c.self.inside.printed;
+      scratch = vec_capacity c.self.inside.scratch;
     } in
     let good = subst (IsGood h) (sym view) c.requires.good in
     let running = ap (λ (m : Machine). m.stage) view ∙ c.requires.running in
@@ -97,7 +102,8 @@ returns-then-body-eq0-clause-goes g c = λ refused slot.
       c.element-word.ensures.heap,
       c.element-word.ensures.grants,
     )
-    (seen_goes view (goes_seen step_needs (small_step refused) slot
+    (seen_by (λ (m : Machine). step_needs m.room) view (goes_seen (step_needs V.room) (small_step
+    refused) slot
     (g.M.Memory.grants c.args.memory.now) h V
     (record V {
       operands = c.element-word.result ∷ V.operands;
@@ -127,6 +133,8 @@ returns-clause-goes g c = λ refused slot.
       printed = c.self.inside.printed.items;
       error_lines =
           c.self.inside.error_lines;
+      room = vec_capacity c.self.inside.printed - vec_len c.self.inside.printed;
+      scratch = vec_capacity c.self.inside.scratch;
     } in
     let good = subst (IsGood h) (sym view) c.requires.good in
     let running = ap (λ (m : Machine). m.stage) view ∙ c.requires.running in
@@ -139,7 +147,8 @@ returns-clause-goes g c = λ refused slot.
       c.element-word-2.ensures.heap,
       c.element-word-2.ensures.grants,
     )
-    (seen_goes view (goes_seen step_needs (small_step refused) slot
+    (seen_by (λ (m : Machine). step_needs m.room) view (goes_seen (step_needs V.room) (small_step
+    refused) slot
     (g.M.Memory.grants c.args.memory.now) h V
     (record V {
       operands = c.element-word-2.result ∷ V.operands;

@@ -1,11 +1,9 @@
-use Rattle.std.proofs.Common.{◌≡◌, true, List, refl, sym, ◌∙◌, ap, arith, rules, subst}
+use Rattle.std.proofs.Common.{◌≡◌, true, List, refl, ◌∙◌, ap, arith, rules, subst}
 use Rattle.ps_language.specs.declared.schedules.Entry.{Entry}
-use Rattle.ps_language.specs.Schedules.{added}
 use Rattle.ps_language.specs.Small.{is_small_ready, small_world, after_small_move}
 use Rattle.ps_language.proofs.SmallLaws.{small_world-added}
 use Rattle.ps_mem.specs.Objects.{heap_in}
 use Rattle.ps_ops.specs.declared.failure.NotMade.TheVariants.{Memory}
-use Rattle.ps_step.specs.Machine.{has_steps}
 use Rattle.ps_vault.specs.Reports.{IsStarved}
 use Rattle.ps_vault.specs.Stories.{Story, world_at, first_move}
 use Rattle.ps_vault.proofs.Kept.{keeps_step, keeps_none, held_up, only_memory, starved, ready_shown, on_err}

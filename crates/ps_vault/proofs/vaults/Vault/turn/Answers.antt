@@ -1,4 +1,4 @@
-use Rattle.std.proofs.Common.{◌≡◌, List, false, refl, sym, ap, arith, ◌∙◌, subst}
+use Rattle.std.proofs.Common.{List, refl, ap, arith, ◌∙◌}
 use Rattle.std.specs.Prelude.{replicate}
 use Rattle.ps_language.specs.declared.schedules.Entry.{Entry}
 use Rattle.ps_language.specs.Schedules.{plain_move}
