@@ -5,6 +5,7 @@ pub mod Held
 pub mod IntervalLemmas
 pub mod Made
 pub mod Makers
+pub mod Making
 pub mod Reading
 pub mod Operands
 pub mod PutLemmas

@@ -2,12 +2,13 @@ use Rattle.std.proofs.Common.{◌+◌, ◌≡◌, [], ◌∷◌, ◌++◌, lengt
 use Rattle.std.proofs.lemmas.List.{length-reverse, length-take-le}
 use Rattle.ps_language.specs.RowsSequences.{end_array_row}
 use Rattle.ps_language.specs.Value.{array_object}
-use Rattle.ps_mem.specs.Heap.{Heap}
-use Rattle.ps_mem.specs.Shows.{IsValue, IsReady, Shows}
+use Rattle.ps_mem.specs.Heap.{Heap, birth_at}
+use Rattle.ps_mem.specs.Shows.{IsValue, IsReady, IsWithin, Shows}
 use Rattle.ps_mem.proofs.KeepsLemmas.{Keeps-Extends}
 use Rattle.ps_ops.specs.Does.{Makes}
 use Rattle.ps_ops.proofs.Held.{rest_held}
-use Rattle.ps_ops.proofs.Made.{made_ready, does_makes, end_makes, end_making, refused_makes, unmade_makes, whole_part, stands_whole}
+use Rattle.ps_ops.proofs.Making.{made_ready, does_makes, refused_makes, unmade_makes, whole_part}
+use Rattle.ps_ops.proofs.Made.{end_makes, elements_above, making_elements, made_elements, stands_whole}
 use Rattle.ps_ops.proofs.Tops.{top_elements, top_within}
 use Rattle.ps_ops.proofs.makes.end_array.Goals as goal
 
@@ -26,14 +27,16 @@ returns-clause-does g c =
     c.granted.ensures.heap
     (does_makes h now old _ (drop (depth + 1) old) keeps
     (rest_held (IsValue h) old ready.values (depth + 1)) c.array_word.result c.replace.ensures
-    c.make_array-part.result depth
+    end_array_row c.args.refused c.if-refused.false
+    (λ names s shows within.
+    made_elements h now old (drop (depth + 1) old) c.array_word.result c.make_array-part.result depth
     (c.make_array-part.ensures.part ∙ ap (λ n. whole_part c.make_array-part.result.address n) size)
     c.make_array-part.ensures.birth (λ births names. c.array_word.ensures.value births names)
     (λ births names s. c.array_word.ensures.within births names s)
-    end_array_row c.args.refused c.if-refused.false
-    (end_makes h now old depth c.in-Some.ensures.found (omega (arith, c.in-Some.ensures.bound))
-    (λ names s shows within.
-    subst (λ vs. Shows now names (s ++ array_object vs ∷ []))
+    end_array_row (elements_above h old depth names) names s shows
+    (rest_held (IsWithin (birth_at h) names s) old within (depth + 1))
+    (end_makes h old depth c.in-Some.ensures.found (omega (arith, c.in-Some.ensures.bound)) names s)
+    (subst (λ vs. Shows now names (s ++ array_object vs ∷ []))
     (top_elements h names old depth c.topmost.result.now c.topmost.ensures)
     (c.make_array-part.ensures.shows names s shows
     (top_within h names s old depth c.topmost.result.now within c.topmost.ensures)))))
@@ -56,16 +59,22 @@ returns-clause-ready g c =
 pub returns-then-refused-clause-does : goal.returns-then-refused-clause-does
 returns-then-refused-clause-does g c =
     let h = g.M.Memory.heap c.args.memory.now in
-    refused_makes end_array_row c.args.refused h c.in-Some.depth c.args.operands.now
-    c.if-refused.true
-    (end_making h c.args.operands.now c.in-Some.depth c.in-Some.ensures.found
-    (omega (arith, c.in-Some.ensures.bound)))
+    let old = c.args.operands.now in
+    let depth = c.in-Some.depth in
+    refused_makes end_array_row c.args.refused h (2 + depth) old c.if-refused.true
+    (λ names s. making_elements end_array_row h depth old (drop (depth + 1) old)
+    (elements_above h old depth names) names s
+    (end_makes h old depth c.in-Some.ensures.found (omega (arith, c.in-Some.ensures.bound))
+    names s))
 
 pub returns-in-Err-clause-does : goal.returns-in-Err-clause-does
 returns-in-Err-clause-does g c =
     let h = g.M.Memory.heap c.args.memory.now in
-    unmade_makes end_array_row c.args.refused h (g.M.Memory.heap c.granted.new.memory)
-    c.in-Some.depth c.args.operands.now c.in-Err.reason c.if-refused.false c.in-Err.ensures.heap
-    c.in-Err.ensures.reason
-    (end_making h c.args.operands.now c.in-Some.depth c.in-Some.ensures.found
-    (omega (arith, c.in-Some.ensures.bound)))
+    let old = c.args.operands.now in
+    let depth = c.in-Some.depth in
+    unmade_makes end_array_row c.args.refused h (g.M.Memory.heap c.granted.new.memory) (2 + depth)
+    old c.in-Err.reason c.if-refused.false c.in-Err.ensures.heap c.in-Err.ensures.reason
+    (λ names s. making_elements end_array_row h depth old (drop (depth + 1) old)
+    (elements_above h old depth names) names s
+    (end_makes h old depth c.in-Some.ensures.found (omega (arith, c.in-Some.ensures.bound))
+    names s))

@@ -1,0 +1,11 @@
+pub mod Beginnings
+pub mod Changed
+pub mod Found
+pub mod Intervals
+pub mod Made
+pub mod Makers
+pub mod Places
+pub mod Plain
+pub mod Reading
+pub mod Searched
+pub mod StringReads

@@ -1,0 +1,8 @@
+//! The operators on strings (PLRM2, 8 'Operators': String).
+#![tactic(auto)]
+
+pub mod changes;
+pub mod makes;
+pub mod readers;
+pub mod searches;
+pub mod strings;

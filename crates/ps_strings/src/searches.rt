@@ -1,0 +1,246 @@
+//! The operators that search strings (PLRM2, 8 'Operators': String).
+
+ghost use Rattle.std.specs.Prelude.{◌≡◌, ◌⊎◌, ℕ, ◌+◌, ◌<◌, ◌≤◌, ◌^◌, ◌&&◌, List, [], length, nat_eq, IsTrue, Some, IfSome, IfOk, OnErr, vec_capacity};
+ghost use Rattle.std.specs.List.{starts_with};
+ghost use Rattle.ps_language.specs.Value.{Store};
+ghost use Rattle.ps_language.specs.Access.{bytes, part_bytes};
+ghost use Rattle.ps_language.specs.Access as language;
+ghost use Rattle.ps_language.specs.RowsSequences as sequences;
+ghost use Rattle.ps_mem.specs.Heap.{Heap, birth_at};
+ghost use Rattle.ps_mem.specs.References.{StandsAs, words_for};
+ghost use Rattle.ps_mem.specs.Meaning.{part_of};
+ghost use Rattle.ps_mem.specs.Shows.{IsSound, IsReady, Shows};
+ghost use Rattle.ps_word.specs.Format.{IsWord, content_in};
+ghost use Rattle.ps_word.specs.Readers as readers;
+ghost use Rattle.ps_ops.specs.Does.{Observes};
+ghost use Rattle.ps_strings.specs.Searches.{Searches, IsFound};
+
+use crate::readers::{string_interval, string_of};
+use memchr::memmem;
+use ps_language::access::Access;
+use ps_language::errors::ErrorName;
+use ps_language::kinds::Kind;
+use ps_mem::Memory;
+use ps_operands::{Operands, plain};
+use ps_ops::arrays::{is_readable, push_within};
+use ps_ops::failure::{Failure, NotMade};
+use ps_seq::arrays::interval;
+use ps_seq::strings::{append_bytes, compare_bytes};
+use ps_stacks::OPERAND_LIMIT;
+use ps_word::values::Part;
+use ps_word::words::Word;
+use std::alloc::AllocError;
+use std::cmp::Ordering;
+
+/// Whether a part of a string begins with the bytes of another. The memory stays as it is.
+fn begins_with<M: Memory>(memory: &mut M, part: Part, wanted: Part) -> bool
+    requires sound { IsSound (M.heap memory.old) }
+    requires part { StandsAs (M.heap memory.old) Kind.Text part.address (words_for
+        (part.offset + part.length)) }
+    requires wanted { StandsAs (M.heap memory.old) Kind.Text wanted.address (words_for
+        (wanted.offset + wanted.length)) }
+    requires end { part.offset + part.length < 2 ^ 16 }
+    ensures heap { M.heap memory.new ≡ M.heap memory.old }
+    ensures grants { M.grants memory.new ≡ M.grants memory.old }
+    ensures value { (names : List (List ℕ)) (s : Store) → Shows (M.heap memory.old) names s
+        → part.offset + part.length ≤ length (bytes s (birth_at (M.heap memory.old) part.address))
+        → wanted.offset + wanted.length ≤ length (bytes s (birth_at
+        (M.heap memory.old) wanted.address)) → result ≡ starts_with nat_eq (part_bytes s (part_of
+        (birth_at (M.heap memory.old)) part)) (part_bytes s (part_of (birth_at
+        (M.heap memory.old)) wanted)) }
+    ensures fits { IsTrue result → wanted.length ≤ part.length }
+{
+    if wanted.length > part.length {
+        return false;
+    }
+    compare_bytes(memory, interval(part, 0, wanted.length), wanted) == Ordering::Equal
+}
+
+/// `S T anchorsearch behind match true` where `S` begins with `T`, else `S false`. What is pushed
+/// shares the bytes of `S`. Raises `stackunderflow`, `typecheck` where one is no string,
+/// `invalidaccess`, and `stackoverflow` where the parts and `true` don't fit.
+pub fn anchorsearch<M: Memory>(operands: &mut Operands, memory: &mut M) -> Result<(), ErrorName>
+    requires ready { IsReady (M.heap memory.old) operands.old }
+    ensures heap { M.heap memory.new ≡ M.heap memory.old }
+    ensures grants { M.grants memory.new ≡ M.grants memory.old }
+    ensures does { Observes sequences.anchorsearch_row result
+        (M.heap memory.old) operands.old operands.new }
+    ensures ready { IsReady (M.heap memory.old) operands.new }
+{
+    let Some((sought, string)) = operands.top_two() else {
+        return Err(ErrorName::StackUnderflow);
+    };
+    let Some(wanted) = string_of(sought) else {
+        return Err(ErrorName::TypeCheck);
+    };
+    let Some(part) = string_of(string) else {
+        return Err(ErrorName::TypeCheck);
+    };
+    if !are_readable(wanted.access, part.access) {
+        return Err(ErrorName::InvalidAccess);
+    }
+    if !begins_with(memory, part, wanted) {
+        operands.replace(1, plain::boolean(false));
+        return Ok(());
+    }
+    if operands.is_full() {
+        return Err(ErrorName::StackOverflow);
+    }
+    let count = wanted.length;
+    let matched = string_interval(string, part, 0, count);
+    let behind = string_interval(string, part, count, part.length - count);
+    operands.replace(2, behind);
+    push_within(operands, matched);
+    push_within(operands, plain::boolean(true));
+    Ok(())
+}
+
+/// The first place of a text that has the bytes of a part of a string, if one has. The memory stays
+/// as it is; `sought` is empty before and after, and its room is kept for the next call.
+///
+/// `AllocError`: `sought` lacks room for the bytes of the part, and its growth was refused.
+fn find_in<M: Memory>(
+    memory: &mut M,
+    text: &[u8],
+    wanted: Part,
+    sought: &mut Vec<u8>,
+) -> Result<Option<usize>, AllocError>
+    requires sound { IsSound (M.heap memory.old) }
+    requires wanted { StandsAs (M.heap memory.old) Kind.Text wanted.address (words_for
+        (wanted.offset + wanted.length)) }
+    requires empty { sought.old.items ≡ [] }
+    ensures heap { M.heap memory.new ≡ M.heap memory.old }
+    ensures grants { M.grants memory.new ≡ M.grants memory.old }
+    ensures value { (names : List (List ℕ)) (s : Store) → Shows (M.heap memory.old) names s
+        → wanted.offset + wanted.length ≤ length (bytes s (birth_at
+        (M.heap memory.old) wanted.address)) → IfOk result (λ found. found ≡ sequences.place_of
+        (part_bytes s (part_of (birth_at (M.heap memory.old)) wanted)) text.now) }
+    ensures fits { IfOk result (λ found. IfSome found (λ place. place + wanted.length ≤ length
+        text.now)) }
+    ensures full { OnErr result (vec_capacity sought.old < wanted.length) }
+    ensures empty { sought.new.items ≡ [] }
+    ensures room { vec_capacity sought.old ≤ vec_capacity sought.new }
+{
+    append_bytes(memory, wanted, sought)?;
+    let found = memmem::find(text, sought.as_slice());
+    sought.clear();
+    Ok(found)
+}
+
+/// The first place of a part of a string that has the bytes of another, if one has. The memory
+/// stays as it is; the lists are empty before and after, and their room is kept for the next call.
+///
+/// `AllocError`: `text` lacks room for the bytes of the first part or `sought` for those of the
+/// second, and a growth was refused.
+fn find_part<M: Memory>(
+    memory: &mut M,
+    part: Part,
+    wanted: Part,
+    text: &mut Vec<u8>,
+    sought: &mut Vec<u8>,
+) -> Result<Option<usize>, AllocError>
+    requires sound { IsSound (M.heap memory.old) }
+    requires part { StandsAs (M.heap memory.old) Kind.Text part.address (words_for
+        (part.offset + part.length)) }
+    requires wanted { StandsAs (M.heap memory.old) Kind.Text wanted.address (words_for
+        (wanted.offset + wanted.length)) }
+    requires text { text.old.items ≡ [] }
+    requires sought { sought.old.items ≡ [] }
+    ensures heap { M.heap memory.new ≡ M.heap memory.old }
+    ensures grants { M.grants memory.new ≡ M.grants memory.old }
+    ensures value { (names : List (List ℕ)) (s : Store) → Shows (M.heap memory.old) names s
+        → part.offset + part.length ≤ length (bytes s (birth_at (M.heap memory.old) part.address))
+        → wanted.offset + wanted.length ≤ length (bytes s (birth_at
+        (M.heap memory.old) wanted.address)) → IfOk result (λ found. found ≡ sequences.place_of
+        (part_bytes s (part_of (birth_at (M.heap memory.old)) wanted)) (part_bytes s (part_of
+        (birth_at (M.heap memory.old)) part))) }
+    ensures fits { IfOk result (λ found. IfSome found (λ place. place + wanted.length ≤
+        part.length)) }
+    ensures full { OnErr result ((vec_capacity text.old < part.length) ⊎
+        (vec_capacity sought.old < wanted.length)) }
+    ensures text { text.new.items ≡ [] }
+    ensures sought { sought.new.items ≡ [] }
+    ensures room { (vec_capacity text.old ≤ vec_capacity text.new) ×
+        (vec_capacity sought.old ≤ vec_capacity sought.new) }
+{
+    append_bytes(memory, part, text)?;
+    let found = find_in(memory, text.as_slice(), wanted, sought);
+    text.clear();
+    found
+}
+
+/// `S T search behind match before true` at the first place where `S` has the bytes of `T`, else `S
+/// false`. What is pushed shares the bytes of `S`. Raises `stackunderflow`, `typecheck` where one
+/// is no string, `invalidaccess`, and `stackoverflow` where the parts and `true` don't fit. Not
+/// made where `text` lacks room for the bytes of `S` or `sought` for those of `T`, and a growth was
+/// refused. The lists are empty before and after; their room is kept for the next call.
+pub fn search<M: Memory>(
+    operands: &mut Operands,
+    memory: &mut M,
+    text: &mut Vec<u8>,
+    sought: &mut Vec<u8>,
+) -> Result<(), Failure>
+    requires ready { IsReady (M.heap memory.old) operands.old }
+    requires text { text.old.items ≡ [] }
+    requires sought { sought.old.items ≡ [] }
+    ensures heap { M.heap memory.new ≡ M.heap memory.old }
+    ensures grants { M.grants memory.new ≡ M.grants memory.old }
+    ensures does { Searches sequences.search_row (vec_capacity text.old)
+        (vec_capacity sought.old) result (M.heap memory.old) operands.old operands.new }
+    ensures ready { IsReady (M.heap memory.old) operands.new }
+    ensures text { text.new.items ≡ [] }
+    ensures sought { sought.new.items ≡ [] }
+    ensures room { (vec_capacity text.old ≤ vec_capacity text.new) ×
+        (vec_capacity sought.old ≤ vec_capacity sought.new) }
+{
+    let Some((topmost, string)) = operands.top_two() else {
+        return Err(Failure::Error(ErrorName::StackUnderflow));
+    };
+    let Some(wanted) = string_of(topmost) else {
+        return Err(Failure::Error(ErrorName::TypeCheck));
+    };
+    let Some(part) = string_of(string) else {
+        return Err(Failure::Error(ErrorName::TypeCheck));
+    };
+    if !are_readable(wanted.access, part.access) {
+        return Err(Failure::Error(ErrorName::InvalidAccess));
+    }
+    let Ok(found) = find_part(memory, part, wanted, text, sought) else {
+        return Err(Failure::NotMade(NotMade::Memory));
+    };
+    let Some(place) = found else {
+        operands.replace(1, plain::boolean(false));
+        return Ok(());
+    };
+    if operands.len() + 2 > OPERAND_LIMIT {
+        return Err(Failure::Error(ErrorName::StackOverflow));
+    }
+    push_found(operands, string, part, place as u16, wanted.length);
+    Ok(())
+}
+
+/// Puts what stands behind a match in a string, the match, what stands before it, and `true` in the
+/// place of the two topmost operands.
+fn push_found(operands: &mut Operands, string: Word, part: Part, place: u16, count: u16)
+    requires operands { 2 ≤ length operands.old }
+    requires room { length operands.old + 2 ≤ 500 }
+    requires string { readers.as_text (content_in string.0) ≡ Some part }
+    requires word { IsWord string.0 }
+    requires end { part.offset + part.length < 2 ^ 16 }
+    requires within { place + count ≤ part.length }
+    ensures { IsFound operands.old string part place count operands.new }
+{
+    let end = place + count;
+    operands.replace(2, string_interval(string, part, end, part.length - end));
+    push_within(operands, string_interval(string, part, place, count));
+    push_within(operands, string_interval(string, part, 0, place));
+    push_within(operands, plain::boolean(true));
+}
+
+/// Whether two accesses both permit reading.
+#[inline]
+fn are_readable(first: Access, second: Access) -> bool
+    ensures { result ≡ language.is_readable first && language.is_readable second }
+{
+    is_readable(first) && is_readable(second)
+}
