@@ -5,7 +5,6 @@ pub mod Intervals
 pub mod Made
 pub mod Makers
 pub mod Places
-pub mod Plain
 pub mod Reading
 pub mod Searched
 pub mod StringReads

@@ -18,7 +18,7 @@ use ps_seq::strings::byte;
 
 /// `S length n`, in bytes. Raises `stackunderflow`, `typecheck` where `S` is no string, and
 /// `invalidaccess`.
-#[tactic(auto, using(crate::proofs::Plain::plain_lemmas))]
+#[tactic(auto, using(ps_ops::proofs::Ready::plain_lemmas))]
 pub fn length<M: Memory>(operands: &mut Operands, memory: &M) -> Result<(), ErrorName>
     requires ready { IsReady (M.heap memory.now) operands.old }
     ensures does { Observes (λ store. rows.string_length_row) result
@@ -40,7 +40,7 @@ pub fn length<M: Memory>(operands: &mut Operands, memory: &M) -> Result<(), Erro
 
 /// `S i get b`: the byte, 0 to 255. Raises `stackunderflow`, `typecheck` where `S` is no string or
 /// `i` no integer, `invalidaccess` and `rangecheck`.
-#[tactic(auto, using(crate::proofs::Plain::plain_lemmas))]
+#[tactic(auto, using(ps_ops::proofs::Ready::plain_lemmas))]
 pub fn get<M: Memory>(operands: &mut Operands, memory: &mut M) -> Result<(), ErrorName>
     requires ready { IsReady (M.heap memory.old) operands.old }
     ensures heap { M.heap memory.new ≡ M.heap memory.old }
