@@ -15,12 +15,11 @@ use Rattle.ps_core_parts.specs.Objects.{among, object_at}
 use Rattle.ps_core_parts.specs.Steps.{space_base, new_object, next_birth_after}
 use Rattle.ps_core_parts.specs.Conditions.{dictionary_stands}
 use Rattle.ps_core_laws.proofs.HeapTests.{bool_cases, number_not, eq_true, same_number, or_right, at_number}
-use Rattle.ps_parts_memory.specs.Shown.{VmRuns}
 use Rattle.ps_parts_memory.specs.Memory.{heap_of, grants_of, standing}
 use Rattle.ps_parts_memory.specs.Laws.{MayMake, CanMakeBody, MakesBodies}
 use Rattle.ps_parts_memory.specs.Stores.{part_made}
-use Rattle.ps_parts_memory.proofs.Facts.{knows}
-use Rattle.ps_parts_memory.proofs.Made.{zeros, free_end, low_end}
+use Rattle.ps_parts_memory.proofs.Facts.{VmFacts}
+use Rattle.ps_parts_memory.proofs.Made.{zeros, place_end, free_end, low_end}
 use Rattle.ps_parts_memory.proofs.Standing.{in_heap}
 
 -- the number of a dictionary's kind is 8
@@ -98,18 +97,18 @@ module _ (v : Vm) (header d fields : ℕ) (c : CanMakeBody v header d fields) wh
   next_is : next_birth_after v.next_birth header ≡ v.next_birth
   next_is = let t = is_body in rw t refl
 
-  used_made : ∥ VmRuns v ∥₁
+  used_made : VmFacts v
       → (v.end + 2 + fields_in header) - space_base v.space v.cycle ≡
       (made_body (heap_of v) v.end (birth_at (heap_of v) d) fields).used
   unfolding made_body
-  used_made r = let lo = (knows v r).low_end in let f = c.fields_is in omega arith
+  used_made r = let lo = r.low_end in let f = c.fields_is in omega arith
 
   space_made : (heap_of v).space ≡
       (made_body (heap_of v) v.end (birth_at (heap_of v) d) fields).space
   unfolding made_body
   space_made = refl
 
-  heap_made : ∥ VmRuns v ∥₁
+  heap_made : VmFacts v
       → heap_of (part_made v header) ≡ made_body (heap_of v) v.end (birth_at (heap_of v) d) fields
   heap_made r =
       let new : Object = new_object v.end header in
@@ -154,9 +153,10 @@ module _ (v : Vm) (header d fields : ℕ) (c : CanMakeBody v header d fields) wh
         closed = refl;
       }
 
-pub makes_bodies : (v : Vm) → ∥ VmRuns v ∥₁ → MakesBodies v
+pub makes_bodies : (v : Vm) → VmFacts v → MakesBodies v
 makes_bodies v r header d fields c = record {
   may = may_make v header d fields c;
+  place = place_end v fields r c.granted;
   free = free_end v r;
   low = low_end v r;
   heap = heap_made v header d fields c r;

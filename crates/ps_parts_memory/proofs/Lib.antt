@@ -1,7 +1,11 @@
 pub mod Bodies
+pub mod Copied
+pub mod Counted
 pub mod Cycles
 pub mod Facts
+pub mod Falling
 pub mod GoesOn
+pub mod Loads
 pub mod Logged
 pub mod Made
 pub mod Room

@@ -1,8 +1,9 @@
--- The mutator's part and its numbers after a store to the fields of an object, and after its record.
-use Rattle.std.proofs.Common.{◌≡◌, ◌≢◌, ◌^◌, ℕ, suc, ◌+◌, ◌-◌, ◌<◌, ◌≤◌, Bool, true, false, ◌&&◌, not, List, [], ◌∷◌, ◌++◌, length, Some, None, refl, sym, ap, ◌∙◌, inl, inr, subst, arith, length-append}
+-- The mutator's part and its numbers after a store to the fields of an object, and after its
+-- record.
+use Rattle.std.proofs.Common.{◌≡◌, ◌≢◌, ◌^◌, ℕ, suc, ◌+◌, ◌-◌, ◌<◌, ◌≤◌, true, false, ◌&&◌, not, List, [], ◌∷◌, ◌++◌, length, cond, Some, None, refl, sym, ap, ◌∙◌, inl, inr, subst, arith, length-append}
 use Rattle.std.specs.Prelude.{slice_index, nat_lt, ◌==◌, if◌then◌else◌, min}
 use native.Mathlib.Decide.{ℕ_discrete}
-use Rattle.std.specs.List.{fold}
+use Rattle.std.proofs.lemmas.List.Sums.{sum_by_push}
 use Rattle.ps_word.specs.declared.words.Word.{Word}
 use Rattle.ps_record.specs.declared.Record.{Record}
 use Rattle.ps_record.specs.declared.Record.TheVariants.{Place}
@@ -14,14 +15,13 @@ use Rattle.ps_core_parts.specs.declared.events.Vm.{Vm}
 use Rattle.ps_core_parts.specs.declared.events.Gc.{Gc}
 use Rattle.ps_core_parts.specs.declared.events.Event.TheVariants.{RecordStore}
 use Rattle.ps_core_parts.specs.Objects.{among, object_at, log_of, closes, is_close}
-use Rattle.ps_core_parts.specs.Steps.{is_open, vm_after, with_record}
+use Rattle.ps_core_parts.specs.Steps.{is_open, table_size, vm_after, with_record}
 use Rattle.ps_core_parts.specs.Conditions.{VmMay}
 use Rattle.ps_core_laws.proofs.Rings.{log_of-same, log_of-other}
 use Rattle.ps_core_laws.proofs.HeapTests.{bool_cases, le_is, lt_is, le_true, lt_true, and_parts, clash}
-use Rattle.ps_parts_memory.specs.Shown.{VmRuns}
-use Rattle.ps_parts_memory.specs.Memory.{heap_of, grants_of, records_left, logs_after}
+use Rattle.ps_parts_memory.specs.Memory.{heap_of, grants_of, records_left}
 use Rattle.ps_parts_memory.specs.Stores.{numbers, fields_stored, MayStoreFields}
-use Rattle.ps_parts_memory.proofs.Facts.{knows}
+use Rattle.ps_parts_memory.proofs.Facts.{VmFacts}
 use Rattle.ps_parts_memory.proofs.Standing.{field_of, fields_of_object, length_words}
 use Rattle.ps_parts_memory.proofs.Written.{only, written_all, heap_all, may_store, names_stand, words_back}
 
@@ -38,16 +38,16 @@ pub record Target (v : Vm) (a i n : ℕ) : Type 0 where
   pub few : length object.fields < 2 ^ 16
   pub low : a < 2 ^ 24
   pub below : a < v.end
+  pub inside : a + 2 + i + n ≤ table_size v.space
 
-pub target : (v : Vm) (a i : ℕ) (items : List Word) → ∥ VmRuns v ∥₁ → 1 ≤ length items
+pub target : (v : Vm) (a i : ℕ) (items : List Word) → VmFacts v → 1 ≤ length items
     → i + length items ≤ length (fields_at (heap_of v) a) → Target v a i (length (numbers items))
-target v a i items r some le =
+target v a i items k some le =
     let f = field_of v a i (omega arith) in
     let o = f.0 in
     let long = ap length (fields_of_object v a o f.1) in
     let same = length_words o.fields in
     let n = length_numbers items in
-    let k = knows v r in
     let w = k.within a o f.1 in
     let hi = w.1 in let top = k.end_high in let wide = k.base_high in let size = k.size.1 in
     let s = k.sized a o f.1 in
@@ -58,8 +58,8 @@ target v a i items r some le =
       fits = omega arith;
       few = omega arith;
       low = omega arith;
-      below =
-          omega arith;
+      below = omega arith;
+      inside = omega arith;
     }
 
 pub fields_permitted : (v : Vm) (a i : ℕ) (items : List Word)
@@ -69,27 +69,20 @@ fields_permitted v a i items t known settled =
     may_store v a i (numbers items) t.object t.at t.fits (names_stand v a t.object items t.at known)
     (λ off is. inl settled)
 
-pub heap_stored : (v : Vm) (a i : ℕ) (items : List Word) → Target v a i (length (numbers items))
+pub heap_stored : (v : Vm) (a i : ℕ) (items : List Word) (o : Object)
+    → object_at v.objects a ≡ Some o → i + length (numbers items) ≤ length o.fields
     → heap_of (fields_stored v a i (numbers items)) ≡ memory.stored (heap_of v) a i items
-heap_stored v a i items t = heap_all v a i (numbers items) t.object t.at t.fits
+heap_stored v a i items o at fits = heap_all v a i (numbers items) o at fits
     ∙ ap (memory.stored (heap_of v) a i) (words_back items)
 
 pub logs_kept : (v : Vm) (a i : ℕ) (ws : List ℕ) → (fields_stored v a i ws).logs ≡ v.logs
 logs_kept v a i ws = ap (λ (x : Vm). x.logs) (only v a i ws)
 
-pub fold_snoc : {A B : Type 0} (f : B → A → B) (z : B) (xs : List A) (y : A)
-    → fold f z (xs ++ y ∷ []) ≡ f (fold f z xs) y
-fold_snoc f z [] y = refl
-fold_snoc f z (x ∷ xs) y = fold_snoc f (f z x) xs y
-
 closes_place : (log : List Record) (a i n : ℕ) → closes (log ++ Place a i n ∷ []) ≡ closes log
-closes_place log a i n = let e =
-    fold_snoc (λ (k : ℕ) (x : Record). k + (if is_close x then 1 else 0)) 0 log (Place a i n) in e
-    ∙ (let z : closes log + 0 ≡ closes log = omega arith in z)
-
--- the logs with one record more in a slot
-abbrev pub more_logs : List (List Record) → ℕ → Record → List (List Record)
-more_logs logs slot r = with_record logs slot r
+closes_place log a i n =
+    let more : closes (log ++ Place a i n ∷ []) ≡ closes log + 0 =
+    sum_by_push (λ x. cond (is_close x) 1 0) log (Place a i n) in
+    omega (arith, more)
 
 abbrev pub after_record : Vm → Vm → ℕ → Record → Vm
 after_record v f slot r =
@@ -99,7 +92,7 @@ after_record v f slot r =
       fresh = [];
       written = None;
       logs =
-          more_logs v.logs slot r;
+          with_record v.logs slot r;
     }
 
 pub part_logged : (v : Vm) (g : Gc) (a i : ℕ) (ws : List ℕ) (slot b j n : ℕ)
@@ -109,26 +102,26 @@ part_logged v g a i ws slot b j n =
     ap (λ (x : Vm). vm_after x g (RecordStore slot (Place b j n))) (only v a i ws)
 
 pub log_here : (logs : List (List Record)) (slot : ℕ) (r : Record) → slot < length logs
-    → log_of (more_logs logs slot r) slot ≡ log_of logs slot ++ r ∷ []
+    → log_of (with_record logs slot r) slot ≡ log_of logs slot ++ r ∷ []
 log_here logs slot r lt = log_of-same logs slot (log_of logs slot ++ r ∷ []) lt
 
 pub log_there : (logs : List (List Record)) (slot : ℕ) (r : Record) (s : ℕ) → s ≢ slot
-    → log_of (more_logs logs slot r) s ≡ log_of logs s
+    → log_of (with_record logs slot r) s ≡ log_of logs s
 log_there logs slot r s ne = log_of-other logs slot s (log_of logs slot ++ r ∷ []) ne
 
 closes_same : (logs : List (List Record)) (slot a i n : ℕ) (s : ℕ) → slot < length logs
-    → closes (log_of (more_logs logs slot (Place a i n)) s) ≡ closes (log_of logs s)
+    → closes (log_of (with_record logs slot (Place a i n)) s) ≡ closes (log_of logs s)
 closes_same logs slot a i n s lt =
     elim (ℕ_discrete s slot) as
-    (λ _. closes (log_of (more_logs logs slot (Place a i n)) s) ≡ closes (log_of logs s)) [
-      | yes e ↦ subst (λ (k : ℕ). closes (log_of (more_logs logs slot (Place a i n)) k) ≡ closes
+    (λ _. closes (log_of (with_record logs slot (Place a i n)) s) ≡ closes (log_of logs s)) [
+      | yes e ↦ subst (λ (k : ℕ). closes (log_of (with_record logs slot (Place a i n)) k) ≡ closes
           (log_of logs k)) (sym e) (ap closes (log_here logs slot (Place a i n) lt)
           ∙ closes_place (log_of logs slot) a i n)
       | no ne ↦ ap closes (log_there logs slot (Place a i n) s ne)
     ]
 
 pub length_here : (logs : List (List Record)) (slot : ℕ) (r : Record) → slot < length logs
-    → length (log_of (more_logs logs slot r) slot) ≡ length (log_of logs slot) + 1
+    → length (log_of (with_record logs slot r) slot) ≡ length (log_of logs slot) + 1
 length_here logs slot r lt = ap length (log_here logs slot r lt)
     ∙ length-append (log_of logs slot) (r ∷ [])
 
@@ -224,19 +217,3 @@ may_log v a i (w ∷ ws) slot some t is off settled g =
       fits = (t.low, omega arith, omega arith);
       written = written_all v a i w ws is off settled;
     }
-
--- ---- the tests
-
-pub logs_in : (v : Vm) (slot a i n : ℕ) → is_open v ≡ true → among v.fresh a ≡ false
-    → more_logs v.logs slot (Place a i n) ≡ logs_after v slot a i n
-logs_in v slot a i n is off = rw (is, off) refl
-
-pub logs_out : (v : Vm) (slot a i n : ℕ) → is_open v ≡ false → v.logs ≡ logs_after v slot a i n
-logs_out v slot a i n out = rw out refl
-
-and_false : (x : Bool) → (x && false) ≡ false
-and_false true = refl
-and_false false = refl
-
-pub logs_new : (v : Vm) (slot a i n : ℕ) → among v.fresh a ≡ true → v.logs ≡ logs_after v slot a i n
-logs_new v slot a i n t = let x = and_false (is_open v) in rw (t, x) refl

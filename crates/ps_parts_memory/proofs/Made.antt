@@ -14,13 +14,12 @@ use Rattle.ps_mem.proofs.HeapLemmas.{same_heap, object_at-made_same, object_at-m
 use Rattle.ps_core_parts.specs.declared.events.Object.{Object}
 use Rattle.ps_core_parts.specs.declared.events.Vm.{Vm}
 use Rattle.ps_core_parts.specs.Objects.{among, object_at}
-use Rattle.ps_core_parts.specs.Steps.{space_base, new_object, next_birth_after}
+use Rattle.ps_core_parts.specs.Steps.{space_base, table_size, new_object, next_birth_after}
 use Rattle.ps_core_laws.proofs.HeapTests.{number_not, eq_true, same_number, or_right}
-use Rattle.ps_parts_memory.specs.Shown.{VmRuns}
 use Rattle.ps_parts_memory.specs.Memory.{heap_of, grants_of, standing}
 use Rattle.ps_parts_memory.specs.Laws.{IsNew}
 use Rattle.ps_parts_memory.specs.Stores.{part_made}
-use Rattle.ps_parts_memory.proofs.Facts.{knows}
+use Rattle.ps_parts_memory.proofs.Facts.{VmFacts}
 use Rattle.ps_parts_memory.proofs.Standing.{in_heap}
 
 kind_back : (kind : Kind) → kind_of_number (kind_number kind) ≡ kind
@@ -52,18 +51,23 @@ zeros zero = refl
 zeros (suc n) = ap (λ (l : List Word). zero_word ∷ l) (zeros n)
 
 -- nothing stands at the end of what is in use
-none_at : (v : Vm) → ∥ VmRuns v ∥₁ → object_at v.objects v.end ≡ None
+none_at : (v : Vm) → VmFacts v → object_at v.objects v.end ≡ None
 none_at v r = go (object_at v.objects v.end) refl
   where
     go : (x : Option Object) → object_at v.objects v.end ≡ x → object_at v.objects v.end ≡ None
     go None e = e
-    go (Some o) e = let hi = ((knows v r).within v.end o e).1 in absurd (omega arith)
+    go (Some o) e = let hi = (r.within v.end o e).1 in absurd (omega arith)
 
-pub free_end : (v : Vm) → ∥ VmRuns v ∥₁ → memory.object_at (heap_of v) v.end ≡ None
+pub free_end : (v : Vm) → VmFacts v → memory.object_at (heap_of v) v.end ≡ None
 free_end v r = in_heap v v.end ∙ ap (option_map standing) (none_at v r)
 
-pub low_end : (v : Vm) → ∥ VmRuns v ∥₁ → v.end < 2 ^ 24
-low_end v r = let k = knows v r in let hi = k.end_high in let wide = k.base_high in let n =
+-- what is granted lies in the table
+pub place_end : (v : Vm) (fields : ℕ) → VmFacts v → 2 + fields ≤ (grants_of v).words
+    → v.end + 2 + fields ≤ table_size v.space
+place_end v fields k fits = let wide = k.base_high in omega arith
+
+pub low_end : (v : Vm) → VmFacts v → v.end < 2 ^ 24
+low_end v k = let hi = k.end_high in let wide = k.base_high in let n =
     k.size.1 in omega arith
 
 next_is : (v : Vm) (header : ℕ) (kind : Kind) (fields : ℕ) → IsNew v header kind fields
@@ -71,12 +75,12 @@ next_is : (v : Vm) (header : ℕ) (kind : Kind) (fields : ℕ) → IsNew v heade
 next_is v header kind fields n = let t : (kind_in header == 11) ≡ false =
     ap (λ (k : ℕ). k == 11) n.kind_is ∙ not_body kind n.no_body in rw t refl
 
-used_made : (v : Vm) (header : ℕ) (kind : Kind) (fields : ℕ) → ∥ VmRuns v ∥₁
+used_made : (v : Vm) (header : ℕ) (kind : Kind) (fields : ℕ) → VmFacts v
     → IsNew v header kind fields
     → (v.end + 2 + fields_in header) - space_base v.space v.cycle ≡
     (made (heap_of v) v.end kind fields).used
 unfolding made
-used_made v header kind fields r n = let lo = (knows v r).low_end in let f = n.fields_is in
+used_made v header kind fields r n = let lo = r.low_end in let f = n.fields_is in
     omega arith
 
 space_made : (v : Vm) (kind : Kind) (fields : ℕ)
@@ -84,7 +88,7 @@ space_made : (v : Vm) (kind : Kind) (fields : ℕ)
 unfolding made
 space_made v kind fields = refl
 
-pub heap_made : (v : Vm) (header : ℕ) (kind : Kind) (fields : ℕ) → ∥ VmRuns v ∥₁
+pub heap_made : (v : Vm) (header : ℕ) (kind : Kind) (fields : ℕ) → VmFacts v
     → IsNew v header kind fields → heap_of (part_made v header) ≡ made (heap_of v) v.end kind fields
 heap_made v header kind fields r n =
     let new : Object = new_object v.end header in

@@ -1,8 +1,7 @@
 -- The numbers that the mutator's seat keeps beside its part, and the records that are left.
-use Rattle.std.proofs.Common.{◌≡◌, ◌≢◌, ◌^◌, ℕ, ◌+◌, ◌-◌, ◌<◌, ◌≤◌, true, false, ◌&&◌, not, List, length, None, refl, ap, inl, inr, arith}
+use Rattle.std.proofs.Common.{◌≡◌, ◌≢◌, ◌^◌, ℕ, ◌+◌, ◌-◌, ◌<◌, ◌≤◌, true, ◌&&◌, not, List, length, None, refl, ap, inl, inr, arith}
 use Rattle.std.specs.Prelude.{slice_index, slice_set, nat_le, nat_lt, min, ◌==◌, if◌then◌else◌}
-use Rattle.std.proofs.lemmas.List.{get_or-set_same, get_or-set_other, get_or-replicate}
-use Rattle.std.specs.Prelude.{replicate, []}
+use Rattle.std.proofs.lemmas.List.{get_or-set_same, get_or-set_other}
 use Rattle.ps_mem.specs.Heap.{empty_heap}
 use Rattle.ps_mem.specs.Bounded.{bounded_space}
 use Rattle.ps_core_parts.specs.declared.events.Vm.{Vm}
@@ -13,29 +12,22 @@ use Rattle.ps_core_parts.specs.Steps.{start, is_open, heads_after, vm_after, spa
 use Rattle.ps_core_laws.proofs.Bases.{bool_same}
 use Rattle.ps_core_laws.proofs.HeapTests.{bool_cases, le_true, lt_true, le_is}
 use Rattle.ps_mem.specs.Heap.{has_room}
-use Rattle.ps_parts_memory.specs.Shown.{VmRuns}
 use Rattle.ps_parts_memory.specs.Memory.{records_left, heap_of}
-use Rattle.ps_parts_memory.proofs.Facts.{knows}
+use Rattle.ps_parts_memory.proofs.Facts.{VmFacts}
 
 -- ---- how much is in use
-
-pub used_small : (v : Vm) → ∥ VmRuns v ∥₁ → (space_base v.space v.cycle ≤ v.end)
-    × (v.end - space_base v.space v.cycle ≤ v.space) × (v.space ≤ 1048576)
-used_small v r = let k = knows v r in let lo = k.low_end in let hi = k.end_high in let n =
-    k.size.1 in (lo, omega arith, n)
 
 le_less : (u w s : ℕ) → u ≤ s → nat_le w (s - u) ≡ nat_le (u + w) s
 le_less u w s le = bool_same _ _ (λ t. let x = le_is w (s - u) t in le_true (u + w) s (omega arith))
     (λ t. let x = le_is (u + w) s t in le_true w (s - u) (omega arith))
 
-pub room_answer : (v : Vm) (words births : ℕ) → ∥ VmRuns v ∥₁
+pub room_answer : (v : Vm) (words births : ℕ) → VmFacts v
     → (nat_le words (v.space - (v.end - space_base v.space v.cycle)) && nat_le births
     (2 ^ 40 - v.next_birth)) ≡ has_room (heap_of v) words births
 unfolding has_room
-room_answer v words births r =
-    let k = knows v r in
-    let u = used_small v r in
-    let x = le_less (v.end - space_base v.space v.cycle) words v.space u.1 in
+room_answer v words births k =
+    let hi = k.end_high in
+    let x = le_less (v.end - space_base v.space v.cycle) words v.space (omega arith) in
     let y = le_less v.next_birth births (2 ^ 40) k.births in
     rw (x, y) refl
 
@@ -56,15 +48,6 @@ part_seen v g slot n lt =
 
 -- ---- the records that are left
 
-pub records_outside : (v : Vm) (slot : ℕ) → is_open v ≡ false → records_left v slot ≡ 2 ^ 64
-records_outside v slot out = rw out refl
-
-pub records_open : (v : Vm) (slot : ℕ) → is_open v ≡ true → slot < 32
-    → (closes (log_of v.logs slot) == v.epoch) ≡ false
-    → records_left v slot ≡ min (slice_index v.heads slot + 256) (2 ^ 63) - length
-    (log_of v.logs slot)
-records_open v slot is lt off = let t = lt_true slot 32 lt in rw (is, t, off) refl
-
 pub records_other : (v : Vm) (slot n s : ℕ) → s ≢ slot
     → records_left (record v { heads = slice_set v.heads slot n }) s ≡ records_left v s
 records_other v slot n s ne =
@@ -83,22 +66,14 @@ records_more v slot n wide le =
     let more : min (old + 256) (2 ^ 63) - len ≤ min (n + 256) (2 ^ 63) - len = omega arith in
     elim (bool_cases (is_open v)) [
       | inr out ↦ rw (out) (omega arith)
-      | inl is ↦ elim (bool_cases (nat_lt slot 32 && not (closes (log_of v.logs slot) == v.epoch))) [
-        | inl t ↦ rw (is, t, same) more
-        | inr f ↦ rw (is, f) (omega arith)
-      ]
+      | inl is ↦ elim (bool_cases (nat_lt slot 32 && not (closes
+          (log_of v.logs slot) == v.epoch))) [
+            | inl t ↦ rw (is, t, same) more
+            | inr f ↦ rw (is, f) (omega arith)
+          ]
     ]
 
--- the numbers of a slot in the open cycle
-pub slot_free : (v : Vm) (slot : ℕ) → ∥ VmRuns v ∥₁ → slot < 32
-    → (slice_index v.heads slot ≤ length (log_of v.logs slot))
-    × (length (log_of v.logs slot) ≤ slice_index v.heads slot + 256)
-slot_free v slot r lt = let k = knows v r in (k.seen slot lt, k.room slot lt)
-
 -- ---- the start
-
-empty_log : (slot : ℕ) → slot < 32 → log_of (replicate 32 []) slot ≡ []
-empty_log slot lt = get_or-replicate 32 slot [] [] lt
 
 pub heap_start : (space : ℕ) → heap_of (start space).vm ≡ empty_heap (bounded_space space)
 unfolding empty_heap

@@ -23,7 +23,6 @@ use Rattle.ps_core_parts.specs.Steps.{is_open, field_stored, space_base}
 use Rattle.ps_core_parts.specs.Conditions.{HasField}
 use Rattle.ps_core_laws.proofs.HeapTests.{bool_cases, number_not, eq_true, le_true, le_is, and_parts, same_number}
 use Rattle.ps_core_laws.proofs.Lookups.{object_at-address, object_at-with_field}
-use Rattle.ps_core_laws.proofs.Shown.{some_map}
 use Rattle.ps_core_laws.proofs.Headed.{stored_objects, stored_header}
 use Rattle.ps_core_laws.proofs.Views.{stands-with_field}
 use Rattle.ps_parts_memory.specs.Memory.{heap_of, standing}
@@ -36,7 +35,7 @@ use Rattle.ps_parts_memory.proofs.Standing.{in_heap, length_words, fields_of_obj
 abbrev pub over : Vm → Vm → Vm
 over v f = record v { objects = f.objects; stored = f.stored; fresh = f.fresh; written = f.written }
 
-one : (v : Vm) (a i w : ℕ) → field_stored v a i w ≡ over v (field_stored v a i w)
+pub one : (v : Vm) (a i w : ℕ) → field_stored v a i w ≡ over v (field_stored v a i w)
 one v a i w = elim (bool_cases (among v.fresh a)) [ inl t ↦ rw t refl | inr f ↦ rw f refl ]
 
 pub only : (v : Vm) (a i : ℕ) (ws : List ℕ)
@@ -45,7 +44,7 @@ only v a i [] = refl
 only v a i (w ∷ ws) = only (field_stored v a i w) a (i + 1) ws
     ∙ ap (λ (x : Vm). over x (fields_stored (field_stored v a i w) a (i + 1) ws)) (one v a i w)
 
-open_one : (v : Vm) (a i w : ℕ) → is_open (field_stored v a i w) ≡ is_open v
+pub open_one : (v : Vm) (a i w : ℕ) → is_open (field_stored v a i w) ≡ is_open v
 open_one v a i w = ap is_open (one v a i w)
 
 -- a new object stays new, and nothing is to be logged
@@ -113,18 +112,6 @@ written_all v a i w ws is off none =
     written_more f a (i + 1) i 1 ws (open_one v a i w ∙ is) (rw off refl) here refl
     ∙ ap (λ (k : ℕ). Some (range a i k)) last
 
--- what stands afterwards stood before
-pub stood_before : (v : Vm) (a i : ℕ) (ws : List ℕ) (b : ℕ) (o : Object)
-    → object_at (fields_stored v a i ws).objects b ≡ Some o → (p : Object)
-    × (object_at v.objects b ≡ Some p)
-stood_before v a i [] b o e = (o, e)
-stood_before v a i (w ∷ ws) b o e =
-    let r = stood_before (field_stored v a i w) a (i + 1) ws b o e in
-    let m = some_map (stored a i w) (object_at v.objects b) r.0
-    (sym (object_at-with_field v.objects a i w b)
-    ∙ (ap (λ (os : List Object). object_at os b) (sym (stored_objects v a i w)) ∙ r.1)) in
-    (m.0, m.1)
-
 -- ---- the memory
 
 map_set : (xs : List ℕ) (i w : ℕ)
@@ -183,12 +170,12 @@ heap_one v a i w o e lt =
     ∙ sym (space-stored (heap_of v) a i (word_of w ∷ [])))
 
 -- the object after one store
-after_one : (v : Vm) (a i w : ℕ) (o : Object) → object_at v.objects a ≡ Some o
+pub after_one : (v : Vm) (a i w : ℕ) (o : Object) → object_at v.objects a ≡ Some o
     → object_at (field_stored v a i w).objects a ≡ Some (stored a i w o)
 after_one v a i w o e = ap (λ (os : List Object). object_at os a) (stored_objects v a i w)
     ∙ (object_at-with_field v.objects a i w a ∙ ap (option_map (stored a i w)) e)
 
-count_one : (a i w : ℕ) (o : Object) → length (stored a i w o).fields ≡ length o.fields
+pub count_one : (a i w : ℕ) (o : Object) → length (stored a i w o).fields ≡ length o.fields
 count_one a i w o = elim (bool_cases (nat_eq a o.address))
     [ inl t ↦ rw t (length-set o.fields i w) | inr f ↦ rw f refl ]
 
@@ -219,7 +206,7 @@ value_same : (os : List Object) (a i w x : ℕ)
 value_same os a i w x = ap (λ (b : Bool). if is_reference x then b else true)
     (stands-with_field os a i w (address_in x))
 
-word_same : (v : Vm) (a i w header x : ℕ) → word_stands v.objects header x ≡ true
+pub word_same : (v : Vm) (a i w header x : ℕ) → word_stands v.objects header x ≡ true
     → word_stands (field_stored v a i w).objects header x ≡ true
 word_same v a i w header x e =
     ap (λ (os : List Object). word_stands os header x) (stored_objects v a i w)
@@ -266,7 +253,8 @@ ends_next v a i w off is h =
           )
     ]
 
-has_field : (v : Vm) (i w : ℕ) (x : Option Object) (o : Object) → x ≡ Some o → i < length o.fields
+pub has_field : (v : Vm) (i w : ℕ) (x : Option Object) (o : Object) → x ≡ Some o
+    → i < length o.fields
     → word_stands v.objects o.header w ≡ true → HasField v x i w
 has_field v i w x o e lt st = subst (λ (y : Option Object). HasField v y i w) (sym e) (lt, st)
 
@@ -314,26 +302,30 @@ by_type v w t lo hi k = elim (ℕ_discrete t 6) as
     (λ _. is_some (object_at v.objects (address_in w)) ≡ true) [
       | yes e ↦ let k' = subst (λ (t : ℕ). IsKnownContent (heap_of v) (content_of t w)) e k in
           some_at (heap_of v) v (address_in w) k'.object refl k'.at
-      | no n6 ↦ elim (ℕ_discrete t 7) as (λ _. is_some (object_at v.objects (address_in w)) ≡ true) [
-        | yes e ↦ let k' = subst (λ (t : ℕ). IsKnownContent (heap_of v) (content_of t w)) e k in
-            some_at (heap_of v) v (address_in w) k'.object refl k'.at
-        | no n7 ↦ elim (ℕ_discrete t 8) as (λ _. is_some (object_at v.objects (address_in w)) ≡ true) [
-          | yes e ↦ let k' = subst (λ (t : ℕ). IsKnownContent (heap_of v) (content_of t w)) e k in
-              some_at (heap_of v) v (address_in w) k'.object refl k'.at
-          | no n8 ↦ elim (ℕ_discrete t 9) as (λ _. is_some (object_at v.objects (address_in w)) ≡ true) [
+      | no n6 ↦ elim (ℕ_discrete t 7) as (λ _. is_some (object_at v.objects (address_in w))
+          ≡ true) [
             | yes e ↦ let k' = subst (λ (t : ℕ). IsKnownContent (heap_of v) (content_of t w)) e k in
                 some_at (heap_of v) v (address_in w) k'.object refl k'.at
-            | no n9 ↦ elim (ℕ_discrete t 10) as
-                (λ _. is_some (object_at v.objects (address_in w)) ≡ true) [
+            | no n7 ↦ elim (ℕ_discrete t 8) as (λ _. is_some (object_at v.objects (address_in w))
+                ≡ true) [
                   | yes e ↦ let k' = subst (λ (t : ℕ). IsKnownContent (heap_of v) (content_of t w)) e k in
                       some_at (heap_of v) v (address_in w) k'.object refl k'.at
-                  | no n10 ↦ let e : t ≡ 11 = omega arith in let k' =
-                      subst (λ (t : ℕ). IsKnownContent (heap_of v) (content_of t w)) e k in
-                      some_at (heap_of v) v (address_in w) k'.object refl k'.at
+                  | no n8 ↦ elim (ℕ_discrete t 9) as (λ _. is_some (object_at v.objects (address_in w))
+                      ≡ true) [
+                        | yes e ↦ let k' = subst (λ (t : ℕ). IsKnownContent (heap_of v) (content_of t w)) e k in
+                            some_at (heap_of v) v (address_in w) k'.object refl k'.at
+                        | no n9 ↦ elim (ℕ_discrete t 10) as
+                            (λ _. is_some (object_at v.objects (address_in w)) ≡ true) [
+                              | yes e ↦ let k' = subst (λ (t : ℕ). IsKnownContent (heap_of v)
+                                  (content_of t w)) e k in
+                                  some_at (heap_of v) v (address_in w) k'.object refl k'.at
+                              | no n10 ↦ let e : t ≡ 11 = omega arith in let k' =
+                                  subst (λ (t : ℕ). IsKnownContent (heap_of v) (content_of t w)) e k in
+                                  some_at (heap_of v) v (address_in w) k'.object refl k'.at
+                            ]
+                      ]
                 ]
           ]
-        ]
-      ]
     ]
 
 known_stands : (v : Vm) (w : Word) → IsKnown (heap_of v) w → value_stands v.objects w.0 ≡ true

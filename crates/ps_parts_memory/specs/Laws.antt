@@ -1,11 +1,11 @@
 -- What the part of a run gives to a seat that serves the mutator as a memory.
-use Rattle.std.specs.Prelude.{◌≡◌, ◌≢◌, ℕ, ◌+◌, ◌^◌, ◌<◌, ◌≤◌, ◌&&◌, Bool, true, false, not, min, nat_le, List, length, Some, None, IsSome, IfSome, slice_get, slice_index}
+use Rattle.std.specs.Prelude.{◌≡◌, ◌≢◌, ℕ, ◌+◌, ◌^◌, ◌<◌, ◌≤◌, ◌&&◌, true, false, min, nat_le, List, [], ◌∷◌, length, take, drop, Option, Some, None, IsTrue, IsSome, IfSome, slice_get, slice_index, slice_range}
 use Rattle.ps_language.specs.declared.kinds.Kind.{Kind}
 use Rattle.ps_language.specs.declared.kinds.Kind.TheVariants.{Dictionary, Body}
 use Rattle.ps_word.specs.declared.words.Word.{Word}
 use Rattle.ps_word.specs.declared.headers.Header.{Header}
 use Rattle.ps_word.specs.Headers.{kind_in, fields_in, birth_in, kind_number}
-use Rattle.ps_mem.specs.Heap.{Standing, fields_at, stored, made, made_body, birth_at, IsKind, has_room, empty_heap, AfterNew, AfterStore, records_put}
+use Rattle.ps_mem.specs.Heap.{Standing, standing_words, fields_at, stored, made, made_body, birth_at, IsKind, has_room, empty_heap, Grants, AfterNew, AfterStore, records_put}
 use Rattle.ps_mem.specs.Heap as memory
 use Rattle.ps_mem.specs.Bounded.{bounded_space}
 use Rattle.ps_mem.specs.Objects.{kind_of_number, word_of}
@@ -16,11 +16,11 @@ use Rattle.ps_core_parts.specs.declared.events.Event.TheVariants.{VmLoad, ClearS
 use Rattle.ps_core_parts.specs.declared.events.Vm.{Vm}
 use Rattle.ps_core_parts.specs.declared.events.Gc.{Gc}
 use Rattle.ps_core_parts.specs.Objects.{log_of}
-use Rattle.ps_core_parts.specs.Steps.{start, is_open, table_size, vm_after, with_record}
+use Rattle.ps_core_parts.specs.Steps.{start, is_open, table_size, field_stored, vm_after, with_record}
 use Rattle.ps_core_parts.specs.Conditions.{VmMay}
 use Rattle.ps_parts_memory.specs.Shown.{VmRuns, VmFinds}
-use Rattle.ps_parts_memory.specs.Memory.{heap_of, grants_of, records_left, is_shut, logs_after}
-use Rattle.ps_parts_memory.specs.Stores.{numbers, fields_stored, MayStoreFields, part_made}
+use Rattle.ps_parts_memory.specs.Memory.{heap_of, grants_of, records_left, is_shut}
+use Rattle.ps_parts_memory.specs.Stores.{number_of, numbers, fields_stored, MayStoreFields, fields_stored_down, MayStoreFieldsDown, part_made}
 
 -- ---- my part is the part of some run
 
@@ -43,10 +43,23 @@ LoadsGoOn v = (g : Gc) (place word : ℕ) → place < table_size v.space → VmF
 
 -- ---- loads
 
--- a field's word in the table is the memory's
+-- a load of another word than a head leaves the part, and so memory and grants
+abbrev pub StaysAfterLoad : Vm → ℕ → Type 0
+StaysAfterLoad v place = (g : Gc) (word : ℕ) → vm_after v g (VmLoad place word) ≡ v
+
+-- the cycle word and the epoch word are no heads
+abbrev pub LoadsControl : Vm → Type 0
+LoadsControl v = (place : ℕ) → place < 2 → StaysAfterLoad v place
+
+-- a field's word lies in the table, and is the memory's
+pub record LoadsField (v : Vm) (a i : ℕ) : Type 0 where
+  pub place : a + 2 + i < table_size v.space
+  pub word : (n : ℕ) → VmFinds v (a + 2 + i) n
+      → slice_get (fields_at (heap_of v) a) i ≡ Some (word_of n)
+  pub stays : StaysAfterLoad v (a + 2 + i)
+
 abbrev pub LoadsFields : Vm → Type 0
-LoadsFields v = (a i : ℕ) → i < length (fields_at (heap_of v) a) → (a + 2 + i < table_size v.space)
-    × ((n : ℕ) → VmFinds v (a + 2 + i) n → slice_get (fields_at (heap_of v) a) i ≡ Some (word_of n))
+LoadsFields v = (a i : ℕ) → i < length (fields_at (heap_of v) a) → LoadsField v a i
 
 -- the first header as the memory tells it
 abbrev pub header_of : ℕ → Header
@@ -55,11 +68,21 @@ header_of n = record { kind = kind_of_number (kind_in n); fields = fields_in n; 
 abbrev pub header_told : Standing → Header
 header_told o = record { kind = o.kind; fields = length o.fields; birth = o.birth }
 
+-- so does the first header of what stands
+pub record LoadsHeader (v : Vm) (a : ℕ) : Type 0 where
+  pub place : a < table_size v.space
+  pub word : (n : ℕ) → VmFinds v a n
+      → IfSome (memory.object_at (heap_of v) a) (λ o. header_of n ≡ header_told o)
+  pub stays : StaysAfterLoad v a
+
 abbrev pub LoadsHeaders : Vm → Type 0
-LoadsHeaders v = (a n : ℕ) → IsSome (memory.object_at (heap_of v) a) → VmFinds v a n
-    → IfSome (memory.object_at (heap_of v) a) (λ o. header_of n ≡ header_told o)
+LoadsHeaders v = (a : ℕ) → IsSome (memory.object_at (heap_of v) a) → LoadsHeader v a
 
 -- ---- room
+
+-- what is used is the words of all that stands
+abbrev pub IsCounted : Vm → Type 0
+IsCounted v = (heap_of v).used ≡ standing_words (heap_of v)
 
 -- there is room for just what is granted
 abbrev pub HasRoomGranted : Vm → Type 0
@@ -75,19 +98,17 @@ pub record CanStore (v : Vm) (a i : ℕ) (items : List Word) : Type 0 where
   pub known : NamesStanding (heap_of v) a items
   pub settled : v.written ≡ None
 
--- a record is owed: a cycle is open, and the object may not be filled
-abbrev pub owes_record : Vm → ℕ → Bool
-owes_record v a = is_open v && not ((grants_of v).fresh a)
-
--- the stores are permitted one by one, make the memory's store, and log nothing; where no record is
--- owed nothing is to be logged
+-- the stores are permitted one by one, lie in the table, make the memory's store, and log nothing;
+-- where no record is owed nothing is to be logged
 pub record StoresWords (v : Vm) (a i : ℕ) (items : List Word) : Type 0 where
   pub may : MayStoreFields v a i (numbers items)
+  pub place : a + 2 + i + length items ≤ table_size v.space
   pub heap : heap_of (fields_stored v a i (numbers items)) ≡ stored (heap_of v) a i items
   pub grants : (slot : ℕ)
       → AfterStore (grants_of v) (grants_of (fields_stored v a i (numbers items))) slot
   pub logs : (fields_stored v a i (numbers items)).logs ≡ v.logs
-  pub settled : owes_record v a ≡ false → (fields_stored v a i (numbers items)).written ≡ None
+  pub settled : records_put (grants_of v) a ≡ 0
+      → (fields_stored v a i (numbers items)).written ≡ None
 
 abbrev pub Stores : Vm → Type 0
 Stores v = (a i : ℕ) (items : List Word) → CanStore v a i items → StoresWords v a i items
@@ -103,7 +124,8 @@ pub record StoresRecord (v : Vm) (g : Gc) (slot a i : ℕ) (items : List Word) :
   pub may : VmMay (fields_stored v a i (numbers items))
       (RecordStore slot (Place a i (length items)))
   pub heap : heap_of (logged v g slot a i items) ≡ stored (heap_of v) a i items
-  pub logs : (logged v g slot a i items).logs ≡ logs_after v slot a i (length items)
+  pub logs : (logged v g slot a i items).logs
+      ≡ with_record v.logs slot (Place a i (length items))
   pub settled : (logged v g slot a i items).written ≡ None
   pub grants : AfterStore (grants_of v) (grants_of (logged v g slot a i items)) slot
   pub counted : (grants_of (logged v g slot a i items)).put slot
@@ -111,7 +133,65 @@ pub record StoresRecord (v : Vm) (g : Gc) (slot a i : ℕ) (items : List Word) :
 
 abbrev pub Logs : Vm → Type 0
 Logs v = (g : Gc) (slot a i : ℕ) (items : List Word) → CanStore v a i items
-    → owes_record v a ≡ true → 1 ≤ records_left v slot → StoresRecord v g slot a i items
+    → records_put (grants_of v) a ≡ 1 → 1 ≤ records_left v slot → StoresRecord v g slot a i items
+
+-- ---- a word put into an object that may be filled
+
+pub record CanFill (v : Vm) (a i : ℕ) (w : Word) : Type 0 where
+  pub fresh : IsTrue ((grants_of v).fresh a)
+  pub within : i < length (fields_at (heap_of v) a)
+  pub known : NamesStanding (heap_of v) a (w ∷ [])
+
+-- one store, which leaves what is granted, what was logged and what is to be
+pub record FillsField (v : Vm) (a i : ℕ) (w : Word) : Type 0 where
+  pub may : VmMay v (FieldStore a i (number_of w))
+  pub place : a + 2 + i < table_size v.space
+  pub heap : heap_of (field_stored v a i (number_of w)) ≡ stored (heap_of v) a i (w ∷ [])
+  pub grants : grants_of (field_stored v a i (number_of w)) ≡ grants_of v
+  pub logs : (field_stored v a i (number_of w)).logs ≡ v.logs
+  pub settled : (field_stored v a i (number_of w)).written ≡ v.written
+
+abbrev pub Fills : Vm → Type 0
+Fills v = (a i : ℕ) (w : Word) → CanFill v a i w → FillsField v a i w
+
+-- ---- a copy of so many words, from a place of an object to one of another or of the same
+
+abbrev pub words_copied : Vm → ℕ → ℕ → ℕ → List Word
+words_copied v source place count = slice_range (fields_at (heap_of v) source) place (place + count)
+
+pub record CanCopy (v : Vm) (source place target i count : ℕ) : Type 0 where
+  pub some : 1 ≤ count
+  pub source_within : place + count ≤ length (fields_at (heap_of v) source)
+  pub target_within : i + count ≤ length (fields_at (heap_of v) target)
+  pub known : NamesStanding (heap_of v) target (words_copied v source place count)
+  pub settled : v.written ≡ None
+
+-- the source's word at a place in a part
+abbrev pub word_at : Vm → ℕ → ℕ → Option Word
+word_at v a i = slice_get (fields_at (heap_of v) a) i
+
+-- a copy is the store of the words that stood in the source. Word by word, each is still there when
+-- it is read: in rising order where the target isn't behind the source in one object, in falling
+-- order where it isn't before it. Both orders are permitted, and leave the same part
+pub record CopiesWords (v : Vm) (source place target i count : ℕ) (items : List Word) : Type 0
+  where
+    pub can : CanStore v target i items
+    pub count_is : length items ≡ count
+    pub down : MayStoreFieldsDown v target i (numbers items)
+    pub same : fields_stored_down v target i (numbers items)
+        ≡ fields_stored v target i (numbers items)
+    pub rising : (source ≡ target → i ≤ place) → (k : ℕ) → k < count
+        → word_at (fields_stored v target i (numbers (take k items))) source (place + k)
+        ≡ slice_get items k
+    pub falling : (source ≡ target → place ≤ i) → (k : ℕ) → k < count
+        → word_at (fields_stored_down v target (i + (k + 1)) (numbers (drop (k + 1) items)))
+        source (place + k) ≡ slice_get items k
+
+abbrev pub Copies : Vm → Type 0
+Copies v = (source place target i count : ℕ) → CanCopy v source place target i count
+    → CopiesWords v source place target i count (words_copied v source place count)
+
+-- ---- records
 
 -- in a cycle a closed log gets no record, and another as many as its ring has free places by the
 -- head last loaded, but for the last number
@@ -120,8 +200,8 @@ pub record GrantsRecords (v : Vm) (slot : ℕ) : Type 0 where
   pub left : is_shut v slot ≡ false → records_left v slot + length (log_of v.logs slot)
       ≡ min (slice_index v.heads slot + 256) (2 ^ 63)
 
-abbrev pub Grants : Vm → Type 0
-Grants v = (slot : ℕ) → slot < 32 → is_open v ≡ true → GrantsRecords v slot
+abbrev pub GrantsLogs : Vm → Type 0
+GrantsLogs v = (slot : ℕ) → slot < 32 → is_open v ≡ true → GrantsRecords v slot
 
 -- ---- a new object
 
@@ -148,6 +228,7 @@ pub record MayMake (v : Vm) (header fields : ℕ) : Type 0 where
 -- it is made at the end of use, where nothing stands, and makes the memory's new object
 pub record MakesObject (v : Vm) (header : ℕ) (kind : Kind) (fields : ℕ) : Type 0 where
   pub may : MayMake v header fields
+  pub place : v.end + 2 + fields ≤ table_size v.space
   pub free : memory.object_at (heap_of v) v.end ≡ None
   pub low : v.end < 2 ^ 24
   pub heap : heap_of (part_made v header) ≡ made (heap_of v) v.end kind fields
@@ -169,6 +250,7 @@ pub record CanMakeBody (v : Vm) (header dictionary fields : ℕ) : Type 0 where
 -- it takes no birth number
 pub record MakesBody (v : Vm) (header dictionary fields : ℕ) : Type 0 where
   pub may : MayMake v header fields
+  pub place : v.end + 2 + fields ≤ table_size v.space
   pub free : memory.object_at (heap_of v) v.end ≡ None
   pub low : v.end < 2 ^ 24
   pub heap : heap_of (part_made v header)
@@ -181,35 +263,64 @@ MakesBodies v = (header dictionary fields : ℕ) → CanMakeBody v header dictio
 
 -- ---- heads, and cycles
 
+-- the part after a load of a head
+abbrev pub seen : Vm → Gc → ℕ → ℕ → Vm
+seen v g slot n = vm_after v g (VmLoad (2 + slot) n)
+
 -- a head word is no lower than the one last loaded, and within the log; once it is loaded no record
--- less is granted
+-- less is granted, of other slots as many, and all else as before
 pub record SeesHead (v : Vm) (g : Gc) (slot n : ℕ) : Type 0 where
   pub low : slice_index v.heads slot ≤ n
   pub high : n ≤ length (log_of v.logs slot)
-  pub heap : heap_of (vm_after v g (VmLoad (2 + slot) n)) ≡ heap_of v
-  pub more : records_left v slot ≤ records_left (vm_after v g (VmLoad (2 + slot) n)) slot
-  pub others : (s : ℕ) → s ≢ slot
-      → records_left (vm_after v g (VmLoad (2 + slot) n)) s ≡ records_left v s
+  pub heap : heap_of (seen v g slot n) ≡ heap_of v
+  pub grants : grants_of (seen v g slot n)
+      ≡ record (grants_of v) { records = records_left (seen v g slot n) }
+  pub more : records_left v slot ≤ records_left (seen v g slot n) slot
+  pub others : (s : ℕ) → s ≢ slot → records_left (seen v g slot n) s ≡ records_left v s
+  pub settled : (seen v g slot n).written ≡ v.written
 
 abbrev pub SeesHeads : Vm → Type 0
 SeesHeads v = (g : Gc) (slot n : ℕ) → slot < 32 → VmFinds v (2 + slot) n → SeesHead v g slot n
 
+-- in a cycle just opened no log is closed, and no object may be filled; nothing was put
+pub record AfterOpen (old new : Grants) : Type 0 where
+  pub fresh : (a : ℕ) → new.fresh a ≡ false
+  pub words : new.words ≡ old.words
+  pub births : new.births ≡ old.births
+  pub cycle_open : IsTrue new.cycle_open
+  pub put : new.put ≡ old.put
+  pub closed : (slot : ℕ) → new.closed slot ≡ false
+
 -- a cycle is opened; memory and logs stay
 pub record OpensCycle (v : Vm) (g : Gc) : Type 0 where
   pub may : VmMay v EpochStore
-  pub opened : is_open (vm_after v g EpochStore) ≡ true
   pub heap : heap_of (vm_after v g EpochStore) ≡ heap_of v
+  pub grants : AfterOpen (grants_of v) (grants_of (vm_after v g EpochStore))
   pub logs : (vm_after v g EpochStore).logs ≡ v.logs
 
 abbrev pub Opens : Vm → Type 0
 Opens v = (g : Gc) → is_open v ≡ false → v.epoch + 1 < 2 ^ 32 → OpensCycle v g
 
--- a log is closed: it gets a close and no other record, and is closed then; the memory stays
+-- the close is one record put; the log is closed then and granted no other. No object may be filled
+pub record AfterClose (old new : Grants) (slot : ℕ) : Type 0 where
+  pub fresh : (a : ℕ) → new.fresh a ≡ false
+  pub words : new.words ≡ old.words
+  pub births : new.births ≡ old.births
+  pub cycle_open : new.cycle_open ≡ old.cycle_open
+  pub records : new.records slot ≡ 0
+  pub records_others : (s : ℕ) → s ≢ slot → new.records s ≡ old.records s
+  pub put : new.put slot ≡ old.put slot + 1
+  pub put_others : (s : ℕ) → s ≢ slot → new.put s ≡ old.put s
+  pub closed : IsTrue (new.closed slot)
+  pub closed_others : (s : ℕ) → s ≢ slot → new.closed s ≡ old.closed s
+
+-- a log is closed: it gets a close and no other record; the memory stays
 pub record ClosesLog (v : Vm) (g : Gc) (slot : ℕ) : Type 0 where
   pub may : VmMay v (RecordStore slot Close)
-  pub shut : is_shut (vm_after v g (RecordStore slot Close)) slot ≡ true
   pub heap : heap_of (vm_after v g (RecordStore slot Close)) ≡ heap_of v
+  pub grants : AfterClose (grants_of v) (grants_of (vm_after v g (RecordStore slot Close))) slot
   pub logs : (vm_after v g (RecordStore slot Close)).logs ≡ with_record v.logs slot Close
+  pub settled : (vm_after v g (RecordStore slot Close)).written ≡ v.written
 
 abbrev pub ClosesLogs : Vm → Type 0
 ClosesLogs v = (g : Gc) (slot : ℕ) → is_open v ≡ true → 1 ≤ records_left v slot → ClosesLog v g slot

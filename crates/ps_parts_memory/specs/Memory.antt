@@ -1,16 +1,14 @@
 -- The mutator's part of the state as a memory: what stands, and what is granted.
-use Rattle.std.specs.Prelude.{ℕ, ◌+◌, ◌-◌, ◌^◌, ◌==◌, ◌&&◌, Bool, not, nat_lt, min, List, length, map, slice_index, if◌then◌else◌}
+use Rattle.std.specs.Prelude.{ℕ, ◌+◌, ◌-◌, ◌^◌, ◌==◌, ◌&&◌, Bool, not, nat_lt, min, length, map, slice_index, if◌then◌else◌}
 use Rattle.std.specs.Option.{option_map}
 use Rattle.ps_word.specs.Headers.{kind_in, birth_in}
 use Rattle.ps_mem.specs.Heap.{Heap, Standing, Grants, birth_limit}
 use Rattle.ps_mem.specs.Objects.{kind_of_number, word_of}
 use Rattle.ps_mem.specs.Bounded.{bounded_space}
-use Rattle.ps_record.specs.declared.Record.{Record}
-use Rattle.ps_record.specs.declared.Record.TheVariants.{Place}
 use Rattle.ps_core_parts.specs.declared.events.Object.{Object}
 use Rattle.ps_core_parts.specs.declared.events.Vm.{Vm}
 use Rattle.ps_core_parts.specs.Objects.{among, object_at, log_of, closes}
-use Rattle.ps_core_parts.specs.Steps.{is_open, space_base, with_record}
+use Rattle.ps_core_parts.specs.Steps.{is_open, space_base}
 
 -- ---- what stands
 
@@ -57,8 +55,3 @@ grants_of v = record {
   put = λ slot. length (log_of v.logs slot);
   closed = is_shut v;
 }
-
--- the logs after a store of so many words: one record more in a cycle, but for a new object
-abbrev pub logs_after : Vm → ℕ → ℕ → ℕ → ℕ → List (List Record)
-logs_after v slot a i n =
-    if is_open v && not (among v.fresh a) then with_record v.logs slot (Place a i n) else v.logs

@@ -24,6 +24,16 @@ MayStoreFields v a i [] = Unit {0}
 MayStoreFields v a i (w ∷ ws) =
     VmMay v (FieldStore a i w) × MayStoreFields (field_stored v a i w) a (i + 1) ws
 
+-- the same words, the last one first
+abbrev pub fields_stored_down : Vm → ℕ → ℕ → List ℕ → Vm
+fields_stored_down v a i [] = v
+fields_stored_down v a i (w ∷ ws) = field_stored (fields_stored_down v a (i + 1) ws) a i w
+
+abbrev pub MayStoreFieldsDown : Vm → ℕ → ℕ → List ℕ → Type 0
+MayStoreFieldsDown v a i [] = Unit {0}
+MayStoreFieldsDown v a i (w ∷ ws) =
+    MayStoreFieldsDown v a (i + 1) ws × VmMay (fields_stored_down v a (i + 1) ws) (FieldStore a i w)
+
 -- a new object, where none is being made
 abbrev pub part_made : Vm → ℕ → Vm
 part_made v header = record v {

@@ -1,16 +1,16 @@
-use Rattle.std.proofs.Common.{refl}
-use Rattle.ps_parts_memory.proofs.Facts.{part_knows}
+use Rattle.ps_parts_memory.proofs.Facts.{facts, part_knows, head_found}
 use Rattle.ps_parts_memory.proofs.Bodies.{makes_bodies}
+use Rattle.ps_parts_memory.proofs.Copied.{copies}
+use Rattle.ps_parts_memory.proofs.Counted.{counted}
 use Rattle.ps_parts_memory.proofs.Cycles.{grants, sees_heads, opens, closes_logs}
 use Rattle.ps_parts_memory.proofs.GoesOn.{goes_on, loads_go_on}
+use Rattle.ps_parts_memory.proofs.Loads.{control_loads, field_loads, header_loads}
 use Rattle.ps_parts_memory.proofs.Room.{heap_start}
-use Rattle.ps_parts_memory.proofs.Standing.{load_place, load_answer, header_answer}
-use Rattle.ps_parts_memory.proofs.Stored.{rooms, stores, logs, makes}
-use Rattle.ps_parts_memory.specs.Laws.{header_of}
+use Rattle.ps_parts_memory.proofs.Stored.{rooms, stores, fills, logs, makes}
 use Rattle.ps_parts_memory.proofs.memory_laws.Goals as goal
 
 pub returns-clause-knows : goal.returns-clause-knows
-returns-clause-knows c = part_knows
+returns-clause-knows c = part_knows c.law.ensures.kept
 
 pub returns-clause-stores_go_on : goal.returns-clause-stores_go_on
 returns-clause-stores_go_on c = goes_on
@@ -18,39 +18,53 @@ returns-clause-stores_go_on c = goes_on
 pub returns-clause-loads_go_on : goal.returns-clause-loads_go_on
 returns-clause-loads_go_on c = λ v r. loads_go_on v
 
+pub returns-clause-control : goal.returns-clause-control
+returns-clause-control c = λ v r. control_loads v
+
 pub returns-clause-loads : goal.returns-clause-loads
-returns-clause-loads c = λ v r a i lt.
-    ((load_place v a i ∣ r ∣₁ lt).1, λ n f. load_answer v a i n lt f)
+returns-clause-loads c = λ v r. field_loads c.law.ensures.words v
+    (facts v (part_knows c.law.ensures.kept v r))
 
 pub returns-clause-headers : goal.returns-clause-headers
-returns-clause-headers c = λ v r a n some f. header_answer v a n (header_of n) ∣ r ∣₁ some f refl
+returns-clause-headers c = λ v r. header_loads c.law.ensures.words v
+    (facts v (part_knows c.law.ensures.kept v r))
+
+pub returns-clause-counted : goal.returns-clause-counted
+returns-clause-counted c = λ v r. counted v (part_knows c.law.ensures.kept v r)
 
 pub returns-clause-room : goal.returns-clause-room
-returns-clause-room c = λ v r. rooms v ∣ r ∣₁
+returns-clause-room c = λ v r. rooms v (facts v (part_knows c.law.ensures.kept v r))
 
 pub returns-clause-stores : goal.returns-clause-stores
-returns-clause-stores c = λ v r. stores v ∣ r ∣₁
+returns-clause-stores c = λ v r. stores v (facts v (part_knows c.law.ensures.kept v r))
 
 pub returns-clause-logs : goal.returns-clause-logs
-returns-clause-logs c = λ v r. logs v ∣ r ∣₁
+returns-clause-logs c = λ v r. logs v (facts v (part_knows c.law.ensures.kept v r))
+
+pub returns-clause-fills : goal.returns-clause-fills
+returns-clause-fills c = λ v r. fills v (facts v (part_knows c.law.ensures.kept v r))
+
+pub returns-clause-copies : goal.returns-clause-copies
+returns-clause-copies c = λ v r. copies v (facts v (part_knows c.law.ensures.kept v r))
 
 pub returns-clause-makes : goal.returns-clause-makes
-returns-clause-makes c = λ v r. makes v ∣ r ∣₁
+returns-clause-makes c = λ v r. makes v (facts v (part_knows c.law.ensures.kept v r))
 
 pub returns-clause-bodies : goal.returns-clause-bodies
-returns-clause-bodies c = λ v r. makes_bodies v ∣ r ∣₁
+returns-clause-bodies c = λ v r. makes_bodies v (facts v (part_knows c.law.ensures.kept v r))
 
 pub returns-clause-records : goal.returns-clause-records
-returns-clause-records c = grants
+returns-clause-records c = λ v r. grants v (part_knows c.law.ensures.kept v r)
 
 pub returns-clause-heads : goal.returns-clause-heads
-returns-clause-heads c = sees_heads
+returns-clause-heads c = λ v r. sees_heads v (facts v (part_knows c.law.ensures.kept v r))
+    (head_found c.law.ensures.words c.law.ensures.kept c.law.ensures.taken v)
 
 pub returns-clause-opens : goal.returns-clause-opens
-returns-clause-opens c = λ v r. opens v ∣ r ∣₁
+returns-clause-opens c = λ v r. opens v (part_knows c.law.ensures.kept v r)
 
 pub returns-clause-closes : goal.returns-clause-closes
-returns-clause-closes c = closes_logs
+returns-clause-closes c = λ v r. closes_logs v (part_knows c.law.ensures.kept v r)
 
 pub returns-clause-start : goal.returns-clause-start
 returns-clause-start c = heap_start
