@@ -13,6 +13,8 @@ mod names;
 #[cfg(test)]
 mod records;
 #[cfg(test)]
+mod searches;
+#[cfg(test)]
 mod strings;
 #[cfg(test)]
 mod texts;
