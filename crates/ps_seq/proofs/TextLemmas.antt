@@ -37,8 +37,10 @@ module _ (h : Heap) (a n : ℕ) (known : StandsAs h TextKind a n) where
   pub text_at : (names : List (List ℕ)) (s : Store) → Shows h names s → TextAt h a s
   unfolding bytes
   text_at names s shows =
-      let (text, there, are, words) = text-shown h names s shows a known.object known.at known.kind_is in
-      let found : slice_get s (birth_at h a) ≡ Some (string_object text) = ap (slice_get s) birth-text ∙ there in
+      let (text, there, are, words) = text-shown h names s shows a known.object known.at
+      known.kind_is in
+      let found : slice_get s (birth_at h a) ≡ Some (string_object text) = ap
+      (slice_get s) birth-text ∙ there in
       let is : bytes s (birth_at h a) ≡ text = ap bytes_in found in
       record {
         there = found ∙ ap (λ t. Some (string_object t)) (sym is);
@@ -48,13 +50,17 @@ module _ (h : Heap) (a n : ℕ) (known : StandsAs h TextKind a n) where
 
 -- ---- bytes of a word that was read
 
-module _ (h : Heap) (a : ℕ) (s : Store) (text : TextAt h a s) (k : ℕ) (w : Word) (read : slice_get (fields_at h a) k ≡ Some w) where
-  pub loaded_bytes : 8 * k < length (bytes s (birth_at h a)) → to_le_bytes w64 w.0 ≡ padded 8 (drop (8 * k) (bytes s (birth_at h a)))
+module _ (h : Heap) (a : ℕ) (s : Store) (text : TextAt h a s) (k : ℕ) (w : Word) (read : slice_get
+    (fields_at h a) k ≡ Some w) where
+  pub loaded_bytes : 8 * k < length (bytes s (birth_at h a)) → to_le_bytes w64 w.0 ≡ padded 8 (drop
+      (8 * k) (bytes s (birth_at h a)))
   loaded_bytes below =
-      bytes_of_word (bytes s (birth_at h a)) k w text.are (sym (ap (λ ws. slice_get ws k) text.words) ∙ read) (omega (arith, below))
+      bytes_of_word (bytes s (birth_at h a)) k w text.are (sym (ap
+      (λ ws. slice_get ws k) text.words) ∙ read) (omega (arith, below))
 
   -- one byte
-  pub loaded_byte : (at : ℕ) → k ≡ at / 8 → at < length (bytes s (birth_at h a)) → slice_get (bytes s (birth_at h a)) at ≡ Some (get_or (to_le_bytes w64 w.0) (at % 8) 0)
+  pub loaded_byte : (at : ℕ) → k ≡ at / 8 → at < length (bytes s (birth_at h a)) → slice_get
+      (bytes s (birth_at h a)) at ≡ Some (get_or (to_le_bytes w64 w.0) (at % 8) 0)
   loaded_byte at place below =
       let t = bytes s (birth_at h a) in
       let start : 8 * k < length t = omega (arith, place, below) in
@@ -67,7 +73,8 @@ module _ (h : Heap) (a : ℕ) (s : Store) (text : TextAt h a s) (k : ℕ) (w : W
       slice_get-index t at below ∙ ap Some (sym value)
 
   -- a run of bytes
-  pub loaded_run : (r n : ℕ) → r + n ≤ 8 → 0 < n → 8 * k + (r + n) ≤ length (bytes s (birth_at h a)) → take n (drop r (to_le_bytes w64 w.0)) ≡ take n (drop (8 * k + r) (bytes s (birth_at h a)))
+  pub loaded_run : (r n : ℕ) → r + n ≤ 8 → 0 < n → 8 * k + (r + n) ≤ length (bytes s (birth_at h a))
+      → take n (drop r (to_le_bytes w64 w.0)) ≡ take n (drop (8 * k + r) (bytes s (birth_at h a)))
   loaded_run r n fits some within =
       let t = bytes s (birth_at h a) in
       let start : 8 * k < length t = omega (arith, within, some) in
@@ -77,8 +84,11 @@ module _ (h : Heap) (a : ℕ) (s : Store) (text : TextAt h a s) (k : ℕ) (w : W
       ∙ ap (take n) (drop-drop r (8 * k) t))
 
   -- a run of bytes, appended to those before it
-  pub loaded_more : (xs out : List ℕ) (from place count : ℕ) → k ≡ place / 8 → from ≤ place → 0 < count → place % 8 + count ≤ 8 → place + count ≤ length (bytes s (birth_at h a)) →
-      out ≡ xs ++ slice_range (bytes s (birth_at h a)) from place → out ++ slice_range (to_le_bytes w64 w.0) (place % 8) (place % 8 + count) ≡ xs ++ slice_range (bytes s (birth_at h a)) from (place + count)
+  pub loaded_more : (xs out : List ℕ) (from place count : ℕ) → k ≡ place / 8 → from ≤ place
+      → 0 < count → place % 8 + count ≤ 8 → place + count ≤ length (bytes s (birth_at h a)) →
+      out ≡ xs ++ slice_range (bytes s (birth_at h a)) from place → out ++ slice_range
+      (to_le_bytes w64 w.0) (place % 8) (place % 8 + count) ≡ xs ++ slice_range (bytes s
+      (birth_at h a)) from (place + count)
   loaded_more xs out from place count is behind some fits within so_far =
       let t = bytes s (birth_at h a) in
       let low : place % 8 < 8 = omega arith in
@@ -86,11 +96,17 @@ module _ (h : Heap) (a : ℕ) (s : Store) (text : TextAt h a s) (k : ℕ) (w : W
       let long : (place % 8 + count) - place % 8 ≡ count = omega arith in
       let more : (place + count) - from ≡ (place - from) + count = omega (arith, behind) in
       let there : from + (place - from) ≡ place = omega (arith, behind) in
-      let run : slice_range (to_le_bytes w64 w.0) (place % 8) (place % 8 + count) ≡ take count (drop place t) =
-      ap (λ n. take n (drop (place % 8) (to_le_bytes w64 w.0))) long ∙ (loaded_run (place % 8) count fits some (omega (arith, split, within)) ∙ ap (λ m. take count (drop m t)) split) in
-      let joined : slice_range t from (place + count) ≡ slice_range t from place ++ take count (drop place t) =
+      let run : slice_range (to_le_bytes w64 w.0) (place % 8) (place % 8 + count) ≡ take count
+      (drop place t) =
+      ap (λ n. take n (drop (place % 8) (to_le_bytes w64 w.0))) long ∙ (loaded_run
+      (place % 8) count fits some (omega (arith, split, within)) ∙ ap (λ m. take count
+      (drop m t)) split) in
+      let joined : slice_range t from (place + count) ≡ slice_range t from place ++ take count
+      (drop place t) =
       ap (λ n. take n (drop from t)) more
-      ∙ (take-add (place - from) count (drop from t) ∙ ap (λ ds. slice_range t from place ++ take count ds) (drop-drop (place - from) from t ∙ ap (λ m. drop m t) there)) in
+      ∙ (take-add (place - from) count (drop from t) ∙ ap (λ ds. slice_range t from place ++ take
+      count ds) (drop-drop (place - from) from t ∙ ap (λ m. drop m t) there)) in
       ap (λ os. os ++ slice_range (to_le_bytes w64 w.0) (place % 8) (place % 8 + count)) so_far
       ∙ (ap (λ r. (xs ++ slice_range t from place) ++ r) run
-      ∙ (append_assoc xs (slice_range t from place) (take count (drop place t)) ∙ ap (λ r. xs ++ r) (sym joined)))
+      ∙ (append_assoc xs (slice_range t from place) (take count (drop place t)) ∙ ap (λ r. xs ++ r)
+      (sym joined)))

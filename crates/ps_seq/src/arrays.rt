@@ -1,4 +1,5 @@
-// Arrays in any memory, as lists of values (PLRM2, 3.3.6 and 8: get, put, getinterval, putinterval, array).
+// Arrays in any memory, as lists of values (PLRM2, 3.3.6 and 8: get, put, getinterval, putinterval,
+// array).
 ghost use Rattle.std.specs.Prelude.{◌≡◌, ◌≢◌, ℕ, ◌+◌, ◌<◌, ◌≤◌, ◌^◌, ◌++◌, List, [], ◌∷◌, length, map, replicate, slice_get, Some, Option, IsTrue};
 ghost use Rattle.ps_language.specs.Value.{Store, array_object};
 ghost use Rattle.ps_language.specs.Access.{elements, part_elements, with_part_elements};
@@ -19,13 +20,17 @@ use ps_word::words::Word;
 #[inline]
 pub fn element<M: Memory>(memory: &mut M, part: Part, index: u16) -> Word
     requires sound { IsSound (M.heap memory.old) }
-    requires known { StandsAs (M.heap memory.old) Kind.Array part.address (part.offset + part.length) }
+    requires known { StandsAs (M.heap memory.old) Kind.Array part.address
+        (part.offset + part.length) }
     requires index { index < part.length }
     ensures heap { M.heap memory.new ≡ M.heap memory.old }
     ensures grants { M.grants memory.new ≡ M.grants memory.old }
     ensures held { IsValue (M.heap memory.old) result }
-    ensures within { (names : List (List ℕ)) (s : Store) → Shows (M.heap memory.old) names s → IsWithin (birth_at (M.heap memory.old)) names s result }
-    ensures value { (names : List (List ℕ)) (s : Store) → Shows (M.heap memory.old) names s → slice_get (elements s (birth_at (M.heap memory.old) part.address)) (part.offset + index) ≡ Some (value_of (birth_at (M.heap memory.old)) names result) }
+    ensures within { (names : List (List ℕ)) (s : Store) → Shows (M.heap memory.old) names s
+        → IsWithin (birth_at (M.heap memory.old)) names s result }
+    ensures value { (names : List (List ℕ)) (s : Store) → Shows (M.heap memory.old) names s
+        → slice_get (elements s (birth_at (M.heap memory.old) part.address)) (part.offset + index)
+        ≡ Some (value_of (birth_at (M.heap memory.old)) names result) }
 {
     memory.load(part.address, part.offset as u32 + index as u32)
 }
@@ -35,14 +40,18 @@ pub fn element<M: Memory>(memory: &mut M, part: Part, index: u16) -> Word
 pub fn set_element<M: Memory>(memory: &mut M, slot: u32, part: Part, index: u16, word: Word)
     requires granted { 1 ≤ (M.grants memory.old).records slot }
     requires sound { IsSound (M.heap memory.old) }
-    requires known { StandsAs (M.heap memory.old) Kind.Array part.address (part.offset + part.length) }
+    requires known { StandsAs (M.heap memory.old) Kind.Array part.address
+        (part.offset + part.length) }
     requires index { index < part.length }
     requires held { IsValue (M.heap memory.old) word }
     ensures sound { IsSound (M.heap memory.new) }
     ensures keeps { Keeps (M.heap memory.old) (M.heap memory.new) }
     ensures births { birth_at (M.heap memory.new) ≡ birth_at (M.heap memory.old) }
     ensures grants { AfterStore (M.grants memory.old) (M.grants memory.new) slot }
-    ensures shows { (names : List (List ℕ)) (s : Store) → Shows (M.heap memory.old) names s → IsWithin (birth_at (M.heap memory.old)) names s word → Shows (M.heap memory.new) names (with_part_elements s (part_of (birth_at (M.heap memory.old)) part) index (value_of (birth_at (M.heap memory.old)) names word ∷ [])) }
+    ensures shows { (names : List (List ℕ)) (s : Store) → Shows (M.heap memory.old) names s
+        → IsWithin (birth_at (M.heap memory.old)) names s word → Shows (M.heap memory.new) names
+        (with_part_elements s (part_of (birth_at (M.heap memory.old)) part) index (value_of
+        (birth_at (M.heap memory.old)) names word ∷ [])) }
 {
     memory.store(
         slot,
@@ -67,19 +76,24 @@ pub fn interval(part: Part, place: u16, count: u16) -> Part
     }
 }
 
-/// Copies all elements of one part into another, from a place on, as if all were read first, with one record in a cycle; the two may be
-/// of one array. Where there are none, nothing is done and no record is put.
+/// Copies all elements of one part into another, from a place on, as if all were read first, with
+/// one record in a cycle; the two may be of one array. Where there are none, nothing is done and no
+/// record is put.
 pub fn copy_elements<M: Memory>(memory: &mut M, slot: u32, from: Part, to: Part, place: u16)
     requires granted { 1 ≤ from.length → 1 ≤ (M.grants memory.old).records slot }
     requires sound { IsSound (M.heap memory.old) }
-    requires source { StandsAs (M.heap memory.old) Kind.Array from.address (from.offset + from.length) }
+    requires source { StandsAs (M.heap memory.old) Kind.Array from.address
+        (from.offset + from.length) }
     requires target { StandsAs (M.heap memory.old) Kind.Array to.address (to.offset + to.length) }
     requires place { place + from.length ≤ to.length }
     ensures sound { IsSound (M.heap memory.new) }
     ensures keeps { Keeps (M.heap memory.old) (M.heap memory.new) }
     ensures births { birth_at (M.heap memory.new) ≡ birth_at (M.heap memory.old) }
     ensures grants { AfterStore (M.grants memory.old) (M.grants memory.new) slot }
-    ensures shows { (names : List (List ℕ)) (s : Store) → Shows (M.heap memory.old) names s → Shows (M.heap memory.new) names (with_part_elements s (part_of (birth_at (M.heap memory.old)) to) place (part_elements s (part_of (birth_at (M.heap memory.old)) from))) }
+    ensures shows { (names : List (List ℕ)) (s : Store) → Shows (M.heap memory.old) names s → Shows
+        (M.heap memory.new) names (with_part_elements s (part_of (birth_at
+        (M.heap memory.old)) to) place (part_elements s (part_of (birth_at
+        (M.heap memory.old)) from))) }
 {
     if from.length != 0 {
         memory.copy(
@@ -98,14 +112,22 @@ pub fn new_array<M: Memory>(memory: &mut M, count: u16) -> Part
     requires words { 2 + count ≤ (M.grants memory.old).words }
     requires births { 1 ≤ (M.grants memory.old).births }
     requires sound { IsSound (M.heap memory.old) }
-    ensures part { result ≡ record { address = result.address; offset = 0; length = count; access = Access.Unlimited } }
+    ensures part { result ≡ record {
+      address = result.address;
+      offset = 0;
+      length = count;
+      access =
+          Access.Unlimited;
+    } }
     ensures address { result.address < 2 ^ 24 }
     ensures known { StandsAs (M.heap memory.new) Kind.Array result.address count }
     ensures sound { IsSound (M.heap memory.new) }
     ensures extends { Extends (M.heap memory.old) (M.heap memory.new) }
     ensures birth { birth_at (M.heap memory.new) result.address ≡ (M.heap memory.old).next }
-    ensures grants { AfterNew (M.grants memory.old) (M.grants memory.new) result.address (2 + count) 1 }
-    ensures shows { (names : List (List ℕ)) (s : Store) → Shows (M.heap memory.old) names s → Shows (M.heap memory.new) names (s ++ array_object (replicate count null) ∷ []) }
+    ensures grants { AfterNew (M.grants memory.old) (M.grants memory.new) result.address
+        (2 + count) 1 }
+    ensures shows { (names : List (List ℕ)) (s : Store) → Shows (M.heap memory.old) names s → Shows
+        (M.heap memory.new) names (s ++ array_object (replicate count null) ∷ []) }
 {
     let address = memory.alloc(Kind::Array, count as u32);
     Part {
@@ -123,14 +145,23 @@ pub fn make_array<M: Memory>(memory: &mut M, words: &[Word]) -> Part
     requires births { 1 ≤ (M.grants memory.old).births }
     requires sound { IsSound (M.heap memory.old) }
     requires held { AreValues (M.heap memory.old) words.now }
-    ensures part { result ≡ record { address = result.address; offset = 0; length = length words.now; access = Access.Unlimited } }
+    ensures part { result ≡ record {
+      address = result.address;
+      offset = 0;
+      length = length
+          words.now;
+      access = Access.Unlimited;
+    } }
     ensures address { result.address < 2 ^ 24 }
     ensures known { StandsAs (M.heap memory.new) Kind.Array result.address (length words.now) }
     ensures sound { IsSound (M.heap memory.new) }
     ensures extends { Extends (M.heap memory.old) (M.heap memory.new) }
     ensures birth { birth_at (M.heap memory.new) result.address ≡ (M.heap memory.old).next }
-    ensures grants { AfterNew (M.grants memory.old) (M.grants memory.new) result.address (2 + length words.now) 1 }
-    ensures shows { (names : List (List ℕ)) (s : Store) → Shows (M.heap memory.old) names s → AreWithin (M.heap memory.old) names s words.now → Shows (M.heap memory.new) names (s ++ array_object (map (value_of (birth_at (M.heap memory.old)) names) words.now) ∷ []) }
+    ensures grants { AfterNew (M.grants memory.old) (M.grants memory.new) result.address
+        (2 + length words.now) 1 }
+    ensures shows { (names : List (List ℕ)) (s : Store) → Shows (M.heap memory.old) names s
+        → AreWithin (M.heap memory.old) names s words.now → Shows (M.heap memory.new) names
+        (s ++ array_object (map (value_of (birth_at (M.heap memory.old)) names) words.now) ∷ []) }
 {
     let length = words.len();
     let address = memory.alloc(Kind::Array, length as u32);

@@ -1,11 +1,13 @@
-// Strings in any memory, as lists of bytes (PLRM2, 3.3.6 and 8: get, put, getinterval, putinterval, copy, string, eq, gt).
-ghost use Rattle.std.specs.Prelude.{◌≡◌, ◌↔◌, ℕ, ◌+◌, ◌-◌, ◌*◌, ◌/◌, ◌^◌, ◌<◌, ◌≤◌, ◌++◌, ◌⊎◌, List, [], ◌∷◌, length, drop, replicate, slice_get, Some, OnOk, OnErr, IsOk, vec_len, vec_capacity};
+//! Strings in any memory, as lists of bytes (PLRM2, 3.3.6 and 8: get, put, getinterval,
+//! putinterval, copy, string, eq, gt).
+
+ghost use Rattle.std.specs.Prelude.{◌≡◌, ◌↔◌, ℕ, ◌+◌, ◌-◌, ◌*◌, ◌/◌, ◌^◌, ◌<◌, ◌≤◌, ◌≢◌, ◌%◌, ◌++◌, ◌⊎◌, List, [], ◌∷◌, length, drop, replicate, slice_get, slice_range, Some, IfSome, OnOk, OnErr, IsOk, vec_len, vec_capacity};
 ghost use Rattle.std.specs.Int.{w64, to_le_bytes};
 ghost use Rattle.std.specs.Ordering.{nat_cmp};
 ghost use Rattle.std.specs.Cmp.Lexicographic.{slice_cmp};
 ghost use Rattle.ps_language.specs.Value.{Store, string_object};
 ghost use Rattle.ps_language.specs.Access.{bytes, part_bytes, with_part_bytes, splice};
-ghost use Rattle.ps_mem.specs.Heap.{birth_at, AfterStore, AfterNew};
+ghost use Rattle.ps_mem.specs.Heap.{birth_at, fields_at, AfterStore, AfterNew};
 ghost use Rattle.ps_mem.specs.Keeps.{Keeps, Extends};
 ghost use Rattle.ps_mem.specs.References.{StandsAs, words_for};
 ghost use Rattle.ps_mem.specs.Meaning.{part_of};
@@ -35,11 +37,15 @@ pub fn words_of_string(length: u16) -> u32
 #[inline]
 pub fn byte<M: Memory>(memory: &mut M, part: Part, index: u16) -> u8
     requires sound { IsSound (M.heap memory.old) }
-    requires known { StandsAs (M.heap memory.old) Kind.Text part.address (words_for (part.offset + part.length)) }
+    requires known { StandsAs (M.heap memory.old) Kind.Text part.address (words_for
+        (part.offset + part.length)) }
     requires index { index < part.length }
     ensures heap { M.heap memory.new ≡ M.heap memory.old }
     ensures grants { M.grants memory.new ≡ M.grants memory.old }
-    ensures value { (names : List (List ℕ)) (s : Store) → Shows (M.heap memory.old) names s → part.offset + part.length ≤ length (bytes s (birth_at (M.heap memory.old) part.address)) → slice_get (bytes s (birth_at (M.heap memory.old) part.address)) (part.offset + index) ≡ Some result }
+    ensures value { (names : List (List ℕ)) (s : Store) → Shows (M.heap memory.old) names s
+        → part.offset + part.length ≤ length (bytes s (birth_at (M.heap memory.old) part.address))
+        → slice_get (bytes s (birth_at (M.heap memory.old) part.address)) (part.offset + index)
+        ≡ Some result }
 {
     let at = part.offset as u32 + index as u32;
     let word = memory.load(part.address, at / BYTES);
@@ -55,10 +61,14 @@ pub fn append_bytes<M: Memory>(
     output: &mut Vec<u8>,
 ) -> Result<(), AllocError>
     requires sound { IsSound (M.heap memory.old) }
-    requires known { StandsAs (M.heap memory.old) Kind.Text part.address (words_for (part.offset + part.length)) }
+    requires known { StandsAs (M.heap memory.old) Kind.Text part.address (words_for
+        (part.offset + part.length)) }
     ensures heap { M.heap memory.new ≡ M.heap memory.old }
     ensures grants { M.grants memory.new ≡ M.grants memory.old }
-    ensures value { (names : List (List ℕ)) (s : Store) → Shows (M.heap memory.old) names s → part.offset + part.length ≤ length (bytes s (birth_at (M.heap memory.old) part.address)) → OnOk result (output.new.items ≡ output.old.items ++ part_bytes s (part_of (birth_at (M.heap memory.old)) part)) }
+    ensures value { (names : List (List ℕ)) (s : Store) → Shows (M.heap memory.old) names s
+        → part.offset + part.length ≤ length (bytes s (birth_at (M.heap memory.old) part.address))
+        → OnOk result (output.new.items ≡ output.old.items ++ part_bytes s (part_of (birth_at
+        (M.heap memory.old)) part)) }
     ensures length { OnOk result (vec_len output.new ≡ vec_len output.old + part.length) }
     ensures unchanged { OnErr result (output.new.items ≡ output.old.items) }
     ensures full { OnErr result (vec_capacity output.old < vec_len output.old + part.length) }
@@ -93,14 +103,22 @@ pub fn new_string<M: Memory>(memory: &mut M, count: u16) -> Part
     requires words { 2 + words_for count ≤ (M.grants memory.old).words }
     requires births { 1 ≤ (M.grants memory.old).births }
     requires sound { IsSound (M.heap memory.old) }
-    ensures part { result ≡ record { address = result.address; offset = 0; length = count; access = Access.Unlimited } }
+    ensures part { result ≡ record {
+      address = result.address;
+      offset = 0;
+      length = count;
+      access =
+          Access.Unlimited;
+    } }
     ensures address { result.address < 2 ^ 24 }
     ensures known { StandsAs (M.heap memory.new) Kind.Text result.address (words_for count) }
     ensures sound { IsSound (M.heap memory.new) }
     ensures extends { Extends (M.heap memory.old) (M.heap memory.new) }
     ensures birth { birth_at (M.heap memory.new) result.address ≡ (M.heap memory.old).next }
-    ensures grants { AfterNew (M.grants memory.old) (M.grants memory.new) result.address (2 + words_for count) 1 }
-    ensures shows { (names : List (List ℕ)) (s : Store) → Shows (M.heap memory.old) names s → Shows (M.heap memory.new) names (s ++ string_object (replicate count 0) ∷ []) }
+    ensures grants { AfterNew (M.grants memory.old) (M.grants memory.new) result.address
+        (2 + words_for count) 1 }
+    ensures shows { (names : List (List ℕ)) (s : Store) → Shows (M.heap memory.old) names s → Shows
+        (M.heap memory.new) names (s ++ string_object (replicate count 0) ∷ []) }
 {
     let address = memory.alloc(Kind::Text, words_of_string(count));
     Part {
@@ -117,14 +135,23 @@ pub fn make_string<M: Memory>(memory: &mut M, bytes: &[u8]) -> Part
     requires words { 2 + words_for (length bytes.now) ≤ (M.grants memory.old).words }
     requires births { 1 ≤ (M.grants memory.old).births }
     requires sound { IsSound (M.heap memory.old) }
-    ensures part { result ≡ record { address = result.address; offset = 0; length = length bytes.now; access = Access.Unlimited } }
+    ensures part { result ≡ record {
+      address = result.address;
+      offset = 0;
+      length = length
+          bytes.now;
+      access = Access.Unlimited;
+    } }
     ensures address { result.address < 2 ^ 24 }
-    ensures known { StandsAs (M.heap memory.new) Kind.Text result.address (words_for (length bytes.now)) }
+    ensures known { StandsAs (M.heap memory.new) Kind.Text result.address (words_for
+        (length bytes.now)) }
     ensures sound { IsSound (M.heap memory.new) }
     ensures extends { Extends (M.heap memory.old) (M.heap memory.new) }
     ensures birth { birth_at (M.heap memory.new) result.address ≡ (M.heap memory.old).next }
-    ensures grants { AfterNew (M.grants memory.old) (M.grants memory.new) result.address (2 + words_for (length bytes.now)) 1 }
-    ensures shows { (names : List (List ℕ)) (s : Store) → Shows (M.heap memory.old) names s → Shows (M.heap memory.new) names (s ++ string_object bytes.now ∷ []) }
+    ensures grants { AfterNew (M.grants memory.old) (M.grants memory.new) result.address
+        (2 + words_for (length bytes.now)) 1 }
+    ensures shows { (names : List (List ℕ)) (s : Store) → Shows (M.heap memory.old) names s → Shows
+        (M.heap memory.new) names (s ++ string_object bytes.now ∷ []) }
 {
     let length = bytes.len();
     let words = words_of_string(length as u16);
@@ -147,13 +174,17 @@ pub fn make_string<M: Memory>(memory: &mut M, bytes: &[u8]) -> Part
 pub fn set_byte<M: Memory>(memory: &mut M, slot: u32, part: Part, index: u16, byte: u8)
     requires granted { 1 ≤ (M.grants memory.old).records slot }
     requires sound { IsSound (M.heap memory.old) }
-    requires known { StandsAs (M.heap memory.old) Kind.Text part.address (words_for (part.offset + part.length)) }
+    requires known { StandsAs (M.heap memory.old) Kind.Text part.address (words_for
+        (part.offset + part.length)) }
     requires index { index < part.length }
     ensures sound { IsSound (M.heap memory.new) }
     ensures keeps { Keeps (M.heap memory.old) (M.heap memory.new) }
     ensures births { birth_at (M.heap memory.new) ≡ birth_at (M.heap memory.old) }
     ensures grants { AfterStore (M.grants memory.old) (M.grants memory.new) slot }
-    ensures shows { (names : List (List ℕ)) (s : Store) → Shows (M.heap memory.old) names s → part.offset + part.length ≤ length (bytes s (birth_at (M.heap memory.old) part.address)) → Shows (M.heap memory.new) names (with_part_bytes s (part_of (birth_at (M.heap memory.old)) part) index (byte ∷ [])) }
+    ensures shows { (names : List (List ℕ)) (s : Store) → Shows (M.heap memory.old) names s
+        → part.offset + part.length ≤ length (bytes s (birth_at (M.heap memory.old) part.address))
+        → Shows (M.heap memory.new) names (with_part_bytes s (part_of (birth_at
+        (M.heap memory.old)) part) index (byte ∷ [])) }
 {
     let place = part.offset as u32 + index as u32;
     let word = memory.load(part.address, place / BYTES);
@@ -171,16 +202,23 @@ fn changed_words<M: Memory>(
     text: &[u8],
     words: &mut Vec<Word>,
 ) -> Result<(), AllocError>
-    requires known { StandsAs (M.heap memory.old) Kind.Text address (words_for (place + length text.now)) }
+    requires known { StandsAs (M.heap memory.old) Kind.Text address (words_for
+        (place + length text.now)) }
     requires place { place + length text.now < 2 ^ 20 }
     requires some { 1 ≤ length text.now }
     requires empty { words.old.items ≡ [] }
     ensures heap { M.heap memory.new ≡ M.heap memory.old }
     ensures grants { M.grants memory.new ≡ M.grants memory.old }
-    ensures count { OnOk result (length words.new.items ≡ words_for (place + length text.now) - place / 8) }
-    ensures value { (names : List (List ℕ)) (s : Store) → Shows (M.heap memory.old) names s → place + length text.now ≤ length (bytes s (birth_at (M.heap memory.old) address)) → OnOk result (words.new.items ≡ words_from (words_for (place + length text.now) - place / 8) (drop (8 * (place / 8)) (splice (bytes s (birth_at (M.heap memory.old) address)) place text.now))) }
+    ensures count { OnOk result (length words.new.items ≡ words_for
+        (place + length text.now) - place / 8) }
+    ensures value { (names : List (List ℕ)) (s : Store) → Shows (M.heap memory.old) names s
+        → place + length text.now ≤ length (bytes s (birth_at (M.heap memory.old) address))
+        → OnOk result (words.new.items ≡ words_from (words_for
+        (place + length text.now) - place / 8) (drop (8 * (place / 8)) (splice (bytes s (birth_at
+        (M.heap memory.old) address)) place text.now))) }
     ensures unchanged { OnErr result (words.new.items ≡ words.old.items) }
-    ensures full { OnErr result (vec_capacity words.old < words_for (place + length text.now) - place / 8) }
+    ensures full { OnErr result (vec_capacity words.old < words_for
+        (place + length text.now) - place / 8) }
     ensures room { vec_capacity words.old ≤ vec_capacity words.new }
 {
     let end = place + text.len() as u32;
@@ -197,10 +235,12 @@ fn changed_words<M: Memory>(
     Ok(())
 }
 
-/// Puts bytes into a part of a string from a place on, by one store with one record in a cycle. Where there are none, nothing is done and no
-/// record is put. `scratch` is empty before and after; its room is kept for the next call.
+/// Puts bytes into a part of a string from a place on, by one store with one record in a cycle.
+/// Where there are none, nothing is done and no record is put. `scratch` is empty before and after;
+/// its room is kept for the next call.
 ///
-/// `AllocError`: `scratch` lacks room for the words that have these bytes, and its growth was refused; nothing has changed.
+/// `AllocError`: `scratch` lacks room for the words that have these bytes, and its growth was
+/// refused; nothing has changed.
 pub fn set_bytes<M: Memory>(
     memory: &mut M,
     slot: u32,
@@ -211,17 +251,24 @@ pub fn set_bytes<M: Memory>(
 ) -> Result<(), AllocError>
     requires granted { 1 ≤ length text.now → 1 ≤ (M.grants memory.old).records slot }
     requires sound { IsSound (M.heap memory.old) }
-    requires known { StandsAs (M.heap memory.old) Kind.Text part.address (words_for (part.offset + part.length)) }
+    requires known { StandsAs (M.heap memory.old) Kind.Text part.address (words_for
+        (part.offset + part.length)) }
     requires place { place + length text.now ≤ part.length }
     requires scratch { scratch.old.items ≡ [] }
     ensures sound { IsSound (M.heap memory.new) }
     ensures keeps { Keeps (M.heap memory.old) (M.heap memory.new) }
     ensures births { birth_at (M.heap memory.new) ≡ birth_at (M.heap memory.old) }
     ensures grants { AfterStore (M.grants memory.old) (M.grants memory.new) slot }
-    ensures shows { (names : List (List ℕ)) (s : Store) → Shows (M.heap memory.old) names s → part.offset + part.length ≤ length (bytes s (birth_at (M.heap memory.old) part.address)) → OnOk result (Shows (M.heap memory.new) names (with_part_bytes s (part_of (birth_at (M.heap memory.old)) part) place text.now)) }
-    ensures nothing { length text.now ≡ 0 → (IsOk result) × (M.heap memory.new ≡ M.heap memory.old) × (M.grants memory.new ≡ M.grants memory.old) }
-    ensures unchanged { OnErr result ((M.heap memory.new ≡ M.heap memory.old) × (M.grants memory.new ≡ M.grants memory.old)) }
-    ensures full { OnErr result (vec_capacity scratch.old < words_for (part.offset + place + length text.now) - (part.offset + place) / 8) }
+    ensures shows { (names : List (List ℕ)) (s : Store) → Shows (M.heap memory.old) names s
+        → part.offset + part.length ≤ length (bytes s (birth_at (M.heap memory.old) part.address))
+        → OnOk result (Shows (M.heap memory.new) names (with_part_bytes s (part_of (birth_at
+        (M.heap memory.old)) part) place text.now)) }
+    ensures nothing { length text.now ≡ 0 → (IsOk result) × (M.heap memory.new ≡ M.heap memory.old)
+        × (M.grants memory.new ≡ M.grants memory.old) }
+    ensures unchanged { OnErr result ((M.heap memory.new ≡ M.heap memory.old) × (M.grants memory.new
+        ≡ M.grants memory.old)) }
+    ensures full { OnErr result (vec_capacity scratch.old < words_for
+        (part.offset + place + length text.now) - (part.offset + place) / 8) }
     ensures scratch { scratch.new.items ≡ [] }
     ensures room { vec_capacity scratch.old ≤ vec_capacity scratch.new }
 {
@@ -235,11 +282,13 @@ pub fn set_bytes<M: Memory>(
     Ok(())
 }
 
-/// Copies all bytes of one part of a string into another from a place on, as if all were read first, by one store with one record in a cycle;
-/// the two may be of one string. Where there are none, nothing is done and no record is put. The scratch lists are empty before and after;
-/// their room is kept for the next call.
+/// Copies all bytes of one part of a string into another from a place on, as if all were read
+/// first, by one store with one record in a cycle; the two may be of one string. Where there are
+/// none, nothing is done and no record is put. The scratch lists are empty before and after; their
+/// room is kept for the next call.
 ///
-/// `AllocError`: `read` lacks room for these bytes or `scratch` for the words that have them, and a growth was refused; nothing has changed.
+/// `AllocError`: `read` lacks room for these bytes or `scratch` for the words that have them, and a
+/// growth was refused; nothing has changed.
 pub fn copy_bytes<M: Memory>(
     memory: &mut M,
     slot: u32,
@@ -251,8 +300,10 @@ pub fn copy_bytes<M: Memory>(
 ) -> Result<(), AllocError>
     requires granted { 1 ≤ from.length → 1 ≤ (M.grants memory.old).records slot }
     requires sound { IsSound (M.heap memory.old) }
-    requires source { StandsAs (M.heap memory.old) Kind.Text from.address (words_for (from.offset + from.length)) }
-    requires target { StandsAs (M.heap memory.old) Kind.Text to.address (words_for (to.offset + to.length)) }
+    requires source { StandsAs (M.heap memory.old) Kind.Text from.address (words_for
+        (from.offset + from.length)) }
+    requires target { StandsAs (M.heap memory.old) Kind.Text to.address (words_for
+        (to.offset + to.length)) }
     requires place { place + from.length ≤ to.length }
     requires read { read.old.items ≡ [] }
     requires scratch { scratch.old.items ≡ [] }
@@ -260,13 +311,23 @@ pub fn copy_bytes<M: Memory>(
     ensures keeps { Keeps (M.heap memory.old) (M.heap memory.new) }
     ensures births { birth_at (M.heap memory.new) ≡ birth_at (M.heap memory.old) }
     ensures grants { AfterStore (M.grants memory.old) (M.grants memory.new) slot }
-    ensures shows { (names : List (List ℕ)) (s : Store) → Shows (M.heap memory.old) names s → from.offset + from.length ≤ length (bytes s (birth_at (M.heap memory.old) from.address)) → to.offset + to.length ≤ length (bytes s (birth_at (M.heap memory.old) to.address)) → OnOk result (Shows (M.heap memory.new) names (with_part_bytes s (part_of (birth_at (M.heap memory.old)) to) place (part_bytes s (part_of (birth_at (M.heap memory.old)) from)))) }
-    ensures nothing { from.length ≡ 0 → (IsOk result) × (M.heap memory.new ≡ M.heap memory.old) × (M.grants memory.new ≡ M.grants memory.old) }
-    ensures unchanged { OnErr result ((M.heap memory.new ≡ M.heap memory.old) × (M.grants memory.new ≡ M.grants memory.old)) }
-    ensures full { OnErr result ((vec_capacity read.old < from.length) ⊎ (vec_capacity scratch.old < words_for (to.offset + place + from.length) - (to.offset + place) / 8)) }
+    ensures shows { (names : List (List ℕ)) (s : Store) → Shows (M.heap memory.old) names s
+        → from.offset + from.length ≤ length (bytes s (birth_at (M.heap memory.old) from.address))
+        → to.offset + to.length ≤ length (bytes s (birth_at (M.heap memory.old) to.address))
+        → OnOk result (Shows (M.heap memory.new) names (with_part_bytes s (part_of (birth_at
+        (M.heap memory.old)) to) place (part_bytes s (part_of (birth_at
+        (M.heap memory.old)) from)))) }
+    ensures nothing { from.length ≡ 0 → (IsOk result) × (M.heap memory.new ≡ M.heap memory.old) ×
+        (M.grants memory.new ≡ M.grants memory.old) }
+    ensures unchanged { OnErr result ((M.heap memory.new ≡ M.heap memory.old) × (M.grants memory.new
+        ≡ M.grants memory.old)) }
+    ensures full { OnErr result ((vec_capacity read.old < from.length) ⊎
+        (vec_capacity scratch.old < words_for (to.offset + place + from.length) -
+        (to.offset + place) / 8)) }
     ensures read { read.new.items ≡ [] }
     ensures scratch { scratch.new.items ≡ [] }
-    ensures room { (vec_capacity read.old ≤ vec_capacity read.new) × (vec_capacity scratch.old ≤ vec_capacity scratch.new) }
+    ensures room { (vec_capacity read.old ≤ vec_capacity read.new) ×
+        (vec_capacity scratch.old ≤ vec_capacity scratch.new) }
 {
     append_bytes(memory, from, read)?;
     let copied = set_bytes(memory, slot, to, place, read.as_slice(), scratch);
@@ -274,22 +335,85 @@ pub fn copy_bytes<M: Memory>(
     copied
 }
 
-/// Compares the bytes of two parts one by one, as the language orders strings: a proper beginning is less. The memory stays as it is.
-pub fn compare_bytes<M: Memory>(memory: &mut M, left: Part, right: Part) -> Ordering
-    requires sound { IsSound (M.heap memory.old) }
-    requires left { StandsAs (M.heap memory.old) Kind.Text left.address (words_for (left.offset + left.length)) }
-    requires right { StandsAs (M.heap memory.old) Kind.Text right.address (words_for (right.offset + right.length)) }
+/// The word that has the byte at a place of a string: the one held, or a loaded one where none is
+/// held or the byte begins a word. The memory stays as it is.
+#[inline]
+fn word_with<M: Memory>(memory: &mut M, address: u32, place: u32, held: Option<Word>) -> Word
+    requires reach { place / 8 < length (fields_at (M.heap memory.old) address) }
+    requires held { IfSome held (λ word. place % 8 ≢ 0 → slice_get (fields_at
+        (M.heap memory.old) address) (place / 8) ≡ Some word) }
     ensures heap { M.heap memory.new ≡ M.heap memory.old }
     ensures grants { M.grants memory.new ≡ M.grants memory.old }
-    ensures order { (names : List (List ℕ)) (s : Store) → Shows (M.heap memory.old) names s → left.offset + left.length ≤ length (bytes s (birth_at (M.heap memory.old) left.address)) → right.offset + right.length ≤ length (bytes s (birth_at (M.heap memory.old) right.address)) → result ≡ slice_cmp nat_cmp (part_bytes s (part_of (birth_at (M.heap memory.old)) left)) (part_bytes s (part_of (birth_at (M.heap memory.old)) right)) }
-    ensures equal { (names : List (List ℕ)) (s : Store) → Shows (M.heap memory.old) names s → left.offset + left.length ≤ length (bytes s (birth_at (M.heap memory.old) left.address)) → right.offset + right.length ≤ length (bytes s (birth_at (M.heap memory.old) right.address)) → (result ≡ Ordering.Equal) ↔ (part_bytes s (part_of (birth_at (M.heap memory.old)) left) ≡ part_bytes s (part_of (birth_at (M.heap memory.old)) right)) }
+    ensures word { slice_get (fields_at (M.heap memory.old) address) (place / 8) ≡ Some result }
 {
-    let shared = left.length.min(right.length);
-    for index in 0..shared {
-        let order = byte(memory, left, index).cmp(&byte(memory, right, index));
+    match held {
+        Some(word) if place % BYTES != 0 => word,
+        _ => memory.load(address, place / BYTES),
+    }
+}
+
+/// How so many bytes of a word, from its byte `left_first` on, compare with as many of another.
+/// Where both are the same bytes of one word, none is looked at.
+#[inline]
+fn compare_runs(left: Word, left_first: u32, right: Word, right_first: u32, count: u32) -> Ordering
+    requires left { left_first + count ≤ 8 }
+    requires right { right_first + count ≤ 8 }
+    ensures { result ≡ slice_cmp nat_cmp (slice_range (to_le_bytes w64 left.0) left_first
+        (left_first + count)) (slice_range (to_le_bytes w64 right.0) right_first
+        (right_first + count)) }
+{
+    if left.0 == right.0 && left_first == right_first {
+        return Ordering::Equal;
+    }
+    let left_bytes = left.0.to_le_bytes();
+    let right_bytes = right.0.to_le_bytes();
+    let left_run = &left_bytes[left_first as usize..(left_first + count) as usize];
+    let right_run = &right_bytes[right_first as usize..(right_first + count) as usize];
+    left_run.cmp(&right_run)
+}
+
+/// Compares the bytes of two parts in order, as the language orders strings: a proper beginning is
+/// less. Each word that has bytes to be compared is loaded once at most. The memory stays as it is.
+pub fn compare_bytes<M: Memory>(memory: &mut M, left: Part, right: Part) -> Ordering
+    requires sound { IsSound (M.heap memory.old) }
+    requires left { StandsAs (M.heap memory.old) Kind.Text left.address (words_for
+        (left.offset + left.length)) }
+    requires right { StandsAs (M.heap memory.old) Kind.Text right.address (words_for
+        (right.offset + right.length)) }
+    ensures heap { M.heap memory.new ≡ M.heap memory.old }
+    ensures grants { M.grants memory.new ≡ M.grants memory.old }
+    ensures order { (names : List (List ℕ)) (s : Store) → Shows (M.heap memory.old) names s
+        → left.offset + left.length ≤ length (bytes s (birth_at (M.heap memory.old) left.address))
+        → right.offset + right.length ≤ length (bytes s (birth_at
+        (M.heap memory.old) right.address)) → result ≡ slice_cmp nat_cmp (part_bytes s (part_of
+        (birth_at (M.heap memory.old)) left)) (part_bytes s (part_of (birth_at
+        (M.heap memory.old)) right)) }
+    ensures equal { (names : List (List ℕ)) (s : Store) → Shows (M.heap memory.old) names s
+        → left.offset + left.length ≤ length (bytes s (birth_at (M.heap memory.old) left.address))
+        → right.offset + right.length ≤ length (bytes s (birth_at
+        (M.heap memory.old) right.address)) → (result ≡ Ordering.Equal) ↔ (part_bytes s (part_of
+        (birth_at (M.heap memory.old)) left) ≡ part_bytes s (part_of (birth_at
+        (M.heap memory.old)) right)) }
+{
+    let shared = left.length.min(right.length) as u32;
+    let mut index = 0;
+    let mut left_held = None;
+    let mut right_held = None;
+    while index < shared {
+        let left_place = left.offset as u32 + index;
+        let right_place = right.offset as u32 + index;
+        let left_word = word_with(memory, left.address, left_place, left_held);
+        let right_word = word_with(memory, right.address, right_place, right_held);
+        let left_first = left_place % BYTES;
+        let right_first = right_place % BYTES;
+        let count = (BYTES - left_first.max(right_first)).min(shared - index);
+        let order = compare_runs(left_word, left_first, right_word, right_first, count);
         if order != Ordering::Equal {
             return order;
         }
+        index += count;
+        left_held = Some(left_word);
+        right_held = Some(right_word);
     }
     left.length.cmp(&right.length)
 }

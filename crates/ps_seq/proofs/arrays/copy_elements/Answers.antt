@@ -11,12 +11,14 @@ use Rattle.ps_seq.proofs.arrays.copy_elements.Goals as goal
 
 pub copy-requires-clause-source : goal.copy-requires-clause-source
 copy-requires-clause-source g c =
-    let p = c.args.from in array_reaches (g.M.Memory.heap c.args.memory.now) p.address (p.offset + p.length) c.requires.source
+    let p = c.args.from in array_reaches (g.M.Memory.heap c.args.memory.now) p.address
+    (p.offset + p.length) c.requires.source
 
 pub copy-requires-clause-target : goal.copy-requires-clause-target
 copy-requires-clause-target g c =
     let p = c.args.to in
-    let reach = array_reaches (g.M.Memory.heap c.args.memory.now) p.address (p.offset + p.length) c.requires.target in
+    let reach = array_reaches (g.M.Memory.heap c.args.memory.now) p.address
+    (p.offset + p.length) c.requires.target in
     let place = c.requires.place in
     omega (arith, reach, place)
 
@@ -24,7 +26,8 @@ pub copy-requires-clause-known : goal.copy-requires-clause-known
 copy-requires-clause-known g c =
     let h = g.M.Memory.heap c.args.memory.now in
     let p = c.args.from in
-    names_standing h c.args.to.address _ (run_values h p.address (p.offset + p.length) c.requires.source p.offset p.length (omega arith) c.requires.sound)
+    names_standing h c.args.to.address _ (run_values h p.address
+    (p.offset + p.length) c.requires.source p.offset p.length (omega arith) c.requires.sound)
 
 pub returns-then-from-ne0-clause-sound : goal.returns-then-from-ne0-clause-sound
 returns-then-from-ne0-clause-sound g c =
@@ -32,11 +35,15 @@ returns-then-from-ne0-clause-sound g c =
     let p = c.args.from in
     let q = c.args.to in
     let place = c.requires.place in
-    let items = run h p.address (p.offset + p.length) c.requires.source p.offset p.length (omega arith) in
-    let count = length_run h p.address (p.offset + p.length) c.requires.source p.offset p.length (omega arith) in
+    let items = run h p.address (p.offset + p.length) c.requires.source p.offset p.length
+    (omega arith) in
+    let count = length_run h p.address (p.offset + p.length) c.requires.source p.offset p.length
+    (omega arith) in
     subst IsSound (sym c.copy.ensures.heap)
-    (array_store_sound h q.address (q.offset + q.length) c.requires.target c.requires.sound (q.offset + c.args.place) items (omega (arith, count, place))
-    (run_values h p.address (p.offset + p.length) c.requires.source p.offset p.length (omega arith) c.requires.sound))
+    (array_store_sound h q.address (q.offset + q.length) c.requires.target c.requires.sound
+    (q.offset + c.args.place) items (omega (arith, count, place))
+    (run_values h p.address (p.offset + p.length) c.requires.source p.offset p.length
+    (omega arith) c.requires.sound))
 
 pub returns-then-from-ne0-clause-keeps : goal.returns-then-from-ne0-clause-keeps
 returns-then-from-ne0-clause-keeps g c =
@@ -44,11 +51,15 @@ returns-then-from-ne0-clause-keeps g c =
     let p = c.args.from in
     let q = c.args.to in
     let place = c.requires.place in
-    let items = run h p.address (p.offset + p.length) c.requires.source p.offset p.length (omega arith) in
-    let count = length_run h p.address (p.offset + p.length) c.requires.source p.offset p.length (omega arith) in
+    let items = run h p.address (p.offset + p.length) c.requires.source p.offset p.length
+    (omega arith) in
+    let count = length_run h p.address (p.offset + p.length) c.requires.source p.offset p.length
+    (omega arith) in
     subst (Keeps h) (sym c.copy.ensures.heap)
-    (array_store_keeps h q.address (q.offset + q.length) c.requires.target c.requires.sound (q.offset + c.args.place) items (omega (arith, count, place))
-    (run_values h p.address (p.offset + p.length) c.requires.source p.offset p.length (omega arith) c.requires.sound))
+    (array_store_keeps h q.address (q.offset + q.length) c.requires.target c.requires.sound
+    (q.offset + c.args.place) items (omega (arith, count, place))
+    (run_values h p.address (p.offset + p.length) c.requires.source p.offset p.length
+    (omega arith) c.requires.sound))
 
 pub returns-then-from-ne0-clause-births : goal.returns-then-from-ne0-clause-births
 returns-then-from-ne0-clause-births g c = ap birth_at c.copy.ensures.heap ∙ birth_at-stored _ _ _ _
@@ -59,15 +70,23 @@ returns-then-from-ne0-clause-shows g c = λ names s shows.
     let p = c.args.from in
     let q = c.args.to in
     let place = c.requires.place in
-    let items = run h p.address (p.offset + p.length) c.requires.source p.offset p.length (omega arith) in
-    let count = length_run h p.address (p.offset + p.length) c.requires.source p.offset p.length (omega arith) in
+    let items = run h p.address (p.offset + p.length) c.requires.source p.offset p.length
+    (omega arith) in
+    let count = length_run h p.address (p.offset + p.length) c.requires.source p.offset p.length
+    (omega arith) in
     let b = birth_at h q.address in
-    let stored_items = array_store_shows h q.address (q.offset + q.length) c.requires.target c.requires.sound (q.offset + c.args.place) items (omega (arith, count, place))
-    (run_values h p.address (p.offset + p.length) c.requires.source p.offset p.length (omega arith) c.requires.sound) names s shows
-    (run_within h p.address (p.offset + p.length) c.requires.source p.offset p.length (omega arith) names s shows) in
-    subst (λ (k : Heap). Shows k names (with_part_elements s (part_of (birth_at h) q) c.args.place (part_elements s (part_of (birth_at h) p)))) (sym c.copy.ensures.heap)
-    (subst (λ vs. Shows (stored h q.address (q.offset + c.args.place) items) names (with_elements s b (splice (elements s b) (q.offset + c.args.place) vs)))
-    (run_elements h p.address (p.offset + p.length) c.requires.source p.offset p.length (omega arith) names s shows) stored_items)
+    let stored_items = array_store_shows h q.address (q.offset + q.length) c.requires.target
+    c.requires.sound (q.offset + c.args.place) items (omega (arith, count, place))
+    (run_values h p.address (p.offset + p.length) c.requires.source p.offset p.length
+    (omega arith) c.requires.sound) names s shows
+    (run_within h p.address (p.offset + p.length) c.requires.source p.offset p.length
+    (omega arith) names s shows) in
+    subst (λ (k : Heap). Shows k names (with_part_elements s (part_of (birth_at h) q) c.args.place
+    (part_elements s (part_of (birth_at h) p)))) (sym c.copy.ensures.heap)
+    (subst (λ vs. Shows (stored h q.address (q.offset + c.args.place) items) names
+    (with_elements s b (splice (elements s b) (q.offset + c.args.place) vs)))
+    (run_elements h p.address (p.offset + p.length) c.requires.source p.offset p.length
+    (omega arith) names s shows) stored_items)
 
 pub returns-else-from-ne0-clause-shows : goal.returns-else-from-ne0-clause-shows
 returns-else-from-ne0-clause-shows g c = λ names s shows.
@@ -76,6 +95,8 @@ returns-else-from-ne0-clause-shows g c = λ names s shows.
     let q = c.args.to in
     let b = birth_at h q.address in
     let es = elements s (birth_at h p.address) in
-    let nothing = nothing_copied h q.address (q.offset + q.length) c.requires.target names s shows (q.offset + c.args.place) p.offset es in
+    let nothing = nothing_copied h q.address (q.offset + q.length) c.requires.target names s shows
+    (q.offset + c.args.place) p.offset es in
     let count = c.if-from-ne0.false in
-    subst (Shows h names) (sym (ap (λ n. with_elements s b (splice (elements s b) (q.offset + c.args.place) (slice_range es p.offset (p.offset + n)))) count ∙ nothing)) shows
+    subst (Shows h names) (sym (ap (λ n. with_elements s b (splice (elements s b)
+    (q.offset + c.args.place) (slice_range es p.offset (p.offset + n)))) count ∙ nothing)) shows

@@ -14,16 +14,19 @@ pub returns-clause-held : goal.returns-clause-held
 returns-clause-held g c =
     let h = g.M.Memory.heap c.args.memory.now in
     let p = c.args.part in
-    element_held h p.address (p.offset + p.length) c.requires.known c.requires.sound (p.offset + c.args.index) c.load.result c.load.ensures.answer
+    element_held h p.address (p.offset + p.length) c.requires.known c.requires.sound
+    (p.offset + c.args.index) c.load.result c.load.ensures.answer
 
 pub returns-clause-within : goal.returns-clause-within
 returns-clause-within g c =
     let h = g.M.Memory.heap c.args.memory.now in
     let p = c.args.part in
-    element_within h p.address (p.offset + p.length) c.requires.known c.requires.sound (p.offset + c.args.index) c.load.result c.load.ensures.answer
+    element_within h p.address (p.offset + p.length) c.requires.known c.requires.sound
+    (p.offset + c.args.index) c.load.result c.load.ensures.answer
 
 pub returns-clause-value : goal.returns-clause-value
 returns-clause-value g c =
     let h = g.M.Memory.heap c.args.memory.now in
     let p = c.args.part in
-    element_value h p.address (p.offset + p.length) c.requires.known c.requires.sound (p.offset + c.args.index) c.load.result c.load.ensures.answer
+    element_value h p.address (p.offset + p.length) c.requires.known c.requires.sound
+    (p.offset + c.args.index) c.load.result c.load.ensures.answer

@@ -18,7 +18,13 @@ returns-clause-known g c =
     let a = c.alloc-address.result in
     let n = c.args.count in
     subst (λ (k : Heap). StandsAs k Array a n) (sym c.alloc-address.ensures.heap)
-    (record { object = _; at = object_at-made_same h a Array n; kind_is = refl; fits = let count = length-replicate n zero_word in omega (arith, count) })
+    (record {
+      object = _;
+      at = object_at-made_same h a Array n;
+      kind_is = refl;
+      fits = let count =
+          length-replicate n zero_word in omega (arith, count);
+    })
 
 pub returns-clause-sound : goal.returns-clause-sound
 returns-clause-sound g c =
@@ -26,7 +32,9 @@ returns-clause-sound g c =
     let a = c.alloc-address.result in
     let n = c.args.count in
     subst IsSound (sym c.alloc-address.ensures.heap)
-    (IsSound-new_array h (made h a Array n) a (replicate n zero_word) (NewObject-made h a Array n c.alloc-address.ensures.free) c.requires.sound (next-made h a Array n) (AreValues-zeros h n))
+    (IsSound-new_array h (made h a Array n) a (replicate n zero_word)
+    (NewObject-made h a Array n c.alloc-address.ensures.free) c.requires.sound
+    (next-made h a Array n) (AreValues-zeros h n))
 
 pub returns-clause-extends : goal.returns-clause-extends
 returns-clause-extends g c =
@@ -40,14 +48,19 @@ unfolding birth_at
 returns-clause-birth g c =
     let h = g.M.Memory.heap c.args.memory.now in
     let a = c.alloc-address.result in
-    ap (λ (k : Heap). birth_at k a) c.alloc-address.ensures.heap ∙ ap birth_of (object_at-made_same h a Array c.args.count)
+    ap (λ (k : Heap). birth_at k a) c.alloc-address.ensures.heap ∙ ap birth_of
+    (object_at-made_same h a Array c.args.count)
 
 pub returns-clause-shows : goal.returns-clause-shows
 returns-clause-shows g c = λ names s shows.
     let h = g.M.Memory.heap c.args.memory.now in
     let a = c.alloc-address.result in
     let n = c.args.count in
-    subst (λ (k : Heap). Shows k names (s ++ array_object (replicate n null) ∷ [])) (sym c.alloc-address.ensures.heap)
-    (subst (λ vs. Shows (made h a Array n) names (s ++ array_object vs ∷ [])) (values_of-zeros (birth_at h) names n)
-    (Shows-new_array h (made h a Array n) a (replicate n zero_word) (NewObject-made h a Array n c.alloc-address.ensures.free) c.requires.sound (next-made h a Array n) (AreValues-zeros h n) names s shows
+    subst (λ (k : Heap). Shows k names (s ++ array_object (replicate n null) ∷ []))
+    (sym c.alloc-address.ensures.heap)
+    (subst (λ vs. Shows (made h a Array n) names (s ++ array_object vs ∷ [])) (values_of-zeros
+    (birth_at h) names n)
+    (Shows-new_array h (made h a Array n) a (replicate n zero_word)
+    (NewObject-made h a Array n c.alloc-address.ensures.free) c.requires.sound
+    (next-made h a Array n) (AreValues-zeros h n) names s shows
     (AreWithin-zeros h names s n)))

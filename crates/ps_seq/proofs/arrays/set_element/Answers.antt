@@ -21,14 +21,18 @@ returns-clause-sound g c =
     let h = g.M.Memory.heap c.args.memory.now in
     let p = c.args.part in
     let below = c.requires.index in
-    subst IsSound (sym c.store.ensures.heap) (array_store_sound h p.address (p.offset + p.length) c.requires.known c.requires.sound (p.offset + c.args.index) (c.args.word ∷ []) (omega (arith, below)) (c.requires.held, tt))
+    subst IsSound (sym c.store.ensures.heap) (array_store_sound h p.address
+    (p.offset + p.length) c.requires.known c.requires.sound (p.offset + c.args.index)
+    (c.args.word ∷ []) (omega (arith, below)) (c.requires.held, tt))
 
 pub returns-clause-keeps : goal.returns-clause-keeps
 returns-clause-keeps g c =
     let h = g.M.Memory.heap c.args.memory.now in
     let p = c.args.part in
     let below = c.requires.index in
-    subst (Keeps h) (sym c.store.ensures.heap) (array_store_keeps h p.address (p.offset + p.length) c.requires.known c.requires.sound (p.offset + c.args.index) (c.args.word ∷ []) (omega (arith, below)) (c.requires.held, tt))
+    subst (Keeps h) (sym c.store.ensures.heap) (array_store_keeps h p.address
+    (p.offset + p.length) c.requires.known c.requires.sound (p.offset + c.args.index)
+    (c.args.word ∷ []) (omega (arith, below)) (c.requires.held, tt))
 
 pub returns-clause-births : goal.returns-clause-births
 returns-clause-births g c = ap birth_at c.store.ensures.heap ∙ birth_at-stored _ _ _ _
@@ -38,5 +42,8 @@ returns-clause-shows g c = λ names s shows within.
     let h = g.M.Memory.heap c.args.memory.now in
     let p = c.args.part in
     let below = c.requires.index in
-    subst (λ (k : Heap). Shows k names (with_part_elements s (part_of (birth_at h) p) c.args.index (value_of (birth_at h) names c.args.word ∷ []))) (sym c.store.ensures.heap)
-    (array_store_shows h p.address (p.offset + p.length) c.requires.known c.requires.sound (p.offset + c.args.index) (c.args.word ∷ []) (omega (arith, below)) (c.requires.held, tt) names s shows (within, tt))
+    subst (λ (k : Heap). Shows k names (with_part_elements s (part_of (birth_at h) p) c.args.index
+    (value_of (birth_at h) names c.args.word ∷ []))) (sym c.store.ensures.heap)
+    (array_store_shows h p.address (p.offset + p.length) c.requires.known c.requires.sound
+    (p.offset + c.args.index) (c.args.word ∷ []) (omega (arith, below))
+    (c.requires.held, tt) names s shows (within, tt))

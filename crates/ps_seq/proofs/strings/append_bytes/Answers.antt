@@ -33,12 +33,17 @@ loop-place-preserved g c = record {
       let test = c.loop-place-test.true in
       let upto = c.loop-place.invariant.upto in
       let from = c.loop-place.invariant.from in
-      let text = text_at h p.address (words_for (p.offset + p.length)) c.requires.known names s shows in
-      let read = subst (λ (k : Heap). slice_get (fields_at k p.address) (place / 8) ≡ Some c.load.result) c.loop-place.invariant.heap c.load.ensures.answer in
+      let text = text_at h p.address (words_for (p.offset + p.length)) c.requires.known names s
+      shows in
+      let read = subst (λ (k : Heap). slice_get (fields_at k p.address) (place / 8)
+      ≡ Some c.load.result) c.loop-place.invariant.heap c.load.ensures.answer in
       c.in_ok-extend_from_slice.ensures.items
-      ∙ (ap (λ bs. c.loop-place.output.items ++ slice_range bs (place % 8) (place % 8 + count)) c.to_le_bytes-bytes.ensures
-      ∙ loaded_more h p.address s text (place / 8) c.load.result read c.args.output.now.items c.loop-place.output.items p.offset place count refl from
-      (omega (arith, least, test)) (omega (arith, least)) (omega (arith, least, upto, within)) (c.loop-place.invariant.value names s shows within));
+      ∙ (ap (λ bs. c.loop-place.output.items ++ slice_range bs (place % 8)
+      (place % 8 + count)) c.to_le_bytes-bytes.ensures
+      ∙ loaded_more h p.address s text (place / 8) c.load.result read c.args.output.now.items
+      c.loop-place.output.items p.offset place count refl from
+      (omega (arith, least, test)) (omega (arith, least)) (omega (arith, least, upto, within))
+      (c.loop-place.invariant.value names s shows within));
 }
 
 pub returns-clause-value : goal.returns-clause-value
@@ -47,4 +52,5 @@ returns-clause-value g c = λ names s shows within.
     let t = bytes s (birth_at (g.M.Memory.heap c.args.memory.now) p.address) in
     let upto = c.loop-place.invariant.upto in
     let at_end : c.loop-place.place ≡ p.offset + p.length = omega (arith, upto) in
-    c.loop-place.invariant.value names s shows within ∙ ap (λ k. c.args.output.now.items ++ slice_range t p.offset k) at_end
+    c.loop-place.invariant.value names s shows within ∙ ap (λ k. c.args.output.now.items ++
+    slice_range t p.offset k) at_end

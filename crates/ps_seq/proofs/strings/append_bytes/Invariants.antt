@@ -16,8 +16,11 @@ invariant-loop-place g l = record {
   count : vec_len l.output ≡ vec_len l.fn.output + (l.place - l.part.offset);
   room : vec_len l.output + ((l.part.offset + l.part.length) - l.place) ≤ vec_capacity l.output;
   kept : vec_capacity l.fn.output ≤ vec_capacity l.output;
-  value : (names : List (List ℕ)) (s : Store) → Shows (g.M.Memory.heap l.fn.memory) names s → l.part.offset + l.part.length ≤ length (bytes s (birth_at (g.M.Memory.heap l.fn.memory) l.part.address)) →
-      l.output.items ≡ l.fn.output.items ++ slice_range (bytes s (birth_at (g.M.Memory.heap l.fn.memory) l.part.address)) l.part.offset l.place;
+  value : (names : List (List ℕ)) (s : Store) → Shows (g.M.Memory.heap l.fn.memory) names s
+      → l.part.offset + l.part.length ≤ length (bytes s (birth_at
+      (g.M.Memory.heap l.fn.memory) l.part.address)) →
+      l.output.items ≡ l.fn.output.items ++ slice_range (bytes s (birth_at
+      (g.M.Memory.heap l.fn.memory) l.part.address)) l.part.offset l.place;
 }
 
 abbrev pub decreases-loop-place : goal.decreases-loop-place

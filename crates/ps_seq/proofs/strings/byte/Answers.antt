@@ -17,5 +17,8 @@ returns-clause-value g c = λ names s shows within.
     let p = c.args.part in
     let below = c.requires.index in
     let at = p.offset + c.args.index in
-    let text = text_at h p.address (words_for (p.offset + p.length)) c.requires.known names s shows in
-    loaded_byte h p.address s text (at / 8) c.load-word.result c.load-word.ensures.answer at refl (omega (arith, within, below)) ∙ ap (λ bs. Some (get_or bs (at % 8) 0)) (sym c.to_le_bytes.ensures)
+    let text = text_at h p.address (words_for (p.offset + p.length)) c.requires.known names s shows
+    in
+    loaded_byte h p.address s text (at / 8) c.load-word.result c.load-word.ensures.answer at refl
+    (omega (arith, within, below)) ∙ ap (λ bs. Some (get_or bs (at % 8) 0))
+    (sym c.to_le_bytes.ensures)

@@ -24,13 +24,16 @@ loop-index-init g c =
       kept = search rules;
       value = λ names s shows within.
           c.reserve.ensures.items ∙ (c.requires.empty
-          ∙ ap (λ n. words_from n (drop (8 * first) (splice (bytes s (birth_at (g.M.Memory.heap c.args.memory.now) c.args.address)) c.args.place c.args.text.now))) (sym none));
+          ∙ ap (λ n. words_from n (drop (8 * first) (splice (bytes s (birth_at
+          (g.M.Memory.heap c.args.memory.now) c.args.address)) c.args.place c.args.text.now)))
+          (sym none));
     }
 
 pub load-word-requires : goal.load-word-requires
 load-word-requires g c =
     let h = g.M.Memory.heap c.args.memory.now in
-    let reach = text_reaches h c.args.address (words_for (c.args.place + length c.args.text.now)) c.requires.known in
+    let reach = text_reaches h c.args.address (words_for (c.args.place + length c.args.text.now))
+    c.requires.known in
     let same = ap (λ (k : Heap). length (fields_at k c.args.address)) c.loop-index.invariant.heap in
     let below = c.loop-index-test.true in
     record { place = omega (arith, reach, same, below) }
@@ -58,15 +61,20 @@ loop-index-preserved g c = record {
       let below = c.loop-index-test.true in
       let some = c.requires.some in
       let here = text_at h a (words_for (place + length text)) c.requires.known names s shows in
-      let read = subst (λ (g : Heap). slice_get (fields_at g a) k ≡ Some c.load-word.result) c.loop-index.invariant.heap c.load-word.ensures.answer in
+      let read = subst (λ (g : Heap). slice_get (fields_at g a) k
+      ≡ Some c.load-word.result) c.loop-index.invariant.heap c.load-word.ensures.answer in
       let turned : start - k * 8 ≡ start - 8 * k = omega arith in
       let value = c.with_bytes.ensures
-      ∙ (ap (λ r. number_of_bytes (splice (to_le_bytes w64 c.load-word.result.0) r (slice_range text (start - place) (stop - place)))) turned
+      ∙ (ap (λ r. number_of_bytes (splice (to_le_bytes w64 c.load-word.result.0) r (slice_range text
+      (start - place) (stop - place)))) turned
       ∙ loaded_changed h a s here k c.load-word.result read place text within start stop
-      (omega (arith, largest)) (omega (arith, largest)) (omega (arith, largest, least, from, below, some)) (omega (arith, least)) (omega (arith, least))
+      (omega (arith, largest)) (omega (arith, largest)) (omega
+      (arith, largest, least, from, below, some)) (omega (arith, least)) (omega (arith, least))
       (λ i early. omega (arith, largest, early)) (λ i low past. omega (arith, least, low, past))) in
       c.in_ok-push.ensures.items
-      ∙ next_word (splice (bytes s (birth_at h a)) place text) c.loop-index.words.items c.with_bytes.result (place / 8) k from (c.loop-index.invariant.value names s shows within) value;
+      ∙ next_word (splice (bytes s (birth_at h a)) place text) c.loop-index.words.items
+      c.with_bytes.result (place / 8) k from (c.loop-index.invariant.value names s shows within)
+      value;
 }
 
 pub returns-clause-value : goal.returns-clause-value
@@ -75,5 +83,7 @@ returns-clause-value g c = λ names s shows within.
     let place = c.args.place in
     let upto = c.loop-index.invariant.upto in
     let done = c.loop-index-test.false in
-    let at_end : c.loop-index.index - place / 8 ≡ words_for (place + length c.args.text.now) - place / 8 = omega (arith, upto, done) in
-    c.loop-index.invariant.value names s shows within ∙ ap (λ n. words_from n (drop (8 * (place / 8)) (splice t place c.args.text.now))) at_end
+    let at_end : c.loop-index.index - place / 8 ≡ words_for (place + length c.args.text.now) - place
+    / 8 = omega (arith, upto, done) in
+    c.loop-index.invariant.value names s shows within ∙ ap (λ n. words_from n (drop (8 *
+    (place / 8)) (splice t place c.args.text.now))) at_end

@@ -16,6 +16,9 @@ invariant-loop-index g l = record {
   count : vec_len l.words ≡ l.index - l.first;
   room : vec_len l.words + (l.last - l.index) ≤ vec_capacity l.words;
   kept : vec_capacity l.fn.words ≤ vec_capacity l.words;
-  value : (names : List (List ℕ)) (s : Store) → Shows (g.M.Memory.heap l.fn.memory) names s → l.place + length l.text ≤ length (bytes s (birth_at (g.M.Memory.heap l.fn.memory) l.address)) →
-      l.words.items ≡ words_from (l.index - l.first) (drop (8 * l.first) (splice (bytes s (birth_at (g.M.Memory.heap l.fn.memory) l.address)) l.place l.text));
+  value : (names : List (List ℕ)) (s : Store) → Shows (g.M.Memory.heap l.fn.memory) names s
+      → l.place + length l.text ≤ length (bytes s (birth_at (g.M.Memory.heap l.fn.memory)
+      l.address)) →
+      l.words.items ≡ words_from (l.index - l.first) (drop (8 * l.first) (splice (bytes s (birth_at
+      (g.M.Memory.heap l.fn.memory) l.address)) l.place l.text));
 }

@@ -18,8 +18,15 @@ returns-clause-known g c =
     let a = c.alloc-address.result in
     let n = c.words_of_string.result in
     let words = c.words_of_string.ensures in
-    subst (λ (k : Heap). StandsAs k Text a (words_for c.args.count)) (sym c.alloc-address.ensures.heap)
-    (record { object = _; at = object_at-made_same h a Text n; kind_is = refl; fits = let count = length-replicate n zero_word in omega (arith, count, words) })
+    subst (λ (k : Heap). StandsAs k Text a (words_for c.args.count))
+    (sym c.alloc-address.ensures.heap)
+    (record {
+      object = _;
+      at = object_at-made_same h a Text n;
+      kind_is = refl;
+      fits = let count =
+          length-replicate n zero_word in omega (arith, count, words);
+    })
 
 pub returns-clause-sound : goal.returns-clause-sound
 returns-clause-sound g c =
@@ -27,7 +34,9 @@ returns-clause-sound g c =
     let a = c.alloc-address.result in
     let n = c.words_of_string.result in
     subst IsSound (sym c.alloc-address.ensures.heap)
-    (IsSound-new_text h (made h a Text n) a (replicate n zero_word) (NewObject-made h a Text n c.alloc-address.ensures.free) c.requires.sound (next-made h a Text n))
+    (IsSound-new_text h (made h a Text n) a (replicate n zero_word)
+    (NewObject-made h a Text n c.alloc-address.ensures.free) c.requires.sound
+    (next-made h a Text n))
 
 pub returns-clause-extends : goal.returns-clause-extends
 returns-clause-extends g c =
@@ -41,13 +50,18 @@ unfolding birth_at
 returns-clause-birth g c =
     let h = g.M.Memory.heap c.args.memory.now in
     let a = c.alloc-address.result in
-    ap (λ (k : Heap). birth_at k a) c.alloc-address.ensures.heap ∙ ap birth_of (object_at-made_same h a Text (c.words_of_string.result))
+    ap (λ (k : Heap). birth_at k a) c.alloc-address.ensures.heap ∙ ap birth_of
+    (object_at-made_same h a Text (c.words_of_string.result))
 
 pub returns-clause-shows : goal.returns-clause-shows
 returns-clause-shows g c = λ names s shows.
     let h = g.M.Memory.heap c.args.memory.now in
     let a = c.alloc-address.result in
     let n = c.words_of_string.result in
-    subst (λ (k : Heap). Shows k names (s ++ string_object (replicate c.args.count 0) ∷ [])) (sym c.alloc-address.ensures.heap)
-    (Shows-new_text h (made h a Text n) a (replicate n zero_word) (NewObject-made h a Text n c.alloc-address.ensures.free) c.requires.sound (next-made h a Text n) names s (replicate c.args.count 0) shows
-    (AreBytes-zeros c.args.count) (ap (λ k. replicate k zero_word) c.words_of_string.ensures ∙ sym (words_of-zeros c.args.count)))
+    subst (λ (k : Heap). Shows k names (s ++ string_object (replicate c.args.count 0) ∷ []))
+    (sym c.alloc-address.ensures.heap)
+    (Shows-new_text h (made h a Text n) a (replicate n zero_word)
+    (NewObject-made h a Text n c.alloc-address.ensures.free) c.requires.sound
+    (next-made h a Text n) names s (replicate c.args.count 0) shows
+    (AreBytes-zeros c.args.count) (ap (λ k. replicate k zero_word) c.words_of_string.ensures ∙ sym
+    (words_of-zeros c.args.count)))

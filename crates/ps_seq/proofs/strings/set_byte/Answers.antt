@@ -21,8 +21,10 @@ pub store-requires-clause-known : goal.store-requires-clause-known
 store-requires-clause-known g c =
     let h = g.M.Memory.heap c.args.memory.now in
     let p = c.args.part in
-    subst (λ (k : Heap). NamesStanding k p.address (c.with_bytes-changed.result ∷ [])) (sym c.load-word.ensures.heap)
-    (text_names h p.address (words_for (p.offset + p.length)) (c.with_bytes-changed.result ∷ []) c.requires.known)
+    subst (λ (k : Heap). NamesStanding k p.address (c.with_bytes-changed.result ∷ []))
+    (sym c.load-word.ensures.heap)
+    (text_names h p.address (words_for (p.offset + p.length)) (c.with_bytes-changed.result
+    ∷ []) c.requires.known)
 
 pub store-requires-clause-place : goal.store-requires-clause-place
 store-requires-clause-place g c =
@@ -40,8 +42,12 @@ returns-clause-sound g c =
     let below = c.requires.index in
     let first = (p.offset + c.args.index) / 8 in
     let items = c.with_bytes-changed.result ∷ [] in
-    let now : g.M.Memory.heap c.store.new.self ≡ stored h p.address first items = c.store.ensures.heap ∙ ap (λ (k : Heap). stored k p.address first items) c.load-word.ensures.heap in
-    subst IsSound (sym now) (text_store_sound h p.address (words_for (p.offset + p.length)) c.requires.known c.requires.sound first 1 items refl (omega (arith, below)))
+    let now : g.M.Memory.heap c.store.new.self ≡ stored h p.address first items =
+    c.store.ensures.heap ∙ ap (λ (k : Heap). stored k p.address first items)
+    c.load-word.ensures.heap in
+    subst IsSound (sym now) (text_store_sound h p.address (words_for
+    (p.offset + p.length)) c.requires.known c.requires.sound first 1 items refl (omega
+    (arith, below)))
 
 pub returns-clause-keeps : goal.returns-clause-keeps
 returns-clause-keeps g c =
@@ -50,11 +56,16 @@ returns-clause-keeps g c =
     let below = c.requires.index in
     let first = (p.offset + c.args.index) / 8 in
     let items = c.with_bytes-changed.result ∷ [] in
-    let now : g.M.Memory.heap c.store.new.self ≡ stored h p.address first items = c.store.ensures.heap ∙ ap (λ (k : Heap). stored k p.address first items) c.load-word.ensures.heap in
-    subst (Keeps h) (sym now) (text_store_keeps h p.address (words_for (p.offset + p.length)) c.requires.known c.requires.sound first 1 items refl (omega (arith, below)))
+    let now : g.M.Memory.heap c.store.new.self ≡ stored h p.address first items =
+    c.store.ensures.heap ∙ ap (λ (k : Heap). stored k p.address first items)
+    c.load-word.ensures.heap in
+    subst (Keeps h) (sym now) (text_store_keeps h p.address (words_for
+    (p.offset + p.length)) c.requires.known c.requires.sound first 1 items refl (omega
+    (arith, below)))
 
 pub returns-clause-births : goal.returns-clause-births
-returns-clause-births g c = ap birth_at c.store.ensures.heap ∙ (birth_at-stored _ _ _ _ ∙ ap birth_at c.load-word.ensures.heap)
+returns-clause-births g c = ap birth_at c.store.ensures.heap ∙ (birth_at-stored _ _ _ _
+    ∙ ap birth_at c.load-word.ensures.heap)
 
 pub returns-clause-shows : goal.returns-clause-shows
 returns-clause-shows g c = λ names s shows within.
@@ -66,9 +77,15 @@ returns-clause-shows g c = λ names s shows within.
     let items = c.with_bytes-changed.result ∷ [] in
     let t = bytes s (birth_at h p.address) in
     let byte = c.ranges.byte in
-    let now : g.M.Memory.heap c.store.new.self ≡ stored h p.address (at / 8) items = c.store.ensures.heap ∙ ap (λ (k : Heap). stored k p.address (at / 8) items) c.load-word.ensures.heap in
+    let now : g.M.Memory.heap c.store.new.self ≡ stored h p.address
+    (at / 8) items = c.store.ensures.heap ∙ ap (λ (k : Heap). stored k p.address
+    (at / 8) items) c.load-word.ensures.heap in
     let text = text_at h p.address n c.requires.known names s shows in
-    let value = c.with_bytes-changed.ensures ∙ loaded_one h p.address s text c.load-word.result at c.load-word.ensures.answer c.args.byte (omega (arith, within, below)) in
-    subst (λ (k : Heap). Shows k names (with_bytes s (birth_at h p.address) (splice t at (c.args.byte ∷ [])))) (sym now)
-    (text_store_shows h p.address n c.requires.known c.requires.sound (at / 8) 1 items refl (omega (arith, below)) names s shows at (c.args.byte ∷ []) (omega (arith, byte), tt)
-    (omega (arith, within, below)) (omega arith) (omega arith) (one_word c.with_bytes-changed.result (drop (8 * (at / 8)) (splice t at (c.args.byte ∷ []))) value))
+    let value = c.with_bytes-changed.ensures ∙ loaded_one h p.address s text c.load-word.result at
+    c.load-word.ensures.answer c.args.byte (omega (arith, within, below)) in
+    subst (λ (k : Heap). Shows k names (with_bytes s (birth_at h p.address) (splice t at
+    (c.args.byte ∷ [])))) (sym now)
+    (text_store_shows h p.address n c.requires.known c.requires.sound (at / 8) 1 items refl (omega
+    (arith, below)) names s shows at (c.args.byte ∷ []) (omega (arith, byte), tt)
+    (omega (arith, within, below)) (omega arith) (omega arith) (one_word c.with_bytes-changed.result
+    (drop (8 * (at / 8)) (splice t at (c.args.byte ∷ []))) value))

@@ -11,9 +11,12 @@ returns c =
     let first = c.args.first in
     let now = c.args.bytes.now in
     let count : (first + length now) - first ≡ length now = omega arith in
-    let changed : put_mid first ((first + length now) - first) c.to_le_bytes-all.result c.copy_from_slice.new.self ≡ splice (to_le_bytes w64 c.args.word.0) first now =
-    put_mid-splice first ((first + length now) - first) c.to_le_bytes-all.result c.copy_from_slice.new.self now c.copy_from_slice.ensures.after count
+    let changed : put_mid first ((first + length now) - first) c.to_le_bytes-all.result
+    c.copy_from_slice.new.self ≡ splice (to_le_bytes w64 c.args.word.0) first now =
+    put_mid-splice first ((first + length now) - first) c.to_le_bytes-all.result
+    c.copy_from_slice.new.self now c.copy_from_slice.ensures.after count
     ∙ ap (λ xs. splice xs first now) c.to_le_bytes-all.ensures in
     c.from_le_bytes.ensures
     ∙ (ap (from_le_bytes w64) changed
-    ∙ from_le_bytes-number (splice (to_le_bytes w64 c.args.word.0) first now) (length-splice (to_le_bytes w64 c.args.word.0) first now c.requires))
+    ∙ from_le_bytes-number (splice (to_le_bytes w64 c.args.word.0) first now) (length-splice
+    (to_le_bytes w64 c.args.word.0) first now c.requires))
