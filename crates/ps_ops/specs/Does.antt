@@ -58,16 +58,29 @@ Agrees IsReason (Err (NotMadeOf reason)) (leaves change) names old new before af
     IsReason reason change × (new ≡ old) × (after ≡ before)
 Agrees IsReason (Err (NotMadeOf reason)) (fails raised) names old new before after = ⊥
 
--- the logs of other slots are as they were, no cycle and no log was closed or opened; at most five records were put into its own log, and at
--- most five used up
-pub record KeepsLogs (old new : Grants) (slot : ℕ) : Type 0 where
+-- the logs of other slots are as they were, no cycle and no log was closed or opened; at most so
+-- many records were put into its own log, and at most so many used up
+pub record KeepsLogsWithin (most : ℕ) (old new : Grants) (slot : ℕ) : Type 0 where
   pub cycle_open : new.cycle_open ≡ old.cycle_open
   pub closed : new.closed ≡ old.closed
   pub others : (s : ℕ) → s ≢ slot → new.records s ≡ old.records s
-  pub used : old.records slot ≤ new.records slot + 5
+  pub used : old.records slot ≤ new.records slot + most
   pub kept : old.put slot ≤ new.put slot
-  pub put : new.put slot ≤ old.put slot + 5
+  pub put : new.put slot ≤ old.put slot + most
   pub put_no_other : (s : ℕ) → s ≢ slot → new.put s ≡ old.put s
+
+-- the most records of a step
+abbrev pub most_records : ℕ
+most_records = 5
+
+-- of any step
+abbrev pub KeepsLogs : (old new : Grants) → (slot : ℕ) → Type 0
+KeepsLogs old new slot = KeepsLogsWithin most_records old new slot
+
+-- of these records, how many what came to this may put and use up: none by what did nothing
+abbrev pub spent : {A E : Type 0} → Result A E → (most : ℕ) → ℕ
+spent (Ok _) most = most
+spent (Err _) most = 0
 
 -- ---- those that store elements
 

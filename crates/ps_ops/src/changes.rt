@@ -11,7 +11,7 @@ ghost use Rattle.ps_mem.specs.Meaning.{part_of};
 ghost use Rattle.ps_mem.specs.Keeps.{Keeps};
 ghost use Rattle.ps_mem.specs.Shows.{IsSound, IsReady, AreWithin, Shows};
 ghost use Rattle.ps_language.specs.ArrayRows as rows;
-ghost use Rattle.ps_ops.specs.Does.{values_in, Changes, KeepsLogs};
+ghost use Rattle.ps_ops.specs.Does.{values_in, Changes, KeepsLogs, KeepsLogsWithin, spent};
 
 use crate::Operands;
 use crate::arrays::{index_below, interval_within, is_readable, is_writable, push_within};
@@ -50,6 +50,8 @@ pub fn put<M: Memory>(operands: &mut Operands, memory: &mut M, slot: u32) -> Res
     requires slot { slot < SLOTS }
     requires ready { IsReady (M.heap memory.old) operands.old }
     ensures does { Changes rows.array_put_row rows.one_stored result slot (M.grants memory.old) (M.grants memory.new) (M.heap memory.old) (M.heap memory.new) operands.old operands.new }
+    ensures spends { KeepsLogsWithin (spent result 1) (M.grants memory.old) (M.grants memory.new)
+        slot }
     ensures ready { IsReady (M.heap memory.new) operands.new }
     ensures keeps { Keeps (M.heap memory.old) (M.heap memory.new) }
     ensures logs { KeepsLogs (M.grants memory.old) (M.grants memory.new) slot }

@@ -5,7 +5,7 @@ ghost use Rattle.ps_language.specs.RowsSequences as sequences;
 ghost use Rattle.ps_mem.specs.Heap.{Heap};
 ghost use Rattle.ps_mem.specs.Keeps.{Keeps};
 ghost use Rattle.ps_mem.specs.Shows.{IsReady};
-ghost use Rattle.ps_ops.specs.Does.{Makes, KeepsLogs, IsRoomReason};
+ghost use Rattle.ps_ops.specs.Does.{Makes, KeepsLogs, KeepsLogsWithin, IsRoomReason};
 
 use crate::Operands;
 use crate::failure::{Failure, NotMade};
@@ -43,6 +43,7 @@ pub fn array<M: Memory>(
 ) -> Result<(), Failure>
     requires ready { IsReady (M.heap memory.old) operands.old }
     ensures does { Makes sequences.array_row refused result (M.heap memory.old) (M.heap memory.new) operands.old operands.new }
+    ensures spends { KeepsLogsWithin 0 (M.grants memory.old) (M.grants memory.new) slot }
     ensures ready { IsReady (M.heap memory.new) operands.new }
     ensures keeps { Keeps (M.heap memory.old) (M.heap memory.new) }
     ensures logs { KeepsLogs (M.grants memory.old) (M.grants memory.new) slot }
@@ -80,6 +81,7 @@ pub fn end_array<M: Memory>(
 ) -> Result<(), Failure>
     requires ready { IsReady (M.heap memory.old) operands.old }
     ensures does { Makes sequences.end_array_row refused result (M.heap memory.old) (M.heap memory.new) operands.old operands.new }
+    ensures spends { KeepsLogsWithin 0 (M.grants memory.old) (M.grants memory.new) slot }
     ensures ready { IsReady (M.heap memory.new) operands.new }
     ensures keeps { Keeps (M.heap memory.old) (M.heap memory.new) }
     ensures logs { KeepsLogs (M.grants memory.old) (M.grants memory.new) slot }

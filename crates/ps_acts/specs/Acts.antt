@@ -1,0 +1,179 @@
+-- When what an operator did is the effect of its row.
+use Rattle.std.specs.Prelude.{◌≡◌, ◌⊎◌, ℕ, zero, suc, ◌+◌, ◌-◌, ◌<◌, ◌≤◌, ◌++◌, min, Bool, true, false, IsTrue, List, length, Result, Ok, Err}
+use Rattle.ps_language.specs.declared.errors.ErrorName.TheVariants.{VmError}
+use Rattle.ps_language.specs.Value.{Value, Store}
+use Rattle.ps_language.specs.Access.{bytes}
+use Rattle.ps_language.specs.Objects.{made_between, lacks_room}
+use Rattle.ps_language.specs.Effect.{Scene, Effect, makes, unwinds, raises}
+use Rattle.ps_language.specs.Rows.{Row}
+use Rattle.ps_language.specs.Acts.{effect_of}
+use Rattle.ps_word.specs.declared.words.Word.{Word}
+use Rattle.ps_mem.specs.Heap.{Heap, Grants, has_room}
+use Rattle.ps_mem.specs.Keeps.{Keeps}
+use Rattle.ps_ops.specs.declared.failure.NotMade.{NotMade as Reason}
+use Rattle.ps_ops.specs.declared.failure.NotMade.TheVariants.{LogFull, LogClosed, NeedSpace, Memory}
+use Rattle.ps_ops.specs.Does.{KeepsLogsWithin, most_records, spent}
+use Rattle.ps_control.specs.Turns.{cause_of}
+use Rattle.ps_acts.specs.declared.breaks.Break.{Break}
+use Rattle.ps_acts.specs.declared.breaks.Break.TheVariants.{Unwinds, Raises, NotMade}
+use Rattle.ps_acts.specs.declared.lent.Trial.{Trial}
+use Rattle.ps_acts.specs.Lent.{Lent, scene_of, around_of, IsShown, IsGood}
+
+-- ---- what is asked for
+
+-- what a step asks for: bytes of the output, names, records of the log, words and birth numbers
+pub record Needs : Type 0 where
+  pub bytes : ℕ
+  pub names : ℕ
+  pub records : ℕ
+  pub words : ℕ
+  pub births : ℕ
+
+abbrev pub nothing_needed : Needs
+nothing_needed = record { bytes = 0; names = 0; records = 0; words = 0; births = 0 }
+
+-- the names that a scene has more
+abbrev pub names_formed : (before after : Scene) → ℕ
+names_formed before after = length after.names - length before.names
+
+-- A scene that is made asks for its output, its names and its new objects; records is the one
+-- number that the language doesn't say
+abbrev pub needs_between : (records : ℕ) → (before after : Scene) → (output : List ℕ) → Needs
+needs_between records before after output = record {
+  bytes = length output;
+  names = names_formed before after;
+  records = records;
+  words = made_between before.store after.store;
+  births = length after.store - length before.store;
+}
+
+-- A refused step forms its names and makes nothing; where it formed some, its error has to be noted
+abbrev pub needs_of_refused : (names : ℕ) → Needs
+needs_of_refused zero = nothing_needed
+needs_of_refused (suc names) =
+    record nothing_needed { names = suc names; records = most_records }
+
+-- whether the effect is refused the room that it asks for
+abbrev pub lacks : (refused : Bool) → (before : Scene) → Effect → Bool
+lacks refused before (makes scene output) = lacks_room refused before.store scene.store
+lacks refused before effect = false
+
+-- by the effect, and whether it lacks room
+abbrev pub needs_as : (records : ℕ) → (before : Scene) → Effect → (lacking : Bool) → Needs
+needs_as records before (makes scene output) false = needs_between records before scene output
+needs_as records before (makes scene output) true = needs_of_refused (names_formed before scene)
+needs_as records before effect lacking = nothing_needed
+
+-- what operators put into the log that put nothing, or one record for all elements that they store
+abbrev pub no_records : Scene → ℕ
+no_records scene = 0
+
+abbrev pub stored_records : (List Value → ℕ) → Scene → ℕ
+stored_records count scene = min 1 (count scene.operands)
+
+-- ---- why a step is not made
+
+-- The log is open and takes fewer records than are asked for, or it is closed, though one is; the
+-- words asked for have no room; or memory is refused: the output has less room than its bytes, a
+-- name is formed, or an object is made in a memory that grows
+abbrev pub IsReason : Needs → (slot : ℕ) → (old new : Lent) → Reason → Type 0
+IsReason needs slot old new LogFull =
+    (old.grants.closed slot ≡ false) × (new.grants.records slot < needs.records)
+IsReason needs slot old new LogClosed = (1 ≤ needs.records) × IsTrue (old.grants.closed slot)
+IsReason needs slot old new (NeedSpace words) =
+    (words ≡ needs.words) × (1 ≤ words) × (has_room old.heap needs.words needs.births ≡ false)
+IsReason needs slot old new Memory =
+    (old.room < needs.bytes)
+    ⊎ ((1 ≤ needs.names) ⊎ ((1 ≤ needs.words) × IsTrue old.heap.space.grows))
+
+-- ---- what is left
+
+-- no string is shorter
+abbrev pub Lasts : (before after : Store) → Type 0
+Lasts before after = (birth : ℕ) → length (bytes before birth) ≤ length (bytes after birth)
+
+-- after what showed a store the scene is shown
+pub record IsLeft (before : Store) (l : Lent) (scene : Scene) : Type 0 where
+  pub is : scene_of l scene.store ≡ scene
+  pub shown : IsShown l scene.store
+  pub lasts : Lasts before scene.store
+
+-- nothing has changed but what was granted, and the room that the output has grown
+abbrev pub IsSame : (old new : Lent) → Type 0
+IsSame old new = new ≡ record old { grants = new.grants; room = new.room }
+
+-- An error can be noted: where a refused step formed names, which stay, it asked first for the
+-- records that this takes
+abbrev pub MayNote : (slot : ℕ) → (old new : Lent) → (names : List (List ℕ)) → Type 0
+MayNote slot old new names =
+    (names ≡ old.names)
+    ⊎ ((most_records ≤ new.grants.records slot) × (new.grants.closed slot ≡ false))
+
+-- a refused step: nothing has changed but for its names, which are shown
+pub record IsRefused (slot : ℕ) (before : Scene) (old new : Lent) (names : List (List ℕ)) : Type 0
+  where
+    pub is : new ≡ record old { grants = new.grants; room = new.room; names = names }
+    pub left : IsLeft before.store new (record before { names = names })
+    pub may_note : MayNote slot old new names
+
+-- What the effect makes is left and printed, or its unwinding begins; or its error is raised, and
+-- nothing has changed; where it lacks room VMerror is raised, and only its names are formed; or the
+-- step is not made, nothing has changed, and there is a reason
+abbrev pub ActsAs : Needs → (slot : ℕ) → (before : Scene) → Result Unit Break → Effect
+    → (lacking : Bool) → (old new : Lent) → Type 0
+ActsAs needs slot before (Ok _) (makes scene output) false old new =
+    IsLeft before.store new scene × (new.printed ≡ old.printed ++ output)
+ActsAs needs slot before (Err (Unwinds cause)) (unwinds for scene) lacking old new =
+    (cause_of cause ≡ for) × IsLeft before.store new scene × (new.printed ≡ old.printed)
+ActsAs needs slot before (Err (Raises error)) (raises raised) lacking old new =
+    (error ≡ raised) × IsSame old new
+ActsAs needs slot before (Err (Raises error)) (makes scene output) true old new =
+    (error ≡ VmError) × IsRefused slot before old new scene.names
+ActsAs needs slot before (Err (NotMade reason)) (makes scene output) lacking old new =
+    IsReason needs slot old new reason × IsSame old new
+ActsAs needs slot before result effect lacking old new = ⊥
+
+-- ---- the relation
+
+-- the program and the context's $error stay, names stay and go on, and what the output can take
+pub record Stays (old new : Lent) : Type 0 where
+  pub program : new.program ≡ old.program
+  pub error_dictionary : new.error_dictionary ≡ old.error_dictionary
+  pub formed : List (List ℕ)
+  pub names : new.names ≡ old.names ++ formed
+  pub capacity : length old.printed + old.room ≤ length new.printed + new.room
+
+-- of a step that is not made
+abbrev pub OnNotMade : Result Unit Break → Type 0 → Type 0
+OnNotMade (Err (NotMade reason)) P = P
+OnNotMade result P = Unit {0}
+
+-- of a store that is shown: the effect came about, and by no more records than it asks for
+pub record Meets (records : Scene → ℕ) (effect : Effect) (trial : Trial) (result : Result Unit Break)
+    (before : Scene) (old new : Lent) : Type 0 where
+  pub did : ActsAs (needs_as (records before) before effect (lacks trial.refused before effect))
+      trial.slot before result effect (lacks trial.refused before effect) old new
+  pub logs : KeepsLogsWithin (spent result (records before)) old.grants new.grants trial.slot
+
+-- the effect of a row on what a store shows
+abbrev pub effect_in : Row → Lent → Store → Effect
+effect_in row l store = effect_of row (around_of l) (scene_of l store)
+
+-- For every store that the memory shows, the operator of this row did what the row says. What is
+-- lent stays good, what stood goes on standing, and the logs are kept
+pub record Acts (records : Scene → ℕ) (row : Row) (trial : Trial) (result : Result Unit Break)
+    (old new : Lent) : Type 0 where
+  pub meets : (store : Store) → IsShown old store
+      → Meets records (effect_in row old store) trial result (scene_of old store) old new
+  pub good : IsGood new
+  pub keeps : Keeps old.heap new.heap
+  pub stays : Stays old new
+  pub logs : KeepsLogsWithin (spent result most_records) old.grants new.grants trial.slot
+  -- an element that was taken can be put back
+  pub framed : OnNotMade result (new.frames ≡ old.frames)
+
+-- ---- narrower operators: the same, whatever else is lent
+
+-- other operands over another memory
+abbrev pub over : Lent → Heap → Grants → List Word → Lent
+over l heap grants operands = record l { heap = heap; grants = grants; operands = operands }

@@ -1,0 +1,38 @@
+//! What a step lends to an operator.
+
+use ps_control::frames::Frames;
+use ps_names::Names;
+use ps_operands::Operands;
+use ps_stacks::DictionaryStack;
+use ps_word::words::Word;
+
+/// The dictionary stack, the topmost first.
+pub type Dictionaries = DictionaryStack<Word>;
+
+/// What a context holds (PLRM2, 3.4, 3.10).
+#[derive(Drop)]
+pub struct Context {
+    pub operands: Operands,
+    pub dictionaries: Dictionaries,
+    pub frames: Frames,
+    /// The address of its own `$error`.
+    pub error_dictionary: u32,
+}
+
+/// What all contexts share beside the memory.
+#[derive(Drop)]
+pub struct Shared {
+    /// The program of the run.
+    pub program: Vec<u8>,
+    pub names: Names,
+    pub printed: Vec<u8>,
+}
+
+/// How a step is tried.
+#[derive(Clone, Copy, Debug, PartialEq, Eq)]
+pub struct Trial {
+    /// Where records are logged.
+    pub slot: u32,
+    /// Whether a step that asks for room raises `VMerror`.
+    pub refused: bool,
+}

@@ -1,0 +1,40 @@
+//! The operators that print (PLRM2, 8 'Operators': File).
+
+ghost use Rattle.std.specs.Prelude.{◌≡◌};
+ghost use Rattle.ps_language.specs.Rows.{printing_row};
+ghost use Rattle.ps_language.specs.RowsOutput.{equals_row};
+ghost use Rattle.ps_acts.specs.Acts.{Acts, no_records};
+ghost use Rattle.ps_acts.specs.Lent.{lent, IsGood};
+
+use crate::breaks::Break;
+use crate::lent::{Context, Shared, Trial};
+use ps_language::errors::ErrorName;
+use ps_mem::Memory;
+use ps_ops::failure::NotMade;
+use ps_text::lines::append_plain_line;
+use std::alloc::AllocError;
+
+/// `x =`: the text of the operand and the end of its line. Raises `stackunderflow`. Not made, by
+/// `Memory`, where the output has less room than that and its growth is refused.
+pub fn equals<M: Memory>(
+    context: &mut Context,
+    shared: &mut Shared,
+    memory: &mut M,
+) -> Result<(), Break>
+    requires good { IsGood
+        (lent (M.heap memory.old) (M.grants memory.old) context.old shared.old) }
+    ensures acts { (trial : Trial) → Acts no_records (printing_row equals_row) trial result
+        (lent (M.heap memory.old) (M.grants memory.old) context.old shared.old)
+        (lent (M.heap memory.new) (M.grants memory.new) context.new shared.new) }
+{
+    let Some(top) = context.operands.top() else {
+        return Err(Break::Raises(ErrorName::StackUnderflow));
+    };
+    match append_plain_line(memory, &shared.names, top, &mut shared.printed) {
+        Ok(()) => {
+            context.operands.discard(1);
+            Ok(())
+        }
+        Err(AllocError) => Err(Break::NotMade(NotMade::Memory)),
+    }
+}

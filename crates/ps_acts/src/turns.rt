@@ -1,0 +1,86 @@
+//! A step by an operator, and the error that it notes (PLRM2, 3.5, 3.10).
+
+ghost use Rattle.std.specs.Prelude.{◌≡◌, ◌<◌, IsTrue};
+ghost use Rattle.ps_mem.specs.References.{StandsAs};
+ghost use Rattle.ps_mem.specs.Shows.{IsSound};
+ghost use Rattle.ps_acts.specs.Lent.{lent, IsGood};
+ghost use Rattle.ps_acts.specs.Operators.{is_done};
+ghost use Rattle.ps_acts.specs.Turns.{Notes, Turns, operator_turn, operator_needs};
+
+use crate::breaks::Break;
+use crate::dispatch::operate;
+use crate::lent::{Context, Shared, Trial};
+use ps_control::frames::Cause;
+use ps_language::errors::ErrorName;
+use ps_language::kinds::Kind;
+use ps_language::operators::Operator;
+use ps_mem::{Memory, SLOTS};
+use ps_ops::failure::NotMade;
+
+/// What a step that was made came to.
+#[derive(Clone, Copy, Debug, PartialEq, Eq)]
+pub enum Turned {
+    /// The context goes on.
+    Goes,
+    /// An unwinding begins or goes on.
+    Breaks(Cause),
+}
+
+/// Notes errors in `$error` (PLRM2, 3.10).
+pub trait ErrorNotes {
+    /// Puts the entries of an error into the `$error` at an address: up to three values or pairs,
+    /// which never grow it, by at most five records.
+    ///
+    /// `LogFull`: the log of the slot is open and takes fewer than five. `LogClosed`: it is closed.
+    fn note<M: Memory>(
+        &self,
+        memory: &mut M,
+        slot: u32,
+        address: u32,
+        error: ErrorName,
+        operator: Operator,
+    ) -> Result<(), NotMade>
+        requires slot { slot < SLOTS }
+        requires sound { IsSound (M.heap memory.old) }
+        requires stands { StandsAs (M.heap memory.old) Kind.Dictionary address 4 }
+        ensures { Notes error operator slot address result (M.heap memory.old)
+            (M.heap memory.new) (M.grants memory.old) (M.grants memory.new) };
+}
+
+/// A step by an operator. An error is noted, and an unwinding for stop begins.
+///
+/// Each `NotMade` comes for what the step asks for; nothing has changed then.
+pub fn operated<M: Memory, N: ErrorNotes>(
+    operator: Operator,
+    context: &mut Context,
+    shared: &mut Shared,
+    memory: &mut M,
+    trial: Trial,
+    notes: &N,
+) -> Result<Turned, NotMade>
+    requires slot { trial.slot < SLOTS }
+    requires done { IsTrue (is_done operator) }
+    requires good { IsGood
+        (lent (M.heap memory.old) (M.grants memory.old) context.old shared.old) }
+    ensures { Turns (operator_needs trial.refused operator) (operator_turn operator) trial result
+        (lent (M.heap memory.old) (M.grants memory.old) context.old shared.old)
+        (lent (M.heap memory.new) (M.grants memory.new) context.new shared.new) }
+{
+    match operate(operator, context, shared, memory, trial) {
+        Ok(()) => Ok(Turned::Goes),
+        Err(Break::Unwinds(cause)) => Ok(Turned::Breaks(cause)),
+        Err(Break::NotMade(reason)) => Err(reason),
+        Err(Break::Raises(error)) => {
+            match notes.note(
+                memory,
+                trial.slot,
+                context.error_dictionary,
+                error,
+                operator,
+            ) {
+                Ok(()) => Ok(Turned::Breaks(Cause::Stop)),
+                Err(reason) => Err(reason),
+            }
+        }
+    }
+}
