@@ -42,7 +42,8 @@ module _ (row : Row) (trial : Trial) (records : Scene → ℕ) (l : Lent) where
     raised_acts error is = record {
       meets = λ store shown.
           meets_by records trial (scene_of l store) l l (Err (Raises error)) _ _ (is store shown)
-          (raised_meets records trial (scene_of l store) l l error refl (logs-same 0 l.grants trial.slot));
+          (raised_meets records trial (scene_of l store) l l error refl
+          (logs-same 0 l.grants trial.slot));
       good = good;
       keeps = keeps-same l.heap;
       stays = stays_as l l refl refl refl (omega arith);
@@ -77,12 +78,14 @@ module _ (row : Row) (trial : Trial) (records : Scene → ℕ) (l : Lent) where
 
     pub left_acts : (new : Lent) → IsGood new → Keeps l.heap new.heap → Stays l new
         → KeepsLogsWithin most_records l.grants new.grants trial.slot
-        → ((store : Store) → IsShown l store → Made new store) → Acts records row trial (Ok tt) l new
+        → ((store : Store) → IsShown l store → Made new store)
+        → Acts records row trial (Ok tt) l new
     left_acts new well keeps stays logs made = record {
       meets = λ store shown.
           let m = made store shown in
           meets_by records trial (scene_of l store) l new (Ok tt) _ _ m.is
-          (made_meets records trial (scene_of l store) l new (scene_of new m.after) m.output m.enough
+          (made_meets records trial (scene_of l store) l new (scene_of new m.after) m.output
+          m.enough
           (record { is = refl; shown = m.shown; lasts = m.lasts }) m.printed m.logs);
       good = well;
       keeps = keeps;

@@ -54,31 +54,42 @@ pub made_lasts : (s : Store) (change : Change) → IsMade s change → Lasts s c
 made_lasts s change made =
     subst (Lasts s) (sym made.grown) (longer s (made.object ∷ []))
 
-pub lasts_given : {A : Type 0} (s : Store) (thing : Option A) (error : ErrorName) (next : A → Outcome Change) → ((a : A) → thing ≡ Some a → RowLasts s (next a)) → RowLasts s (given thing error next)
+pub lasts_given : {A : Type 0} (s : Store) (thing : Option A) (error : ErrorName)
+    (next : A → Outcome Change) → ((a : A) → thing ≡ Some a → RowLasts s (next a))
+    → RowLasts s (given thing error next)
 lasts_given s None error next each = record { lasts = tt }
 lasts_given s (Some a) error next each = each a refl
 
-pub lasts_given_that : (s : Store) (test : Bool) (error : ErrorName) (next : Outcome Change) → RowLasts s next → RowLasts s (given_that test error next)
+pub lasts_given_that : (s : Store) (test : Bool) (error : ErrorName) (next : Outcome Change)
+    → RowLasts s next → RowLasts s (given_that test error next)
 lasts_given_that s true error next left = left
 lasts_given_that s false error next left = record { lasts = tt }
 
 -- other elements where no string is
-elements_last : (s : Store) (b : ℕ) (es : List Value) → bytes s b ≡ [] → (c : ℕ) → length (bytes s c) ≤ length (bytes (with_elements s b es) c)
+elements_last : (s : Store) (b : ℕ) (es : List Value) → bytes s b ≡ [] → (c : ℕ)
+    → length (bytes s c) ≤ length (bytes (with_elements s b es) c)
 unfolding bytes with_elements
 elements_last s b es none c = elim (eqb_tells b c) [
-  | inl (_, same) ↦ let empty : length (bytes_in (slice_get s c)) ≡ 0 = ap (λ n. length (bytes_in (slice_get s n))) (sym same) ∙ ap length none in omega (arith, empty)
-  | inr (_, other) ↦ let is = ap (λ o. length (bytes_in o)) (slice_get-set_other s b c (array_object es) other) in omega (arith, is)
+  | inl (_, same) ↦ let empty : length (bytes_in (slice_get s c)) ≡ 0 =
+      ap (λ n. length (bytes_in (slice_get s n))) (sym same)
+      ∙ ap length none in omega (arith, empty)
+  | inr (_, other) ↦ let is = ap (λ o. length (bytes_in o))
+      (slice_get-set_other s b c (array_object es) other) in omega (arith, is)
 ]
 
-elements_changing : (rest : List Value) (s : Store) (b : ℕ) (es : List Value) → bytes s b ≡ [] → RowLasts s (changing rest (with_elements s b es))
+elements_changing : (rest : List Value) (s : Store) (b : ℕ) (es : List Value) → bytes s b ≡ []
+    → RowLasts s (changing rest (with_elements s b es))
 elements_changing rest s b es none = record { lasts = elements_last s b es none }
 
 module _ (h : Heap) (names : List (List ℕ)) (s : Store) (shows : Shows h names s) where
-  array_content : (content : Content) → IsKnownContent h content → (p : PartValue) → array_in (what_of (birth_at h) names content) ≡ Some p → bytes s p.birth ≡ []
+  array_content : (content : Content) → IsKnownContent h content → (p : PartValue)
+      → array_in (what_of (birth_at h) names content) ≡ Some p → bytes s p.birth ≡ []
   unfolding bytes
   array_content (Array part) known p is =
       let same : birth_at h part.address ≡ p.birth = ap (λ (o : Option PartValue). birth_in o) is in
-      ap (λ b. bytes_in (slice_get s b)) (sym same ∙ birth-array h part.address _ known) ∙ ap bytes_in (array-shown h names s shows part.address known.object known.at known.kind_is)
+      ap (λ b. bytes_in (slice_get s b)) (sym same ∙ birth-array h part.address _ known)
+      ∙ ap bytes_in (array-shown h names s shows part.address known.object known.at
+      known.kind_is)
     where
       birth_in : Option PartValue → ℕ
       birth_in (Some q) = q.birth
@@ -96,11 +107,13 @@ module _ (h : Heap) (names : List (List ℕ)) (s : Store) (shows : Shows h names
   array_content (Body _) known p is = cc
 
   -- an array among the operands is no string
-  array_bytes : (w : Word) → IsValue h w → (p : PartValue) → as_array (value_of (birth_at h) names w) ≡ Some p → bytes s p.birth ≡ []
+  array_bytes : (w : Word) → IsValue h w → (p : PartValue)
+      → as_array (value_of (birth_at h) names w) ≡ Some p → bytes s p.birth ≡ []
   unfolding as_array value_of IsKnown
   array_bytes w value p is = array_content (content_in w.0) value.known p is
 
-  pub put_lasts : (operands : List Word) → AreValues h operands → RowLasts s (array_put_row s (values_in h names operands))
+  pub put_lasts : (operands : List Word) → AreValues h operands
+      → RowLasts s (array_put_row s (values_in h names operands))
   put_lasts [] values = record { lasts = tt }
   put_lasts (y ∷ []) values = record { lasts = tt }
   put_lasts (y ∷ k ∷ []) values = record { lasts = tt }
@@ -127,7 +140,8 @@ tried_framed frames (Ok _) = tt
 tried_framed frames (Err (Error error)) = tt
 tried_framed frames (Err (NotMade reason)) = refl
 
-tried_spent : (result : Result Unit Failure) (most : ℕ) → spent (tried result) most ≡ spent result most
+tried_spent : (result : Result Unit Failure) (most : ℕ)
+    → spent (tried result) most ≡ spent result most
 tried_spent (Ok _) most = refl
 tried_spent (Err (Error error)) most = refl
 tried_spent (Err (NotMade reason)) most = refl
@@ -138,12 +152,14 @@ spent_more : (result : Result Unit Failure) (few most : ℕ) → few ≤ most
 spent_more (Ok _) few most more = more
 spent_more (Err failure) few most more = omega arith
 
-pub tried_logs : (result : Result Unit Failure) (few most : ℕ) (old new : Grants) (slot : ℕ) → few ≤ most
+pub tried_logs : (result : Result Unit Failure) (few most : ℕ) (old new : Grants) (slot : ℕ)
+    → few ≤ most
     → KeepsLogsWithin (spent result few) old new slot
     → KeepsLogsWithin (spent (tried result) most) old new slot
 tried_logs result few most old new slot more logs =
     subst (λ (n : ℕ). KeepsLogsWithin n old new slot) (sym (tried_spent result most))
-    (logs_more (spent result few) (spent result most) old new slot (spent_more result few most more) logs)
+    (logs_more (spent result few) (spent result most) old new slot (spent_more result few most more)
+    logs)
 
 module _ (l : Lent) (good : IsGood l) (trial : Trial) (new : Heap) (left : Grants)
     (after : List Word) (keeps : Keeps l.heap new) where
@@ -170,7 +186,8 @@ module _ (l : Lent) (good : IsGood l) (trial : Trial) (new : Heap) (left : Grant
     changed_as : (result : Result Unit Failure) (outcome : Outcome Change) (store : Store)
         → IsShown l store → Leaving (IsUnasked store) outcome → RowLasts store outcome
         → Logs (spent (tried result) (records (scene_of l store)))
-        → Agrees (λ reason change. IsRecordReason reason (count (values_in l.heap l.names l.operands))
+        → Agrees (λ reason change. IsRecordReason reason
+        (count (values_in l.heap l.names l.operands))
         trial.slot l.grants left) result outcome l.names l.heap new l.operands after
         → Meets records (change_effect (scene_of l store) outcome) trial (tried result)
         (scene_of l store) l (over l new left after)
@@ -240,7 +257,8 @@ module _ (l : Lent) (good : IsGood l) (trial : Trial) (new : Heap) (left : Grant
       }))
 
   -- whether it lacks the room or not
-  module _ (change : Change) (store : Store) (shown : IsShown l store) (made : IsMade store change) where
+  module _ (change : Change) (store : Store) (shown : IsShown l store)
+      (made : IsMade store change) where
     abbrev made_scene : Scene
     made_scene = record (scene_of l store) { operands = change.operands; store = change.store }
 
@@ -281,7 +299,8 @@ module _ (l : Lent) (good : IsGood l) (trial : Trial) (new : Heap) (left : Grant
       → Meets no_records (change_effect (scene_of l store) outcome) trial (tried result)
       (scene_of l store) l (over l new left after)
   makes_as result (leaves change) store shown made logs did = record {
-    did = made_as change store shown made.such (lacks_room trial.refused store change.store) result did;
+    did = made_as change store shown made.such (lacks_room trial.refused store change.store) result
+        did;
     logs = logs;
   }
   makes_as (Ok _) (fails raised) store shown made logs did = absurd did
@@ -297,7 +316,8 @@ module _ (l : Lent) (good : IsGood l) (trial : Trial) (new : Heap) (left : Grant
     meets = λ store shown.
         let values = values_in l.heap l.names l.operands in
         makes_as result (row store values) store shown (made store values)
-        (logs_more 0 _ l.grants left trial.slot (omega arith) logs) (did.meets l.names store shown.shows shown.operands);
+        (logs_more 0 _ l.grants left trial.slot (omega arith) logs)
+        (did.meets l.names store shown.shows shown.operands);
     good = changed_good l good new left after keeps ready;
     keeps = keeps;
     stays = stays_as l _ refl refl refl (omega arith);

@@ -69,9 +69,11 @@ module _ (l : Lent) (good : IsGood l) (new : Heap) (left : Grants) (after : List
           shows = shows;
           operands = within;
           dictionaries =
-              AreWithin-kept l.heap new keeps l.names s t lasts l.dictionaries known shown.dictionaries;
+              AreWithin-kept l.heap new keeps l.names s t lasts l.dictionaries known
+              shown.dictionaries;
           frames =
-              frames-within l.heap new keeps size l.names s t lasts l.frames good.frames shown.frames;
+              frames-within l.heap new keeps size l.names s t lasts l.frames good.frames
+              shown.frames;
         };
         lasts = lasts;
       }
@@ -83,8 +85,11 @@ does_agrees : (result : Result Unit ErrorName) (outcome : Outcome (List Value))
     (names : List (List ℕ)) (store : Store) (h : Heap) (before after : List Word)
     → Agrees result outcome (birth_at h) names before after → AreFrom before after
     → AreWithin h names store before → ObservesAs result outcome names store h before after
-does_agrees (Ok _) (leaves left) names store h before after did from within =
-    (did, have_from (IsWithin (birth_at h) names store) before after (plain_within (birth_at h) names store) within from)
+does_agrees (Ok _) (leaves left) names store h before after did from within = (
+  did,
+  have_from (IsWithin (birth_at h) names store) before after
+      (plain_within (birth_at h) names store) within from,
+)
 does_agrees (Ok _) (fails raised) names store h before after did from within = absurd did
 does_agrees (Err error) (leaves left) names store h before after did from within = absurd did
 does_agrees (Err error) (fails raised) names store h before after did from within = did
@@ -112,7 +117,10 @@ module _ (l : Lent) (good : IsGood l) (trial : Trial) (after : List Word) where
   observed_as (Ok _) (fails raised) store shown did = absurd did
   observed_as (Err error) (leaves operands) store shown did = absurd did
   observed_as (Err error) (fails raised) store shown did =
-      record { did = (did.0, ap (over l l.heap l.grants) did.1); logs = logs-same 0 l.grants trial.slot }
+      record {
+        did = (did.0, ap (over l l.heap l.grants) did.1);
+        logs = logs-same 0 l.grants trial.slot;
+      }
 
   observed_here : (row : Store → List Value → Outcome (List Value)) (result : Result Unit ErrorName)
       → Observes row result l.heap l.operands after → IsReady l.heap after
@@ -135,8 +143,10 @@ pub observes_acts : (l : Lent) → IsGood l → (trial : Trial)
     → Observes row result l.heap l.operands after → IsReady l.heap after
     → Acts no_records (reading_row row) trial (made result) l (over l new left after)
 observes_acts l good trial row result new left after same kept did ready =
-    subst (λ h. Acts no_records (reading_row row) trial (made result) l (over l h left after)) (sym same)
-    (subst (λ g. Acts no_records (reading_row row) trial (made result) l (over l l.heap g after)) (sym kept)
+    subst (λ h. Acts no_records (reading_row row) trial (made result) l (over l h left after))
+    (sym same)
+    (subst (λ g. Acts no_records (reading_row row) trial (made result) l (over l l.heap g after))
+    (sym kept)
     (observed_here l good trial after row result did ready))
 
 -- one on operands alone
@@ -147,7 +157,8 @@ pub does_acts : (l : Lent) → IsGood l → (trial : Trial) (row : List Value �
 does_acts l good trial row result after did from =
     let acts = observed_here l good trial after (λ store. row) result
     (does_observes row result l.heap l.operands after did from)
-    (ready_from l.heap l.operands after (record { sound = good.sound; values = good.operands }) from) in
+    (ready_from l.heap l.operands after (record { sound = good.sound; values = good.operands })
+    from) in
     record {
       meets = acts.meets;
       good = acts.good;
@@ -159,7 +170,8 @@ does_acts l good trial row result after did from =
 
 -- ---- operators that push frames
 
-module _ (l : Lent) (good : IsGood l) (operands : List Word) (frames : List Frame) (trial : Trial) where
+module _ (l : Lent) (good : IsGood l) (operands : List Word) (frames : List Frame)
+    (trial : Trial) where
   abbrev with_stacks : Lent
   with_stacks = record l { operands = operands; frames = frames }
 
@@ -167,9 +179,11 @@ module _ (l : Lent) (good : IsGood l) (operands : List Word) (frames : List Fram
       → IsShown l store
       → ControlsAs result outcome l.heap l.names store (values_in l.heap l.names l.dictionaries)
       (controls.stacks l.operands l.frames) (controls.stacks operands frames)
-      → Meets no_records (effect_by quiet outcome) trial (made result) (scene_of l store) l with_stacks
+      → Meets no_records (effect_by quiet outcome) trial (made result) (scene_of l store) l
+      with_stacks
   controlled_as (Ok _) (leaves scene) store shown did =
-      subst (λ (s : Scene). Meets no_records (quiet s) trial (Ok tt) (scene_of l store) l with_stacks) did.0
+      subst (λ (s : Scene). Meets no_records (quiet s) trial (Ok tt) (scene_of l store) l
+      with_stacks) did.0
       (made_meets no_records trial (scene_of l store) l with_stacks (scene_of with_stacks store) []
       (lacks_for_same trial.refused store)
       (record {
@@ -186,7 +200,11 @@ module _ (l : Lent) (good : IsGood l) (operands : List Word) (frames : List Fram
   controlled_as (Ok _) (fails raised) store shown did = absurd did
   controlled_as (Err error) (leaves scene) store shown did = absurd did
   controlled_as (Err error) (fails raised) store shown did = record {
-    did = (did.0, ap (λ (s : controls.Stacks). record l { operands = s.operands; frames = s.frames }) did.1);
+    did = (
+      did.0,
+      ap (λ (s : controls.Stacks). record l
+          { operands = s.operands; frames = s.frames }) did.1,
+    );
     logs = logs-same 0 l.grants trial.slot;
   }
 

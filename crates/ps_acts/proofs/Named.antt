@@ -8,7 +8,8 @@ use Rattle.ps_acts.specs.Acts.{Acts}
 use Rattle.ps_acts.specs.Operators.{records_of, row_now}
 
 abbrev Does : Operator → Trial → Result Unit Break → (old new : Lent) → Type 0
-Does operator trial result old new = Acts (records_of operator) (row_now operator) trial result old new
+Does operator trial result old new =
+    Acts (records_of operator) (row_now operator) trial result old new
 
 pub named : {operator which : Operator} {trial : Trial} {result other : Result Unit Break}
     {old new : Lent} → operator ≡ which → result ≡ other

@@ -83,7 +83,8 @@ module _ (l : Lent) where
     }
       where
         lacking : (length_before text : ℕ) → l.room ≡ capacity - length_before
-            → capacity < length_before + (text + 1) → length (line plain_text store value) ≡ text + 1
+            → capacity < length_before + (text + 1)
+            → length (line plain_text store value) ≡ text + 1
             → l.room < length (line plain_text store value)
         lacking before text room_is less long = omega (arith, room_is, less, long)
 

@@ -93,7 +93,8 @@ module _ (operator : Operator) (trial : Trial) (l : Lent) (store : Store) where
   -- it is not made
   noted_reason : (new : Lent) (names : ℕ) (reason : Reason)
       → IsReason (needs_of_refused names) trial.slot l new reason
-      → IsReason (record (needs_of_refused names) { records = most_records }) trial.slot l new reason
+      → IsReason (record (needs_of_refused names) { records = most_records }) trial.slot l new
+      reason
   noted_reason new zero LogFull why = let less = why.1 in absurd (omega (arith, less))
   noted_reason new zero LogClosed why = let some = why.0 in absurd (omega (arith, some))
   noted_reason new zero (NeedSpace words) why = why
@@ -286,9 +287,11 @@ module _ (operator : Operator) (trial : Trial) (l mid : Lent) (error : ErrorName
         let printed_same : mid.printed ≡ l.printed = ap (λ (m : Lent). m.printed) same in
         let note = notes.did.meets mid.names store acts.good.first left.shown.shows in
         let kept : Scene = record (scene_of l store) { names = names } in
-        let next = noted_left mid acts.good heap grants notes.keeps store _ kept left note.0 note.1 in
+        let next =
+        noted_left mid acts.good heap grants notes.keeps store _ kept left note.0 note.1 in
         record {
-          after = with_error error (command_of operator) (birth_at mid.heap mid.error_dictionary) store;
+          after =
+              with_error error (command_of operator) (birth_at mid.heap mid.error_dictionary) store;
           shown = next.shown;
           lasts = next.lasts;
           is = λ machine printed address.
@@ -310,7 +313,8 @@ module _ (operator : Operator) (trial : Trial) (l mid : Lent) (error : ErrorName
         → TurnsIn operator trial l store (Ok (Breaks Stop)) effect lacking noted
     noted_as notes (makes scene output) false enough did = absurd did
     noted_as notes (makes scene output) true enough did = record {
-      did = noted_turn notes scene.names VmError _ did.1.is did.1.left did.0 (λ machine. rw enough refl);
+      did = noted_turn notes scene.names VmError _ did.1.is did.1.left did.0
+          (λ machine. rw enough refl);
       logs = logs_then most_records notes.logs;
     }
     noted_as notes (unwinds for scene) lacking enough did = absurd did
@@ -327,7 +331,8 @@ module _ (operator : Operator) (trial : Trial) (l mid : Lent) (error : ErrorName
     same_noted names same kept none =
         ap (λ (h : Heap). record mid { heap = h; grants = grants }) kept
         ∙ (ap (λ (m : Lent). record m { grants = grants }) same
-        ∙ ap (λ (ns : List (List ℕ)). record l { grants = grants; room = mid.room; names = ns }) none)
+        ∙ ap (λ (ns : List (List ℕ)). record l { grants = grants; room = mid.room; names = ns })
+        none)
 
     closed_is : (b : Bool) → mid.grants.closed trial.slot ≡ b → l.grants.closed trial.slot ≡ b
     closed_is b is = ap (λ (c : ℕ → Bool). c trial.slot) (sym acts.logs.closed) ∙ is
@@ -350,7 +355,10 @@ module _ (operator : Operator) (trial : Trial) (l mid : Lent) (error : ErrorName
     not_noted_as (NeedSpace words) notes (raises raised) lacking did = absurd notes.did
     not_noted_as LogFull notes (makes scene output) true did = elim did.1.may_note [
       | inl none ↦ record {
-        did = ((closed_is false notes.did.0, notes.did.1), same_noted scene.names did.1.is notes.did.2 none);
+        did = (
+          (closed_is false notes.did.0, notes.did.1),
+          same_noted scene.names did.1.is notes.did.2 none,
+        );
         logs = logs_then 0 notes.logs;
       }
       | inr granted ↦
@@ -361,7 +369,10 @@ module _ (operator : Operator) (trial : Trial) (l mid : Lent) (error : ErrorName
     ]
     not_noted_as LogClosed notes (makes scene output) true did = elim did.1.may_note [
       | inl none ↦ record {
-        did = ((omega arith, closed_is true notes.did.0), same_noted scene.names did.1.is notes.did.1 none);
+        did = (
+          (omega arith, closed_is true notes.did.0),
+          same_noted scene.names did.1.is notes.did.1 none,
+        );
         logs = logs_then 0 notes.logs;
       }
       | inr granted ↦ absurd (true≢false (sym notes.did.0 ∙ granted.1))

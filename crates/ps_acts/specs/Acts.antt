@@ -149,8 +149,8 @@ OnNotMade (Err (NotMade reason)) P = P
 OnNotMade result P = Unit {0}
 
 -- of a store that is shown: the effect came about, and by no more records than it asks for
-pub record Meets (records : Scene → ℕ) (effect : Effect) (trial : Trial) (result : Result Unit Break)
-    (before : Scene) (old new : Lent) : Type 0 where
+pub record Meets (records : Scene → ℕ) (effect : Effect) (trial : Trial)
+    (result : Result Unit Break) (before : Scene) (old new : Lent) : Type 0 where
   pub did : ActsAs (needs_as (records before) before effect (lacks trial.refused before effect))
       trial.slot before result effect (lacks trial.refused before effect) old new
   pub logs : KeepsLogsWithin (spent result (records before)) old.grants new.grants trial.slot

@@ -368,7 +368,7 @@ fn expect_row<M: Memory>(
     };
     let word = *word;
     let mut plain = Vec::new(alloc);
-    assert!(rt; append_plain(memory, names, word, &mut plain).is_ok());
+    assert!(rt; append_plain(memory, names, word, b"", &mut plain).is_ok());
     assert_eq!(rt; plain.as_slice(), row.plain);
     let mut full = Vec::new(alloc);
     assert!(rt; append_full(memory, names, word, &mut full).is_ok());

@@ -1,5 +1,5 @@
 // Pieces of texts behind an output: whole, or as far as they fit before an end.
-ghost use Rattle.std.specs.Prelude.{◌≡◌, ◌<◌, ◌≤◌, ◌++◌, take, length, codes, if◌then◌else◌, OnOk, OnErr, vec_capacity};
+ghost use Rattle.std.specs.Prelude.{◌≡◌, ◌+◌, ◌<◌, ◌≤◌, ◌++◌, take, length, codes, if◌then◌else◌, OnOk, OnErr, vec_capacity};
 ghost use Rattle.std.specs.Fmt.{signed_decimal};
 ghost use Rattle.ps_language.specs.Access as language;
 ghost use Rattle.ps_language.specs.OperatorNames as operators;
@@ -43,6 +43,34 @@ pub fn append(bytes: &[u8], output: &mut Vec<u8>) -> Result<(), AllocError>
     ensures err { OnErr result (output.new.items ≡ output.old.items) }
 {
     output.extend_from_slice(bytes)
+}
+
+/// Appends bytes for which there is room.
+#[inline]
+pub(crate) fn add(bytes: &[u8], output: &mut Vec<u8>)
+    requires { length output.old.items + length bytes.now ≤ vec_capacity output.old }
+    ensures items { output.new.items ≡ output.old.items ++ bytes.now }
+    ensures capacity { vec_capacity output.old ≤ vec_capacity output.new }
+{
+    let _ = output.extend_from_slice(bytes);
+}
+
+/// Appends bytes and what ends them, by one growth; where that is refused nothing changes.
+#[inline]
+pub fn append_ended(bytes: &[u8], ending: &[u8], output: &mut Vec<u8>) -> Result<(), AllocError>
+    requires short { length ending.now ≤ 1 }
+    ensures capacity { vec_capacity output.old ≤ vec_capacity output.new }
+    ensures ok { OnOk result (output.new.items ≡ output.old.items ++ (bytes.now ++ ending.now)) }
+    ensures full { OnErr result
+        (vec_capacity output.old < length (output.old.items ++ (bytes.now ++ ending.now))) }
+    ensures front { take (length output.old.items) output.new.items ≡ output.old.items }
+    ensures err { OnErr result (output.new.items ≡ output.old.items) }
+    ensures stays { OnErr result (vec_capacity output.new ≡ vec_capacity output.old) }
+{
+    output.reserve(bytes.len() + ending.len())?;
+    add(bytes, output);
+    add(ending, output);
+    Ok(())
 }
 
 /// Appends as many of the bytes as fit before the end, a length of the output. Where the growth is refused nothing changes.

@@ -43,7 +43,8 @@ fn end_line(start: usize, output: &mut Vec<u8>) -> Result<(), AllocError>
 
 /// Appends a text as `=` shows it and the end of its line. The memory is only read.
 ///
-/// `AllocError`: the output has no room for the line, and its growth was refused; it is as it was.
+/// `AllocError`: the output has no room for the line, and its one growth was refused; it is as it
+/// was, and takes no more.
 pub fn append_plain_line<M: Memory>(
     memory: &mut M,
     names: &Names,
@@ -59,10 +60,9 @@ pub fn append_plain_line<M: Memory>(
     ensures full { (s : Store) → Shows (M.heap memory.old) names.now s → IsWithin (birth_at (M.heap memory.old)) names.now s word → OnErr result (vec_capacity output.old < length (output.old.items ++ line plain_text s (value_of (birth_at (M.heap memory.old)) names.now word))) }
     ensures front { take (length output.old.items) output.new.items ≡ output.old.items }
     ensures err { OnErr result (output.new.items ≡ output.old.items) }
+    ensures stays { OnErr result (vec_capacity output.new ≡ vec_capacity output.old) }
 {
-    let start = output.len();
-    append_plain(memory, names, word, output)?;
-    end_line(start, output)
+    append_plain(memory, names, word, b"\n", output)
 }
 
 /// Appends a text as `==` shows it and the end of its line. The memory is only read.

@@ -10,7 +10,7 @@ ghost use Rattle.ps_mem.specs.References.{IsKnownContent, StandsAs, words_for};
 ghost use Rattle.ps_mem.specs.Meaning.{what_of, value_of, part_of};
 ghost use Rattle.ps_mem.specs.Shows.{IsValue, IsSound, IsWithinContent, IsWithin, Shows};
 
-use crate::appends::{append, boolean_text, is_readable};
+use crate::appends::{add, append_ended, boolean_text, is_readable};
 use itoa::Buffer;
 use ps_language::kinds::Kind;
 use ps_mem::Memory;
@@ -24,16 +24,20 @@ use std::alloc::AllocError;
 /// The text of what has none.
 pub const NO_TEXT: &[u8] = b"--nostringval--";
 
-/// Appends an integer in decimal; where the growth is refused nothing changes.
-fn append_decimal(number: i32, output: &mut Vec<u8>) -> Result<(), AllocError>
+/// Appends an integer in decimal and what ends it; where the growth is refused nothing changes.
+fn append_decimal(number: i32, ending: &[u8], output: &mut Vec<u8>) -> Result<(), AllocError>
+    requires short { length ending.now ≤ 1 }
     ensures capacity { vec_capacity output.old ≤ vec_capacity output.new }
-    ensures ok { OnOk result (output.new.items ≡ output.old.items ++ signed_decimal number) }
-    ensures full { OnErr result (vec_capacity output.old < length (output.old.items ++ signed_decimal number)) }
+    ensures ok { OnOk result
+        (output.new.items ≡ output.old.items ++ (signed_decimal number ++ ending.now)) }
+    ensures full { OnErr result (vec_capacity output.old
+        < length (output.old.items ++ (signed_decimal number ++ ending.now))) }
     ensures front { take (length output.old.items) output.new.items ≡ output.old.items }
     ensures err { OnErr result (output.new.items ≡ output.old.items) }
+    ensures stays { OnErr result (vec_capacity output.new ≡ vec_capacity output.old) }
 {
     let mut buffer = Buffer::new();
-    append(buffer.format(number).as_bytes(), output)
+    append_ended(buffer.format(number).as_bytes(), ending, output)
 }
 
 /// Adds a byte where there is room for it.
@@ -46,103 +50,144 @@ fn add_byte(byte: u8, output: &mut Vec<u8>)
     let _ = output.push(byte);
 }
 
-/// Appends the bytes of a part of a string, which grows the output once. Where the growth is refused nothing changes.
+/// Appends the bytes of a part of a string and what ends them, by one growth. Where that is refused
+/// nothing changes.
 fn append_part<M: Memory>(
     memory: &mut M,
     part: Part,
+    ending: &[u8],
     output: &mut Vec<u8>,
 ) -> Result<(), AllocError>
     requires sound { IsSound (M.heap memory.old) }
-    requires known { StandsAs (M.heap memory.old) Kind.Text part.address (words_for (part.offset + part.length)) }
+    requires known { StandsAs (M.heap memory.old) Kind.Text part.address
+        (words_for (part.offset + part.length)) }
+    requires short { length ending.now ≤ 1 }
     ensures heap { M.heap memory.new ≡ M.heap memory.old }
     ensures grants { M.grants memory.new ≡ M.grants memory.old }
     ensures capacity { vec_capacity output.old ≤ vec_capacity output.new }
-    ensures ok { (names : List (List ℕ)) (s : Store) → Shows (M.heap memory.old) names s → part.offset + part.length ≤ length (bytes s (birth_at (M.heap memory.old) part.address)) → OnOk result (output.new.items ≡ output.old.items ++ part_bytes s (part_of (birth_at (M.heap memory.old)) part)) }
-    ensures full { OnErr result (vec_capacity output.old < length output.old.items + part.length) }
+    ensures ok { (names : List (List ℕ)) (s : Store) → Shows (M.heap memory.old) names s
+        → part.offset + part.length ≤ length (bytes s (birth_at (M.heap memory.old) part.address))
+        → OnOk result (output.new.items ≡ output.old.items
+        ++ (part_bytes s (part_of (birth_at (M.heap memory.old)) part) ++ ending.now)) }
+    ensures full { OnErr result (vec_capacity output.old
+        < length output.old.items + (part.length + length ending.now)) }
     ensures front { take (length output.old.items) output.new.items ≡ output.old.items }
     ensures err { OnErr result (output.new.items ≡ output.old.items) }
+    ensures stays { OnErr result (vec_capacity output.new ≡ vec_capacity output.old) }
 {
-    output.reserve(part.length as usize)?;
+    output.reserve(part.length as usize + ending.len())?;
     for index in 0..part.length {
         let next = byte(memory, part, index);
         add_byte(next, output);
     }
+    add(ending, output);
     Ok(())
 }
 
-/// Appends the bytes of a part of a string; of what can't be read, `NO_TEXT`. Where the growth is refused nothing changes.
+/// Appends the bytes of a part of a string, or `NO_TEXT` for what can't be read, and what ends them.
+/// Where the growth is refused nothing changes.
 fn append_text<M: Memory>(
     memory: &mut M,
     part: Part,
+    ending: &[u8],
     output: &mut Vec<u8>,
 ) -> Result<(), AllocError>
     requires sound { IsSound (M.heap memory.old) }
-    requires known { StandsAs (M.heap memory.old) Kind.Text part.address (words_for (part.offset + part.length)) }
+    requires known { StandsAs (M.heap memory.old) Kind.Text part.address
+        (words_for (part.offset + part.length)) }
+    requires short { length ending.now ≤ 1 }
     ensures heap { M.heap memory.new ≡ M.heap memory.old }
     ensures grants { M.grants memory.new ≡ M.grants memory.old }
     ensures capacity { vec_capacity output.old ≤ vec_capacity output.new }
-    ensures ok { (names : List (List ℕ)) (s : Store) → Shows (M.heap memory.old) names s → part.offset + part.length ≤ length (bytes s (birth_at (M.heap memory.old) part.address)) → OnOk result (output.new.items ≡ output.old.items ++ plain_text_in s (string_value (part_of (birth_at (M.heap memory.old)) part))) }
-    ensures full { (names : List (List ℕ)) (s : Store) → Shows (M.heap memory.old) names s → part.offset + part.length ≤ length (bytes s (birth_at (M.heap memory.old) part.address)) → OnErr result (vec_capacity output.old < length (output.old.items ++ plain_text_in s (string_value (part_of (birth_at (M.heap memory.old)) part)))) }
+    ensures ok { (names : List (List ℕ)) (s : Store) → Shows (M.heap memory.old) names s
+        → part.offset + part.length ≤ length (bytes s (birth_at (M.heap memory.old) part.address))
+        → OnOk result (output.new.items ≡ output.old.items ++ (plain_text_in s
+        (string_value (part_of (birth_at (M.heap memory.old)) part)) ++ ending.now)) }
+    ensures full { (names : List (List ℕ)) (s : Store) → Shows (M.heap memory.old) names s
+        → part.offset + part.length ≤ length (bytes s (birth_at (M.heap memory.old) part.address))
+        → OnErr result (vec_capacity output.old < length (output.old.items ++ (plain_text_in s
+        (string_value (part_of (birth_at (M.heap memory.old)) part)) ++ ending.now))) }
     ensures front { take (length output.old.items) output.new.items ≡ output.old.items }
     ensures err { OnErr result (output.new.items ≡ output.old.items) }
+    ensures stays { OnErr result (vec_capacity output.new ≡ vec_capacity output.old) }
 {
     if !is_readable(part.access) {
-        return append(NO_TEXT, output);
+        return append_ended(NO_TEXT, ending, output);
     }
-    append_part(memory, part, output)
+    append_part(memory, part, ending, output)
 }
 
-/// Appends the text of a content as `=` shows it. Where the growth is refused nothing changes.
+/// Appends the text of a content as `=` shows it, and what ends it. Where the growth is refused
+/// nothing changes.
 fn append_content<M: Memory>(
     memory: &mut M,
     names: &Names,
     content: Content,
+    ending: &[u8],
     output: &mut Vec<u8>,
 ) -> Result<(), AllocError>
     requires sound { IsSound (M.heap memory.old) }
     requires known { IsKnownContent (M.heap memory.old) content }
+    requires short { length ending.now ≤ 1 }
     ensures heap { M.heap memory.new ≡ M.heap memory.old }
     ensures grants { M.grants memory.new ≡ M.grants memory.old }
     ensures capacity { vec_capacity output.old ≤ vec_capacity output.new }
-    ensures ok { (s : Store) → Shows (M.heap memory.old) names.now s → IsWithinContent (birth_at (M.heap memory.old)) names.now s content → OnOk result (output.new.items ≡ output.old.items ++ plain_text_in s (what_of (birth_at (M.heap memory.old)) names.now content)) }
-    ensures full { (s : Store) → Shows (M.heap memory.old) names.now s → IsWithinContent (birth_at (M.heap memory.old)) names.now s content → OnErr result (vec_capacity output.old < length (output.old.items ++ plain_text_in s (what_of (birth_at (M.heap memory.old)) names.now content))) }
+    ensures ok { (s : Store) → Shows (M.heap memory.old) names.now s
+        → IsWithinContent (birth_at (M.heap memory.old)) names.now s content
+        → OnOk result (output.new.items ≡ output.old.items ++ (plain_text_in s
+        (what_of (birth_at (M.heap memory.old)) names.now content) ++ ending.now)) }
+    ensures full { (s : Store) → Shows (M.heap memory.old) names.now s
+        → IsWithinContent (birth_at (M.heap memory.old)) names.now s content
+        → OnErr result (vec_capacity output.old < length (output.old.items ++ (plain_text_in s
+        (what_of (birth_at (M.heap memory.old)) names.now content) ++ ending.now))) }
     ensures front { take (length output.old.items) output.new.items ≡ output.old.items }
     ensures err { OnErr result (output.new.items ≡ output.old.items) }
+    ensures stays { OnErr result (vec_capacity output.new ≡ vec_capacity output.old) }
 {
     match content {
-        Content::Integer(number) => append_decimal(number, output),
-        Content::Boolean(truth) => append(boolean_text(truth), output),
-        Content::Name(number) => append(names.text(NameId(number)), output),
-        Content::Operator(operator) => append(operator_name(operator), output),
-        Content::Text(part) => append_text(memory, part, output),
+        Content::Integer(number) => append_decimal(number, ending, output),
+        Content::Boolean(truth) => append_ended(boolean_text(truth), ending, output),
+        Content::Name(number) => append_ended(names.text(NameId(number)), ending, output),
+        Content::Operator(operator) => append_ended(operator_name(operator), ending, output),
+        Content::Text(part) => append_text(memory, part, ending, output),
         Content::Null
         | Content::Mark
         | Content::Array(_)
         | Content::Dictionary(_)
         | Content::Lock(_)
         | Content::Condition(_)
-        | Content::Body(_) => append(NO_TEXT, output),
+        | Content::Body(_) => append_ended(NO_TEXT, ending, output),
     }
 }
 
-/// Appends the text of a value as `=` shows it. The memory is only read.
+/// Appends the text of a value as `=` shows it and what ends it, one byte at most. The memory is
+/// only read.
 ///
-/// `AllocError`: the output has no room for the text, and its growth was refused; it is as it was.
+/// `AllocError`: the output has no room for both, and its one growth was refused; it is as it was.
 pub fn append_plain<M: Memory>(
     memory: &mut M,
     names: &Names,
     word: Word,
+    ending: &[u8],
     output: &mut Vec<u8>,
 ) -> Result<(), AllocError>
     requires sound { IsSound (M.heap memory.old) }
     requires held { IsValue (M.heap memory.old) word }
+    requires short { length ending.now ≤ 1 }
     ensures heap { M.heap memory.new ≡ M.heap memory.old }
     ensures grants { M.grants memory.new ≡ M.grants memory.old }
     ensures capacity { vec_capacity output.old ≤ vec_capacity output.new }
-    ensures ok { (s : Store) → Shows (M.heap memory.old) names.now s → IsWithin (birth_at (M.heap memory.old)) names.now s word → OnOk result (output.new.items ≡ output.old.items ++ plain_text s (value_of (birth_at (M.heap memory.old)) names.now word)) }
-    ensures full { (s : Store) → Shows (M.heap memory.old) names.now s → IsWithin (birth_at (M.heap memory.old)) names.now s word → OnErr result (vec_capacity output.old < length (output.old.items ++ plain_text s (value_of (birth_at (M.heap memory.old)) names.now word))) }
+    ensures ok { (s : Store) → Shows (M.heap memory.old) names.now s
+        → IsWithin (birth_at (M.heap memory.old)) names.now s word
+        → OnOk result (output.new.items ≡ output.old.items ++ (plain_text s
+        (value_of (birth_at (M.heap memory.old)) names.now word) ++ ending.now)) }
+    ensures full { (s : Store) → Shows (M.heap memory.old) names.now s
+        → IsWithin (birth_at (M.heap memory.old)) names.now s word
+        → OnErr result (vec_capacity output.old < length (output.old.items ++ (plain_text s
+        (value_of (birth_at (M.heap memory.old)) names.now word) ++ ending.now))) }
     ensures front { take (length output.old.items) output.new.items ≡ output.old.items }
     ensures err { OnErr result (output.new.items ≡ output.old.items) }
+    ensures stays { OnErr result (vec_capacity output.new ≡ vec_capacity output.old) }
 {
-    append_content(memory, names, word.content(), output)
+    append_content(memory, names, word.content(), ending, output)
 }

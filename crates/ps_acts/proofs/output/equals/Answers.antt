@@ -24,7 +24,8 @@ append_plain_line-requires-clause-held g c =
 pub returns-in-Ok : goal.returns-in-Ok
 returns-in-Ok g c =
     let births = birth_at (g.M.Memory.heap c.args.memory.now) in
-    rw (c.discard.ensures, c.append_plain_line.ensures.heap, c.append_plain_line.ensures.grants) (record {
+    rw (c.discard.ensures, c.append_plain_line.ensures.heap, c.append_plain_line.ensures.grants)
+    (record {
       acts = λ trial. left_acts _ trial _ _ c.requires.good _ (good_drop _ _ _ 1 c.requires.good)
           (keeps-same _)
           (stays_as _ _ refl refl refl (grown _ _ _ _ c.append_plain_line.ensures.capacity
@@ -36,9 +37,11 @@ returns-in-Ok g c =
 pub returns-in-Err : goal.returns-in-Err
 returns-in-Err g c =
     let births = birth_at (g.M.Memory.heap c.args.memory.now) in
-    rw (c.append_plain_line.ensures.heap, c.append_plain_line.ensures.grants, c.in-Err.ensures.err) (record {
+    rw (c.append_plain_line.ensures.heap, c.append_plain_line.ensures.grants, c.in-Err.ensures.err)
+    (record {
       acts = λ trial. wanting_acts _ trial _ _ c.requires.good Memory _
           (omega (arith, c.append_plain_line.ensures.capacity))
-          (equals_wants _ trial _ c.in-Some.ensures _ _ refl (λ store shown. c.in-Err.ensures.full store
+          (equals_wants _ trial _ c.in-Some.ensures _ _ refl
+          (λ store shown. c.in-Err.ensures.full store
           shown.shows (first_held (IsWithin births _ store) _ shown.operands _ c.in-Some.ensures)));
     })

@@ -1,4 +1,4 @@
-use Rattle.std.proofs.Common.{◌≡◌, ◌+◌, ◌≤◌, ◌++◌, [], ◌∷◌, List, ℕ, length, take, Some, ap, ◌∙◌, subst, arith}
+use Rattle.std.proofs.Common.{◌≡◌, ◌+◌, ◌≤◌, ◌++◌, [], ◌∷◌, List, ℕ, length, take, Some, ap, append_assoc, ◌∙◌, subst, arith}
 use Rattle.std.specs.Prelude.{slice_get}
 use Rattle.std.proofs.Math.Seq.{take-append_seam}
 use Rattle.std.proofs.lemmas.List.{length_push}
@@ -45,5 +45,11 @@ pub returns-clause-ok : goal.returns-clause-ok
 returns-clause-ok g c = λ names s shows within.
     let p = c.args.part in
     let b = birth_at (g.M.Memory.heap c.args.memory.now) in
-    bytes_end _ c.loop-index.output.items _ (part_end (bytes s (b p.address)) p.offset p.length c.loop-index.index c.loop-index-test.false) (c.loop-index.invariant.rest names s shows within)
-    ∙ ap (λ xs. xs ++ part_bytes s (part_of b p)) c.in_ok-reserve.ensures.items
+    let text = part_bytes s (part_of b p) in
+    let before = c.args.output.now.items in
+    let written = bytes_end _ c.loop-index.output.items _
+    (part_end (bytes s (b p.address)) p.offset p.length c.loop-index.index c.loop-index-test.false)
+    (c.loop-index.invariant.rest names s shows within)
+    ∙ ap (λ xs. xs ++ text) c.in_ok-reserve.ensures.items in
+    c.add.ensures.items ∙ ap (λ xs. xs ++ c.args.ending.now) written
+    ∙ append_assoc before text c.args.ending.now

@@ -16,7 +16,8 @@ invariant-loop-index g l =
       grants : g.M.Memory.grants l.memory ≡ g.M.Memory.grants l.initial.memory;
       front : take (length l.initial.output.items) l.output.items ≡ l.initial.output.items;
       capacity : vec_capacity l.initial.output ≤ vec_capacity l.output;
-      room : vec_len l.output + (l.part.length - l.index) ≤ vec_capacity l.output;
+      room : vec_len l.output + ((l.part.length - l.index) + length l.ending)
+          ≤ vec_capacity l.output;
       rest : (names : List (List ℕ)) (s : Store) → Shows (heap_in l.initial.memory) names s → l.part.offset + l.part.length ≤ length (bytes s (birth_at (heap_in l.initial.memory) l.part.address)) →
           l.output.items ++ drop l.index (part_bytes s (part_of (birth_at (heap_in l.initial.memory)) l.part))
           ≡ l.initial.output.items ++ part_bytes s (part_of (birth_at (heap_in l.initial.memory)) l.part);
