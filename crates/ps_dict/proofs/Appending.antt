@@ -1,17 +1,15 @@
 -- A pair more at the end of a dictionary, and its position in the index.
-use Rattle.std.proofs.Common.{◌≡◌, ◌≢◌, ℕ, zero, suc, ◌+◌, ◌-◌, ◌*◌, ◌%◌, ◌^◌, ◌<◌, ◌≤◌, true, List, [], ◌∷◌, ◌++◌, length, map, take, drop, replicate, Option, Some, None, refl, sym, ap, ◌∙◌, arith, subst, length-append, length-drop}
-use Rattle.std.specs.Prelude.{pos, slice_get, slice_set}
-use Rattle.std.proofs.lemmas.List.{length-map, length-replicate}
+use Rattle.std.proofs.Common.{◌≡◌, ℕ, zero, suc, ◌+◌, ◌*◌, ◌%◌, ◌≤◌, List, [], ◌∷◌, ◌++◌, length, map, take, drop, replicate, Option, Some, None, refl, sym, ap, ◌∙◌, arith}
+use Rattle.std.specs.Prelude.{slice_set}
+use Rattle.std.proofs.lemmas.List.{length-map}
 use Rattle.ps_language.specs.Access.{splice}
 use Rattle.ps_word.specs.declared.words.Word.{Word}
-use Rattle.ps_word.specs.declared.values.Value.{Value as WordValue}
 use Rattle.ps_word.specs.Format.{IsWord, packed, value_in}
-use Rattle.ps_mem.specs.Heap.{Heap, zero_word}
-use Rattle.ps_mem.specs.Shows.{IsNatural, IsValue, words_of_pairs}
-use Rattle.ps_mem.specs.Index.{pairs_of_words, hash_of, hashes_of, has_free, placed, placed_all, index_of, index_word, index_words}
-use Rattle.ps_mem.proofs.Lists.{splice-suc, splice-zero, splice-one, drop-splice}
+use Rattle.ps_mem.specs.Shows.{IsNatural, words_of_pairs}
+use Rattle.ps_mem.specs.Index.{pairs_of_words, hash_of, hashes_of, placed, placed_all, index_of, index_word, index_words}
+use Rattle.ps_mem.proofs.Lists.{splice-suc, splice-zero}
 use Rattle.ps_dict.proofs.Pairs.{pairs-of_words_of_pairs, take-front_all, length-words_of_pairs}
-use Rattle.ps_dict.proofs.IndexPlaces.{IsIndex, is-index, free}
+use Rattle.ps_dict.proofs.IndexPlaces.{is-index}
 
 -- ---- the index with one position more
 

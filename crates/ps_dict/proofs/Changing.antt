@@ -1,10 +1,9 @@
 -- A store into the fields of a dictionary, and one into its body.
 use Rattle.std.proofs.Common.{◌≡◌, ◌≢◌, ℕ, ◌+◌, ◌*◌, ◌-◌, ◌≤◌, List, [], ◌∷◌, ◌++◌, length, map, take, replicate, Some, refl, sym, ap, ◌∙◌, arith, subst}
 use Rattle.std.proofs.Common.{zero, suc}
-use Rattle.std.proofs.lemmas.List.{length-map}
 use Rattle.std.specs.Prelude.{slice_get, slice_set}
 use Rattle.ps_language.specs.declared.kinds.Kind.TheVariants.{Dictionary as DictionaryKind, Body as BodyKind}
-use Rattle.ps_language.specs.Value.{Value, Dictionary as DictionaryValue, Object, dictionary_object, Store}
+use Rattle.ps_language.specs.Value.{Dictionary as DictionaryValue, Object, dictionary_object, Store}
 use Rattle.std.proofs.Common.{inl, inr}
 use Rattle.std.proofs.lemmas.Bool.{cases_eq}
 use Rattle.ps_language.specs.Access.{bytes, bytes_in, splice, dictionary_at, dictionary_object_in, with_dictionary}
@@ -13,16 +12,15 @@ use Rattle.ps_word.specs.Format.{access_number}
 use Rattle.ps_mem.specs.Heap.{Heap, Standing, object_at, birth_at, fields_of, fields_at, stored, zero_word}
 use Rattle.ps_mem.specs.Keeps.{Keeps}
 use Rattle.ps_mem.specs.References.{StandsAs, AreKnown}
-use Rattle.ps_mem.specs.Shows.{AreValues, DictionaryFields, AreFields, dictionary_fields, IsSound, AreWithin, words_of_pairs, pair_of, ShowsDictionary, Shows}
-use Rattle.ps_mem.proofs.Lists.{slice_get-set_same, slice_get-set_other, length-splice}
+use Rattle.ps_mem.specs.Shows.{DictionaryFields, AreFields, dictionary_fields, IsSound, AreWithin, words_of_pairs, pair_of, ShowsDictionary, Shows}
+use Rattle.ps_mem.proofs.Lists.{slice_get-set_same, slice_get-set_other}
 use Rattle.ps_mem.proofs.HeapLemmas.{object_at-stored_same, object_at-stored_other, birth_at-stored}
-use Rattle.ps_mem.proofs.KeepsLemmas.{Keeps-stored, known_values}
+use Rattle.ps_mem.proofs.KeepsLemmas.{Keeps-stored}
 use Rattle.ps_mem.proofs.StoreLemmas.{IsSound-stored_object}
-use Rattle.ps_mem.proofs.StoreShows.{Shows-stored_dictionary, Shows-stored_body}
-use Rattle.ps_dict.specs.Places.{natural_in, body_in, count_at, capacity_at, body_at, pairs_at}
+use Rattle.ps_mem.proofs.StoreShows.{Shows-stored_dictionary}
+use Rattle.ps_dict.specs.Places.{natural_in, body_in, count_at, capacity_at, body_at}
 use Rattle.ps_mem.specs.Index.{pairs_of_words, index_words}
-use Rattle.ps_dict.proofs.Pairs.{pairs-of_words_of_pairs, take-front_all}
-use Rattle.ps_dict.proofs.Shapes.{count-in, capacity-in, body-in, fields-dictionary, birth-dictionary, dictionary_is_no_body, shape, count-is, capacity-is, access-is, body-is, four, body-stands, body-room, there, capacity-shown, access-shown}
+use Rattle.ps_dict.proofs.Shapes.{count-in, capacity-in, body-in, fields-dictionary, birth-dictionary, dictionary_is_no_body, four, body-stands, there}
 
 -- ---- the store of the language
 

@@ -1,14 +1,14 @@
 -- The free place of an index that a search comes to first.
-use Rattle.std.proofs.Common.{◌≡◌, ◌≢◌, ℕ, zero, suc, ◌+◌, ◌-◌, ◌*◌, ◌%◌, ◌^◌, ◌<◌, ◌≤◌, ◌⊎◌, Bool, true, false, List, [], ◌∷◌, ◌++◌, length, map, take, drop, replicate, Option, Some, None, refl, sym, ap, ◌∙◌, arith, subst, inl, inr, nat_lt}
-use Rattle.std.specs.Prelude.{ℤ, pos, slice_get, slice_set, is_none, if◌then◌else◌}
-use Rattle.std.proofs.lemmas.List.{length-take-le, length-drop, length-replicate, take-append-drop}
+use Rattle.std.proofs.Common.{◌≡◌, ◌≢◌, ℕ, zero, suc, ◌+◌, ◌-◌, ◌*◌, ◌%◌, ◌^◌, ◌<◌, ◌≤◌, true, false, List, [], ◌∷◌, ◌++◌, length, map, take, drop, replicate, Option, Some, None, refl, sym, ap, ◌∙◌, arith, subst, inl, inr, nat_lt}
+use Rattle.std.specs.Prelude.{slice_get, slice_set, if◌then◌else◌}
+use Rattle.std.proofs.lemmas.List.{length-drop, length-replicate, take-append-drop}
 use Rattle.std.proofs.lemmas.Bool.{cases_lt}
 use Rattle.ps_word.specs.declared.words.Word.{Word}
 use Rattle.ps_word.specs.Format.{content_in}
 use Rattle.ps_word.specs.Readers.{as_integer}
 use Rattle.ps_mem.specs.Heap.{zero_word}
 use Rattle.ps_mem.specs.Index.{index_word, has_free, filled, placed}
-use Rattle.ps_dict.proofs.IndexPlaces.{turned, IsBelow, free, turned-length}
+use Rattle.ps_dict.proofs.IndexPlaces.{turned, IsBelow, turned-length}
 use Rattle.std.proofs.lemmas.List.{length-map}
 use Rattle.ps_language.specs.declared.kinds.Kind.TheVariants.{Dictionary as DictionaryKind}
 use Rattle.ps_mem.specs.Heap.{Heap, birth_at, fields_at}
@@ -19,7 +19,7 @@ use Rattle.ps_mem.proofs.Lists.{all_at}
 use Rattle.ps_dict.specs.Places.{count_at, capacity_at, body_at, pairs_at}
 use Rattle.ps_dict.proofs.Shapes.{length-pairs}
 use Rattle.ps_dict.proofs.IndexPlaces.{free_or}
-use Rattle.ps_dict.proofs.Probing.{places, places-index, places-words, places-below, few-places, index_word-none, zero-content, get-append_left, get-append_right, get-drop, get-take, get-turned, from-map, below_test, past_test}
+use Rattle.ps_dict.proofs.Probing.{places, places-index, places-words, places-below, few-places, index_word-none, zero-content, get-append_left, get-append_right, get-drop, get-turned, from-map, below_test, past_test}
 
 filled-at : (p k : ℕ) (ys : List (Option ℕ)) → has_free (take k ys) ≡ false
     → slice_get ys k ≡ Some None → filled p ys ≡ slice_set ys k (Some p)

@@ -1,19 +1,12 @@
 -- A dictionary that may still be filled: values and pairs put into it without a record.
-use Rattle.std.proofs.Common.{◌≡◌, ℕ, zero, suc, ◌+◌, ◌*◌, ◌<◌, ◌≤◌, ◌/◌, List, [], ◌∷◌, ◌++◌, length, take, get_or, Some, refl, ap, ◌∙◌, arith}
+use Rattle.std.proofs.Common.{◌≡◌, ℕ, zero, suc, ◌+◌, ◌*◌, ◌<◌, ◌/◌, List, [], ◌∷◌, ◌++◌, length, take, get_or, Some, refl, ap, ◌∙◌, arith}
 use Rattle.std.specs.Prelude.{slice_get, slice_set}
 use Rattle.std.specs.List.{AllByRecursion}
-use Rattle.ps_language.specs.declared.kinds.Kind.TheVariants.{Dictionary as DictionaryKind}
 use Rattle.ps_language.specs.Value.{Value, Dictionary as DictionaryValue, Object, dictionary_object, Store}
 use Rattle.ps_language.specs.Access.{dictionary_at, dictionary_object_in, with_dictionary}
 use Rattle.ps_language.specs.Dictionaries.{put_pair, put_pairs}
 use Rattle.ps_word.specs.declared.words.Word.{Word}
-use Rattle.ps_mem.specs.Heap.{Heap, fields_at, stored}
-use Rattle.ps_mem.specs.References.{StandsAs, NamesStanding}
-use Rattle.ps_mem.specs.Shows.{IsNatural, IsValue, IsSound}
 use Rattle.ps_mem.proofs.Lists.{slice_get-append_end}
-use Rattle.ps_mem.proofs.HeapLemmas.{stored_more, length-fields_at_stored}
-use Rattle.ps_mem.proofs.KeepsLemmas.{IsKnown-kept}
-use Rattle.ps_dict.specs.Places.{natural_in, body_in, count_at, capacity_at, body_at}
 use Rattle.ps_mem.specs.Index.{pairs_of_words}
 use Rattle.ps_dict.proofs.Pairs.{pair_here}
 

@@ -1,5 +1,5 @@
 -- The index of the pairs of a dictionary but one, gathered position by position.
-use Rattle.std.proofs.Common.{◌≡◌, ◌≢◌, ℕ, zero, suc, ◌+◌, ◌-◌, ◌*◌, ◌%◌, ◌^◌, ◌<◌, ◌≤◌, true, List, [], ◌∷◌, ◌++◌, length, map, take, replicate, Option, Some, None, refl, sym, ap, ◌∙◌, arith, subst, inl, inr, nat_lt}
+use Rattle.std.proofs.Common.{◌≡◌, ℕ, zero, suc, ◌+◌, ◌*◌, ◌%◌, ◌^◌, ◌<◌, ◌≤◌, true, List, [], ◌∷◌, length, map, take, replicate, Option, Some, refl, sym, ap, ◌∙◌, arith, subst, inl, inr, nat_lt}
 use Rattle.std.specs.Prelude.{slice_get, slice_set, if◌then◌else◌}
 use Rattle.std.proofs.lemmas.List.{length-map, length-take-le, take_all}
 use Rattle.std.proofs.lemmas.Bool.{cases_lt}
@@ -13,9 +13,9 @@ use Rattle.ps_mem.proofs.Lists.{all_at}
 use Rattle.ps_dict.specs.Places.{count_at, capacity_at, body_at, pairs_at}
 use Rattle.ps_dict.specs.Removals.{without_place}
 use Rattle.ps_dict.proofs.Shapes.{count-fits, length-pairs}
-use Rattle.ps_dict.proofs.Reading.{key-value, key-pair, key-place}
+use Rattle.ps_dict.proofs.Reading.{key-value, key-pair}
 use Rattle.ps_dict.proofs.Probing.{few-places, below_test, past_test}
-use Rattle.ps_dict.proofs.IndexPlaces.{IsBelow, IsIndex, is-index, free, free_or}
+use Rattle.ps_dict.proofs.IndexPlaces.{IsBelow, IsIndex, is-index, free_or}
 use Rattle.ps_dict.proofs.Appending.{index_words-more}
 use Rattle.ps_dict.proofs.Indexing.{take-next, length-index_words}
 use Rattle.ps_dict.proofs.Making.{no-index}

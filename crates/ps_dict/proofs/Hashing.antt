@@ -1,15 +1,13 @@
 -- The hash number of a key by its content, and the birth number that a header says.
-use Rattle.std.proofs.Common.{◌≡◌, ℕ, ◌+◌, ◌<◌, ◌^◌, List, length, Option, Some, None, refl, sym, ap, ◌∙◌, subst, arith}
+use Rattle.std.proofs.Common.{◌≡◌, ℕ, length, refl, sym, ap, ◌∙◌, subst}
 use Rattle.std.specs.Prelude.{IsSome, IfSome}
 use Rattle.ps_language.specs.declared.kinds.Kind.{Kind}
 use Rattle.ps_word.specs.declared.words.Word.{Word}
 use Rattle.ps_word.specs.declared.headers.Header.{Header}
-use Rattle.ps_word.specs.declared.values.Part.{Part}
 use Rattle.ps_word.specs.declared.values.Content.{Content}
-use Rattle.ps_word.specs.declared.values.Content.TheVariants.{Array, Text, Dictionary, Lock, Condition, Body}
-use Rattle.ps_word.specs.Format.{content_in, IsPart, IsContent, IsWord}
+use Rattle.ps_word.specs.Format.{content_in, IsContent}
 use Rattle.ps_word.proofs.Places.{IsContent-of_word}
-use Rattle.ps_mem.specs.Heap.{Heap, Standing, object_at, birth_of, birth_at}
+use Rattle.ps_mem.specs.Heap.{Heap, object_at, birth_of, birth_at}
 use Rattle.ps_mem.specs.References.{StandsAs, IsKnown, IsKnownContent}
 use Rattle.ps_mem.specs.Index.{hash_of, hash_of_content}
 use Rattle.ps_mem.specs.Shows.{IsValue}

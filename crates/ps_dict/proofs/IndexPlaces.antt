@@ -1,10 +1,10 @@
 -- The places of an index: each position stands behind such as came before it, from the start of its hash number on, going round.
-use Rattle.std.proofs.Common.{◌≡◌, ◌≢◌, ℕ, zero, suc, ◌+◌, ◌-◌, ◌*◌, ◌%◌, ◌<◌, ◌≤◌, ◌⊎◌, Bool, true, false, List, [], ◌∷◌, ◌++◌, length, map, take, drop, replicate, Option, Some, None, refl, sym, ap, ◌∙◌, arith, subst, inl, inr, length-take, length-append, length-drop}
-use Rattle.std.specs.Prelude.{slice_get, if◌then◌else◌}
+use Rattle.std.proofs.Common.{◌≡◌, ℕ, zero, suc, ◌+◌, ◌%◌, ◌<◌, ◌≤◌, ◌⊎◌, true, false, List, [], ◌∷◌, ◌++◌, length, map, take, drop, replicate, Option, Some, None, refl, sym, ap, ◌∙◌, arith, subst, inl, inr, length-append}
+use Rattle.std.specs.Prelude.{slice_get}
 use Rattle.std.specs.List.{AllByRecursion}
 use Rattle.std.proofs.lemmas.List.{length-take-le, take-append-drop, append_assoc}
 use Rattle.ps_mem.specs.Index.{has_free, filled, placed, placed_all, index_of}
-use Rattle.ps_mem.proofs.Lists.{all_append, all_take, all_drop, all_map}
+use Rattle.ps_mem.proofs.Lists.{all_append, all_take, all_drop}
 
 -- places from a start on, going round
 unfoldable pub turned : {A : Type 0} → ℕ → List A → List A

@@ -1,11 +1,10 @@
 -- A body whose index is filled in, position by position.
-use Rattle.std.proofs.Common.{◌≡◌, ◌≢◌, ℕ, zero, suc, ◌+◌, ◌-◌, ◌*◌, ◌%◌, ◌^◌, ◌<◌, ◌≤◌, true, false, rules, List, [], ◌∷◌, ◌++◌, length, map, take, drop, replicate, Option, Some, None, refl, sym, ap, ◌∙◌, arith, subst, inl, inr, length-append, length-drop}
+use Rattle.std.proofs.Common.{◌≡◌, ℕ, zero, suc, ◌+◌, ◌-◌, ◌*◌, ◌%◌, ◌^◌, ◌<◌, ◌≤◌, true, false, rules, List, [], ◌∷◌, ◌++◌, length, map, take, drop, replicate, Option, Some, None, refl, sym, ap, ◌∙◌, arith, subst, inl, inr, length-drop}
 use Rattle.std.specs.Prelude.{pos, slice_get, slice_set, FitsSigned}
 use Rattle.std.specs.List.{AllByRecursion}
 use Rattle.std.specs.Int.{w32}
-use Rattle.std.proofs.lemmas.List.{length-map, length-take-le, length-replicate, append-nil, append_assoc, take-append-drop}
+use Rattle.std.proofs.lemmas.List.{length-map, length-take-le, length-replicate, append-nil, take-append-drop}
 use Rattle.std.proofs.lemmas.Bool.Decides.{eqb_tells}
-use Rattle.ps_language.specs.declared.kinds.Kind.{Kind}
 use Rattle.ps_language.specs.declared.kinds.Kind.TheVariants.{Body as BodyKind}
 use Rattle.ps_language.specs.Access.{splice}
 use Rattle.ps_language.specs.Value.{Store}
@@ -13,18 +12,19 @@ use Rattle.ps_word.specs.declared.words.Word.{Word}
 use Rattle.ps_word.specs.declared.values.Content.TheVariants.{Integer}
 use Rattle.ps_word.specs.Format.{IsInFormat}
 use Rattle.ps_word.proofs.Packing.{value_in-packed, IsWord-packed}
-use Rattle.ps_mem.specs.Heap.{Heap, Standing, object_at, birth_at, fields_of, fields_at, with_fields, stored, zero_word, IsKind}
+use Rattle.ps_mem.specs.Heap.{Heap, Standing, object_at, birth_at, fields_of, fields_at, stored, zero_word, IsKind}
 use Rattle.ps_mem.specs.Index.{pairs_of_words, hash_of, hashes_of, has_free, placed, index_of, index_word, index_words}
 use Rattle.ps_mem.specs.Keeps.{Keeps}
 use Rattle.ps_mem.specs.Shows.{IsNatural, IsValue, AreValues, IsWithin, AreWithin}
 use Rattle.ps_mem.proofs.Lists.{all_at, splice-zero, splice-one, length-splice}
-use Rattle.ps_mem.proofs.HeapLemmas.{same_heap, object_at-stored_same, object_at-stored_at, object_at-stored_other, birth_at-stored, next-stored, used-stored, space-stored}
+use Rattle.ps_mem.proofs.HeapLemmas.{same_heap, object_at-stored_same, object_at-stored_other, birth_at-stored, next-stored, used-stored, space-stored}
 use Rattle.ps_mem.proofs.KeepsLemmas.{Keeps-stored, IsValue-kept}
 use Rattle.ps_dict.proofs.Pairs.{slice_get_there, pair_here, length-pairs_of_words}
 use Rattle.ps_dict.proofs.Probing.{get-append_left, get-take}
-use Rattle.ps_dict.proofs.IndexPlaces.{AreBelow, IsBelow, IsIndex, is-index, free, free_or}
+use Rattle.ps_dict.proofs.IndexPlaces.{AreBelow, IsBelow, IsIndex, is-index, free_or}
 use Rattle.ps_dict.proofs.Appending.{index_words-more, splice-behind, drop-splice_at}
 use Rattle.ps_dict.proofs.Naturals.{natural-value, natural-within}
+use Rattle.ps_dict.specs.Places.{IsPlaceFor}
 use Rattle.ps_mem.proofs.ZeroLemmas.{zero_is_value, AreWithin-zeros}
 use Rattle.ps_dict.proofs.Making.{no-index}
 
@@ -213,9 +213,9 @@ body_there None is = absurd is
 
 -- ---- the index
 
+-- a body with the index of any pairs
 module _ (h : Heap) (b c : ℕ) (stands : IsKind BodyKind (object_at h b))
-    (long : length (fields_at h b) ≡ 3 * c) (values : AreValues h (fields_at h b))
-    (blank : drop (2 * c) (fields_at h b) ≡ replicate c zero_word) where
+    (long : length (fields_at h b) ≡ 3 * c) where
   abbrev o : Standing
   o = (body_there (object_at h b) stands).0
 
@@ -226,87 +226,131 @@ module _ (h : Heap) (b c : ℕ) (stands : IsKind BodyKind (object_at h b))
   unfolding fields_at
   fields-are = ap fields_of at
 
-  abbrev pub fronts : ℕ → List (Word × Word)
-  fronts p = take p (pairs_of_words (fields_at h b))
+  abbrev pub indexing : List (Word × Word) → Heap
+  indexing ps = stored h b (2 * c) (index_words (birth_at h) c ps)
 
-  abbrev pub indexed : ℕ → Heap
-  indexed p = stored h b (2 * c) (index_words (birth_at h) c (fronts p))
+  -- where it stands already
+  pub indexing-same : (ps : List (Word × Word)) → length ps ≤ c
+      → drop (2 * c) (fields_at h b) ≡ index_words (birth_at h) c ps → indexing ps ≡ h
+  indexing-same ps room there =
+      stored_same h b (2 * c) (index_words (birth_at h) c ps) o at
+      (splice-same (2 * c) o.fields (index_words (birth_at h) c ps)
+      (ap (drop (2 * c)) (sym fields-are) ∙ there)
+      (let e = ap length fields-are in let n = length-index_words (birth_at h) c ps room in
+      omega (arith, e, long, n)))
 
-  pub indexed-none : indexed 0 ≡ h
-  indexed-none =
-      let n : length (replicate c zero_word) ≡ c = sym (ap length blank)
-      ∙ (length-drop (2 * c) (fields_at h b) ∙ (omega (arith, long))) in
-      ap (stored h b (2 * c)) (sym (no-index (birth_at h) c))
-      ∙ stored_same h b (2 * c) (replicate c zero_word) o at
-      (splice-same (2 * c) o.fields (replicate c zero_word)
-      (ap (drop (2 * c)) (sym fields-are) ∙ blank)
-      (let e = ap length fields-are in omega (arith, e, long, n)))
-
-  module _ (p : ℕ) (below : p < c) where
-    pairs_fit : length (fronts p) ≡ p
-    pairs_fit = length-take-le p (pairs_of_words (fields_at h b))
-        (let n = length-pairs_of_words c (fields_at h b) (omega (arith, long)) in
-        omega (arith, n, below))
-
+  module _ (ps : List (Word × Word)) (below : length ps < c) where
     abbrev hashes : List ℕ
-    hashes = hashes_of (birth_at h) (fronts p)
+    hashes = hashes_of (birth_at h) ps
 
-    count : length hashes ≡ p
-    count = length-map (fronts p) (λ (pair : Word × Word). hash_of (birth_at h) pair.0) ∙ pairs_fit
+    count : length hashes ≡ length ps
+    count = length-map ps (λ (pair : Word × Word). hash_of (birth_at h) pair.0)
 
-    abbrev pub spots : List (Option ℕ)
-    spots = index_of c (hashes_of (birth_at h) (fronts p))
+    abbrev pub places-of : List (Option ℕ)
+    places-of = index_of c (hashes_of (birth_at h) ps)
 
-    index : IsIndex c hashes spots
+    index : IsIndex c hashes places-of
     index = is-index c hashes (let n = count in omega (arith, n, below))
 
-    length-index : length (index_words (birth_at h) c (fronts p)) ≡ c
-    unfolding index_words
-    length-index = length-map spots index_word ∙ index.count
+    length-index : length (index_words (birth_at h) c ps) ≡ c
+    length-index = length-index_words (birth_at h) c ps (omega (arith, below))
 
-    fits : 2 * c + length (index_words (birth_at h) c (fronts p)) ≤ length o.fields
+    fits : 2 * c + length (index_words (birth_at h) c ps) ≤ length o.fields
     fits = let n = length-index in let e = ap length fields-are in omega (arith, n, e, long)
 
-    pub indexed-fields : fields_at (indexed p) b ≡ splice (fields_at h b) (2 * c)
-        (index_words (birth_at h) c (fronts p))
+    pub indexing-fields : fields_at (indexing ps) b ≡ splice (fields_at h b) (2 * c)
+        (index_words (birth_at h) c ps)
     unfolding fields_at
-    indexed-fields = ap fields_of
-        (object_at-stored_same h b (2 * c) (index_words (birth_at h) c (fronts p)) o at)
-        ∙ ap (λ ws. splice ws (2 * c) (index_words (birth_at h) c (fronts p))) (sym fields-are)
+    indexing-fields = ap fields_of
+        (object_at-stored_same h b (2 * c) (index_words (birth_at h) c ps) o at)
+        ∙ ap (λ ws. splice ws (2 * c) (index_words (birth_at h) c ps)) (sym fields-are)
 
-    pub indexed-long : length (fields_at (indexed p) b) ≡ 3 * c
-    indexed-long = ap length indexed-fields
-        ∙ (length-splice (fields_at h b) (2 * c) (index_words (birth_at h) c (fronts p))
+    pub indexing-long : length (fields_at (indexing ps) b) ≡ 3 * c
+    indexing-long = ap length indexing-fields
+        ∙ (length-splice (fields_at h b) (2 * c) (index_words (birth_at h) c ps)
         (let e = ap length fields-are in let f = fits in omega (arith, e, f)) ∙ long)
 
-    keeps : Keeps h (indexed p)
-    keeps = Keeps-stored h b (2 * c) (index_words (birth_at h) c (fronts p)) o at fits
+    pub indexing-keeps : Keeps h (indexing ps)
+    indexing-keeps = Keeps-stored h b (2 * c) (index_words (birth_at h) c ps) o at fits
 
-    pub indexed-births : birth_at (indexed p) ≡ birth_at h
-    indexed-births = birth_at-stored h b (2 * c) (index_words (birth_at h) c (fronts p))
+    pub indexing-births : birth_at (indexing ps) ≡ birth_at h
+    indexing-births = birth_at-stored h b (2 * c) (index_words (birth_at h) c ps)
 
-    pub indexed-words : drop (2 * c) (fields_at (indexed p) b) ≡ map index_word spots
+    pub indexing-words : drop (2 * c) (fields_at (indexing ps) b) ≡ map index_word places-of
     unfolding index_words
-    indexed-words = ap (drop (2 * c)) indexed-fields
-        ∙ drop-end (2 * c) (fields_at h b) (index_words (birth_at h) c (fronts p))
+    indexing-words = ap (drop (2 * c)) indexing-fields
+        ∙ drop-end (2 * c) (fields_at h b) (index_words (birth_at h) c ps)
         (let n = length-index in omega (arith, n, long))
 
-    pub spots-count : length spots ≡ c
-    spots-count = index.count
+    pub places-count : length places-of ≡ c
+    places-count = index.count
 
-    pub spots-small : c ≤ 21845 → (place q : ℕ) → slice_get spots place ≡ Some (Some q) → q < 2 ^ 31
-    spots-small few place q there =
+    pub places-small : c ≤ 21845 → (place q : ℕ) → slice_get places-of place ≡ Some (Some q)
+        → q < 2 ^ 31
+    places-small few place q there =
         let low : IsBelow (length hashes) (Some q) =
-        all_at (IsBelow (length hashes)) spots place (Some q) index.below there in
+        all_at (IsBelow (length hashes)) places-of place (Some q) index.below there in
         let n = count in
         omega (arith, low, n, below, few)
 
-    pub spots-free : has_free spots ≡ true
-    spots-free = elim (free_or spots) [
+    pub places-free : has_free places-of ≡ true
+    places-free = elim (free_or places-of) [
       | inl (has, _) ↦ has
       | inr (_, none) ↦ let left = index.left in let n = count in
           absurd (omega (arith, left, n, none, below))
     ]
+
+    -- what the search for a free place says of it
+    pub place-free : c ≤ 21845 → (g : Heap) (p : ℕ) (k : Word) → g ≡ indexing ps
+        → IsPlaceFor (drop (2 * c) (fields_at g b)) c (hash_of (birth_at g) k % c) p
+        → placed (length ps) (hash_of (birth_at h) k % c) places-of ≡ slice_set places-of p
+        (Some (length ps))
+    place-free few g p k now given =
+        subst (λ (births : ℕ → ℕ). placed (length ps) (hash_of births k % c) places-of ≡ slice_set
+        places-of p (Some (length ps))) (ap birth_at now ∙ indexing-births)
+        (given places-of (ap (λ (x : Heap). drop (2 * c) (fields_at x b)) now ∙ indexing-words)
+        places-count (places-small few) places-free (length ps))
+
+    -- a position more
+    pub indexing-next : (k v : Word) (place : ℕ) → place < c → (w : Word)
+        → IsNatural w (length ps) → IsValue h w
+        → placed (length ps) (hash_of (birth_at h) k % c) places-of ≡ slice_set places-of place
+        (Some (length ps))
+        → stored (indexing ps) b (2 * c + place) (w ∷ []) ≡ indexing (ps ++ (k, v) ∷ [])
+    indexing-next k v place within w natural held there =
+        let n = length-index in
+        stored_over h b (2 * c) (index_words (birth_at h) c ps) (2 * c + place) (w ∷ [])
+        (slice_set (index_words (birth_at h) c ps) place w) o at
+        (splice-set o.fields (2 * c) (index_words (birth_at h) c ps) place w
+        (omega (arith, n, within)) fits)
+        ∙ ap (stored h b (2 * c)) (index_words-more (birth_at h) c ps k v place w
+        (omega (arith, below)) natural held.word there)
+
+-- a body whose first pairs are put into its index, which was blank
+module _ (h : Heap) (b c : ℕ) (stands : IsKind BodyKind (object_at h b))
+    (long : length (fields_at h b) ≡ 3 * c) (values : AreValues h (fields_at h b))
+    (blank : drop (2 * c) (fields_at h b) ≡ replicate c zero_word) where
+  abbrev pub fronts : ℕ → List (Word × Word)
+  fronts p = take p (pairs_of_words (fields_at h b))
+
+  abbrev pub indexed : ℕ → Heap
+  indexed p = indexing h b c stands long (fronts p)
+
+  pub indexed-none : indexed 0 ≡ h
+  indexed-none = indexing-same h b c stands long [] (omega arith)
+      (blank ∙ no-index (birth_at h) c)
+
+  module _ (p : ℕ) (below : p < c) where
+    pub pairs_fit : length (fronts p) ≡ p
+    pairs_fit = length-take-le p (pairs_of_words (fields_at h b))
+        (let n = length-pairs_of_words c (fields_at h b) (omega (arith, long)) in
+        omega (arith, n, below))
+
+    pub few_fronts : length (fronts p) < c
+    few_fronts = let n = pairs_fit in omega (arith, n, below)
+
+    pub indexed-long : length (fields_at (indexed p) b) ≡ 3 * c
+    indexed-long = indexing-long h b c stands long (fronts p) few_fronts
 
     module _ (k : Word) (read : slice_get (fields_at (indexed p) b) (2 * p) ≡ Some k) where
       key-read : slice_get (fields_at h b) (2 * p) ≡ Some k
@@ -319,32 +363,24 @@ module _ (h : Heap) (b c : ℕ) (stands : IsKind BodyKind (object_at h b))
           (index_words (birth_at h) c (fronts p)
           ++ drop (2 * c + length (index_words (birth_at h) c (fronts p))) (fields_at h b))
           (2 * p) (omega (arith, front, below)))
-          ∙ (ap (λ ws. slice_get ws (2 * p)) (sym indexed-fields) ∙ read))
+          ∙ (ap (λ ws. slice_get ws (2 * p))
+          (sym (indexing-fields h b c stands long (fronts p) few_fronts)) ∙ read))
 
       pub key-held : IsValue (indexed p) k
-      key-held = IsValue-kept h (indexed p) keeps k
+      key-held = IsValue-kept h (indexed p)
+          (indexing-keeps h b c stands long (fronts p) few_fronts) k
           (all_at (IsValue h) (fields_at h b) (2 * p) k values key-read)
 
-      pub indexed-next : (place : ℕ) → place < c → (w : Word) → IsNatural w p → IsValue h w
-          → placed p (hash_of (birth_at (indexed p)) k % c) spots ≡ slice_set spots place (Some p)
+      pub indexed-next : c ≤ 21845 → (g : Heap) → g ≡ indexed p → (place : ℕ) → place < c
+          → IsPlaceFor (drop (2 * c) (fields_at g b)) c (hash_of (birth_at g) k % c) place
+          → (w : Word) → IsNatural w p → IsValue h w
           → stored (indexed p) b (2 * c + place) (w ∷ []) ≡ indexed (p + 1)
-      indexed-next place within w natural held there =
+      indexed-next few g now place within given w natural held =
           let (v, second) = slice_get_there (fields_at h b) (2 * p + 1)
           (omega (arith, below, long)) in
           let pair = pair_here (fields_at h b) p k v key-read second in
-          let n = length-index in
-          let more : slice_set (index_words (birth_at h) c (fronts p)) place w ≡ index_words
-          (birth_at h) c (fronts p ++ (k, v) ∷ []) =
-          index_words-more (birth_at h) c (fronts p) k v place w (omega (arith, pairs_fit, below))
-          (subst (IsNatural w) (sym pairs_fit) natural) held.word
-          (subst (λ (births : ℕ → ℕ). placed (length (fronts p)) (hash_of births k % c) spots ≡
-          slice_set spots place (Some (length (fronts p)))) indexed-births
-          (subst (λ m. placed m (hash_of (birth_at (indexed p)) k % c) spots ≡ slice_set spots place
-          (Some m)) (sym pairs_fit) there)) in
-          stored_over h b (2 * c) (index_words (birth_at h) c (fronts p)) (2 * c + place) (w ∷ [])
-          (slice_set (index_words (birth_at h) c (fronts p)) place w) o at
-          (splice-set o.fields (2 * c) (index_words (birth_at h) c (fronts p)) place w
-          (omega (arith, n, within)) fits)
-          ∙ (ap (stored h b (2 * c)) more
-          ∙ ap (λ ps. stored h b (2 * c) (index_words (birth_at h) c ps))
-          (sym (take-next (pairs_of_words (fields_at h b)) p (k, v) pair)))
+          indexing-next h b c stands long (fronts p) few_fronts k v place within w
+          (subst (IsNatural w) (sym pairs_fit) natural) held
+          (place-free h b c stands long (fronts p) few_fronts few g place k now given)
+          ∙ ap (indexing h b c stands long)
+          (sym (take-next (pairs_of_words (fields_at h b)) p (k, v) pair))

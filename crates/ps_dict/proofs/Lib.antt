@@ -21,3 +21,5 @@ pub mod Gathering
 pub mod Removing
 pub mod Taking
 pub mod Fresh
+pub mod Several
+pub mod Granted

@@ -1,7 +1,6 @@
 -- The words of natural numbers, and a dictionary with one of its fields changed.
-use Rattle.std.proofs.Common.{◌≡◌, ℕ, ◌*◌, ◌-◌, ◌≤◌, List, [], ◌∷◌, ◌++◌, length, map, replicate, refl, sym, ap, ◌∙◌, arith, subst}
+use Rattle.std.proofs.Common.{◌≡◌, ℕ, ◌*◌, ◌-◌, List, [], ◌∷◌, ◌++◌, replicate, refl, sym, ap, ◌∙◌, arith, subst}
 use Rattle.std.specs.Prelude.{pos}
-use Rattle.std.proofs.lemmas.List.{length-map}
 use Rattle.ps_language.specs.declared.access.Access.{Access}
 use Rattle.ps_language.specs.declared.kinds.Kind.TheVariants.{Dictionary as DictionaryKind}
 use Rattle.ps_language.specs.Value.{Store}
@@ -12,11 +11,11 @@ use Rattle.ps_word.specs.Format.{content_in, IsWord, access_number}
 use Rattle.ps_mem.specs.Heap.{Heap, birth_at, fields_at, stored, zero_word}
 use Rattle.ps_mem.specs.Keeps.{Keeps}
 use Rattle.ps_mem.specs.References.{StandsAs}
-use Rattle.ps_mem.specs.Shows.{IsNatural, IsValue, DictionaryFields, IsSound, IsWithin, words_of_pairs, pair_of, Shows}
+use Rattle.ps_mem.specs.Shows.{IsNatural, IsValue, DictionaryFields, IsSound, IsWithin, words_of_pairs, Shows}
 use Rattle.ps_mem.proofs.ValueLemmas.{IsPlain, plain_integer, IsValue-plain, IsWithin-plain}
-use Rattle.ps_dict.specs.Places.{count_at, capacity_at, body_at, pairs_at}
-use Rattle.ps_dict.proofs.Shapes.{shape, count-is, capacity-is, access-is, body-is, body_fields-is, shown, count-shown, capacity-shown, access-shown, pairs-shown, holds-shown}
-use Rattle.ps_dict.proofs.Changing.{fields-sound, fields-keeps, fields-count, fields-capacity, fields-body, fields-body_words, fields-shows}
+use Rattle.ps_dict.specs.Places.{count_at, capacity_at, pairs_at}
+use Rattle.ps_dict.proofs.Shapes.{shape, count-is, capacity-is, body_fields-is, shown, count-shown, capacity-shown, pairs-shown, holds-shown}
+use Rattle.ps_dict.proofs.Changing.{fields-sound, fields-keeps, fields-shows}
 
 natural_plain : (w : Word) (n : ℕ) → IsNatural w n → IsPlain (content_in w.0)
 natural_plain w n is = subst IsPlain (sym (ap (λ (v : WordValue). v.content) is))

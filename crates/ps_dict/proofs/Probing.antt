@@ -1,30 +1,27 @@
 -- What a look into the index of a dictionary's body says of the place of a key.
-use Rattle.std.proofs.Common.{◌≡◌, ◌≢◌, ℕ, zero, suc, ◌+◌, ◌-◌, ◌*◌, ◌%◌, ◌^◌, ◌<◌, ◌≤◌, ◌⊎◌, Bool, true, false, List, [], ◌∷◌, ◌++◌, length, map, take, drop, Option, Some, None, refl, sym, ap, ◌∙◌, arith, subst, inl, inr, nat_lt, rules}
+use Rattle.std.proofs.Common.{◌≡◌, ℕ, zero, suc, ◌+◌, ◌-◌, ◌*◌, ◌%◌, ◌^◌, ◌<◌, ◌≤◌, true, false, List, [], ◌∷◌, ◌++◌, length, map, take, drop, Option, Some, None, refl, sym, ap, ◌∙◌, arith, subst, inl, inr, nat_lt, rules}
 use Rattle.std.specs.Prelude.{ℤ, pos, slice_get, unsigned_abs, if◌then◌else◌, FitsSigned}
-use Rattle.std.specs.List.{AllByRecursion}
 use Rattle.std.specs.Int.{w32}
-use Rattle.std.proofs.lemmas.List.{length-map, length-take-le, length-drop}
+use Rattle.std.proofs.lemmas.List.{length-map, length-drop}
 use Rattle.std.proofs.lemmas.Bool.{cases_lt}
 use Rattle.std.proofs.lemmas.Bool.Decides.{nat_tests}
 use Rattle.std.proofs.lemmas.Nat.{mod_below}
 use Rattle.ps_language.specs.declared.kinds.Kind.TheVariants.{Dictionary as DictionaryKind}
 use Rattle.ps_word.specs.declared.words.Word.{Word}
 use Rattle.ps_word.specs.declared.values.Value.{Value as WordValue}
-use Rattle.ps_word.specs.declared.values.Content.{Content}
 use Rattle.ps_word.specs.declared.values.Content.TheVariants.{Integer}
-use Rattle.ps_word.specs.Format.{content_in, packed, value_in}
+use Rattle.ps_word.specs.Format.{content_in}
 use Rattle.ps_word.specs.Readers.{as_integer}
 use Rattle.ps_word.proofs.Packing.{value_in-packed}
 use Rattle.ps_mem.specs.Heap.{Heap, birth_at, fields_at, zero_word}
 use Rattle.ps_mem.specs.Index.{hash_of, hashes_of, index_of, index_word, index_words}
 use Rattle.ps_mem.specs.References.{StandsAs}
-use Rattle.ps_mem.specs.Shows.{IsValue, IsSound}
+use Rattle.ps_mem.specs.Shows.{IsSound}
 use Rattle.ps_mem.proofs.Lists.{all_at}
 use Rattle.ps_dict.specs.Keys.{same_words}
 use Rattle.ps_dict.specs.Places.{count_at, capacity_at, body_at, pairs_at, place_of}
-use Rattle.ps_dict.proofs.Pairs.{slice_get_there}
-use Rattle.ps_dict.proofs.Reading.{key-value, key-pair, key-place, loaded}
-use Rattle.ps_dict.proofs.Shapes.{shape, count-is, capacity-is, body-is, body_fields-is, body-room, count-fits, length-pairs, indexed-is}
+use Rattle.ps_dict.proofs.Reading.{key-pair, key-place, loaded}
+use Rattle.ps_dict.proofs.Shapes.{shape, capacity-is, body-room, count-fits, length-pairs, indexed-is}
 use Rattle.ps_dict.proofs.IndexPlaces.{turned, turned-length, IsBelow, AreBelow, IsIndex, is-index, below-turned}
 use Rattle.ps_dict.proofs.IndexSearch.{looked_up, same_found, same_at, no_pair, index-finds}
 

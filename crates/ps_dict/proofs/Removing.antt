@@ -1,28 +1,23 @@
 -- Pairs that move down, and the last pair taken off.
-use Rattle.std.proofs.Common.{◌≡◌, ℕ, zero, suc, ◌+◌, ◌*◌, ◌-◌, ◌<◌, ◌≤◌, false, List, [], ◌∷◌, ◌++◌, length, map, take, drop, replicate, Some, None, refl, sym, ap, ◌∙◌, arith, subst, length-append, length-drop}
-use Rattle.std.specs.Prelude.{option_map, true, slice_range, slice_get, slice_set}
-use Rattle.std.proofs.lemmas.List.{length-take-le, take-map}
+use Rattle.std.proofs.Common.{◌≡◌, ℕ, zero, suc, ◌+◌, ◌*◌, ◌-◌, ◌<◌, ◌≤◌, false, List, [], ◌∷◌, ◌++◌, length, map, take, drop, Some, None, refl, sym, ap, ◌∙◌, arith, subst}
+use Rattle.std.specs.Prelude.{option_map, true, slice_range}
 use Rattle.ps_language.specs.declared.kinds.Kind.TheVariants.{Dictionary as DictionaryKind}
-use Rattle.ps_language.specs.Value.{Value, Dictionary as DictionaryValue, dictionary_object, Store}
-use Rattle.ps_language.specs.Access.{splice, dictionary_at, with_dictionary}
+use Rattle.ps_language.specs.Value.{Value}
+use Rattle.ps_language.specs.Access.{splice}
 use Rattle.ps_language.specs.Equality.{same_key}
 use Rattle.ps_language.specs.Dictionaries.{without}
 use Rattle.ps_word.specs.declared.words.Word.{Word}
 use Rattle.ps_word.specs.declared.values.Content.TheVariants.{Null}
 use Rattle.ps_word.specs.Format.{value_in, packed, IsWord}
-use Rattle.ps_mem.specs.Heap.{Heap, birth_at, fields_at, stored, zero_word}
-use Rattle.ps_mem.specs.Keeps.{Keeps}
+use Rattle.ps_mem.specs.Heap.{Heap, fields_at, zero_word}
 use Rattle.ps_mem.specs.References.{StandsAs}
-use Rattle.ps_mem.specs.Shows.{IsNatural, IsValue, AreValues, IsSound, IsWithin, AreWithin, words_of_pairs, pair_of, Shows}
+use Rattle.ps_mem.specs.Shows.{IsValue, AreValues, IsSound, words_of_pairs}
 use Rattle.ps_mem.proofs.Lists.{splice-zero, all_take, all_drop}
-use Rattle.ps_mem.proofs.HeapLemmas.{birth_at-stored}
-use Rattle.ps_mem.proofs.KeepsLemmas.{Keeps-then, stands-kept, IsKnown-kept}
-use Rattle.ps_mem.proofs.ZeroLemmas.{AreValues-zeros, AreWithin-zeros}
-use Rattle.ps_dict.specs.Places.{natural_in, count_at, capacity_at, body_at, pairs_at, first_place}
+use Rattle.ps_dict.specs.Places.{count_at, body_at, first_place}
 use Rattle.ps_dict.specs.Removals.{without_place, shifted, moved_down}
 use Rattle.ps_dict.proofs.Pairs.{take-front_all, length-words_of_pairs}
-use Rattle.ps_dict.proofs.Shapes.{count-fits, body-room, body-values, body-within, length-pairs, there, shown, pairs-shown, holds-shown, count-shown}
-use Rattle.ps_dict.proofs.WordRuns.{splice-last, null-pair, splice-two}
+use Rattle.ps_dict.proofs.Shapes.{count-fits, body-room, body-values}
+use Rattle.ps_dict.proofs.WordRuns.{splice-two}
 
 -- ---- lists
 

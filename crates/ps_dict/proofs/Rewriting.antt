@@ -1,12 +1,11 @@
 -- A dictionary with other pairs: its fields and the words of its body after any number of stores.
-use Rattle.std.proofs.Common.{◌≡◌, ◌≢◌, ℕ, zero, suc, ◌+◌, ◌-◌, ◌*◌, ◌%◌, ◌<◌, ◌≤◌, List, [], ◌∷◌, ◌++◌, length, map, take, drop, replicate, Option, Some, None, refl, sym, ap, ◌∙◌, arith, subst, length-append, length-drop}
+use Rattle.std.proofs.Common.{◌≡◌, ◌≢◌, ℕ, zero, suc, ◌+◌, ◌-◌, ◌*◌, ◌%◌, ◌<◌, ◌≤◌, List, [], ◌∷◌, ◌++◌, length, map, take, drop, replicate, Some, None, refl, sym, ap, ◌∙◌, arith, subst, length-append, length-drop}
 use Rattle.std.specs.Prelude.{slice_get, slice_set}
 use Rattle.std.proofs.lemmas.List.{length-map, map-append}
-use Rattle.ps_language.specs.declared.kinds.Kind.TheVariants.{Text as TextKind, Dictionary as DictionaryKind, Body as BodyKind}
-use Rattle.ps_language.specs.Value.{Dictionary as DictionaryValue, dictionary_object, Store}
+use Rattle.ps_language.specs.declared.kinds.Kind.TheVariants.{Dictionary as DictionaryKind, Body as BodyKind}
+use Rattle.ps_language.specs.Value.{Dictionary as DictionaryValue, Store}
 use Rattle.ps_language.specs.Access.{splice, dictionary_at, with_dictionary}
 use Rattle.ps_word.specs.declared.words.Word.{Word}
-use Rattle.ps_word.specs.Format.{IsWord}
 use Rattle.ps_mem.specs.Heap.{Heap, Standing, object_at, birth_at, fields_of, fields_at, stored, zero_word}
 use Rattle.ps_mem.specs.Index.{pairs_of_words, hash_of, hashes_of, placed, index_of, index_word, index_words}
 use Rattle.ps_mem.specs.Keeps.{Keeps, Extends}
@@ -316,7 +315,7 @@ module _ (h : Heap) (a : ℕ) (known : StandsAs h DictionaryKind a 4) (sound : I
 
 -- ---- a pair more
 
-length-zeros : (n : ℕ) → length (replicate n zero_word) ≡ n
+pub length-zeros : (n : ℕ) → length (replicate n zero_word) ≡ n
 length-zeros zero = refl
 length-zeros (suc n) = ap suc (length-zeros n)
 

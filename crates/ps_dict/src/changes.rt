@@ -15,9 +15,9 @@ ghost use Rattle.ps_dict.specs.Places.{count_at, capacity_at};
 ghost use Rattle.ps_dict.specs.Puts as puts;
 ghost use Rattle.ps_dict.specs.Puts.{AfterChange, with_value, plan_at};
 
-use crate::dictionaries::{ACCESS, COUNT, body, capacity, length};
+use crate::appends::append_pairs;
+use crate::dictionaries::{ACCESS, COUNT, body, length};
 use crate::fills::new_body;
-use crate::index::free_place;
 use crate::plans::PutPlan;
 use ps_language::access::Access;
 use ps_language::kinds::Kind;
@@ -85,44 +85,6 @@ fn replace_value<M: Memory>(memory: &mut M, slot: u32, address: u32, place: u32,
 {
     let body = body(memory, address);
     memory.store(slot, body, 2 * place + 1, &[value]);
-}
-
-/// A pair more, in the room that there is, with three records in a cycle: the number of pairs, the
-/// pair, and its position in the index.
-fn append_pair<M: Memory>(memory: &mut M, slot: u32, address: u32, key: Word, value: Word)
-    requires granted { 3 ≤ (M.grants memory.old).records slot }
-    requires sound { IsSound (M.heap memory.old) }
-    requires known { StandsAs (M.heap memory.old) Kind.Dictionary address 4 }
-    requires room { count_at (M.heap memory.old) address < capacity_at (M.heap memory.old) address }
-    requires key { IsValue (M.heap memory.old) key }
-    requires value { IsValue (M.heap memory.old) value }
-    ensures sound { IsSound (M.heap memory.new) }
-    ensures keeps { Keeps (M.heap memory.old) (M.heap memory.new) }
-    ensures grants { AfterChange (M.grants memory.old) (M.grants memory.new) slot 3 0 }
-    ensures shows { (names : List (List ℕ)) (s : Store) → Shows (M.heap memory.old) names s
-        → IsWithin (birth_at (M.heap memory.old)) names s key
-        → IsWithin (birth_at (M.heap memory.old)) names s value → let d =
-        dictionary_at s (birth_at (M.heap memory.old) address) in
-        Shows (M.heap memory.new) names
-        (with_dictionary s (birth_at (M.heap memory.old) address)
-        (record d {
-          pairs = d.pairs
-              ++ (
-                value_of (birth_at (M.heap memory.old)) names key,
-                value_of
-                    (birth_at (M.heap memory.old)) names value,
-              ) ∷ [];
-        })) }
-{
-    let count = length(memory, address);
-    let body = body(memory, address);
-    let capacity = capacity(memory, address);
-    let place = free_place(memory, body, capacity, key);
-    let more = natural_word(count + 1);
-    let last = natural_word(count);
-    memory.store(slot, address, COUNT, &[more]);
-    memory.store(slot, body, 2 * count, &[key, value]);
-    memory.store(slot, body, 2 * capacity + place, &[last]);
 }
 
 /// A pair more in a new body of this capacity, which the dictionary gets by one store of its
@@ -210,7 +172,7 @@ pub fn put<M: Memory>(
 {
     match plan {
         PutPlan::Replace(place) => replace_value(memory, slot, address, place, value),
-        PutPlan::Append => append_pair(memory, slot, address, key, value),
+        PutPlan::Append => append_pairs(memory, slot, address, &[key, value]),
         PutPlan::Grow(capacity) => grow_with(memory, slot, address, capacity, key, value),
         PutPlan::Full => {}
     }

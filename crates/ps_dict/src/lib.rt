@@ -1,6 +1,7 @@
 // Dictionaries in any memory.
 #![tactic(auto)]
 
+mod appends;
 pub mod changes;
 pub mod dictionaries;
 mod fills;

@@ -1,12 +1,12 @@
-use Rattle.std.proofs.Common.{◌≡◌, ◌<◌, ◌≤◌, ◌+◌, ◌*◌, ◌++◌, ◌∙◌, [], ◌∷◌, ap, sym, arith, subst, length, take}
+use Rattle.std.proofs.Common.{◌≡◌, ◌<◌, ◌≤◌, ◌+◌, ◌++◌, ◌∙◌, [], ◌∷◌, ap, sym, arith, subst, length}
 use Rattle.std.specs.Prelude.{None, Some, slice_get}
 use Rattle.ps_language.specs.Access.{dictionary_at, with_dictionary}
-use Rattle.ps_mem.specs.Heap.{Heap, object_at, birth_at, fields_at, stored, made_body}
+use Rattle.ps_mem.specs.Heap.{Heap, object_at, birth_at, fields_at, stored}
 use Rattle.ps_mem.specs.Keeps.{Keeps}
 use Rattle.ps_mem.specs.References.{NamesStanding}
 use Rattle.ps_mem.specs.Meaning.{value_of}
 use Rattle.ps_mem.specs.Shows.{IsNatural, IsSound, Shows}
-use Rattle.ps_dict.specs.Places.{count_at, body_at}
+use Rattle.ps_dict.specs.Places.{count_at}
 use Rattle.ps_dict.specs.Puts.{with_body}
 use Rattle.ps_dict.proofs.Shapes.{four}
 use Rattle.ps_dict.proofs.Growing.{grown, grown-fields, four_known, end, end-sound, end-keeps, end-shows}

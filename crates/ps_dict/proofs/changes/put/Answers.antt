@@ -2,6 +2,7 @@ use Rattle.std.proofs.Common.{◌+◌, ◌∙◌, sym, arith, subst}
 use Rattle.ps_language.specs.Value.{Dictionary}
 use Rattle.ps_language.specs.Access.{with_dictionary}
 use Rattle.ps_mem.specs.Heap.{birth_at}
+use Rattle.ps_mem.specs.Index.{pairs_of_words}
 use Rattle.ps_mem.specs.Meaning.{value_of}
 use Rattle.ps_mem.specs.Shows.{Shows}
 use Rattle.ps_dict.specs.Places.{count_at, capacity_at, pairs_at, place_of}
@@ -17,11 +18,13 @@ replace_value-requires-clause-place g c =
     position-below h c.args.address c.requires.known c.requires.sound c.args.key c.in-Replace.place
     (plan-replace (count_at h c.args.address) (capacity_at h c.args.address) (place_of (pairs_at h c.args.address) c.args.key) c.in-Replace.place (sym c.requires.plan ∙ c.in-Replace.is))
 
-pub append_pair-requires-clause-room : goal.append_pair-requires-clause-room
+pub append_pairs-requires-clause-room : goal.append_pairs-requires-clause-room
 unfolding plan_at
-append_pair-requires-clause-room g c =
+append_pairs-requires-clause-room g c =
     let h = g.M.Memory.heap c.args.memory.now in
-    (plan-append (count_at h c.args.address) (capacity_at h c.args.address) (place_of (pairs_at h c.args.address) c.args.key) (sym c.requires.plan ∙ c.in-Append.is)).1
+    let facts = plan-append (count_at h c.args.address) (capacity_at h c.args.address) (place_of (pairs_at h c.args.address) c.args.key) (sym c.requires.plan ∙ c.in-Append.is) in
+    let room = facts.1 in
+    omega (arith, room)
 
 pub grow_with-requires-clause-capacity : goal.grow_with-requires-clause-capacity
 unfolding plan_at
@@ -58,14 +61,14 @@ returns-in-Replace-clause-shows g c = λ names s shows distinct first second d h
     (c.replace_value.ensures.shows names s shows second)
 
 pub returns-in-Append-clause-shows : goal.returns-in-Append-clause-shows
-unfolding plan_at
+unfolding plan_at pairs_of_words
 returns-in-Append-clause-shows g c = λ names s shows distinct first second d holds.
     let h = g.M.Memory.heap c.args.memory.now in
     let b = birth_at h c.args.address in
     let facts = plan-append (count_at h c.args.address) (capacity_at h c.args.address) (place_of (pairs_at h c.args.address) c.args.key) (sym c.requires.plan ∙ c.in-Append.is) in
-    subst (λ (x : Dictionary). Shows (g.M.Memory.heap c.append_pair.new.memory) names (with_dictionary s b x))
+    subst (λ (x : Dictionary). Shows (g.M.Memory.heap c.append_pairs.new.memory) names (with_dictionary s b x))
     (put-appends h c.args.address c.requires.known c.requires.sound names s shows c.args.key c.requires.key distinct first facts.0 (value_of (birth_at h) names c.args.value) d holds facts.1)
-    (c.append_pair.ensures.shows names s shows first second)
+    (c.append_pairs.ensures.shows names s shows (first, (second, tt)))
 
 pub returns-in-Grow-clause-shows : goal.returns-in-Grow-clause-shows
 unfolding plan_at

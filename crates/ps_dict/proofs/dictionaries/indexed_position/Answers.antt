@@ -1,11 +1,11 @@
-use Rattle.std.proofs.Common.{◌≡◌, ◌<◌, ◌+◌, ◌*◌, ◌∙◌, ap, sym, refl, arith, subst, length, Some, w32}
+use Rattle.std.proofs.Common.{◌≡◌, ◌<◌, ◌+◌, ◌*◌, ◌∙◌, ap, sym, refl, arith, subst, Some, w32}
 use Rattle.std.proofs.lemmas.Int.{to_z-of_z}
 use Rattle.std.specs.Prelude.{unsigned_abs, slice_get}
 use Rattle.ps_word.specs.Format.{content_in}
 use Rattle.ps_word.specs.Readers.{as_integer}
-use Rattle.ps_mem.specs.Heap.{Heap, fields_at}
-use Rattle.ps_dict.specs.Places.{body_at, count_at, capacity_at, place_of}
-use Rattle.ps_dict.proofs.Reading.{loaded, key-value, position-shown}
+use Rattle.ps_mem.specs.Heap.{fields_at}
+use Rattle.ps_dict.specs.Places.{body_at, count_at, capacity_at}
+use Rattle.ps_dict.proofs.Reading.{loaded, key-value}
 use Rattle.ps_dict.proofs.Shapes.{count-fits}
 use Rattle.ps_dict.proofs.Probing.{few-places, StillAhead, ahead-in, ahead-first, ahead-end, few-here, look-fits, key-fits, looked-at, start-here, look-free, number-fits, position-within, look-found, look-on}
 use Rattle.ps_dict.proofs.dictionaries.indexed_position.Goals as goal

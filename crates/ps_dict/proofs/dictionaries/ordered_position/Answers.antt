@@ -1,7 +1,7 @@
-use Rattle.std.proofs.Common.{◌≡◌, ◌<◌, ◌*◌, ◌∙◌, ap, sym, refl, arith, subst, length}
+use Rattle.std.proofs.Common.{◌≡◌, ◌<◌, ◌*◌, ◌∙◌, sym, refl, arith, subst, length}
 use Rattle.ps_mem.specs.Heap.{Heap, fields_at}
 use Rattle.ps_dict.specs.Places.{body_at, place_of}
-use Rattle.ps_dict.proofs.Reading.{loaded, key-place, key-value, position-found, position-next, position-none, position-shown}
+use Rattle.ps_dict.proofs.Reading.{loaded, key-place, key-value, position-found, position-next, position-none}
 use Rattle.ps_dict.proofs.Shapes.{count-fits}
 use Rattle.ps_dict.proofs.Probing.{few-places}
 use Rattle.ps_dict.proofs.dictionaries.ordered_position.Goals as goal

@@ -1,9 +1,9 @@
-use Rattle.std.proofs.Common.{◌≡◌, ◌+◌, ◌*◌, ◌%◌, ◌<◌, ◌≤◌, ◌∙◌, [], ◌∷◌, Some, refl, ap, sym, arith, subst, length, drop, map, take, IsTrue}
-use Rattle.std.specs.Prelude.{slice_get, slice_set}
+use Rattle.std.proofs.Common.{◌≡◌, ◌+◌, ◌*◌, ◌<◌, ◌≤◌, ◌∙◌, [], ◌∷◌, Some, refl, ap, sym, arith, subst, length, take, IsTrue}
+use Rattle.std.specs.Prelude.{slice_get}
 use Rattle.ps_mem.specs.Heap.{Heap, Grants, birth_at, fields_at, stored}
-use Rattle.ps_mem.specs.Index.{hash_of, placed, index_word, index_words, pairs_of_words}
+use Rattle.ps_mem.specs.Index.{index_words, pairs_of_words}
 use Rattle.ps_mem.specs.Shows.{IsValue}
-use Rattle.ps_dict.proofs.Indexing.{indexed, indexed-none, indexed-long, indexed-words, indexed-next, spots, spots-count, spots-small, spots-free, key-held}
+use Rattle.ps_dict.proofs.Indexing.{indexed, indexed-none, indexed-long, indexed-next, key-held}
 use Rattle.ps_dict.proofs.fills.fill_index.Goals as goal
 
 pub loop-position-init : goal.loop-position-init
@@ -96,38 +96,17 @@ loop-position-preserved g c =
     (indexed h c.args.body c.args.capacity c.requires.stands c.requires.fields c.requires.values
     c.requires.free p) c.args.body) (2 * p) ≡ Some c.load-key.result =
     subst (λ (k : Heap). slice_get (fields_at k c.args.body) (2 * p) ≡ Some c.load-key.result)
-    c.loop-position.invariant.0 c.load-key.ensures.answer in
-    let there : placed p (hash_of
-    (birth_at (indexed h c.args.body c.args.capacity c.requires.stands c.requires.fields
-    c.requires.values c.requires.free p)) c.load-key.result % c.args.capacity)
-    (spots h c.args.body c.args.capacity c.requires.stands c.requires.fields c.requires.values
-    c.requires.free p below) ≡ slice_set
-    (spots h c.args.body c.args.capacity c.requires.stands c.requires.fields c.requires.values
-    c.requires.free p below) c.free_place-place.result (Some p) =
-    subst (λ (k : Heap). placed p (hash_of (birth_at k) c.load-key.result % c.args.capacity)
-    (spots h c.args.body c.args.capacity c.requires.stands c.requires.fields c.requires.values
-    c.requires.free p below) ≡ slice_set
-    (spots h c.args.body c.args.capacity c.requires.stands c.requires.fields c.requires.values
-    c.requires.free p below) c.free_place-place.result (Some p)) loaded
-    (c.free_place-place.ensures.placed
-    (spots h c.args.body c.args.capacity c.requires.stands c.requires.fields c.requires.values
-    c.requires.free p below)
-    (ap (λ (k : Heap). drop (2 * c.args.capacity) (fields_at k c.args.body)) loaded
-    ∙ indexed-words h c.args.body c.args.capacity c.requires.stands c.requires.fields
-    c.requires.values c.requires.free p below)
-    (spots-count h c.args.body c.args.capacity c.requires.stands c.requires.fields c.requires.values
-    c.requires.free p below) (spots-small h c.args.body c.args.capacity c.requires.stands
-    c.requires.fields c.requires.values c.requires.free p below c.requires.few)
-    (spots-free h c.args.body c.args.capacity c.requires.stands c.requires.fields
-    c.requires.values c.requires.free p below) p) in (
+    c.loop-position.invariant.0 c.load-key.ensures.answer in (
       c.fill.ensures.heap
           ∙ (ap (λ (k : Heap). stored k c.args.body
           (2 * c.args.capacity + c.free_place-place.result) (c.natural_word-word.result ∷ []))
           now
           ∙ indexed-next h c.args.body c.args.capacity c.requires.stands c.requires.fields
-          c.requires.values c.requires.free p below c.load-key.result read
-          c.free_place-place.result c.free_place-place.ensures.below c.natural_word-word.result
-          c.natural_word-word.ensures.value (c.natural_word-word.ensures.held h) there),
+          c.requires.values c.requires.free p below c.load-key.result read c.requires.few
+          (g.M.Memory.heap c.load-key.new.self) loaded c.free_place-place.result
+          c.free_place-place.ensures.below c.free_place-place.ensures.placed
+          c.natural_word-word.result c.natural_word-word.ensures.value
+          (c.natural_word-word.ensures.held h)),
       c.fill.ensures.grants ∙ (c.free_place-place.ensures.grants
           ∙ (c.load-key.ensures.grants ∙ c.loop-position.invariant.1)),
     )

@@ -1,9 +1,7 @@
-use Rattle.std.proofs.Common.{◌≡◌, ◌≢◌, ◌+◌, ◌*◌, ◌%◌, ◌∙◌, ℕ, Some, None, true, false, ap, sym, refl, arith, subst, length, drop, ◌<◌, ◌-◌, nat_lt, Option}
-use Rattle.std.specs.Prelude.{ℤ, slice_get, slice_set, is_none, if◌then◌else◌}
-use Rattle.ps_word.specs.Format.{content_in}
-use Rattle.ps_word.specs.Readers.{as_integer}
-use Rattle.ps_mem.specs.Heap.{Heap, birth_at, fields_at}
-use Rattle.ps_mem.specs.Index.{hash_of, placed}
+use Rattle.std.proofs.Common.{◌≡◌, ◌≢◌, ◌+◌, ◌*◌, ◌∙◌, Some, None, ap, sym, refl, arith, subst, length, drop, ◌<◌, ◌-◌, nat_lt, Option}
+use Rattle.std.specs.Prelude.{ℤ, slice_get, slice_set, if◌then◌else◌}
+use Rattle.ps_mem.specs.Heap.{Heap, fields_at}
+use Rattle.ps_mem.specs.Index.{placed}
 use Rattle.ps_dict.proofs.Freeing.{free-end, free-here, free-on}
 use Rattle.ps_dict.proofs.index.free_place.Goals as goal
 

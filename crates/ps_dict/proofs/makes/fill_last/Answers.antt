@@ -1,6 +1,6 @@
-use Rattle.std.proofs.Common.{◌≡◌, ◌≤◌, ◌<◌, ◌+◌, ◌*◌, ◌++◌, ◌∙◌, [], ◌∷◌, None, ap, sym, arith, subst, length}
+use Rattle.std.proofs.Common.{◌≡◌, ◌<◌, ◌+◌, ◌*◌, ◌++◌, ◌∙◌, [], ◌∷◌, ap, sym, arith, subst, length}
 use Rattle.ps_language.specs.Access.{dictionary_at, with_dictionary}
-use Rattle.ps_mem.specs.Heap.{Heap, object_at, birth_at, fields_at, stored}
+use Rattle.ps_mem.specs.Heap.{Heap, birth_at, fields_at, stored}
 use Rattle.ps_mem.specs.Keeps.{Keeps, Extends}
 use Rattle.ps_mem.specs.References.{NamesStanding}
 use Rattle.ps_mem.specs.Meaning.{value_of}

@@ -1,15 +1,14 @@
-use Rattle.std.proofs.Common.{rules, ◌≡◌, ◌+◌, ◌*◌, ◌%◌, ◌<◌, ◌≤◌, ◌∙◌, Some, ap, sym, arith, subst, length, drop, map, take, nat_lt}
-use Rattle.std.specs.Prelude.{slice_get, slice_set, if◌then◌else◌}
+use Rattle.std.proofs.Common.{rules, ◌≡◌, ◌+◌, ◌*◌, ◌%◌, ◌<◌, ◌∙◌, Some, ap, sym, arith, subst, length}
+use Rattle.std.specs.Prelude.{slice_get, slice_set}
 use Rattle.ps_mem.specs.Heap.{Heap, birth_at, fields_at, zero_word}
 use Rattle.std.proofs.Common.{replicate}
-use Rattle.ps_mem.specs.Index.{hash_of, placed, index_word, index_words}
+use Rattle.ps_mem.specs.Index.{hash_of, placed}
 use Rattle.ps_mem.specs.Shows.{IsValue}
-use Rattle.ps_dict.specs.Places.{count_at, capacity_at, body_at, pairs_at}
-use Rattle.ps_dict.specs.Removals.{without_place}
+use Rattle.ps_dict.specs.Places.{count_at, capacity_at, body_at}
 use Rattle.ps_dict.proofs.Shapes.{count-fits}
 use Rattle.ps_dict.proofs.Reading.{key-place}
 use Rattle.ps_dict.proofs.Probing.{few-places}
-use Rattle.ps_dict.proofs.Gathering.{gathered, gathered-none, gathered-all, gathered-words, gathered-count, gathered-long, gathered-small, gathered-free, gathered-key, gathered-next, from, from-within, spots}
+use Rattle.ps_dict.proofs.Gathering.{gathered-none, gathered-all, gathered-words, gathered-count, gathered-long, gathered-small, gathered-free, gathered-key, gathered-next, from, from-within, spots}
 use Rattle.ps_dict.proofs.removals.gather_index.Goals as goal
 
 pub loop-position-init : goal.loop-position-init

@@ -1,14 +1,10 @@
 use Rattle.std.proofs.Common.{◌≡◌, ◌≤◌, ◌+◌, ◌*◌, ◌-◌, ◌∙◌, ap, sym, arith, subst, length, take, drop}
 use Rattle.std.specs.Prelude.{slice_range}
-use Rattle.ps_language.specs.Access.{dictionary_at, with_dictionary}
-use Rattle.ps_mem.specs.Heap.{Heap, birth_at, fields_at, stored}
-use Rattle.ps_mem.specs.Keeps.{Keeps}
+use Rattle.ps_mem.specs.Heap.{Heap, fields_at, stored}
 use Rattle.ps_mem.specs.References.{NamesStanding}
-use Rattle.ps_mem.specs.Shows.{IsSound, Shows}
 use Rattle.ps_mem.proofs.HeapLemmas.{stored-nil}
 use Rattle.ps_mem.proofs.KeepsLemmas.{known_values}
 use Rattle.ps_dict.specs.Places.{count_at, body_at}
-use Rattle.ps_dict.specs.Removals.{moved_down}
 use Rattle.ps_dict.proofs.Removing.{behind, behind-values, behind-fits}
 use Rattle.ps_dict.proofs.removals.move_down.Goals as goal
 

@@ -1,5 +1,4 @@
-use Rattle.std.proofs.Common.{rules, ◌≡◌, ◌+◌, ◌++◌, ◌∙◌, ℕ, zero, suc, List, [], ◌∷◌, replicate, refl, ap, sym, arith}
-use Rattle.ps_word.specs.declared.words.Word.{Word}
+use Rattle.std.proofs.Common.{rules, ◌≡◌, ◌+◌, ◌++◌, ◌∙◌, ℕ, zero, suc, [], ◌∷◌, replicate, refl, ap, arith}
 use Rattle.ps_mem.specs.Heap.{zero_word}
 use Rattle.ps_dict.proofs.Removing.{null_is_zero}
 use Rattle.ps_dict.proofs.removals.push_nulls.Goals as goal

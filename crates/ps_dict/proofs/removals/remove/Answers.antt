@@ -1,4 +1,4 @@
-use Rattle.std.proofs.Common.{◌≡◌, ◌+◌, ◌*◌, ◌-◌, ◌≤◌, ◌∙◌, [], ◌∷◌, ap, sym, arith, subst, length}
+use Rattle.std.proofs.Common.{◌≡◌, ◌+◌, ◌*◌, ◌-◌, ◌≤◌, ◌∙◌, [], ◌∷◌, ap, sym, subst, length}
 use Rattle.ps_language.specs.Access.{dictionary_at, with_dictionary}
 use Rattle.ps_language.specs.Dictionaries.{without}
 use Rattle.ps_word.specs.declared.words.Word.{Word}
