@@ -23,3 +23,5 @@ pub mod Taking
 pub mod Fresh
 pub mod Several
 pub mod Granted
+pub mod Entering
+pub mod Errors

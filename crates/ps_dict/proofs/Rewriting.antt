@@ -262,6 +262,22 @@ module _ (h : Heap) (a : ℕ) (known : StandsAs h DictionaryKind a 4) (sound : I
   pub value-body_at : body_at after_value a ≡ body_at h a
   value-body_at = ap (λ xs. body_in xs 3) value_fields
 
+  value-body_fields : fields_at after_value (body_at h a) ≡ splice body_words (2 * i + 1) (v ∷ [])
+  unfolding fields_at
+  value-body_fields = ap fields_of value-body
+
+  pub value-pairs_at : pairs_at after_value a ≡ others_pairs
+  unfolding pairs_at
+  value-pairs_at =
+      ap (λ n. take n (pairs_of_words (fields_at after_value (body_at after_value a)))) value-count_at
+      ∙ (ap (λ b. take (count_at h a) (pairs_of_words (fields_at after_value b))) value-body_at
+      ∙ (ap (λ xs. take (count_at h a) (pairs_of_words xs)) value-body_fields
+      ∙ (ap (λ n. take n (pairs_of_words (splice body_words (2 * i + 1) (v ∷ []))))
+      (sym length-others) ∙ value-pairs)))
+
+  pub replaced-others : (c : ℕ) → a ≢ c → body_at h a ≢ c → object_at after_value c ≡ object_at h c
+  replaced-others = value-others
+
   pub replaced-keeps : Keeps h after_value
   replaced-keeps = rewritten-keeps h a known sound after_value known.object.fields
       (splice body_words (2 * i + 1) (v ∷ [])) value-at value-body value-others

@@ -118,7 +118,7 @@ words-of_twos (x ∷ []) even = absurd (omega (arith, even))
 words-of_twos (x ∷ y ∷ ws) even =
     ap (λ zs. x ∷ y ∷ zs) (words-of_twos ws (omega (arith, even)))
 
-words-append : (ps qs : List (Word × Word)) → words_of_pairs (ps ++ qs) ≡ words_of_pairs ps
+pub words-append : (ps qs : List (Word × Word)) → words_of_pairs (ps ++ qs) ≡ words_of_pairs ps
     ++ words_of_pairs qs
 words-append [] qs = refl
 words-append (pair ∷ ps) qs = ap (λ zs. pair.0 ∷ pair.1 ∷ zs) (words-append ps qs)

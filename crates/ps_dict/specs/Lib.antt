@@ -1,3 +1,4 @@
+pub mod Entries
 pub mod Keys
 pub mod Places
 pub mod Puts

@@ -6,12 +6,12 @@ ghost use Rattle.ps_language.specs.Dictionaries.{holding, put_pair};
 ghost use Rattle.std.specs.List.{AllPairs};
 ghost use Rattle.ps_language.specs.Access.{dictionary_at, with_dictionary};
 ghost use Rattle.ps_word.specs.Format as format;
-ghost use Rattle.ps_mem.specs.Heap.{Heap, birth_at, AfterStore};
+ghost use Rattle.ps_mem.specs.Heap.{Heap, birth_at, stored, AfterStore};
 ghost use Rattle.ps_mem.specs.Keeps.{Keeps};
 ghost use Rattle.ps_mem.specs.References.{StandsAs};
 ghost use Rattle.ps_mem.specs.Meaning.{value_of};
 ghost use Rattle.ps_mem.specs.Shows.{IsNatural, IsValue, IsSound, IsWithin, Shows};
-ghost use Rattle.ps_dict.specs.Places.{count_at, capacity_at};
+ghost use Rattle.ps_dict.specs.Places.{count_at, body_at};
 ghost use Rattle.ps_dict.specs.Puts as puts;
 ghost use Rattle.ps_dict.specs.Puts.{AfterChange, with_value, plan_at};
 
@@ -64,12 +64,20 @@ pub fn set_access<M: Memory>(memory: &mut M, slot: u32, address: u32, access: Ac
 }
 
 /// Another value at a place of a dictionary, with one record in a cycle.
-fn replace_value<M: Memory>(memory: &mut M, slot: u32, address: u32, place: u32, value: Word)
+pub(crate) fn replace_value<M: Memory>(
+    memory: &mut M,
+    slot: u32,
+    address: u32,
+    place: u32,
+    value: Word,
+)
     requires granted { 1 ≤ (M.grants memory.old).records slot }
     requires sound { IsSound (M.heap memory.old) }
     requires known { StandsAs (M.heap memory.old) Kind.Dictionary address 4 }
     requires place { place < count_at (M.heap memory.old) address }
     requires held { IsValue (M.heap memory.old) value }
+    ensures heap { M.heap memory.new ≡ stored (M.heap memory.old)
+        (body_at (M.heap memory.old) address) (2 * place + 1) (value ∷ []) }
     ensures sound { IsSound (M.heap memory.new) }
     ensures keeps { Keeps (M.heap memory.old) (M.heap memory.new) }
     ensures grants { AfterChange (M.grants memory.old) (M.grants memory.new) slot 1 0 }

@@ -4,6 +4,7 @@
 mod appends;
 pub mod changes;
 pub mod dictionaries;
+pub mod entries;
 mod fills;
 pub mod index;
 pub mod keys;

@@ -71,3 +71,11 @@ returns-clause-shows g c = λ names s shows within.
     }))) (sym now)
     (replaced-shows h c.args.address c.requires.known c.requires.sound c.args.place c.requires.place
     c.args.value c.requires.held names s shows within)
+
+pub returns-clause-heap : goal.returns-clause-heap
+returns-clause-heap g c =
+    c.store.ensures.heap ∙ (ap
+    (λ (k : Heap). stored k c.body-body.result (2 * c.args.place + 1) (c.args.value ∷ []))
+    c.body-body.ensures.heap
+    ∙ ap (λ b. stored (g.M.Memory.heap c.args.memory.now) b (2 * c.args.place + 1)
+    (c.args.value ∷ [])) c.body-body.ensures.words)
