@@ -30,7 +30,7 @@ use Rattle.ps_dict.proofs.Reading.{position-shown, position-below}
 use Rattle.ps_dict.proofs.Changing.{with_twice, dictionary_at-with, with-lengths}
 use Rattle.ps_dict.proofs.WordRuns.{put-present, put-absent}
 use Rattle.ps_dict.proofs.Rewriting.{after_value, replaced-keeps, replaced-sound, replaced-shows, replaced-others, value-count_at, value-capacity_at, value-body_at, value-pairs_at}
-use Rattle.ps_dict.proofs.Several.{words-append}
+use Rattle.ps_dict.proofs.Growing.{words-append}
 
 -- ---- the place of a key among more pairs
 
@@ -352,7 +352,8 @@ module _ (h : Heap) (a : ℕ) (known : StandsAs h DictionaryKind a 4) (sound : I
 
       first-now : first_place so_far.d.pairs key ≡ p
       first-now =
-          sym (ap (λ (d : DictionaryValue). first_place d.pairs (value_of (birth_at g) names entry.0))
+          sym (ap (λ (d : DictionaryValue). first_place d.pairs (value_of (birth_at g) names
+              entry.0))
           dictionary-now
           ∙ ap (λ (births : ℕ → ℕ). first_place so_far.d.pairs (value_of births names entry.0))
           entered.births)

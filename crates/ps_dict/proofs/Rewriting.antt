@@ -331,7 +331,7 @@ module _ (h : Heap) (a : ℕ) (known : StandsAs h DictionaryKind a 4) (sound : I
 
 -- ---- a pair more
 
-pub length-zeros : (n : ℕ) → length (replicate n zero_word) ≡ n
+length-zeros : (n : ℕ) → length (replicate n zero_word) ≡ n
 length-zeros zero = refl
 length-zeros (suc n) = ap suc (length-zeros n)
 

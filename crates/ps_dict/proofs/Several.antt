@@ -1,6 +1,6 @@
 -- Pairs more at the end of a dictionary, given by their words, and their positions in its index.
 use Rattle.std.proofs.Common.{◌≡◌, ◌≢◌, ℕ, zero, suc, ◌+◌, ◌-◌, ◌*◌, ◌/◌, ◌%◌, ◌<◌, ◌≤◌, List, [], ◌∷◌, ◌++◌, length, map, take, drop, replicate, get_or, Some, refl, sym, ap, ◌∙◌, arith, subst, append_assoc, length-append}
-use Rattle.std.proofs.lemmas.List.{map-append, append-nil, length-take-le}
+use Rattle.std.proofs.lemmas.List.{map-append, append-nil, length-take-le, length-replicate, drop-append-le}
 use Rattle.ps_language.specs.declared.kinds.Kind.TheVariants.{Dictionary as DictionaryKind, Body as BodyKind}
 use Rattle.ps_language.specs.Value.{Store}
 use Rattle.ps_language.specs.Access.{splice, dictionary_at, with_dictionary}
@@ -23,7 +23,8 @@ use Rattle.ps_dict.proofs.Naturals.{count_fields, natural-within}
 use Rattle.ps_dict.proofs.Appending.{splice-behind, front-words}
 use Rattle.ps_dict.proofs.Indexing.{drop-end, index-values, index-within, length-index_words, indexing-same, indexing-long, indexing-keeps, indexing-next, place-free}
 use Rattle.ps_dict.proofs.Fresh.{take-next, all-there, length-in_twos, pair-in_twos}
-use Rattle.ps_dict.proofs.Rewriting.{rewritten-keeps, rewritten-sound, rewritten-shows, length-zeros}
+use Rattle.ps_dict.proofs.Growing.{words-append, drop-zeros}
+use Rattle.ps_dict.proofs.Rewriting.{rewritten-keeps, rewritten-sound, rewritten-shows}
 
 -- ---- their positions, one after another
 
@@ -118,18 +119,12 @@ words-of_twos (x ∷ []) even = absurd (omega (arith, even))
 words-of_twos (x ∷ y ∷ ws) even =
     ap (λ zs. x ∷ y ∷ zs) (words-of_twos ws (omega (arith, even)))
 
-pub words-append : (ps qs : List (Word × Word)) → words_of_pairs (ps ++ qs) ≡ words_of_pairs ps
-    ++ words_of_pairs qs
-words-append [] qs = refl
-words-append (pair ∷ ps) qs = ap (λ zs. pair.0 ∷ pair.1 ∷ zs) (words-append ps qs)
-
-drop-zeros : (m n : ℕ) (xs : List Word) → m ≤ n → drop m (replicate n zero_word ++ xs) ≡ replicate
+drop-nulls : (m n : ℕ) (xs : List Word) → m ≤ n → drop m (replicate n zero_word ++ xs) ≡ replicate
     (n - m) zero_word ++ xs
-drop-zeros zero n xs fits = ap (λ k. replicate k zero_word ++ xs)
-    (let e : n ≡ n - 0 = omega arith in e)
-drop-zeros (suc m) zero xs fits = absurd (omega (arith, fits))
-drop-zeros (suc m) (suc n) xs fits = drop-zeros m n xs (omega (arith, fits))
-    ∙ ap (λ k. replicate k zero_word ++ xs) (let e : n - m ≡ suc n - suc m = omega arith in e)
+drop-nulls m n xs fits =
+    let zeros = length-replicate n zero_word in
+    drop-append-le m (replicate n zero_word) xs (omega (arith, zeros, fits))
+    ∙ ap (λ ws. ws ++ xs) (drop-zeros m n (n - m) (omega (arith, fits)))
 
 -- ---- the dictionary with them
 
@@ -273,7 +268,8 @@ module _ (h : Heap) (a : ℕ) (known : StandsAs h DictionaryKind a 4) (sound : I
   pairs-are =
       let rest = drop (length ws) (splice (drop (2 * count_at h a) old)
       (2 * capacity_at h a - 2 * count_at h a) index) in
-      ap (λ xs. take (length more) (pairs_of_words xs)) (as-more (drop (2 * count_at h a) old) front)
+      ap (λ xs. take (length more) (pairs_of_words xs)) (as-more (drop (2 * count_at h a) old)
+          front)
       ∙ (ap (take (length more)) (pairs-of_words_of_pairs more rest)
       ∙ take-front_all more (pairs_of_words rest))
 
@@ -341,7 +337,7 @@ module _ (h : Heap) (a : ℕ) (known : StandsAs h DictionaryKind a 4) (sound : I
     unfolding behind
     holds-more =
         let m = length-more in
-        let zeros = length-zeros (2 * (capacity_at h a - count_at h a)) in
+        let zeros = length-replicate (2 * (capacity_at h a - count_at h a)) zero_word in
         as-more (replicate (2 * (capacity_at h a - count_at h a)) zero_word ++ before)
         (holds-shown h a known sound names s shows)
         ∙ ap (λ xs. words_of_pairs more ++ xs)
@@ -350,7 +346,7 @@ module _ (h : Heap) (a : ℕ) (known : StandsAs h DictionaryKind a 4) (sound : I
         (2 * capacity_at h a - 2 * count_at h a) 0 index (omega (arith, zeros))
         ∙ ap (λ xs. replicate (2 * (capacity_at h a - count_at h a)) zero_word ++ xs)
         (splice-zero before index))
-        ∙ (drop-zeros (length ws) (2 * (capacity_at h a - count_at h a)) behind
+        ∙ (drop-nulls (length ws) (2 * (capacity_at h a - count_at h a)) behind
         (omega (arith, room, even))
         ∙ ap (λ n. replicate n zero_word ++ behind) (omega (arith, m, room, even))))
 

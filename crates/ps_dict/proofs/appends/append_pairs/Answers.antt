@@ -46,8 +46,10 @@ store-requires-clause-known g c =
     let is : IsNatural w (count_at h a + length ws / 2) =
     subst (λ n. IsNatural w (n + length ws / 2)) c.length-count.ensures.words
     c.natural_word-more.ensures.value in
-    let now1 : g.M.Memory.heap c.index_pairs.new.memory ≡ after_positions h a c.requires.known c.requires.sound ws c.requires.even
-    c.requires.room c.requires.held w is (c.natural_word-more.ensures.held h) = c.index_pairs.ensures.heap
+    let now1 : g.M.Memory.heap c.index_pairs.new.memory ≡ after_positions h a c.requires.known
+        c.requires.sound ws c.requires.even
+    c.requires.room c.requires.held w is (c.natural_word-more.ensures.held h) =
+        c.index_pairs.ensures.heap
     ∙ ap (λ (k : Heap). stored k (body_at k a) (2 * capacity_at k a)
     (index_words (birth_at k) (capacity_at k a) (pairs_at k a ++ pairs_of_words ws))) before in
     subst (λ (k : Heap). NamesStanding k c.body-body.result ws) (sym now1)
@@ -69,8 +71,10 @@ store-requires-clause-place g c =
     let is : IsNatural w (count_at h a + length ws / 2) =
     subst (λ n. IsNatural w (n + length ws / 2)) c.length-count.ensures.words
     c.natural_word-more.ensures.value in
-    let now1 : g.M.Memory.heap c.index_pairs.new.memory ≡ after_positions h a c.requires.known c.requires.sound ws c.requires.even
-    c.requires.room c.requires.held w is (c.natural_word-more.ensures.held h) = c.index_pairs.ensures.heap
+    let now1 : g.M.Memory.heap c.index_pairs.new.memory ≡ after_positions h a c.requires.known
+        c.requires.sound ws c.requires.even
+    c.requires.room c.requires.held w is (c.natural_word-more.ensures.held h) =
+        c.index_pairs.ensures.heap
     ∙ ap (λ (k : Heap). stored k (body_at k a) (2 * capacity_at k a)
     (index_words (birth_at k) (capacity_at k a) (pairs_at k a ++ pairs_of_words ws))) before in
     let count = c.length-count.ensures.words in
@@ -80,7 +84,8 @@ store-requires-clause-place g c =
     length (fields_at (after_positions h a c.requires.known c.requires.sound ws c.requires.even
     c.requires.room c.requires.held w is (c.natural_word-more.ensures.held h)) (body_at h a)) =
     ap (λ (k : Heap). length (fields_at k c.body-body.result)) now1
-    ∙ ap (λ b. length (fields_at (after_positions h a c.requires.known c.requires.sound ws c.requires.even
+    ∙ ap (λ b. length (fields_at (after_positions h a c.requires.known c.requires.sound ws
+        c.requires.even
     c.requires.room c.requires.held w is (c.natural_word-more.ensures.held h)) b)) is_body in
     omega (arith, count, fits, same)
 
@@ -97,18 +102,24 @@ store-requires-2-clause-place g c =
     let is : IsNatural w (count_at h a + length ws / 2) =
     subst (λ n. IsNatural w (n + length ws / 2)) c.length-count.ensures.words
     c.natural_word-more.ensures.value in
-    let now1 : g.M.Memory.heap c.index_pairs.new.memory ≡ after_positions h a c.requires.known c.requires.sound ws c.requires.even
-    c.requires.room c.requires.held w is (c.natural_word-more.ensures.held h) = c.index_pairs.ensures.heap
+    let now1 : g.M.Memory.heap c.index_pairs.new.memory ≡ after_positions h a c.requires.known
+        c.requires.sound ws c.requires.even
+    c.requires.room c.requires.held w is (c.natural_word-more.ensures.held h) =
+        c.index_pairs.ensures.heap
     ∙ ap (λ (k : Heap). stored k (body_at k a) (2 * capacity_at k a)
     (index_words (birth_at k) (capacity_at k a) (pairs_at k a ++ pairs_of_words ws))) before in
-    let now2 : g.M.Memory.heap c.store.new.self ≡ after_words h a c.requires.known c.requires.sound ws c.requires.even
+    let now2 : g.M.Memory.heap c.store.new.self ≡ after_words h a c.requires.known c.requires.sound
+        ws c.requires.even
     c.requires.room c.requires.held w is (c.natural_word-more.ensures.held h) = c.store.ensures.heap
     ∙ (ap (λ (k : Heap). stored k c.body-body.result (2 * c.length-count.result) ws) now1
     ∙ (ap (λ b. stored (after_positions h a c.requires.known c.requires.sound ws c.requires.even
-    c.requires.room c.requires.held w is (c.natural_word-more.ensures.held h)) b (2 * c.length-count.result) ws) is_body
+    c.requires.room c.requires.held w is (c.natural_word-more.ensures.held h)) b (2 *
+        c.length-count.result) ws) is_body
     ∙ ap (λ n. stored (after_positions h a c.requires.known c.requires.sound ws c.requires.even
-    c.requires.room c.requires.held w is (c.natural_word-more.ensures.held h)) (body_at h a) (2 * n) ws) c.length-count.ensures.words)) in
-    subst (λ (k : Heap). 1 ≤ length (fields_at k a)) (sym now2) (number-place h a c.requires.known c.requires.sound ws c.requires.even
+    c.requires.room c.requires.held w is (c.natural_word-more.ensures.held h)) (body_at h a) (2 * n)
+        ws) c.length-count.ensures.words)) in
+    subst (λ (k : Heap). 1 ≤ length (fields_at k a)) (sym now2) (number-place h a c.requires.known
+        c.requires.sound ws c.requires.even
     c.requires.room c.requires.held w is (c.natural_word-more.ensures.held h))
 
 pub returns-clause-sound : goal.returns-clause-sound
@@ -124,19 +135,26 @@ returns-clause-sound g c =
     let is : IsNatural w (count_at h a + length ws / 2) =
     subst (λ n. IsNatural w (n + length ws / 2)) c.length-count.ensures.words
     c.natural_word-more.ensures.value in
-    let now1 : g.M.Memory.heap c.index_pairs.new.memory ≡ after_positions h a c.requires.known c.requires.sound ws c.requires.even
-    c.requires.room c.requires.held w is (c.natural_word-more.ensures.held h) = c.index_pairs.ensures.heap
+    let now1 : g.M.Memory.heap c.index_pairs.new.memory ≡ after_positions h a c.requires.known
+        c.requires.sound ws c.requires.even
+    c.requires.room c.requires.held w is (c.natural_word-more.ensures.held h) =
+        c.index_pairs.ensures.heap
     ∙ ap (λ (k : Heap). stored k (body_at k a) (2 * capacity_at k a)
     (index_words (birth_at k) (capacity_at k a) (pairs_at k a ++ pairs_of_words ws))) before in
-    let now2 : g.M.Memory.heap c.store.new.self ≡ after_words h a c.requires.known c.requires.sound ws c.requires.even
+    let now2 : g.M.Memory.heap c.store.new.self ≡ after_words h a c.requires.known c.requires.sound
+        ws c.requires.even
     c.requires.room c.requires.held w is (c.natural_word-more.ensures.held h) = c.store.ensures.heap
     ∙ (ap (λ (k : Heap). stored k c.body-body.result (2 * c.length-count.result) ws) now1
     ∙ (ap (λ b. stored (after_positions h a c.requires.known c.requires.sound ws c.requires.even
-    c.requires.room c.requires.held w is (c.natural_word-more.ensures.held h)) b (2 * c.length-count.result) ws) is_body
+    c.requires.room c.requires.held w is (c.natural_word-more.ensures.held h)) b (2 *
+        c.length-count.result) ws) is_body
     ∙ ap (λ n. stored (after_positions h a c.requires.known c.requires.sound ws c.requires.even
-    c.requires.room c.requires.held w is (c.natural_word-more.ensures.held h)) (body_at h a) (2 * n) ws) c.length-count.ensures.words)) in
-    let now3 : g.M.Memory.heap c.store-2.new.self ≡ after_number h a c.requires.known c.requires.sound ws c.requires.even
-    c.requires.room c.requires.held w is (c.natural_word-more.ensures.held h) = c.store-2.ensures.heap
+    c.requires.room c.requires.held w is (c.natural_word-more.ensures.held h)) (body_at h a) (2 * n)
+        ws) c.length-count.ensures.words)) in
+    let now3 : g.M.Memory.heap c.store-2.new.self ≡ after_number h a c.requires.known
+        c.requires.sound ws c.requires.even
+    c.requires.room c.requires.held w is (c.natural_word-more.ensures.held h) =
+        c.store-2.ensures.heap
     ∙ ap (λ (k : Heap). stored k a 0 (w ∷ [])) now2 in
     subst IsSound (sym now3) (several-sound h a c.requires.known c.requires.sound ws c.requires.even
     c.requires.room c.requires.held w is (c.natural_word-more.ensures.held h))
@@ -154,21 +172,29 @@ returns-clause-keeps g c =
     let is : IsNatural w (count_at h a + length ws / 2) =
     subst (λ n. IsNatural w (n + length ws / 2)) c.length-count.ensures.words
     c.natural_word-more.ensures.value in
-    let now1 : g.M.Memory.heap c.index_pairs.new.memory ≡ after_positions h a c.requires.known c.requires.sound ws c.requires.even
-    c.requires.room c.requires.held w is (c.natural_word-more.ensures.held h) = c.index_pairs.ensures.heap
+    let now1 : g.M.Memory.heap c.index_pairs.new.memory ≡ after_positions h a c.requires.known
+        c.requires.sound ws c.requires.even
+    c.requires.room c.requires.held w is (c.natural_word-more.ensures.held h) =
+        c.index_pairs.ensures.heap
     ∙ ap (λ (k : Heap). stored k (body_at k a) (2 * capacity_at k a)
     (index_words (birth_at k) (capacity_at k a) (pairs_at k a ++ pairs_of_words ws))) before in
-    let now2 : g.M.Memory.heap c.store.new.self ≡ after_words h a c.requires.known c.requires.sound ws c.requires.even
+    let now2 : g.M.Memory.heap c.store.new.self ≡ after_words h a c.requires.known c.requires.sound
+        ws c.requires.even
     c.requires.room c.requires.held w is (c.natural_word-more.ensures.held h) = c.store.ensures.heap
     ∙ (ap (λ (k : Heap). stored k c.body-body.result (2 * c.length-count.result) ws) now1
     ∙ (ap (λ b. stored (after_positions h a c.requires.known c.requires.sound ws c.requires.even
-    c.requires.room c.requires.held w is (c.natural_word-more.ensures.held h)) b (2 * c.length-count.result) ws) is_body
+    c.requires.room c.requires.held w is (c.natural_word-more.ensures.held h)) b (2 *
+        c.length-count.result) ws) is_body
     ∙ ap (λ n. stored (after_positions h a c.requires.known c.requires.sound ws c.requires.even
-    c.requires.room c.requires.held w is (c.natural_word-more.ensures.held h)) (body_at h a) (2 * n) ws) c.length-count.ensures.words)) in
-    let now3 : g.M.Memory.heap c.store-2.new.self ≡ after_number h a c.requires.known c.requires.sound ws c.requires.even
-    c.requires.room c.requires.held w is (c.natural_word-more.ensures.held h) = c.store-2.ensures.heap
+    c.requires.room c.requires.held w is (c.natural_word-more.ensures.held h)) (body_at h a) (2 * n)
+        ws) c.length-count.ensures.words)) in
+    let now3 : g.M.Memory.heap c.store-2.new.self ≡ after_number h a c.requires.known
+        c.requires.sound ws c.requires.even
+    c.requires.room c.requires.held w is (c.natural_word-more.ensures.held h) =
+        c.store-2.ensures.heap
     ∙ ap (λ (k : Heap). stored k a 0 (w ∷ [])) now2 in
-    subst (Keeps h) (sym now3) (several-keeps h a c.requires.known c.requires.sound ws c.requires.even
+    subst (Keeps h) (sym now3) (several-keeps h a c.requires.known c.requires.sound ws
+        c.requires.even
     c.requires.room c.requires.held w is (c.natural_word-more.ensures.held h))
 
 pub returns-clause-births : goal.returns-clause-births
@@ -184,19 +210,26 @@ returns-clause-births g c =
     let is : IsNatural w (count_at h a + length ws / 2) =
     subst (λ n. IsNatural w (n + length ws / 2)) c.length-count.ensures.words
     c.natural_word-more.ensures.value in
-    let now1 : g.M.Memory.heap c.index_pairs.new.memory ≡ after_positions h a c.requires.known c.requires.sound ws c.requires.even
-    c.requires.room c.requires.held w is (c.natural_word-more.ensures.held h) = c.index_pairs.ensures.heap
+    let now1 : g.M.Memory.heap c.index_pairs.new.memory ≡ after_positions h a c.requires.known
+        c.requires.sound ws c.requires.even
+    c.requires.room c.requires.held w is (c.natural_word-more.ensures.held h) =
+        c.index_pairs.ensures.heap
     ∙ ap (λ (k : Heap). stored k (body_at k a) (2 * capacity_at k a)
     (index_words (birth_at k) (capacity_at k a) (pairs_at k a ++ pairs_of_words ws))) before in
-    let now2 : g.M.Memory.heap c.store.new.self ≡ after_words h a c.requires.known c.requires.sound ws c.requires.even
+    let now2 : g.M.Memory.heap c.store.new.self ≡ after_words h a c.requires.known c.requires.sound
+        ws c.requires.even
     c.requires.room c.requires.held w is (c.natural_word-more.ensures.held h) = c.store.ensures.heap
     ∙ (ap (λ (k : Heap). stored k c.body-body.result (2 * c.length-count.result) ws) now1
     ∙ (ap (λ b. stored (after_positions h a c.requires.known c.requires.sound ws c.requires.even
-    c.requires.room c.requires.held w is (c.natural_word-more.ensures.held h)) b (2 * c.length-count.result) ws) is_body
+    c.requires.room c.requires.held w is (c.natural_word-more.ensures.held h)) b (2 *
+        c.length-count.result) ws) is_body
     ∙ ap (λ n. stored (after_positions h a c.requires.known c.requires.sound ws c.requires.even
-    c.requires.room c.requires.held w is (c.natural_word-more.ensures.held h)) (body_at h a) (2 * n) ws) c.length-count.ensures.words)) in
-    let now3 : g.M.Memory.heap c.store-2.new.self ≡ after_number h a c.requires.known c.requires.sound ws c.requires.even
-    c.requires.room c.requires.held w is (c.natural_word-more.ensures.held h) = c.store-2.ensures.heap
+    c.requires.room c.requires.held w is (c.natural_word-more.ensures.held h)) (body_at h a) (2 * n)
+        ws) c.length-count.ensures.words)) in
+    let now3 : g.M.Memory.heap c.store-2.new.self ≡ after_number h a c.requires.known
+        c.requires.sound ws c.requires.even
+    c.requires.room c.requires.held w is (c.natural_word-more.ensures.held h) =
+        c.store-2.ensures.heap
     ∙ ap (λ (k : Heap). stored k a 0 (w ∷ [])) now2 in
     ap birth_at now3 ∙ several-births h a c.requires.known c.requires.sound ws c.requires.even
     c.requires.room c.requires.held w is (c.natural_word-more.ensures.held h)
@@ -214,21 +247,29 @@ returns-clause-others g c = λ other apart apart'.
     let is : IsNatural w (count_at h a + length ws / 2) =
     subst (λ n. IsNatural w (n + length ws / 2)) c.length-count.ensures.words
     c.natural_word-more.ensures.value in
-    let now1 : g.M.Memory.heap c.index_pairs.new.memory ≡ after_positions h a c.requires.known c.requires.sound ws c.requires.even
-    c.requires.room c.requires.held w is (c.natural_word-more.ensures.held h) = c.index_pairs.ensures.heap
+    let now1 : g.M.Memory.heap c.index_pairs.new.memory ≡ after_positions h a c.requires.known
+        c.requires.sound ws c.requires.even
+    c.requires.room c.requires.held w is (c.natural_word-more.ensures.held h) =
+        c.index_pairs.ensures.heap
     ∙ ap (λ (k : Heap). stored k (body_at k a) (2 * capacity_at k a)
     (index_words (birth_at k) (capacity_at k a) (pairs_at k a ++ pairs_of_words ws))) before in
-    let now2 : g.M.Memory.heap c.store.new.self ≡ after_words h a c.requires.known c.requires.sound ws c.requires.even
+    let now2 : g.M.Memory.heap c.store.new.self ≡ after_words h a c.requires.known c.requires.sound
+        ws c.requires.even
     c.requires.room c.requires.held w is (c.natural_word-more.ensures.held h) = c.store.ensures.heap
     ∙ (ap (λ (k : Heap). stored k c.body-body.result (2 * c.length-count.result) ws) now1
     ∙ (ap (λ b. stored (after_positions h a c.requires.known c.requires.sound ws c.requires.even
-    c.requires.room c.requires.held w is (c.natural_word-more.ensures.held h)) b (2 * c.length-count.result) ws) is_body
+    c.requires.room c.requires.held w is (c.natural_word-more.ensures.held h)) b (2 *
+        c.length-count.result) ws) is_body
     ∙ ap (λ n. stored (after_positions h a c.requires.known c.requires.sound ws c.requires.even
-    c.requires.room c.requires.held w is (c.natural_word-more.ensures.held h)) (body_at h a) (2 * n) ws) c.length-count.ensures.words)) in
-    let now3 : g.M.Memory.heap c.store-2.new.self ≡ after_number h a c.requires.known c.requires.sound ws c.requires.even
-    c.requires.room c.requires.held w is (c.natural_word-more.ensures.held h) = c.store-2.ensures.heap
+    c.requires.room c.requires.held w is (c.natural_word-more.ensures.held h)) (body_at h a) (2 * n)
+        ws) c.length-count.ensures.words)) in
+    let now3 : g.M.Memory.heap c.store-2.new.self ≡ after_number h a c.requires.known
+        c.requires.sound ws c.requires.even
+    c.requires.room c.requires.held w is (c.natural_word-more.ensures.held h) =
+        c.store-2.ensures.heap
     ∙ ap (λ (k : Heap). stored k a 0 (w ∷ [])) now2 in
-    ap (λ (k : Heap). object_at k other) now3 ∙ several-others h a c.requires.known c.requires.sound ws c.requires.even
+    ap (λ (k : Heap). object_at k other) now3 ∙ several-others h a c.requires.known c.requires.sound
+        ws c.requires.even
     c.requires.room c.requires.held w is (c.natural_word-more.ensures.held h) other apart apart'
 
 pub returns-clause-shows : goal.returns-clause-shows
@@ -244,19 +285,26 @@ returns-clause-shows g c = λ names s shows within.
     let is : IsNatural w (count_at h a + length ws / 2) =
     subst (λ n. IsNatural w (n + length ws / 2)) c.length-count.ensures.words
     c.natural_word-more.ensures.value in
-    let now1 : g.M.Memory.heap c.index_pairs.new.memory ≡ after_positions h a c.requires.known c.requires.sound ws c.requires.even
-    c.requires.room c.requires.held w is (c.natural_word-more.ensures.held h) = c.index_pairs.ensures.heap
+    let now1 : g.M.Memory.heap c.index_pairs.new.memory ≡ after_positions h a c.requires.known
+        c.requires.sound ws c.requires.even
+    c.requires.room c.requires.held w is (c.natural_word-more.ensures.held h) =
+        c.index_pairs.ensures.heap
     ∙ ap (λ (k : Heap). stored k (body_at k a) (2 * capacity_at k a)
     (index_words (birth_at k) (capacity_at k a) (pairs_at k a ++ pairs_of_words ws))) before in
-    let now2 : g.M.Memory.heap c.store.new.self ≡ after_words h a c.requires.known c.requires.sound ws c.requires.even
+    let now2 : g.M.Memory.heap c.store.new.self ≡ after_words h a c.requires.known c.requires.sound
+        ws c.requires.even
     c.requires.room c.requires.held w is (c.natural_word-more.ensures.held h) = c.store.ensures.heap
     ∙ (ap (λ (k : Heap). stored k c.body-body.result (2 * c.length-count.result) ws) now1
     ∙ (ap (λ b. stored (after_positions h a c.requires.known c.requires.sound ws c.requires.even
-    c.requires.room c.requires.held w is (c.natural_word-more.ensures.held h)) b (2 * c.length-count.result) ws) is_body
+    c.requires.room c.requires.held w is (c.natural_word-more.ensures.held h)) b (2 *
+        c.length-count.result) ws) is_body
     ∙ ap (λ n. stored (after_positions h a c.requires.known c.requires.sound ws c.requires.even
-    c.requires.room c.requires.held w is (c.natural_word-more.ensures.held h)) (body_at h a) (2 * n) ws) c.length-count.ensures.words)) in
-    let now3 : g.M.Memory.heap c.store-2.new.self ≡ after_number h a c.requires.known c.requires.sound ws c.requires.even
-    c.requires.room c.requires.held w is (c.natural_word-more.ensures.held h) = c.store-2.ensures.heap
+    c.requires.room c.requires.held w is (c.natural_word-more.ensures.held h)) (body_at h a) (2 * n)
+        ws) c.length-count.ensures.words)) in
+    let now3 : g.M.Memory.heap c.store-2.new.self ≡ after_number h a c.requires.known
+        c.requires.sound ws c.requires.even
+    c.requires.room c.requires.held w is (c.natural_word-more.ensures.held h) =
+        c.store-2.ensures.heap
     ∙ ap (λ (k : Heap). stored k a 0 (w ∷ [])) now2 in
     let d = dictionary_at s (birth_at h a) in
     subst (λ (k : Heap). Shows k names

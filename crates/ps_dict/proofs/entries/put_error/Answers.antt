@@ -94,7 +94,8 @@ append_waiting-requires-clause-granted g c =
     let waiting = c.put_entry-3.new.waiting in
     let none : take c.none-waiting.result.count c.none-waiting.result.words ≡ [] =
     ap (λ n. take n c.none-waiting.result.words) c.none-waiting.ensures.none in
-    let words : take waiting.count waiting.words ≡ words_of_pairs (waiting3 h a c.requires.known c.requires.sound c.args.entries c.args.plan c.requires.plan
+    let words : take waiting.count waiting.words ≡ words_of_pairs (waiting3 h a c.requires.known
+        c.requires.sound c.args.entries c.args.plan c.requires.plan
     c.requires.held) =
     words-are h a c.requires.known c.requires.sound c.args.entries c.args.plan c.requires.plan
     c.requires.held
@@ -103,7 +104,8 @@ append_waiting-requires-clause-granted g c =
     (take c.put_entry-2.new.waiting.count c.put_entry-2.new.waiting.words)
     (take waiting.count waiting.words) c.put_entry.ensures.words c.put_entry-2.ensures.words
     c.put_entry-3.ensures.words in
-    let count = ap (λ ws. length ws / 2) words ∙ words-count h a c.requires.known c.requires.sound c.args.entries c.args.plan c.requires.plan
+    let count = ap (λ ws. length ws / 2) words ∙ words-count h a c.requires.known c.requires.sound
+        c.args.entries c.args.plan c.requires.plan
     c.requires.held in
     let all = c.requires.granted in
     let used1 = c.put_entry.ensures.grants.used in
@@ -119,7 +121,8 @@ append_waiting-requires-clause-even g c =
     let waiting = c.put_entry-3.new.waiting in
     let none : take c.none-waiting.result.count c.none-waiting.result.words ≡ [] =
     ap (λ n. take n c.none-waiting.result.words) c.none-waiting.ensures.none in
-    let words : take waiting.count waiting.words ≡ words_of_pairs (waiting3 h a c.requires.known c.requires.sound c.args.entries c.args.plan c.requires.plan
+    let words : take waiting.count waiting.words ≡ words_of_pairs (waiting3 h a c.requires.known
+        c.requires.sound c.args.entries c.args.plan c.requires.plan
     c.requires.held) =
     words-are h a c.requires.known c.requires.sound c.args.entries c.args.plan c.requires.plan
     c.requires.held
@@ -128,14 +131,16 @@ append_waiting-requires-clause-even g c =
     (take c.put_entry-2.new.waiting.count c.put_entry-2.new.waiting.words)
     (take waiting.count waiting.words) c.put_entry.ensures.words c.put_entry-2.ensures.words
     c.put_entry-3.ensures.words in
-    subst (λ (ws : List Word). 2 * (length ws / 2) ≡ length ws) (sym words) (words-even h a c.requires.known c.requires.sound c.args.entries c.args.plan c.requires.plan
+    subst (λ (ws : List Word). 2 * (length ws / 2) ≡ length ws) (sym words) (words-even h a
+        c.requires.known c.requires.sound c.args.entries c.args.plan c.requires.plan
     c.requires.held)
 
 pub append_waiting-requires-clause-sound : goal.append_waiting-requires-clause-sound
 append_waiting-requires-clause-sound g c =
     let h = g.M.Memory.heap c.args.memory.now in
     let a = c.args.address in
-    let entered = third-entered h a c.requires.known c.requires.sound c.args.entries c.args.plan c.requires.plan
+    let entered = third-entered h a c.requires.known c.requires.sound c.args.entries c.args.plan
+        c.requires.plan
     c.requires.held
     (g.M.Memory.heap c.put_entry.new.memory) c.put_entry.ensures.heap
     (g.M.Memory.heap c.put_entry-2.new.memory) c.put_entry-2.ensures.heap
@@ -146,7 +151,8 @@ pub append_waiting-requires-clause-known : goal.append_waiting-requires-clause-k
 append_waiting-requires-clause-known g c =
     let h = g.M.Memory.heap c.args.memory.now in
     let a = c.args.address in
-    let entered = third-entered h a c.requires.known c.requires.sound c.args.entries c.args.plan c.requires.plan
+    let entered = third-entered h a c.requires.known c.requires.sound c.args.entries c.args.plan
+        c.requires.plan
     c.requires.held
     (g.M.Memory.heap c.put_entry.new.memory) c.put_entry.ensures.heap
     (g.M.Memory.heap c.put_entry-2.new.memory) c.put_entry-2.ensures.heap
@@ -160,7 +166,8 @@ append_waiting-requires-clause-room g c =
     let waiting = c.put_entry-3.new.waiting in
     let none : take c.none-waiting.result.count c.none-waiting.result.words ≡ [] =
     ap (λ n. take n c.none-waiting.result.words) c.none-waiting.ensures.none in
-    let words : take waiting.count waiting.words ≡ words_of_pairs (waiting3 h a c.requires.known c.requires.sound c.args.entries c.args.plan c.requires.plan
+    let words : take waiting.count waiting.words ≡ words_of_pairs (waiting3 h a c.requires.known
+        c.requires.sound c.args.entries c.args.plan c.requires.plan
     c.requires.held) =
     words-are h a c.requires.known c.requires.sound c.args.entries c.args.plan c.requires.plan
     c.requires.held
@@ -169,12 +176,14 @@ append_waiting-requires-clause-room g c =
     (take c.put_entry-2.new.waiting.count c.put_entry-2.new.waiting.words)
     (take waiting.count waiting.words) c.put_entry.ensures.words c.put_entry-2.ensures.words
     c.put_entry-3.ensures.words in
-    let entered = third-entered h a c.requires.known c.requires.sound c.args.entries c.args.plan c.requires.plan
+    let entered = third-entered h a c.requires.known c.requires.sound c.args.entries c.args.plan
+        c.requires.plan
     c.requires.held
     (g.M.Memory.heap c.put_entry.new.memory) c.put_entry.ensures.heap
     (g.M.Memory.heap c.put_entry-2.new.memory) c.put_entry-2.ensures.heap
     (g.M.Memory.heap c.put_entry-3.new.memory) c.put_entry-3.ensures.heap in
-    let room = words-room h a c.requires.known c.requires.sound c.args.entries c.args.plan c.requires.plan
+    let room = words-room h a c.requires.known c.requires.sound c.args.entries c.args.plan
+        c.requires.plan
     c.requires.held in
     let count = ap (λ ws. length ws / 2) words in
     let same = entered.count in
@@ -188,7 +197,8 @@ append_waiting-requires-clause-held g c =
     let waiting = c.put_entry-3.new.waiting in
     let none : take c.none-waiting.result.count c.none-waiting.result.words ≡ [] =
     ap (λ n. take n c.none-waiting.result.words) c.none-waiting.ensures.none in
-    let words : take waiting.count waiting.words ≡ words_of_pairs (waiting3 h a c.requires.known c.requires.sound c.args.entries c.args.plan c.requires.plan
+    let words : take waiting.count waiting.words ≡ words_of_pairs (waiting3 h a c.requires.known
+        c.requires.sound c.args.entries c.args.plan c.requires.plan
     c.requires.held) =
     words-are h a c.requires.known c.requires.sound c.args.entries c.args.plan c.requires.plan
     c.requires.held
@@ -197,22 +207,26 @@ append_waiting-requires-clause-held g c =
     (take c.put_entry-2.new.waiting.count c.put_entry-2.new.waiting.words)
     (take waiting.count waiting.words) c.put_entry.ensures.words c.put_entry-2.ensures.words
     c.put_entry-3.ensures.words in
-    let entered = third-entered h a c.requires.known c.requires.sound c.args.entries c.args.plan c.requires.plan
+    let entered = third-entered h a c.requires.known c.requires.sound c.args.entries c.args.plan
+        c.requires.plan
     c.requires.held
     (g.M.Memory.heap c.put_entry.new.memory) c.put_entry.ensures.heap
     (g.M.Memory.heap c.put_entry-2.new.memory) c.put_entry-2.ensures.heap
     (g.M.Memory.heap c.put_entry-3.new.memory) c.put_entry-3.ensures.heap in
     subst (AreValues (g.M.Memory.heap c.put_entry-3.new.memory)) (sym words)
     (AreValues-kept h (g.M.Memory.heap c.put_entry-3.new.memory) entered.keeps
-    (words_of_pairs (waiting3 h a c.requires.known c.requires.sound c.args.entries c.args.plan c.requires.plan
-    c.requires.held)) (words-held h a c.requires.known c.requires.sound c.args.entries c.args.plan c.requires.plan
+    (words_of_pairs (waiting3 h a c.requires.known c.requires.sound c.args.entries c.args.plan
+        c.requires.plan
+    c.requires.held)) (words-held h a c.requires.known c.requires.sound c.args.entries c.args.plan
+        c.requires.plan
     c.requires.held))
 
 pub returns-clause-keeps : goal.returns-clause-keeps
 returns-clause-keeps g c =
     let h = g.M.Memory.heap c.args.memory.now in
     let a = c.args.address in
-    let entered = third-entered h a c.requires.known c.requires.sound c.args.entries c.args.plan c.requires.plan
+    let entered = third-entered h a c.requires.known c.requires.sound c.args.entries c.args.plan
+        c.requires.plan
     c.requires.held
     (g.M.Memory.heap c.put_entry.new.memory) c.put_entry.ensures.heap
     (g.M.Memory.heap c.put_entry-2.new.memory) c.put_entry-2.ensures.heap
@@ -224,7 +238,8 @@ pub returns-clause-births : goal.returns-clause-births
 returns-clause-births g c =
     let h = g.M.Memory.heap c.args.memory.now in
     let a = c.args.address in
-    let entered = third-entered h a c.requires.known c.requires.sound c.args.entries c.args.plan c.requires.plan
+    let entered = third-entered h a c.requires.known c.requires.sound c.args.entries c.args.plan
+        c.requires.plan
     c.requires.held
     (g.M.Memory.heap c.put_entry.new.memory) c.put_entry.ensures.heap
     (g.M.Memory.heap c.put_entry-2.new.memory) c.put_entry-2.ensures.heap
@@ -235,7 +250,8 @@ pub returns-clause-others : goal.returns-clause-others
 returns-clause-others g c =
     let h = g.M.Memory.heap c.args.memory.now in
     let a = c.args.address in
-    let entered = third-entered h a c.requires.known c.requires.sound c.args.entries c.args.plan c.requires.plan
+    let entered = third-entered h a c.requires.known c.requires.sound c.args.entries c.args.plan
+        c.requires.plan
     c.requires.held
     (g.M.Memory.heap c.put_entry.new.memory) c.put_entry.ensures.heap
     (g.M.Memory.heap c.put_entry-2.new.memory) c.put_entry-2.ensures.heap
@@ -251,7 +267,8 @@ returns-clause-grants g c =
     let waiting = c.put_entry-3.new.waiting in
     let none : take c.none-waiting.result.count c.none-waiting.result.words ≡ [] =
     ap (λ n. take n c.none-waiting.result.words) c.none-waiting.ensures.none in
-    let words : take waiting.count waiting.words ≡ words_of_pairs (waiting3 h a c.requires.known c.requires.sound c.args.entries c.args.plan c.requires.plan
+    let words : take waiting.count waiting.words ≡ words_of_pairs (waiting3 h a c.requires.known
+        c.requires.sound c.args.entries c.args.plan c.requires.plan
     c.requires.held) =
     words-are h a c.requires.known c.requires.sound c.args.entries c.args.plan c.requires.plan
     c.requires.held
@@ -260,7 +277,8 @@ returns-clause-grants g c =
     (take c.put_entry-2.new.waiting.count c.put_entry-2.new.waiting.words)
     (take waiting.count waiting.words) c.put_entry.ensures.words c.put_entry-2.ensures.words
     c.put_entry-3.ensures.words in
-    let count = ap (λ ws. length ws / 2) words ∙ words-count h a c.requires.known c.requires.sound c.args.entries c.args.plan c.requires.plan
+    let count = ap (λ ws. length ws / 2) words ∙ words-count h a c.requires.known c.requires.sound
+        c.args.entries c.args.plan c.requires.plan
     c.requires.held in
     let plan = c.args.plan in
     then-used _ _ _ c.args.slot (present_in plan) (added_records (added_by plan)) 0 0
@@ -281,7 +299,8 @@ returns-clause-shows g c = λ names s shows distinct within.
     let waiting = c.put_entry-3.new.waiting in
     let none : take c.none-waiting.result.count c.none-waiting.result.words ≡ [] =
     ap (λ n. take n c.none-waiting.result.words) c.none-waiting.ensures.none in
-    let words : take waiting.count waiting.words ≡ words_of_pairs (waiting3 h a c.requires.known c.requires.sound c.args.entries c.args.plan c.requires.plan
+    let words : take waiting.count waiting.words ≡ words_of_pairs (waiting3 h a c.requires.known
+        c.requires.sound c.args.entries c.args.plan c.requires.plan
     c.requires.held) =
     words-are h a c.requires.known c.requires.sound c.args.entries c.args.plan c.requires.plan
     c.requires.held
@@ -292,7 +311,8 @@ returns-clause-shows g c = λ names s shows distinct within.
     c.put_entry-3.ensures.words in
     let now = g.M.Memory.heap c.append_waiting.new.memory in
     let third = g.M.Memory.heap c.put_entry-3.new.memory in
-    let before = store-before h a c.requires.known c.requires.sound c.args.entries c.args.plan c.requires.plan
+    let before = store-before h a c.requires.known c.requires.sound c.args.entries c.args.plan
+        c.requires.plan
     c.requires.held
     (g.M.Memory.heap c.put_entry.new.memory) c.put_entry.ensures.heap
     (g.M.Memory.heap c.put_entry-2.new.memory) c.put_entry-2.ensures.heap
