@@ -7,6 +7,7 @@ ghost use Rattle.ps_mem.specs.Shows.{IsSound};
 
 use ps_dict::changes::{put, set_access};
 use ps_dict::dictionaries::{access, capacity, length, pair, position, value_of_key};
+use ps_dict::entries::{ErrorEntries, plan_error, put_error};
 use ps_dict::keys::is_same_key;
 use ps_dict::makes::{make_dictionary, new_dictionary};
 use ps_dict::plans::{PutPlan, plan_put};
@@ -161,6 +162,32 @@ fn index_row<M: Memory>(rt: &impl Abort, memory: &mut M, scratch: &mut Vec<Word>
     assert_eq!(rt; capacity(memory, address), 12);
 }
 
+// 2 dict with the second key of an error's entries: its value is another, the first key goes last,
+// and the third has no room
+fn error_row<M: Memory>(rt: &impl Abort, memory: &mut M)
+    requires sound { IsSound (M.heap memory.old) }
+{
+    assert!(rt; memory.need(6 + 2 + 6, 1).is_ok());
+    let address = new_dictionary(memory, 2);
+    put_number(rt, memory, address, 2, 20);
+    let one = Word::integer(1);
+    let two = Word::integer(2);
+    let three = Word::integer(3);
+    assert!(rt; !is_same_key(one, two));
+    assert!(rt; !is_same_key(one, three));
+    assert!(rt; !is_same_key(two, three));
+    let entries = ErrorEntries { newerror: (one, three), errorname: (two, one), command: (three, two) };
+    let plan = plan_error(memory, address, entries);
+    let records = plan.records();
+    assert_eq!(rt; records, 4);
+    assert!(rt; memory.permit(1, records) == Permit::Yes);
+    put_error(memory, 1, address, plan, entries);
+    expect_keys(rt, memory, address, &[2, 1]);
+    expect_value(rt, memory, address, 2, 1);
+    expect_value(rt, memory, address, 1, 3);
+    assert_eq!(rt; capacity(memory, address), 2);
+}
+
 // D readonly
 fn access_row<M: Memory>(rt: &impl Abort, memory: &mut M)
     requires sound { IsSound (M.heap memory.old) }
@@ -198,6 +225,8 @@ fn plain_memory_has_the_rows(rt: HostRuntime) -> Result<(), Fail> {
     index_row(&rt, &mut fourth, &mut scratch);
     let mut fifth = PlainMemory::new(rt.alloc());
     access_row(&rt, &mut fifth);
+    let mut sixth = PlainMemory::new(rt.alloc());
+    error_row(&rt, &mut sixth);
     Ok(())
 }
 
@@ -219,5 +248,8 @@ fn bounded_memory_has_the_rows(rt: HostRuntime) -> Result<(), Fail> {
     index_row(&rt, &mut fourth, &mut scratch);
     let mut fifth = BoundedMemory::new(rt.alloc(), 11)?;
     access_row(&rt, &mut fifth);
+    let mut sixth = BoundedMemory::new(rt.alloc(), 4096)?;
+    sixth.open_cycle();
+    error_row(&rt, &mut sixth);
     Ok(())
 }

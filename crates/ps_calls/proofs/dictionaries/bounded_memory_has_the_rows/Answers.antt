@@ -18,3 +18,9 @@ order_row-requires-clause-sound g c = subst IsSound (sym (c.open_cycle-4.ensures
 pub access_row-requires : goal.access_row-requires
 access_row-requires g c =
     record { sound = subst IsSound (sym c.in_ok-fifth.ensures.empty) (IsSound-empty _) }
+
+pub error_row-requires : goal.error_row-requires
+error_row-requires g c = record {
+  sound = subst IsSound (sym (c.open_cycle-5.ensures.heap ∙ c.in_ok-sixth.ensures.empty))
+      (IsSound-empty _);
+}

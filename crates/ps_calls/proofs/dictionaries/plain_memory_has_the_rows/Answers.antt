@@ -18,3 +18,7 @@ order_row-requires-clause-sound g c = subst IsSound (sym c.new-fourth.ensures) (
 pub access_row-requires : goal.access_row-requires
 access_row-requires g c =
     record { sound = subst IsSound (sym c.new-fifth.ensures) (IsSound-empty _) }
+
+pub error_row-requires : goal.error_row-requires
+error_row-requires g c =
+    record { sound = subst IsSound (sym c.new-sixth.ensures) (IsSound-empty _) }

@@ -1,0 +1,21 @@
+//! Makes dictionaries by puts, looks up each of their keys, and prints how many it found; with a
+//! number of rounds it tells the times too.
+#![tactic(auto)]
+
+mod rates;
+
+use anyhow::Result;
+
+fn main(rt: HostRuntime) -> Result<()> {
+    let words = std::env::args(&rt)?;
+    let rounds = words
+        .skip(1)
+        .filter_map(|word| word.as_str().parse::<u16>().ok())
+        .next()
+        .unwrap_or(0);
+    for size in [100, 1000, 20000] {
+        rates::measure(&rt, "consecutive", size, 1, rounds)?;
+        rates::measure(&rt, "spread", size, rates::SPREAD, rounds)?;
+    }
+    Ok(())
+}
