@@ -19,7 +19,7 @@ use ps_core_parts::events::{Event, Roots};
 use ps_core_parts::parts::{load, load_field, same_logs, store, store_field};
 use ps_core_seats::collector::Collector;
 use ps_core_seats::mutator::Mutator;
-use ps_record::{Record, ring_place};
+use ps_record::{Record, SPACES_START, ring_place};
 use std::alloc::{AllocError, Global};
 use std::marker::Model;
 
@@ -46,7 +46,7 @@ impl Machine {
         ensures { IfOk result (λ m. m ≡ steps.start space) }
     {
         Ok(Machine {
-            words: Vec::from_elem(alloc, 0u64, (8256 + 2 * space) as usize)?,
+            words: Vec::from_elem(alloc, 0u64, (SPACES_START + 2 * space) as usize)?,
             vm: Mutator::start(alloc, space)?,
             gc: Collector::start(alloc, space)?,
         })

@@ -4,7 +4,7 @@ use Rattle.std.specs.Prelude.{ℕ, ◌+◌, ◌-◌, ◌*◌, ◌%◌, ◌==◌,
 use Rattle.ps_word.specs.Headers.{kind_in, fields_in, forward_packed}
 use Rattle.ps_record.specs.declared.Record.{Record}
 use Rattle.ps_record.specs.declared.Record.TheVariants.{Place, Close}
-use Rattle.ps_record.specs.Format.{ring_place, packed, read_record}
+use Rattle.ps_record.specs.Format.{spaces_start, ring_place, packed, read_record}
 use Rattle.ps_core_parts.specs.declared.events.Event.{Event}
 use Rattle.ps_core_parts.specs.declared.events.Event.TheVariants.{VmLoad, GcLoad, TakeLoad, CopyLoad, HandOver, ClearStore, HeaderStore, FieldStore, RecordStore, EpochStore, ReplicaHeaderStore, ReplicaFieldStore, ForwardStore, HeadStore, CycleStore}
 use Rattle.ps_core_parts.specs.declared.events.Object.{Object}
@@ -22,17 +22,17 @@ pub record State : Type 0 where
   pub vm : Vm
   pub gc : Gc
 
--- ---- the table: control words, heads and rings below 8256, then space A and space B
+-- ---- the table: control words, heads and rings, then space A and space B
 
 abbrev pub table_size : ℕ → ℕ
-table_size space = 8256 + 2 * space
+table_size space = spaces_start + 2 * space
 
 -- the current space, A in even cycles; and the other one
 abbrev pub space_base : ℕ → ℕ → ℕ
-space_base space cycle = 8256 + (cycle % 2) * space
+space_base space cycle = spaces_start + (cycle % 2) * space
 
 abbrev pub other_base : ℕ → ℕ → ℕ
-other_base space cycle = 8256 + ((cycle + 1) % 2) * space
+other_base space cycle = spaces_start + ((cycle + 1) % 2) * space
 
 abbrev pub start : ℕ → State
 start space = record {
@@ -47,7 +47,7 @@ start space = record {
     objects = [];
     fresh = [];
     making = 0;
-    end = 8256;
+    end = spaces_start;
     next_birth = 0;
     roots = [];
     stored = false;

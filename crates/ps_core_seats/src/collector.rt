@@ -24,7 +24,7 @@ use ps_core_parts::parts::{
     Log, Replica, all_filled, among, copy_logs, copy_pairs, empty_logs, fields_in, is_in_replica,
     pair_of, seen_at, with_copy, with_front,
 };
-use ps_record::{PackedRecord, Record};
+use ps_record::{PackedRecord, Record, SPACES_START};
 use std::alloc::{AllocError, Global};
 use std::marker::Model;
 use std::mem;
@@ -222,7 +222,7 @@ impl Collector {
         requires { GcBounded self.now }
         ensures { result ≡ steps.other_base self.now.space self.now.cycle }
     {
-        8256 + ((self.cycle + 1) % 2) * self.space
+        SPACES_START + ((self.cycle + 1) % 2) * self.space
     }
 
     fn knows_open(&self) -> bool
@@ -322,7 +322,7 @@ impl Collector {
         ensures { Decides result (GcMay self.now event.now) }
     {
         match event {
-            Event::GcLoad { place, .. } => *place < 8256 + 2 * self.space,
+            Event::GcLoad { place, .. } => *place < SPACES_START + 2 * self.space,
             Event::TakeLoad { slot, .. } => *slot < 32 && self.taking.is_none(),
             Event::CopyLoad { address, field, .. } => self.copying.is_none()
                 && self.is_pair_field(*address, *field),

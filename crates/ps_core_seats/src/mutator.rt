@@ -20,7 +20,7 @@ use ps_core_parts::parts::{
     Log, Replica, StandingObject, among, copy_logs, copy_objects, dictionary_stands, empty_logs,
     end_of_replicas, fields_in, load, object_at, replicas, store, with_field,
 };
-use ps_record::Record;
+use ps_record::{Record, SPACES_START};
 use std::alloc::{AllocError, Global};
 use std::marker::Model;
 use std::mem;
@@ -124,7 +124,7 @@ impl Mutator {
             objects: Vec::new(alloc),
             fresh: Vec::new(alloc),
             making: 0,
-            end: 8256,
+            end: SPACES_START,
             next_birth: 0,
             roots: Vec::new(alloc),
             stored: false,
@@ -254,7 +254,7 @@ impl Mutator {
         requires { VmBounded self.now }
         ensures { Decides result (VmMay self.now ClearStore) }
     {
-        self.end + 1 + self.making < 8256 + (self.cycle % 2) * self.space + self.space
+        self.end + 1 + self.making < SPACES_START + (self.cycle % 2) * self.space + self.space
     }
 
     /// Whether a cycle may be opened: none is open, there are cycles left, and nothing is written.
@@ -277,7 +277,7 @@ impl Mutator {
         ensures { Decides result (VmMay self.now event.now) }
     {
         match event {
-            Event::VmLoad { place, .. } => *place < 8256 + 2 * self.space,
+            Event::VmLoad { place, .. } => *place < SPACES_START + 2 * self.space,
             Event::HandOver { roots, .. } => values_stand(
                 self.objects.as_slice(),
                 roots.words.as_slice(),
@@ -463,7 +463,10 @@ impl Mutator {
     {
         let alloc = *self.heads.allocator();
         self.roots = renamed_values(alloc, pairs.as_slice(), roots)?;
-        self.end = end_of_replicas(8256 + ((self.cycle + 1) % 2) * self.space, pairs.as_slice());
+        self.end = end_of_replicas(
+            SPACES_START + ((self.cycle + 1) % 2) * self.space,
+            pairs.as_slice(),
+        );
         self.objects = replicas(alloc, pairs)?;
         self.cycle += 1;
         self.fresh.clear();

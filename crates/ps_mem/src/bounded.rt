@@ -12,8 +12,8 @@ use ps_word::headers::Header;
 use ps_word::words::Word;
 use std::alloc::{AllocError, Global};
 
-/// The records of one slot that a log holds at once.
-pub const RING: u32 = 256;
+/// The records of one slot that a log holds at once, as a ring does.
+const RING: u32 = ps_record::RING as u32;
 
 /// The birth numbers that there are.
 const BIRTHS: u64 = 1 << 40;

@@ -13,8 +13,8 @@ use ps_language::kinds::Kind;
 use ps_word::headers::Header;
 use ps_word::words::Word;
 
-/// The slots of logs: a slot is a number below it.
-pub const SLOTS: u32 = 32;
+/// The slots of logs, those of the records' rings: a slot is a number below it.
+pub const SLOTS: u32 = ps_record::SLOTS as u32;
 
 /// Why room was not granted.
 #[derive(Clone, Copy, Debug, PartialEq, Eq)]

@@ -23,6 +23,10 @@ abbrev pub IsRecord : Record → Type 0
 IsRecord (Place address first count) = (address < 2 ^ 24) × (0 < count) × (first + count < 2 ^ 16)
 IsRecord Close = Unit {0}
 
+-- the spaces begin behind 64 control words and 32 rings of 256 records
+abbrev pub spaces_start : ℕ
+spaces_start = 8256
+
 -- where record k of a slot stands in the table
 abbrev pub ring_place : ℕ → ℕ → ℕ
 ring_place slot k = 64 + 256 * slot + k % 256

@@ -12,6 +12,9 @@ pub const SLOTS: u64 = 32;
 /// How many records a ring holds.
 pub const RING: u64 = 256;
 
+/// The words below the two spaces: 64 control words, and the rings.
+pub const SPACES_START: u64 = 64 + SLOTS * RING;
+
 const LAP: u64 = 1 << 63;
 
 const CLOSE: u64 = 1 << 62;
