@@ -16,7 +16,7 @@ use Rattle.ps_mem.specs.Meaning.{value_of, part_of}
 use Rattle.ps_mem.specs.Shows.{IsValue, AreValues, IsSound, IsWithin, AreWithin, Shows}
 use Rattle.ps_mem.proofs.KeepsLemmas.{Keeps-Extends, Extends-same, Extends-then, AreValues-kept, AreWithin-kept, values_of-kept, known_values}
 use Rattle.ps_ops.proofs.Held.{all_append}
-use Rattle.ps_ops.proofs.Made.{whole_part}
+use Rattle.ps_ops.proofs.Making.{whole_part}
 use Rattle.ps_procedures.specs.Procedures.{IsMade}
 
 -- within whatever store

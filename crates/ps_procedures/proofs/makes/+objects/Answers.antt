@@ -9,7 +9,8 @@ use Rattle.ps_word.specs.declared.words.Word.{Word}
 use Rattle.ps_mem.specs.Heap.{birth_at}
 use Rattle.ps_mem.specs.Meaning.{value_of}
 use Rattle.ps_mem.specs.Shows.{IsSound, AreWithin, Shows}
-use Rattle.ps_ops.proofs.Made.{whole_part, stands_whole}
+use Rattle.ps_ops.proofs.Made.{stands_whole}
+use Rattle.ps_ops.proofs.Making.{whole_part}
 use Rattle.ps_scan.specs.Shown.{token_of, part_of}
 use denote.Param.Weighed.{at_most}
 use Rattle.ps_scan.proofs.tokens.TokenKind.TheLaws.{the_size}
