@@ -64,6 +64,7 @@ fn put_number(operands: &mut Operands, count: usize, number: Option<i32>) -> Res
 }
 
 /// `i j add k`. Raises `stackunderflow`, `typecheck`, and `undefinedresult` where the sum doesn't fit 32 bits.
+#[inline]
 #[tactic(auto, using(crate::proofs::Sources::sources, crate::proofs::NumberRows::two_lemmas))]
 pub fn add(operands: &mut Operands) -> Result<(), ErrorName>
     ensures row { Does rows.add_row result operands.old operands.new }
@@ -74,6 +75,7 @@ pub fn add(operands: &mut Operands) -> Result<(), ErrorName>
 }
 
 /// `i j sub k`. Raises `stackunderflow`, `typecheck`, and `undefinedresult` where the difference doesn't fit 32 bits.
+#[inline]
 #[tactic(auto, using(crate::proofs::Sources::sources, crate::proofs::NumberRows::two_lemmas))]
 pub fn sub(operands: &mut Operands) -> Result<(), ErrorName>
     ensures row { Does rows.sub_row result operands.old operands.new }
@@ -84,6 +86,7 @@ pub fn sub(operands: &mut Operands) -> Result<(), ErrorName>
 }
 
 /// `i j mul k`. Raises `stackunderflow`, `typecheck`, and `undefinedresult` where the product doesn't fit 32 bits.
+#[inline]
 #[tactic(auto, using(crate::proofs::Sources::sources, crate::proofs::NumberRows::two_lemmas))]
 pub fn mul(operands: &mut Operands) -> Result<(), ErrorName>
     ensures row { Does rows.mul_row result operands.old operands.new }

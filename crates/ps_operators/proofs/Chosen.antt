@@ -1,5 +1,5 @@
 -- Which operators a dispatch has left, and what rows they have.
-use Rattle.std.proofs.Common.{◌≡◌, true, List, refl}
+use Rattle.std.proofs.Common.{◌≡◌, true, List, refl, subst}
 use Rattle.ps_language.specs.declared.operators.Operator.{Operator}
 use Rattle.ps_language.specs.declared.operators.Operator.TheVariants.{Pop, Exch, Dup, Index, Roll, Clear, Count, Mark, BeginArray, ClearToMark, CountToMark, Add, Sub, Mul, Idiv, Mod, Neg, Abs, And, Or, Xor, Not, Bitshift, Eq, Ne, Gt, Ge, Lt, Le, Length, Get, GetInterval, Aload, Forall, Equals, Array, EndArray, Put, PutInterval, Astore, Copy}
 use Rattle.ps_language.specs.Value.{Value}
@@ -11,7 +11,7 @@ use Rattle.ps_language.specs.RowsArithmetic.{add_row, sub_row, mul_row, idiv_row
 use Rattle.ps_language.specs.SmallRows.{small_row}
 use Rattle.ps_language.specs.Small.{is_small}
 use Rattle.ps_language.specs.SmallActs.{Around, operands_effect, effect_of}
-use Rattle.ps_operators.specs.Operates.{is_plain, is_observing, observed}
+use Rattle.ps_operators.specs.Operates.{is_plain, is_observing, is_acting, observed}
 
 -- none of the plain operators is not plain
 pub not_plain : (operator : Operator) → (operator ≡ Pop → ⊥) → (operator ≡ Exch → ⊥)
@@ -205,3 +205,27 @@ observing_effect Xor around scene _ = refl
 observing_effect Not around scene _ = refl
 observing_effect Bitshift around scene _ = refl
 observing_effect _ around scene chosen = cc
+
+-- there are no others that act
+pub none_acting : (operator : Operator) → (operator ≡ Equals → ⊥) → (operator ≡ Array → ⊥)
+    → (operator ≡ EndArray → ⊥) → (operator ≡ Put → ⊥) → (operator ≡ PutInterval → ⊥)
+    → (operator ≡ Astore → ⊥) → (operator ≡ Copy → ⊥) → is_acting operator ≡ true → ⊥
+none_acting Equals other _ _ _ _ _ _ _ = other refl
+none_acting Array _ other _ _ _ _ _ _ = other refl
+none_acting EndArray _ _ other _ _ _ _ _ = other refl
+none_acting Put _ _ _ other _ _ _ _ = other refl
+none_acting PutInterval _ _ _ _ other _ _ _ = other refl
+none_acting Astore _ _ _ _ _ other _ _ = other refl
+none_acting Copy _ _ _ _ _ _ other _ = other refl
+none_acting _ _ _ _ _ _ _ _ chosen = cc
+
+-- none of which is forall
+pub acting_other : (operator : Operator) → is_acting operator ≡ true → operator ≡ Forall → ⊥
+acting_other operator acting same =
+    let is : is_acting Forall ≡ true =
+    subst (λ (o : Operator). is_acting o ≡ true) same acting in cc
+
+pub observing_other : (operator : Operator) → is_observing operator ≡ true → operator ≡ Forall → ⊥
+observing_other operator observing same =
+    let is : is_observing Forall ≡ true =
+    subst (λ (o : Operator). is_observing o ≡ true) same observing in cc

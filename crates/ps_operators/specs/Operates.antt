@@ -4,7 +4,7 @@ use Rattle.std.specs.List.{list_any}
 use Rattle.ps_language.specs.declared.errors.ErrorName.{ErrorName}
 use Rattle.ps_language.specs.declared.errors.ErrorName.TheVariants.{Undefined, VmError}
 use Rattle.ps_language.specs.declared.operators.Operator.{Operator}
-use Rattle.ps_language.specs.declared.operators.Operator.TheVariants.{Pop, Exch, Dup, Index, Roll, Clear, Count, Mark, BeginArray, ClearToMark, CountToMark, Add, Sub, Mul, Idiv, Mod, Neg, Abs, And, Or, Xor, Not, Bitshift, Eq, Ne, Gt, Ge, Lt, Le, Length, Get, GetInterval, Aload}
+use Rattle.ps_language.specs.declared.operators.Operator.TheVariants.{Pop, Exch, Dup, Index, Roll, Clear, Count, Mark, BeginArray, ClearToMark, CountToMark, Add, Sub, Mul, Idiv, Mod, Neg, Abs, And, Or, Xor, Not, Bitshift, Eq, Ne, Gt, Ge, Lt, Le, Length, Get, GetInterval, Aload, Equals, Array, EndArray, Put, PutInterval, Astore, Copy}
 use Rattle.ps_language.specs.Value.{Value, Store}
 use Rattle.ps_language.specs.Equality.{same_operator}
 use Rattle.ps_language.specs.Outcome.{Outcome, fails}
@@ -78,6 +78,11 @@ is_plain operator = list_any (same_operator operator) plain_operators
 abbrev pub is_observing : Operator → Bool
 is_observing operator = list_any (same_operator operator)
     (Eq ∷ Ne ∷ Gt ∷ Ge ∷ Lt ∷ Le ∷ Length ∷ Get ∷ GetInterval ∷ Aload ∷ plain_operators)
+
+-- and those that print, make or store
+abbrev pub is_acting : Operator → Bool
+is_acting operator = list_any (same_operator operator)
+    (Equals ∷ Array ∷ EndArray ∷ Put ∷ PutInterval ∷ Astore ∷ Copy ∷ [])
 
 -- the operands that a row leaves of a store
 abbrev pub observed : Row → Store → List Value → Outcome (List Value)

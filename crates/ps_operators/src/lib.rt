@@ -10,5 +10,5 @@ pub mod output;
 pub mod relations;
 pub mod texts;
 
-pub use operators::operate;
+pub use operators::{observe, operate};
 pub use ps_operands::Operands;

@@ -1,9 +1,9 @@
-//! The operators of the small language but `forall`, by what they need (PLRM2, 8).
+//! The operators of the small language but `forall`, by what they need (PLRM2, 8): operands alone,
+//! objects that they read, or memory and output that they change.
 
 ghost use Rattle.std.specs.Prelude.{◌≡◌, ◌≢◌, ◌-◌, ◌<◌, List, IsTrue, OnErr, vec_len, vec_capacity};
 ghost use Rattle.ps_language.specs.Outcome.{Outcome};
 ghost use Rattle.ps_language.specs.Rows.{operand_row};
-ghost use Rattle.ps_language.specs.Small.{is_small};
 ghost use Rattle.ps_language.specs.SmallRows.{small_row};
 ghost use Rattle.ps_language.specs.Value as language;
 ghost use Rattle.ps_mem.specs.Keeps.{Keeps};
@@ -11,7 +11,7 @@ ghost use Rattle.ps_mem.specs.Shows.{IsReady};
 ghost use Rattle.ps_operands.specs.Does.{Does};
 ghost use Rattle.ps_operands.specs.Kept.{AreFrom};
 ghost use Rattle.ps_ops.specs.Does.{KeepsLogs};
-ghost use Rattle.ps_operators.specs.Operates.{Operates, ObservesBy, raised_of, is_plain, is_observing};
+ghost use Rattle.ps_operators.specs.Operates.{Operates, ObservesBy, is_plain, is_observing, is_acting};
 
 use crate::{copies, lengths, output, relations};
 use ps_language::errors::ErrorName;
@@ -57,21 +57,10 @@ pub fn operate_plain(operator: Operator, operands: &mut Operands) -> Result<(), 
     }
 }
 
-/// What an operator that makes and changes nothing came to.
-#[inline(always)]
-fn raised(outcome: Result<(), ErrorName>) -> Result<(), Failure>
-    ensures { result ≡ raised_of outcome }
-{
-    match outcome {
-        Ok(()) => Ok(()),
-        Err(error) => Err(Failure::Error(error)),
-    }
-}
-
 /// An operator that compares, reads an array, or needs the operands alone. Raises the errors of its
 /// row.
 #[inline(always)]
-fn observe<M: Memory>(
+pub fn observe<M: Memory>(
     operator: Operator,
     operands: &mut Operands,
     memory: &mut M,
@@ -98,10 +87,9 @@ fn observe<M: Memory>(
     }
 }
 
-/// Does what an operator does to operands, memory and output. Raises the errors of its row; not
-/// made where room, a record or the growth of the output is
-/// refused.
-#[inline(always)]
+/// Does what an operator that prints, makes or stores does to operands, memory and output. Raises
+/// the errors of its row; not made where room, a record or the growth of the output is refused.
+#[inline(never)]
 pub fn operate<M: Memory>(
     operator: Operator,
     operands: &mut Operands,
@@ -110,8 +98,7 @@ pub fn operate<M: Memory>(
     refused: bool,
     printed: &mut Vec<u8>,
 ) -> Result<(), Failure>
-    requires small { IsTrue (is_small operator) }
-    requires forall { operator ≢ Operator.Forall }
+    requires acting { IsTrue (is_acting operator) }
     requires slot { slot < SLOTS }
     requires ready { IsReady (M.heap memory.old) operands.old }
     ensures operates { Operates operator refused result
@@ -132,6 +119,6 @@ pub fn operate<M: Memory>(
         Operator::PutInterval => changes::putinterval(operands, memory, slot),
         Operator::Astore => changes::astore(operands, memory, slot),
         Operator::Copy => copies::copy(operands, memory, slot),
-        _ => raised(observe(operator, operands, memory)),
+        _ => unreachable!(),
     }
 }

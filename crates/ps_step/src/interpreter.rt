@@ -13,6 +13,7 @@ ghost use Rattle.ps_mem.specs.Meaning.{value_of};
 ghost use Rattle.ps_mem.specs.Shows.{IsValue, IsWithin, Shows};
 ghost use Rattle.ps_named.specs.Names.{named_value_of, is_small_named};
 ghost use Rattle.ps_operators.specs.Does.{outgrows};
+ghost use Rattle.ps_operators.specs.Operates.{is_observing, is_acting};
 ghost use Rattle.ps_operators.specs.Reasons.{operator_needs};
 ghost use Rattle.ps_procedures.specs.Procedures.{tokens_in, IsShort};
 ghost use Rattle.ps_scan.specs.Shown.{token_of};
@@ -30,7 +31,7 @@ use ps_language::operators::Operator;
 use ps_mem::{Memory, SLOTS};
 use ps_named::names::{Named, look_up, named_at};
 use ps_operands::{Operands, plain};
-use ps_operators::operate;
+use ps_operators::{observe, operate};
 use ps_ops::arrays as operands;
 use ps_ops::failure::{Failure, NotMade};
 use ps_procedures::laws::procedure_laws;
@@ -391,11 +392,38 @@ impl Interpreter {
                 self.begin_forall();
                 Ok(())
             }
-            _ => self.operate(memory, slot, refused, operator),
+            Operator::Equals
+            | Operator::Array
+            | Operator::EndArray
+            | Operator::Put
+            | Operator::PutInterval
+            | Operator::Astore
+            | Operator::Copy => self.operate(memory, slot, refused, operator),
+            _ => {
+                self.observe(memory, operator);
+                Ok(())
+            }
         }
     }
 
-    /// An operator other than `forall` acts, or raises an error.
+    /// An operator that changes nothing but operands acts, or raises an error: it is always made.
+    #[inline(always)]
+    fn observe<M: Memory>(&mut self, memory: &mut M, operator: Operator)
+        requires good { IsGood (M.heap memory.old) self.old }
+        requires running { self.old.stage ≡ Stage.Running }
+        requires observing { IsTrue (is_observing operator) }
+        ensures { (refused : Bool) (slot : ℕ)
+            → Goes (λ world. operator_needs self.old.room operator world.operands)
+            (small.small_operated refused operator) (Ok (tt {0})) slot (M.grants memory.old)
+            (M.grants memory.new) (M.heap memory.old) (M.heap memory.new) self.old self.new }
+    {
+        match observe(operator, &mut self.operands, memory) {
+            Ok(()) => {}
+            Err(error) => self.raise(error, Command::Operator(operator)),
+        }
+    }
+
+    /// An operator that prints, makes or stores acts, or raises an error.
     #[inline(always)]
     fn operate<M: Memory>(
         &mut self,
@@ -407,8 +435,7 @@ impl Interpreter {
         requires slot { slot < SLOTS }
         requires good { IsGood (M.heap memory.old) self.old }
         requires running { self.old.stage ≡ Stage.Running }
-        requires small { IsTrue (small.is_small operator) }
-        requires other { operator ≢ Operator.Forall }
+        requires acting { IsTrue (is_acting operator) }
         ensures { Goes (λ world. operator_needs self.old.room operator world.operands)
             (small.small_operated refused operator) result slot (M.grants memory.old)
             (M.grants memory.new) (M.heap memory.old) (M.heap memory.new) self.old self.new }

@@ -4,9 +4,9 @@ use Rattle.ps_language.specs.ArrayRows.{array_put_row, array_putinterval_row, on
 use Rattle.ps_language.specs.RowsSequences.{array_row, end_array_row, astore_row}
 use Rattle.ps_language.specs.SmallRows.{small_equals_row, small_copy_row}
 use Rattle.ps_operators.specs.Counts.{copied_count}
-use Rattle.ps_operators.proofs.Chosen.{rest_observing}
+use Rattle.ps_operators.proofs.Chosen.{none_acting}
 use Rattle.ps_operators.proofs.Asking.{put_unasked, putinterval_unasked, astore_unasked, copy_unasked, array_made, end_array_made}
-use Rattle.ps_operators.proofs.Operating.{observing_operates, printing_operates, equals_needed, changing_operates, making_operates, keeps_same, keeps_logs_same}
+use Rattle.ps_operators.proofs.Operating.{printing_operates, equals_needed, changing_operates, making_operates}
 use Rattle.ps_operators.proofs.operators.operate.Goals as goal
 
 pub returns-in-Equals-clause-operates : goal.returns-in-Equals-clause-operates
@@ -44,22 +44,8 @@ returns-in-Copy-clause-operates g c =
     changing_operates _ Copy small_copy_row copied_count _ _ _ _ _ _ _ _ _ _ _ refl copy_unasked
     (λ operands. refl) c.in-Copy.is c.copy.ensures.does
 
-pub observe-requires-clause-observing : goal.observe-requires-clause-observing
-observe-requires-clause-observing g c =
-    rest_observing _ c.requires.forall c.in_default.not-Equals c.in_default.not-Array
-    c.in_default.not-EndArray c.in_default.not-Put c.in_default.not-PutInterval
-    c.in_default.not-Astore c.in_default.not-Copy c.requires.small
-
-pub returns-in_default-clause-operates : goal.returns-in_default-clause-operates
-returns-in_default-clause-operates g c =
-    observing_operates _ _ _ _ _ _ _ _ _ _ _ _ _
-    (rest_observing _ c.requires.forall c.in_default.not-Equals c.in_default.not-Array
-    c.in_default.not-EndArray c.in_default.not-Put c.in_default.not-PutInterval
-    c.in_default.not-Astore c.in_default.not-Copy c.requires.small) c.observe.ensures.observes
-    c.observe.ensures.heap c.raised.ensures
-
-pub returns-in_default-clause-keeps : goal.returns-in_default-clause-keeps
-returns-in_default-clause-keeps g c = keeps_same _ _ c.observe.ensures.heap
-
-pub returns-in_default-clause-logs : goal.returns-in_default-clause-logs
-returns-in_default-clause-logs g c = keeps_logs_same _ _ _ c.observe.ensures.grants
+pub unreachable-requires : goal.unreachable-requires
+unreachable-requires g c =
+    none_acting _ c.in_default.not-Equals c.in_default.not-Array c.in_default.not-EndArray
+    c.in_default.not-Put c.in_default.not-PutInterval c.in_default.not-Astore
+    c.in_default.not-Copy c.requires.acting

@@ -2,6 +2,7 @@
 use Rattle.std.proofs.Common.{sym, ◌∙◌, ap, subst}
 use Rattle.ps_language.specs.Small.{SmallWorld}
 use Rattle.ps_operators.specs.Reasons.{operator_needs}
+use Rattle.ps_operators.proofs.Chosen.{acting_other}
 use Rattle.ps_step.specs.Machine.{Machine, IsGood}
 use Rattle.ps_step.proofs.Going.{seen_by}
 use Rattle.ps_step.proofs.Operated.{goes_operated, goes_failed, goes_not}
@@ -11,7 +12,7 @@ pub returns-in-Ok : goal.returns-in-Ok
 returns-in-Ok g c =
     let old = g.M.Memory.heap c.args.memory.now in
     let new = g.M.Memory.heap c.operate.new.memory in
-    let went = goes_operated c.args.refused c.args.operator c.requires.other c.args.slot
+    let went = goes_operated c.args.refused c.args.operator (acting_other _ c.requires.acting) c.args.slot
     (g.M.Memory.grants c.args.memory.now) (g.M.Memory.grants c.operate.new.memory) old new _
     (subst (IsGood old) (sym c.self.view_is) c.requires.good) (ap (λ (m : Machine). m.stage)
     c.self.view_is ∙ c.requires.running)
@@ -24,7 +25,7 @@ pub returns-in-Err-Error : goal.returns-in-Err-Error
 returns-in-Err-Error g c =
     let old = g.M.Memory.heap c.args.memory.now in
     let new = g.M.Memory.heap c.operate.new.memory in
-    let went = goes_failed c.args.refused c.args.operator c.requires.other c.args.slot
+    let went = goes_failed c.args.refused c.args.operator (acting_other _ c.requires.acting) c.args.slot
     (g.M.Memory.grants c.args.memory.now) (g.M.Memory.grants c.operate.new.memory) old new _
     (subst (IsGood old) (sym c.self.view_is) c.requires.good) (ap (λ (m : Machine). m.stage)
     c.self.view_is ∙ c.requires.running)
@@ -39,7 +40,7 @@ pub returns-in-Err-NotMade : goal.returns-in-Err-NotMade
 returns-in-Err-NotMade g c =
     let old = g.M.Memory.heap c.args.memory.now in
     let new = g.M.Memory.heap c.operate.new.memory in
-    let went = goes_not c.args.refused c.args.operator c.requires.other c.args.slot
+    let went = goes_not c.args.refused c.args.operator (acting_other _ c.requires.acting) c.args.slot
     (g.M.Memory.grants c.args.memory.now) (g.M.Memory.grants c.operate.new.memory) old new _
     (subst (IsGood old) (sym c.self.view_is) c.requires.good) (ap (λ (m : Machine). m.stage)
     c.self.view_is ∙ c.requires.running)
