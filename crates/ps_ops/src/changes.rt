@@ -81,7 +81,7 @@ pub fn put<M: Memory>(operands: &mut Operands, memory: &mut M, slot: u32) -> Res
 
 /// Whether one access permits reading and the other writing.
 #[inline]
-fn may_copy(from: Access, to: Access) -> bool
+pub fn may_copy(from: Access, to: Access) -> bool
     ensures { result ≡ language.is_readable from && language.is_writable to }
 {
     is_readable(from) && is_writable(to)
@@ -129,7 +129,7 @@ pub fn putinterval<M: Memory>(
 
 /// How many records a store of so many words puts.
 #[inline]
-fn records_for(words: u16) -> u32
+pub fn records_for(words: u16) -> u32
     ensures { result ≡ min 1 words }
 {
     if words == 0 { 0 } else { 1 }

@@ -20,6 +20,7 @@ use Rattle.ps_mem.specs.Shows.{IsValue, AreValues, IsReady, IsWithin, AreWithin,
 use Rattle.ps_mem.proofs.Lists.{slice_get-set_other, slice_get-set_same, length-splice}
 use Rattle.ps_mem.proofs.KeepsLemmas.{AreWithin-kept, known_values}
 use Rattle.ps_seq.proofs.TextLemmas.{text_at}
+use Rattle.ps_ops.specs.declared.failure.NotMade.{NotMade}
 use Rattle.ps_ops.specs.Does.{values_in, Agrees, IsRecordReason, Changes}
 use Rattle.ps_ops.proofs.Operands.{first_three_split}
 use Rattle.ps_ops.proofs.Held.{third_held, rest_held}
@@ -67,6 +68,21 @@ pub record ChangesBytes (row : Store → List Value → Outcome Change) (h now :
   pub within : AreWithin h names s new
   pub shows : Shows now names (with_part_bytes s (part_of (birth_at h) part) place items)
 
+-- so it is as the row says, whatever may hinder the step
+pub agrees_changes : (row : Store → List Value → Outcome Change)
+    (IsReason : NotMade → Change → Type 0) (h now : Heap) (old new : List Word) (part : Part)
+    (n place : ℕ) → StandsAs h TextKind part.address n → Keeps h now → birth_at now ≡ birth_at h
+    → AreValues h new → (names : List (List ℕ)) (s : Store) → Shows h names s
+    → ChangesBytes row h now part place old new names s
+    → Agrees IsReason (Ok tt) (row s (values_in h names old)) names h now old new
+agrees_changes row IsReason h now old new part n place stands keeps births values names s shows c =
+    subst (λ outcome. Agrees IsReason (Ok tt) outcome names h now old new) (sym c.is) (record {
+      operands = ap (λ b. map (value_of b names) new) births;
+      store = c.shows;
+      within = within_changed h part n stands names s shows now keeps place c.items new c.inside
+          values c.within;
+    })
+
 pub does_changes : (row : Store → List Value → Outcome Change) (stores : List Value → ℕ) (slot : ℕ)
     (asked left : Grants) (h now : Heap) (old new : List Word) (part : Part) (n place : ℕ)
     → StandsAs h TextKind part.address n → Keeps h now → birth_at now ≡ birth_at h → AreValues h new
@@ -76,16 +92,9 @@ pub does_changes : (row : Store → List Value → Outcome Change) (stores : Lis
 does_changes row stores slot asked left h now old new part n place stands keeps births values
     changes = record {
       meets = λ names s shows within.
-          let c = changes names s shows within in
-          subst (λ outcome. Agrees (λ reason change. IsRecordReason reason (stores
-          (values_in h names old)) slot asked left) (Ok tt) outcome names h now old new) (sym c.is)
-          (record {
-            operands = ap (λ b. map (value_of b names) new) births;
-            store = c.shows;
-            within = within_changed h part n stands names s shows now keeps place c.items new
-                c.inside
-                values c.within;
-          });
+          agrees_changes row (λ reason change. IsRecordReason reason (stores
+          (values_in h names old)) slot asked left) h now old new part n place stands keeps births
+          values names s shows (changes names s shows within);
     }
 
 -- ---- put

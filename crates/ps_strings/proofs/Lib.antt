@@ -1,5 +1,6 @@
 pub mod Beginnings
 pub mod Changed
+pub mod Copied
 pub mod Found
 pub mod Intervals
 pub mod Made

@@ -1,2 +1,3 @@
+pub mod Copies
 pub mod Searches
 pub mod StringRows

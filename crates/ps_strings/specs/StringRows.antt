@@ -1,12 +1,14 @@
 -- The rows of the operators on arrays, strings and dictionaries, as far as the operands are strings
 -- (PLRM2, 8 'Operators': String). Each is a part of the whole language's row: an operand that is no
 -- string is a typecheck here.
-use Rattle.std.specs.Prelude.{List, ◌∷◌}
+use Rattle.std.specs.Prelude.{ℕ, ◌&&◌, List, ◌∷◌, nat_le}
 use Rattle.ps_language.specs.declared.errors.ErrorName.TheVariants.{InvalidAccess, RangeCheck, StackUnderflow, TypeCheck}
 use Rattle.ps_language.specs.Value.{Value, Store}
 use Rattle.ps_language.specs.Outcome.{Outcome, leaves, fails, given, given_that, Change}
 use Rattle.ps_language.specs.Readers.{natural, as_integer, as_string, count_of, part_at, with_part}
-use Rattle.ps_language.specs.Access.{is_readable}
+use Rattle.ps_language.specs.Access.{is_readable, is_writable, part_bytes, with_part_bytes}
+use Rattle.ps_language.specs.ArrayRows.{count_in}
+use Rattle.ps_language.specs.Objects.{changing}
 use Rattle.ps_language.specs.RowsSequences.{get_byte, put_byte, interval_within}
 
 -- S length n
@@ -40,3 +42,35 @@ string_getinterval_row (y ∷ k ∷ x ∷ rest) =
     given (interval_within i n part.count) RangeCheck λ place.
     leaves (with_part x (part_at part place n) ∷ rest))
 string_getinterval_row _ = fails StackUnderflow
+
+-- S i T putinterval
+abbrev pub string_putinterval_row : Store → List Value → Outcome Change
+string_putinterval_row store (y ∷ k ∷ x ∷ rest) =
+    given (as_integer k) TypeCheck λ i.
+    given (as_string y) TypeCheck λ from.
+    given (as_string x) TypeCheck λ to.
+    given_that (is_readable from.access && is_writable to.access) InvalidAccess
+    (given (interval_within i from.count to.count) RangeCheck λ place.
+    changing rest (with_part_bytes store to place (part_bytes store from)))
+string_putinterval_row store _ = fails StackUnderflow
+
+-- S T copy U
+abbrev pub string_copy_row : Store → List Value → Outcome Change
+string_copy_row store (y ∷ x ∷ rest) =
+    given (as_string x) TypeCheck λ from.
+    given (as_string y) TypeCheck λ to.
+    given_that (is_readable from.access && is_writable to.access) InvalidAccess
+    (given_that (nat_le from.count to.count) RangeCheck
+    (changing (with_part y (part_at to 0 from.count) ∷ rest)
+    (with_part_bytes store to 0 (part_bytes store from))))
+string_copy_row store _ = fails StackUnderflow
+
+-- ---- how many bytes putinterval and copy store
+
+abbrev pub topmost_bytes : List Value → ℕ
+topmost_bytes (x ∷ rest) = count_in (as_string x)
+topmost_bytes _ = 0
+
+abbrev pub second_bytes : List Value → ℕ
+second_bytes (y ∷ x ∷ rest) = count_in (as_string x)
+second_bytes _ = 0

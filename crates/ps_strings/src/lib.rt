@@ -2,6 +2,7 @@
 #![tactic(auto)]
 
 pub mod changes;
+pub mod copies;
 pub mod makes;
 pub mod readers;
 pub mod searches;
