@@ -1,5 +1,5 @@
 -- Heads that are loaded, cycles that are opened, and logs that are closed.
-use Rattle.std.proofs.Common.{◌≡◌, ◌≢◌, ◌^◌, ℕ, ◌+◌, ◌-◌, ◌<◌, ◌≤◌, ◌&&◌, Bool, true, false, not, List, [], ◌∷◌, ◌++◌, length, refl, sym, ap, ◌∙◌, inl, inr, subst, arith, cond}
+use Rattle.std.proofs.Common.{◌≡◌, ◌≢◌, ◌^◌, ℕ, ◌+◌, ◌-◌, ◌<◌, ◌≤◌, ◌&&◌, true, false, not, List, [], ◌∷◌, ◌++◌, length, refl, sym, ap, ◌∙◌, inl, inr, subst, arith, cond}
 use Rattle.std.specs.Prelude.{slice_index, nat_lt, min, ◌==◌, if◌then◌else◌}
 use Rattle.std.proofs.lemmas.List.Sums.{sum_by_push}
 use Rattle.std.proofs.lemmas.List.{get_or_past}
@@ -15,7 +15,7 @@ use Rattle.ps_parts_memory.specs.Shown.{VmFinds}
 use Rattle.ps_parts_memory.specs.Memory.{records_left}
 use Rattle.ps_parts_memory.specs.Laws.{GrantsLogs, SeesHeads, Opens, ClosesLogs}
 use Rattle.ps_parts_memory.proofs.Facts.{VmFacts, facts}
-use Rattle.ps_parts_memory.proofs.Room.{part_seen, records_other, records_more}
+use Rattle.ps_parts_memory.proofs.Room.{and_not_right, part_seen, records_other, records_more}
 use Rattle.ps_parts_memory.proofs.Logged.{granted, log_here, log_there, length_here}
 
 pub sees_heads : (v : Vm) → VmFacts v → ((slot n : ℕ) → slot < 32 → VmFinds v (2 + slot) n
@@ -48,10 +48,6 @@ closes_none : (logs : List (List Record)) (slot : ℕ) → length logs ≤ slot
     → closes (log_of logs slot) ≡ 0
 closes_none logs slot le = ap closes (get_or_past logs slot [] le)
 
-and_none : (x : Bool) → (x && false) ≡ false
-and_none true = refl
-and_none false = refl
-
 -- no log was closed in a cycle to come
 open_logs : (v : Vm) → VmKnows v → (slot : ℕ) → (closes (log_of v.logs slot) == v.epoch + 1) ≡ false
 open_logs v knows slot = elim (bool_cases (nat_lt slot 32)) [
@@ -74,7 +70,7 @@ opens v knows g out small =
         births = refl;
         cycle_open = eq_true (v.epoch + 1) (v.cycle + 1) (omega arith);
         put = refl;
-        closed = λ slot. let n = open_logs v knows slot in rw n (and_none _);
+        closed = λ slot. and_not_right _ _ (open_logs v knows slot);
       };
       logs = refl;
     }

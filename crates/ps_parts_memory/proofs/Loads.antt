@@ -1,5 +1,5 @@
 -- Loads of words: what stands in the memory, while the part stays.
-use Rattle.std.proofs.Common.{◌≡◌, ℕ, ◌+◌, ◌-◌, ◌<◌, ◌≤◌, Bool, true, false, ◌&&◌, length, map, Some, Option, refl, sym, ap, ◌∙◌, inl, inr, subst, arith}
+use Rattle.std.proofs.Common.{◌≡◌, ℕ, ◌+◌, ◌-◌, ◌<◌, ◌≤◌, Bool, false, ◌&&◌, length, map, Some, Option, refl, sym, ap, ◌∙◌, inl, inr, subst, arith}
 use Rattle.std.specs.Prelude.{slice_get, slice_set, nat_le, nat_lt, IfSome, if◌then◌else◌}
 use Rattle.std.specs.Option.{option_map}
 use Rattle.ps_word.specs.Headers.{kind_in, fields_in, birth_in}
@@ -12,6 +12,7 @@ use Rattle.ps_core_laws.proofs.HeapTests.{bool_cases, le_is, lt_is}
 use Rattle.ps_parts_memory.specs.Memory.{standing}
 use Rattle.ps_parts_memory.specs.Laws.{StaysAfterLoad, LoadsControl, LoadsFields, LoadsHeaders, header_of, header_told}
 use Rattle.ps_parts_memory.proofs.Facts.{VmFacts, field_found, header_found}
+use Rattle.ps_parts_memory.proofs.Room.{and_not_right}
 use Rattle.ps_parts_memory.proofs.Standing.{in_heap, object_of, field_of, fields_of_object, at_word, length_words}
 
 -- what is no head
@@ -22,10 +23,6 @@ stays v place no_head g word =
           (place - 2) word else v.heads;
     })
     no_head
-
-and_not_right : (x y : Bool) → y ≡ false → (x && y) ≡ false
-and_not_right true y e = e
-and_not_right false y e = refl
 
 behind_heads : (place : ℕ) → 34 ≤ place → (nat_le 2 place && nat_lt place 34) ≡ false
 behind_heads place le =

@@ -1,5 +1,5 @@
 -- The numbers that the mutator's seat keeps beside its part, and the records that are left.
-use Rattle.std.proofs.Common.{◌≡◌, ◌≢◌, ◌^◌, ℕ, ◌+◌, ◌-◌, ◌<◌, ◌≤◌, true, ◌&&◌, not, List, length, None, refl, ap, inl, inr, arith}
+use Rattle.std.proofs.Common.{◌≡◌, ◌≢◌, ◌^◌, ℕ, ◌+◌, ◌-◌, ◌<◌, ◌≤◌, true, ◌&&◌, not, List, length, None, refl, ap, inl, inr, arith, Bool, false}
 use Rattle.std.specs.Prelude.{slice_index, slice_set, nat_le, nat_lt, min, ◌==◌, if◌then◌else◌}
 use Rattle.std.proofs.lemmas.List.{get_or-set_same, get_or-set_other}
 use Rattle.ps_mem.specs.Heap.{empty_heap}
@@ -14,6 +14,11 @@ use Rattle.ps_core_laws.proofs.HeapTests.{bool_cases, le_true, lt_true, le_is}
 use Rattle.ps_mem.specs.Heap.{has_room}
 use Rattle.ps_parts_memory.specs.Memory.{records_left, heap_of}
 use Rattle.ps_parts_memory.proofs.Facts.{VmFacts}
+
+-- what needs a test that fails
+pub and_not_right : (x y : Bool) → y ≡ false → (x && y) ≡ false
+and_not_right true y e = e
+and_not_right false y e = refl
 
 -- ---- how much is in use
 

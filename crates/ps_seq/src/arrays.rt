@@ -1,5 +1,6 @@
-// Arrays in any memory, as lists of values (PLRM2, 3.3.6 and 8: get, put, getinterval, putinterval,
-// array).
+//! Arrays in any memory, as lists of values (PLRM2, 3.3.6 and 8: get, put, getinterval,
+//! putinterval, array).
+
 ghost use Rattle.std.specs.Prelude.{◌≡◌, ◌≢◌, ℕ, ◌+◌, ◌<◌, ◌≤◌, ◌^◌, ◌++◌, List, [], ◌∷◌, length, map, replicate, slice_get, Some, Option, IsTrue};
 ghost use Rattle.ps_language.specs.Value.{Store, array_object};
 ghost use Rattle.ps_language.specs.Access.{elements, part_elements, with_part_elements};

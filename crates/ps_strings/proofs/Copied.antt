@@ -1,6 +1,6 @@
 -- What putinterval and copy leave of strings.
-use Rattle.std.proofs.Common.{◌≡◌, ℕ, ◌+◌, ◌-◌, ◌≤◌, ◌&&◌, List, ◌∷◌, drop, length, true, Ok, Some, refl, sym, ap, subst, arith, ◌∙◌, length-drop, length-take}
-use Rattle.std.specs.Prelude.{ℤ, nat_le, slice_range}
+use Rattle.std.proofs.Common.{◌≡◌, ℕ, ◌+◌, ◌≤◌, ◌&&◌, List, ◌∷◌, drop, length, true, Ok, Some, refl, sym, ap, subst, arith, ◌∙◌}
+use Rattle.std.specs.Prelude.{ℤ, nat_le}
 use Rattle.std.proofs.lemmas.Bool.Decides.{nat_tests}
 use Rattle.ps_language.specs.declared.kinds.Kind.TheVariants.{Text as TextKind}
 use Rattle.ps_language.specs.Value.{Part as PartValue, Value, Store}
@@ -16,22 +16,13 @@ use Rattle.ps_mem.specs.Keeps.{Keeps}
 use Rattle.ps_mem.specs.References.{StandsAs}
 use Rattle.ps_mem.specs.Meaning.{value_of, part_of}
 use Rattle.ps_mem.specs.Shows.{IsValue, AreValues, IsReady, IsWithin, AreWithin, Shows}
+use Rattle.ps_seq.proofs.CompareLemmas.{length_part}
 use Rattle.ps_ops.specs.Does.{values_in}
 use Rattle.ps_ops.proofs.Operands.{first_two_split, first_three_split}
 use Rattle.ps_ops.proofs.Held.{first_of_three_held, third_held, first_of_two_held, second_held, rest_held}
 use Rattle.ps_strings.specs.Copies.{IsCopyReason, Copies}
 use Rattle.ps_strings.specs.StringRows.{string_putinterval_row, string_copy_row, topmost_bytes, second_bytes}
 use Rattle.ps_strings.proofs.Changed.{agrees_changes}
-
-length-part : (t : List ℕ) (offset count : ℕ) → offset + count ≤ length t
-    → length (slice_range t offset (offset + count)) ≡ count
-length-part t offset count within =
-    omega (
-      arith,
-      within,
-      length-take (offset + count - offset) (drop offset t),
-      length-drop offset t,
-    )
 
 putinterval_row-is : (s : Store) (y k x : Value) (rest : List Value) (from to : PartValue) (i : ℤ)
     (place : ℕ) → as_integer k ≡ Some i → as_string y ≡ Some from → as_string x ≡ Some to
@@ -101,7 +92,7 @@ module _ (h : Heap) (old : List Word) (from to : Part)
             let in_to = to_within (birth_at h) names s
             (third_held (IsWithin (birth_at h) names s) old within source key target tops) in
             let text = bytes s (birth_at h from.address) in
-            let long = length-part text from.offset from.length in_from in
+            let long = length_part text from.offset from.length in_from in
             agrees_changes string_putinterval_row (λ reason change. IsCopyReason reason room
             words_room (topmost_bytes (values_in h names old)) slot asked left) h now old new to n
             place stands keeps births
@@ -159,7 +150,7 @@ module _ (h : Heap) (old : List Word) (from to : Part)
             (second_held (IsWithin (birth_at h) names s) old within target source tops) in
             let in_to = to_within (birth_at h) names s target_in in
             let text = bytes s (birth_at h from.address) in
-            let long = length-part text from.offset from.length in_from in
+            let long = length_part text from.offset from.length in_from in
             let now_bytes = with_part_bytes s (part_of (birth_at h) to) 0
             (part_bytes s (part_of (birth_at h) from)) in
             agrees_changes string_copy_row (λ reason change. IsCopyReason reason room words_room
