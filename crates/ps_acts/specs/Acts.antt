@@ -47,7 +47,7 @@ needs_between records before after output = record {
   births = length after.store - length before.store;
 }
 
--- A refused step forms its names and makes nothing; where it formed some, its error has to be noted
+-- A refused step forms its names and makes nothing. Where it forms some it asks for its note too
 abbrev pub needs_of_refused : (names : ℕ) → Needs
 needs_of_refused zero = nothing_needed
 needs_of_refused (suc names) =
@@ -64,7 +64,7 @@ needs_as records before (makes scene output) false = needs_between records befor
 needs_as records before (makes scene output) true = needs_of_refused (names_formed before scene)
 needs_as records before effect lacking = nothing_needed
 
--- what operators put into the log that put nothing, or one record for all elements that they store
+-- the records of operators that store nothing, and of those that store so many elements at once
 abbrev pub no_records : Scene → ℕ
 no_records scene = 0
 
@@ -73,9 +73,9 @@ stored_records count scene = min 1 (count scene.operands)
 
 -- ---- why a step is not made
 
--- The log is open and takes fewer records than are asked for, or it is closed, though one is; the
--- words asked for have no room; or memory is refused: the output has less room than its bytes, a
--- name is formed, or an object is made in a memory that grows
+-- LogFull: the log is open and takes fewer records than are asked for. LogClosed: it is closed, and
+-- one at least is asked for. NeedSpace: the words have no room. Memory: the output has less room
+-- than its bytes, or a name is formed, or an object is made in a memory that grows
 abbrev pub IsReason : Needs → (slot : ℕ) → (old new : Lent) → Reason → Type 0
 IsReason needs slot old new LogFull =
     (old.grants.closed slot ≡ false) × (new.grants.records slot < needs.records)
@@ -98,12 +98,12 @@ pub record IsLeft (before : Store) (l : Lent) (scene : Scene) : Type 0 where
   pub shown : IsShown l scene.store
   pub lasts : Lasts before scene.store
 
--- nothing has changed but what was granted, and the room that the output has grown
+-- nothing has changed but what was granted, and how much room the output has
 abbrev pub IsSame : (old new : Lent) → Type 0
 IsSame old new = new ≡ record old { grants = new.grants; room = new.room }
 
--- An error can be noted: where a refused step formed names, which stay, it asked first for the
--- records that this takes
+-- An error can be noted: where a refused step formed names, it asked first for the records of its
+-- note. The names stay, so the note must not be refused then
 abbrev pub MayNote : (slot : ℕ) → (old new : Lent) → (names : List (List ℕ)) → Type 0
 MayNote slot old new names =
     (names ≡ old.names)
@@ -116,9 +116,9 @@ pub record IsRefused (slot : ℕ) (before : Scene) (old new : Lent) (names : Lis
     pub left : IsLeft before.store new (record before { names = names })
     pub may_note : MayNote slot old new names
 
--- What the effect makes is left and printed, or its unwinding begins; or its error is raised, and
--- nothing has changed; where it lacks room VMerror is raised, and only its names are formed; or the
--- step is not made, nothing has changed, and there is a reason
+-- What the effect makes is left and printed, or its unwinding begins. Or its error is raised, and
+-- nothing has changed. Or it lacks room, VMerror is raised, and only its names are formed. Or it is
+-- not made, nothing has changed, and there is a reason
 abbrev pub ActsAs : Needs → (slot : ℕ) → (before : Scene) → Result Unit Break → Effect
     → (lacking : Bool) → (old new : Lent) → Type 0
 ActsAs needs slot before (Ok _) (makes scene output) false old new =
@@ -135,7 +135,8 @@ ActsAs needs slot before result effect lacking old new = ⊥
 
 -- ---- the relation
 
--- the program and the context's $error stay, names stay and go on, and what the output can take
+-- The program and the place of $error stay, names are only added, and the output's capacity, its
+-- bytes and its room, never shrinks
 pub record Stays (old new : Lent) : Type 0 where
   pub program : new.program ≡ old.program
   pub error_dictionary : new.error_dictionary ≡ old.error_dictionary

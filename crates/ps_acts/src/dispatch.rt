@@ -16,7 +16,9 @@ use ps_operands::{arithmetic, logic, stack_operators};
 use ps_ops::{arrays, changes, makes};
 use ps_types::access;
 
-/// Does what an operator does, each by its own function. `Put` and `Get` are on arrays alone.
+/// Does what an operator does, each by its own function. `get` and `put` are on arrays alone.
+///
+/// `Raises`: the errors of its row, in their order. `NotMade`: for what it asks for, behind them.
 pub fn operate<M: Memory>(
     operator: Operator,
     context: &mut Context,
