@@ -176,7 +176,11 @@ fn error_row<M: Memory>(rt: &impl Abort, memory: &mut M)
     assert!(rt; !is_same_key(one, two));
     assert!(rt; !is_same_key(one, three));
     assert!(rt; !is_same_key(two, three));
-    let entries = ErrorEntries { newerror: (one, three), errorname: (two, one), command: (three, two) };
+    let entries = ErrorEntries {
+        newerror: (one, three),
+        errorname: (two, one),
+        command: (three, two),
+    };
     let plan = plan_error(memory, address, entries);
     let records = plan.records();
     assert_eq!(rt; records, 4);
