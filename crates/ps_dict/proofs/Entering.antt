@@ -353,7 +353,7 @@ module _ (h : Heap) (a : ℕ) (known : StandsAs h DictionaryKind a 4) (sound : I
       first-now : first_place so_far.d.pairs key ≡ p
       first-now =
           sym (ap (λ (d : DictionaryValue). first_place d.pairs (value_of (birth_at g) names
-              entry.0))
+          entry.0))
           dictionary-now
           ∙ ap (λ (births : ℕ → ℕ). first_place so_far.d.pairs (value_of births names entry.0))
           entered.births)

@@ -259,8 +259,7 @@ module _ (h : Heap) (a : ℕ) (known : StandsAs h DictionaryKind a 4) (sound : I
           within-before = words-all (IsWithin (birth_at h3) names store-before) waiting3
               (all-third (λ (pair : Word × Word). IsWithin (birth_at h3) names store-before pair.0
               × IsWithin (birth_at h3) names store-before pair.1)
-              (into entries.newerror.0 held.0 within.0, into entries.newerror.1 held.1.0 within.1.0)
-                  (
+              (into entries.newerror.0 held.0 within.0, into entries.newerror.1 held.1.0 within.1.0) (
                 into entries.errorname.0 held.1.1.0 within.1.1.0,
                 into entries.errorname.1 held.1.1.1.0 within.1.1.1.0,
               ) (

@@ -269,7 +269,8 @@ module _ (h : Heap) (a : ℕ) (known : StandsAs h DictionaryKind a 4) (sound : I
   pub value-pairs_at : pairs_at after_value a ≡ others_pairs
   unfolding pairs_at
   value-pairs_at =
-      ap (λ n. take n (pairs_of_words (fields_at after_value (body_at after_value a)))) value-count_at
+      ap (λ n. take n (pairs_of_words (fields_at after_value (body_at after_value a))))
+      value-count_at
       ∙ (ap (λ b. take (count_at h a) (pairs_of_words (fields_at after_value b))) value-body_at
       ∙ (ap (λ xs. take (count_at h a) (pairs_of_words xs)) value-body_fields
       ∙ (ap (λ n. take n (pairs_of_words (splice body_words (2 * i + 1) (v ∷ []))))

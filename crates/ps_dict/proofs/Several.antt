@@ -269,7 +269,7 @@ module _ (h : Heap) (a : ℕ) (known : StandsAs h DictionaryKind a 4) (sound : I
       let rest = drop (length ws) (splice (drop (2 * count_at h a) old)
       (2 * capacity_at h a - 2 * count_at h a) index) in
       ap (λ xs. take (length more) (pairs_of_words xs)) (as-more (drop (2 * count_at h a) old)
-          front)
+      front)
       ∙ (ap (take (length more)) (pairs-of_words_of_pairs more rest)
       ∙ take-front_all more (pairs_of_words rest))
 

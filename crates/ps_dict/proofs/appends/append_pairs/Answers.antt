@@ -47,9 +47,9 @@ store-requires-clause-known g c =
     subst (λ n. IsNatural w (n + length ws / 2)) c.length-count.ensures.words
     c.natural_word-more.ensures.value in
     let now1 : g.M.Memory.heap c.index_pairs.new.memory ≡ after_positions h a c.requires.known
-        c.requires.sound ws c.requires.even
+    c.requires.sound ws c.requires.even
     c.requires.room c.requires.held w is (c.natural_word-more.ensures.held h) =
-        c.index_pairs.ensures.heap
+    c.index_pairs.ensures.heap
     ∙ ap (λ (k : Heap). stored k (body_at k a) (2 * capacity_at k a)
     (index_words (birth_at k) (capacity_at k a) (pairs_at k a ++ pairs_of_words ws))) before in
     subst (λ (k : Heap). NamesStanding k c.body-body.result ws) (sym now1)
@@ -72,9 +72,9 @@ store-requires-clause-place g c =
     subst (λ n. IsNatural w (n + length ws / 2)) c.length-count.ensures.words
     c.natural_word-more.ensures.value in
     let now1 : g.M.Memory.heap c.index_pairs.new.memory ≡ after_positions h a c.requires.known
-        c.requires.sound ws c.requires.even
+    c.requires.sound ws c.requires.even
     c.requires.room c.requires.held w is (c.natural_word-more.ensures.held h) =
-        c.index_pairs.ensures.heap
+    c.index_pairs.ensures.heap
     ∙ ap (λ (k : Heap). stored k (body_at k a) (2 * capacity_at k a)
     (index_words (birth_at k) (capacity_at k a) (pairs_at k a ++ pairs_of_words ws))) before in
     let count = c.length-count.ensures.words in
@@ -85,7 +85,7 @@ store-requires-clause-place g c =
     c.requires.room c.requires.held w is (c.natural_word-more.ensures.held h)) (body_at h a)) =
     ap (λ (k : Heap). length (fields_at k c.body-body.result)) now1
     ∙ ap (λ b. length (fields_at (after_positions h a c.requires.known c.requires.sound ws
-        c.requires.even
+    c.requires.even
     c.requires.room c.requires.held w is (c.natural_word-more.ensures.held h)) b)) is_body in
     omega (arith, count, fits, same)
 
@@ -103,23 +103,23 @@ store-requires-2-clause-place g c =
     subst (λ n. IsNatural w (n + length ws / 2)) c.length-count.ensures.words
     c.natural_word-more.ensures.value in
     let now1 : g.M.Memory.heap c.index_pairs.new.memory ≡ after_positions h a c.requires.known
-        c.requires.sound ws c.requires.even
+    c.requires.sound ws c.requires.even
     c.requires.room c.requires.held w is (c.natural_word-more.ensures.held h) =
-        c.index_pairs.ensures.heap
+    c.index_pairs.ensures.heap
     ∙ ap (λ (k : Heap). stored k (body_at k a) (2 * capacity_at k a)
     (index_words (birth_at k) (capacity_at k a) (pairs_at k a ++ pairs_of_words ws))) before in
     let now2 : g.M.Memory.heap c.store.new.self ≡ after_words h a c.requires.known c.requires.sound
-        ws c.requires.even
+    ws c.requires.even
     c.requires.room c.requires.held w is (c.natural_word-more.ensures.held h) = c.store.ensures.heap
     ∙ (ap (λ (k : Heap). stored k c.body-body.result (2 * c.length-count.result) ws) now1
     ∙ (ap (λ b. stored (after_positions h a c.requires.known c.requires.sound ws c.requires.even
     c.requires.room c.requires.held w is (c.natural_word-more.ensures.held h)) b (2 *
-        c.length-count.result) ws) is_body
+    c.length-count.result) ws) is_body
     ∙ ap (λ n. stored (after_positions h a c.requires.known c.requires.sound ws c.requires.even
     c.requires.room c.requires.held w is (c.natural_word-more.ensures.held h)) (body_at h a) (2 * n)
-        ws) c.length-count.ensures.words)) in
+    ws) c.length-count.ensures.words)) in
     subst (λ (k : Heap). 1 ≤ length (fields_at k a)) (sym now2) (number-place h a c.requires.known
-        c.requires.sound ws c.requires.even
+    c.requires.sound ws c.requires.even
     c.requires.room c.requires.held w is (c.natural_word-more.ensures.held h))
 
 pub returns-clause-sound : goal.returns-clause-sound
@@ -136,25 +136,25 @@ returns-clause-sound g c =
     subst (λ n. IsNatural w (n + length ws / 2)) c.length-count.ensures.words
     c.natural_word-more.ensures.value in
     let now1 : g.M.Memory.heap c.index_pairs.new.memory ≡ after_positions h a c.requires.known
-        c.requires.sound ws c.requires.even
+    c.requires.sound ws c.requires.even
     c.requires.room c.requires.held w is (c.natural_word-more.ensures.held h) =
-        c.index_pairs.ensures.heap
+    c.index_pairs.ensures.heap
     ∙ ap (λ (k : Heap). stored k (body_at k a) (2 * capacity_at k a)
     (index_words (birth_at k) (capacity_at k a) (pairs_at k a ++ pairs_of_words ws))) before in
     let now2 : g.M.Memory.heap c.store.new.self ≡ after_words h a c.requires.known c.requires.sound
-        ws c.requires.even
+    ws c.requires.even
     c.requires.room c.requires.held w is (c.natural_word-more.ensures.held h) = c.store.ensures.heap
     ∙ (ap (λ (k : Heap). stored k c.body-body.result (2 * c.length-count.result) ws) now1
     ∙ (ap (λ b. stored (after_positions h a c.requires.known c.requires.sound ws c.requires.even
     c.requires.room c.requires.held w is (c.natural_word-more.ensures.held h)) b (2 *
-        c.length-count.result) ws) is_body
+    c.length-count.result) ws) is_body
     ∙ ap (λ n. stored (after_positions h a c.requires.known c.requires.sound ws c.requires.even
     c.requires.room c.requires.held w is (c.natural_word-more.ensures.held h)) (body_at h a) (2 * n)
-        ws) c.length-count.ensures.words)) in
+    ws) c.length-count.ensures.words)) in
     let now3 : g.M.Memory.heap c.store-2.new.self ≡ after_number h a c.requires.known
-        c.requires.sound ws c.requires.even
+    c.requires.sound ws c.requires.even
     c.requires.room c.requires.held w is (c.natural_word-more.ensures.held h) =
-        c.store-2.ensures.heap
+    c.store-2.ensures.heap
     ∙ ap (λ (k : Heap). stored k a 0 (w ∷ [])) now2 in
     subst IsSound (sym now3) (several-sound h a c.requires.known c.requires.sound ws c.requires.even
     c.requires.room c.requires.held w is (c.natural_word-more.ensures.held h))
@@ -173,28 +173,28 @@ returns-clause-keeps g c =
     subst (λ n. IsNatural w (n + length ws / 2)) c.length-count.ensures.words
     c.natural_word-more.ensures.value in
     let now1 : g.M.Memory.heap c.index_pairs.new.memory ≡ after_positions h a c.requires.known
-        c.requires.sound ws c.requires.even
+    c.requires.sound ws c.requires.even
     c.requires.room c.requires.held w is (c.natural_word-more.ensures.held h) =
-        c.index_pairs.ensures.heap
+    c.index_pairs.ensures.heap
     ∙ ap (λ (k : Heap). stored k (body_at k a) (2 * capacity_at k a)
     (index_words (birth_at k) (capacity_at k a) (pairs_at k a ++ pairs_of_words ws))) before in
     let now2 : g.M.Memory.heap c.store.new.self ≡ after_words h a c.requires.known c.requires.sound
-        ws c.requires.even
+    ws c.requires.even
     c.requires.room c.requires.held w is (c.natural_word-more.ensures.held h) = c.store.ensures.heap
     ∙ (ap (λ (k : Heap). stored k c.body-body.result (2 * c.length-count.result) ws) now1
     ∙ (ap (λ b. stored (after_positions h a c.requires.known c.requires.sound ws c.requires.even
     c.requires.room c.requires.held w is (c.natural_word-more.ensures.held h)) b (2 *
-        c.length-count.result) ws) is_body
+    c.length-count.result) ws) is_body
     ∙ ap (λ n. stored (after_positions h a c.requires.known c.requires.sound ws c.requires.even
     c.requires.room c.requires.held w is (c.natural_word-more.ensures.held h)) (body_at h a) (2 * n)
-        ws) c.length-count.ensures.words)) in
+    ws) c.length-count.ensures.words)) in
     let now3 : g.M.Memory.heap c.store-2.new.self ≡ after_number h a c.requires.known
-        c.requires.sound ws c.requires.even
+    c.requires.sound ws c.requires.even
     c.requires.room c.requires.held w is (c.natural_word-more.ensures.held h) =
-        c.store-2.ensures.heap
+    c.store-2.ensures.heap
     ∙ ap (λ (k : Heap). stored k a 0 (w ∷ [])) now2 in
     subst (Keeps h) (sym now3) (several-keeps h a c.requires.known c.requires.sound ws
-        c.requires.even
+    c.requires.even
     c.requires.room c.requires.held w is (c.natural_word-more.ensures.held h))
 
 pub returns-clause-births : goal.returns-clause-births
@@ -211,25 +211,25 @@ returns-clause-births g c =
     subst (λ n. IsNatural w (n + length ws / 2)) c.length-count.ensures.words
     c.natural_word-more.ensures.value in
     let now1 : g.M.Memory.heap c.index_pairs.new.memory ≡ after_positions h a c.requires.known
-        c.requires.sound ws c.requires.even
+    c.requires.sound ws c.requires.even
     c.requires.room c.requires.held w is (c.natural_word-more.ensures.held h) =
-        c.index_pairs.ensures.heap
+    c.index_pairs.ensures.heap
     ∙ ap (λ (k : Heap). stored k (body_at k a) (2 * capacity_at k a)
     (index_words (birth_at k) (capacity_at k a) (pairs_at k a ++ pairs_of_words ws))) before in
     let now2 : g.M.Memory.heap c.store.new.self ≡ after_words h a c.requires.known c.requires.sound
-        ws c.requires.even
+    ws c.requires.even
     c.requires.room c.requires.held w is (c.natural_word-more.ensures.held h) = c.store.ensures.heap
     ∙ (ap (λ (k : Heap). stored k c.body-body.result (2 * c.length-count.result) ws) now1
     ∙ (ap (λ b. stored (after_positions h a c.requires.known c.requires.sound ws c.requires.even
     c.requires.room c.requires.held w is (c.natural_word-more.ensures.held h)) b (2 *
-        c.length-count.result) ws) is_body
+    c.length-count.result) ws) is_body
     ∙ ap (λ n. stored (after_positions h a c.requires.known c.requires.sound ws c.requires.even
     c.requires.room c.requires.held w is (c.natural_word-more.ensures.held h)) (body_at h a) (2 * n)
-        ws) c.length-count.ensures.words)) in
+    ws) c.length-count.ensures.words)) in
     let now3 : g.M.Memory.heap c.store-2.new.self ≡ after_number h a c.requires.known
-        c.requires.sound ws c.requires.even
+    c.requires.sound ws c.requires.even
     c.requires.room c.requires.held w is (c.natural_word-more.ensures.held h) =
-        c.store-2.ensures.heap
+    c.store-2.ensures.heap
     ∙ ap (λ (k : Heap). stored k a 0 (w ∷ [])) now2 in
     ap birth_at now3 ∙ several-births h a c.requires.known c.requires.sound ws c.requires.even
     c.requires.room c.requires.held w is (c.natural_word-more.ensures.held h)
@@ -248,28 +248,28 @@ returns-clause-others g c = λ other apart apart'.
     subst (λ n. IsNatural w (n + length ws / 2)) c.length-count.ensures.words
     c.natural_word-more.ensures.value in
     let now1 : g.M.Memory.heap c.index_pairs.new.memory ≡ after_positions h a c.requires.known
-        c.requires.sound ws c.requires.even
+    c.requires.sound ws c.requires.even
     c.requires.room c.requires.held w is (c.natural_word-more.ensures.held h) =
-        c.index_pairs.ensures.heap
+    c.index_pairs.ensures.heap
     ∙ ap (λ (k : Heap). stored k (body_at k a) (2 * capacity_at k a)
     (index_words (birth_at k) (capacity_at k a) (pairs_at k a ++ pairs_of_words ws))) before in
     let now2 : g.M.Memory.heap c.store.new.self ≡ after_words h a c.requires.known c.requires.sound
-        ws c.requires.even
+    ws c.requires.even
     c.requires.room c.requires.held w is (c.natural_word-more.ensures.held h) = c.store.ensures.heap
     ∙ (ap (λ (k : Heap). stored k c.body-body.result (2 * c.length-count.result) ws) now1
     ∙ (ap (λ b. stored (after_positions h a c.requires.known c.requires.sound ws c.requires.even
     c.requires.room c.requires.held w is (c.natural_word-more.ensures.held h)) b (2 *
-        c.length-count.result) ws) is_body
+    c.length-count.result) ws) is_body
     ∙ ap (λ n. stored (after_positions h a c.requires.known c.requires.sound ws c.requires.even
     c.requires.room c.requires.held w is (c.natural_word-more.ensures.held h)) (body_at h a) (2 * n)
-        ws) c.length-count.ensures.words)) in
+    ws) c.length-count.ensures.words)) in
     let now3 : g.M.Memory.heap c.store-2.new.self ≡ after_number h a c.requires.known
-        c.requires.sound ws c.requires.even
+    c.requires.sound ws c.requires.even
     c.requires.room c.requires.held w is (c.natural_word-more.ensures.held h) =
-        c.store-2.ensures.heap
+    c.store-2.ensures.heap
     ∙ ap (λ (k : Heap). stored k a 0 (w ∷ [])) now2 in
     ap (λ (k : Heap). object_at k other) now3 ∙ several-others h a c.requires.known c.requires.sound
-        ws c.requires.even
+    ws c.requires.even
     c.requires.room c.requires.held w is (c.natural_word-more.ensures.held h) other apart apart'
 
 pub returns-clause-shows : goal.returns-clause-shows
@@ -286,25 +286,25 @@ returns-clause-shows g c = λ names s shows within.
     subst (λ n. IsNatural w (n + length ws / 2)) c.length-count.ensures.words
     c.natural_word-more.ensures.value in
     let now1 : g.M.Memory.heap c.index_pairs.new.memory ≡ after_positions h a c.requires.known
-        c.requires.sound ws c.requires.even
+    c.requires.sound ws c.requires.even
     c.requires.room c.requires.held w is (c.natural_word-more.ensures.held h) =
-        c.index_pairs.ensures.heap
+    c.index_pairs.ensures.heap
     ∙ ap (λ (k : Heap). stored k (body_at k a) (2 * capacity_at k a)
     (index_words (birth_at k) (capacity_at k a) (pairs_at k a ++ pairs_of_words ws))) before in
     let now2 : g.M.Memory.heap c.store.new.self ≡ after_words h a c.requires.known c.requires.sound
-        ws c.requires.even
+    ws c.requires.even
     c.requires.room c.requires.held w is (c.natural_word-more.ensures.held h) = c.store.ensures.heap
     ∙ (ap (λ (k : Heap). stored k c.body-body.result (2 * c.length-count.result) ws) now1
     ∙ (ap (λ b. stored (after_positions h a c.requires.known c.requires.sound ws c.requires.even
     c.requires.room c.requires.held w is (c.natural_word-more.ensures.held h)) b (2 *
-        c.length-count.result) ws) is_body
+    c.length-count.result) ws) is_body
     ∙ ap (λ n. stored (after_positions h a c.requires.known c.requires.sound ws c.requires.even
     c.requires.room c.requires.held w is (c.natural_word-more.ensures.held h)) (body_at h a) (2 * n)
-        ws) c.length-count.ensures.words)) in
+    ws) c.length-count.ensures.words)) in
     let now3 : g.M.Memory.heap c.store-2.new.self ≡ after_number h a c.requires.known
-        c.requires.sound ws c.requires.even
+    c.requires.sound ws c.requires.even
     c.requires.room c.requires.held w is (c.natural_word-more.ensures.held h) =
-        c.store-2.ensures.heap
+    c.store-2.ensures.heap
     ∙ ap (λ (k : Heap). stored k a 0 (w ∷ [])) now2 in
     let d = dictionary_at s (birth_at h a) in
     subst (λ (k : Heap). Shows k names

@@ -33,7 +33,7 @@ free_place-place-requires-clause-few g c =
     ∙ ap (λ (k : Heap). capacity_at k a) (c.body-body.ensures.heap ∙ c.length-count.ensures.heap) in
     few-now h a c.requires.known c.requires.sound c.args.words.now
     c.requires.room c.requires.held i below (g.M.Memory.heap c.loop-position.memory)
-        c.body-body.result
+    c.body-body.result
     c.capacity-capacity.result c.loop-position.invariant.0 is_body is_capacity
 
 pub free_place-place-requires-clause-held : goal.free_place-place-requires-clause-held
@@ -49,7 +49,7 @@ free_place-place-requires-clause-held g c =
     ∙ ap (λ (k : Heap). capacity_at k a) (c.body-body.ensures.heap ∙ c.length-count.ensures.heap) in
     key-now h a c.requires.known c.requires.sound c.args.words.now
     c.requires.room c.requires.held i below (g.M.Memory.heap c.loop-position.memory)
-        c.body-body.result
+    c.body-body.result
     c.capacity-capacity.result c.loop-position.invariant.0 is_body is_capacity
 
 pub free_place-place-requires-clause-room : goal.free_place-place-requires-clause-room
@@ -65,7 +65,7 @@ free_place-place-requires-clause-room g c =
     ∙ ap (λ (k : Heap). capacity_at k a) (c.body-body.ensures.heap ∙ c.length-count.ensures.heap) in
     let long = long-now h a c.requires.known c.requires.sound c.args.words.now
     c.requires.room c.requires.held i below (g.M.Memory.heap c.loop-position.memory)
-        c.body-body.result
+    c.body-body.result
     c.capacity-capacity.result c.loop-position.invariant.0 is_body is_capacity in
     omega (arith, long)
 
@@ -82,7 +82,7 @@ overflow_add-capacity g c =
     ∙ ap (λ (k : Heap). capacity_at k a) (c.body-body.ensures.heap ∙ c.length-count.ensures.heap) in
     let few = few-now h a c.requires.known c.requires.sound c.args.words.now
     c.requires.room c.requires.held i below (g.M.Memory.heap c.loop-position.memory)
-        c.body-body.result
+    c.body-body.result
     c.capacity-capacity.result c.loop-position.invariant.0 is_body is_capacity in
     let within = c.free_place-place.ensures.below in
     omega (arith, few, within)
@@ -100,7 +100,7 @@ store-requires-clause-place g c =
     ∙ ap (λ (k : Heap). capacity_at k a) (c.body-body.ensures.heap ∙ c.length-count.ensures.heap) in
     let long = long-now h a c.requires.known c.requires.sound c.args.words.now
     c.requires.room c.requires.held i below (g.M.Memory.heap c.free_place-place.new.memory)
-        c.body-body.result
+    c.body-body.result
     c.capacity-capacity.result (c.free_place-place.ensures.heap ∙ c.loop-position.invariant.0)
     is_body is_capacity in
     let within = c.free_place-place.ensures.below in
@@ -124,7 +124,7 @@ loop-position-preserved g c =
           (w ∷ [])) c.free_place-place.ensures.heap
           ∙ next-now h a c.requires.known c.requires.sound c.args.words.now
           c.requires.room c.requires.held i below (g.M.Memory.heap c.loop-position.memory)
-              c.body-body.result
+          c.body-body.result
           c.capacity-capacity.result c.loop-position.invariant.0 is_body is_capacity p
           c.free_place-place.ensures.below c.free_place-place.ensures.placed
           c.length-count.result c.length-count.ensures.words w

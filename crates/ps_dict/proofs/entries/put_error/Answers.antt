@@ -95,7 +95,7 @@ append_waiting-requires-clause-granted g c =
     let none : take c.none-waiting.result.count c.none-waiting.result.words ≡ [] =
     ap (λ n. take n c.none-waiting.result.words) c.none-waiting.ensures.none in
     let words : take waiting.count waiting.words ≡ words_of_pairs (waiting3 h a c.requires.known
-        c.requires.sound c.args.entries c.args.plan c.requires.plan
+    c.requires.sound c.args.entries c.args.plan c.requires.plan
     c.requires.held) =
     words-are h a c.requires.known c.requires.sound c.args.entries c.args.plan c.requires.plan
     c.requires.held
@@ -105,7 +105,7 @@ append_waiting-requires-clause-granted g c =
     (take waiting.count waiting.words) c.put_entry.ensures.words c.put_entry-2.ensures.words
     c.put_entry-3.ensures.words in
     let count = ap (λ ws. length ws / 2) words ∙ words-count h a c.requires.known c.requires.sound
-        c.args.entries c.args.plan c.requires.plan
+    c.args.entries c.args.plan c.requires.plan
     c.requires.held in
     let all = c.requires.granted in
     let used1 = c.put_entry.ensures.grants.used in
@@ -122,7 +122,7 @@ append_waiting-requires-clause-even g c =
     let none : take c.none-waiting.result.count c.none-waiting.result.words ≡ [] =
     ap (λ n. take n c.none-waiting.result.words) c.none-waiting.ensures.none in
     let words : take waiting.count waiting.words ≡ words_of_pairs (waiting3 h a c.requires.known
-        c.requires.sound c.args.entries c.args.plan c.requires.plan
+    c.requires.sound c.args.entries c.args.plan c.requires.plan
     c.requires.held) =
     words-are h a c.requires.known c.requires.sound c.args.entries c.args.plan c.requires.plan
     c.requires.held
@@ -132,7 +132,7 @@ append_waiting-requires-clause-even g c =
     (take waiting.count waiting.words) c.put_entry.ensures.words c.put_entry-2.ensures.words
     c.put_entry-3.ensures.words in
     subst (λ (ws : List Word). 2 * (length ws / 2) ≡ length ws) (sym words) (words-even h a
-        c.requires.known c.requires.sound c.args.entries c.args.plan c.requires.plan
+    c.requires.known c.requires.sound c.args.entries c.args.plan c.requires.plan
     c.requires.held)
 
 pub append_waiting-requires-clause-sound : goal.append_waiting-requires-clause-sound
@@ -140,7 +140,7 @@ append_waiting-requires-clause-sound g c =
     let h = g.M.Memory.heap c.args.memory.now in
     let a = c.args.address in
     let entered = third-entered h a c.requires.known c.requires.sound c.args.entries c.args.plan
-        c.requires.plan
+    c.requires.plan
     c.requires.held
     (g.M.Memory.heap c.put_entry.new.memory) c.put_entry.ensures.heap
     (g.M.Memory.heap c.put_entry-2.new.memory) c.put_entry-2.ensures.heap
@@ -152,7 +152,7 @@ append_waiting-requires-clause-known g c =
     let h = g.M.Memory.heap c.args.memory.now in
     let a = c.args.address in
     let entered = third-entered h a c.requires.known c.requires.sound c.args.entries c.args.plan
-        c.requires.plan
+    c.requires.plan
     c.requires.held
     (g.M.Memory.heap c.put_entry.new.memory) c.put_entry.ensures.heap
     (g.M.Memory.heap c.put_entry-2.new.memory) c.put_entry-2.ensures.heap
@@ -167,7 +167,7 @@ append_waiting-requires-clause-room g c =
     let none : take c.none-waiting.result.count c.none-waiting.result.words ≡ [] =
     ap (λ n. take n c.none-waiting.result.words) c.none-waiting.ensures.none in
     let words : take waiting.count waiting.words ≡ words_of_pairs (waiting3 h a c.requires.known
-        c.requires.sound c.args.entries c.args.plan c.requires.plan
+    c.requires.sound c.args.entries c.args.plan c.requires.plan
     c.requires.held) =
     words-are h a c.requires.known c.requires.sound c.args.entries c.args.plan c.requires.plan
     c.requires.held
@@ -177,13 +177,13 @@ append_waiting-requires-clause-room g c =
     (take waiting.count waiting.words) c.put_entry.ensures.words c.put_entry-2.ensures.words
     c.put_entry-3.ensures.words in
     let entered = third-entered h a c.requires.known c.requires.sound c.args.entries c.args.plan
-        c.requires.plan
+    c.requires.plan
     c.requires.held
     (g.M.Memory.heap c.put_entry.new.memory) c.put_entry.ensures.heap
     (g.M.Memory.heap c.put_entry-2.new.memory) c.put_entry-2.ensures.heap
     (g.M.Memory.heap c.put_entry-3.new.memory) c.put_entry-3.ensures.heap in
     let room = words-room h a c.requires.known c.requires.sound c.args.entries c.args.plan
-        c.requires.plan
+    c.requires.plan
     c.requires.held in
     let count = ap (λ ws. length ws / 2) words in
     let same = entered.count in
@@ -198,7 +198,7 @@ append_waiting-requires-clause-held g c =
     let none : take c.none-waiting.result.count c.none-waiting.result.words ≡ [] =
     ap (λ n. take n c.none-waiting.result.words) c.none-waiting.ensures.none in
     let words : take waiting.count waiting.words ≡ words_of_pairs (waiting3 h a c.requires.known
-        c.requires.sound c.args.entries c.args.plan c.requires.plan
+    c.requires.sound c.args.entries c.args.plan c.requires.plan
     c.requires.held) =
     words-are h a c.requires.known c.requires.sound c.args.entries c.args.plan c.requires.plan
     c.requires.held
@@ -208,7 +208,7 @@ append_waiting-requires-clause-held g c =
     (take waiting.count waiting.words) c.put_entry.ensures.words c.put_entry-2.ensures.words
     c.put_entry-3.ensures.words in
     let entered = third-entered h a c.requires.known c.requires.sound c.args.entries c.args.plan
-        c.requires.plan
+    c.requires.plan
     c.requires.held
     (g.M.Memory.heap c.put_entry.new.memory) c.put_entry.ensures.heap
     (g.M.Memory.heap c.put_entry-2.new.memory) c.put_entry-2.ensures.heap
@@ -216,9 +216,9 @@ append_waiting-requires-clause-held g c =
     subst (AreValues (g.M.Memory.heap c.put_entry-3.new.memory)) (sym words)
     (AreValues-kept h (g.M.Memory.heap c.put_entry-3.new.memory) entered.keeps
     (words_of_pairs (waiting3 h a c.requires.known c.requires.sound c.args.entries c.args.plan
-        c.requires.plan
+    c.requires.plan
     c.requires.held)) (words-held h a c.requires.known c.requires.sound c.args.entries c.args.plan
-        c.requires.plan
+    c.requires.plan
     c.requires.held))
 
 pub returns-clause-keeps : goal.returns-clause-keeps
@@ -226,7 +226,7 @@ returns-clause-keeps g c =
     let h = g.M.Memory.heap c.args.memory.now in
     let a = c.args.address in
     let entered = third-entered h a c.requires.known c.requires.sound c.args.entries c.args.plan
-        c.requires.plan
+    c.requires.plan
     c.requires.held
     (g.M.Memory.heap c.put_entry.new.memory) c.put_entry.ensures.heap
     (g.M.Memory.heap c.put_entry-2.new.memory) c.put_entry-2.ensures.heap
@@ -239,7 +239,7 @@ returns-clause-births g c =
     let h = g.M.Memory.heap c.args.memory.now in
     let a = c.args.address in
     let entered = third-entered h a c.requires.known c.requires.sound c.args.entries c.args.plan
-        c.requires.plan
+    c.requires.plan
     c.requires.held
     (g.M.Memory.heap c.put_entry.new.memory) c.put_entry.ensures.heap
     (g.M.Memory.heap c.put_entry-2.new.memory) c.put_entry-2.ensures.heap
@@ -251,7 +251,7 @@ returns-clause-others g c =
     let h = g.M.Memory.heap c.args.memory.now in
     let a = c.args.address in
     let entered = third-entered h a c.requires.known c.requires.sound c.args.entries c.args.plan
-        c.requires.plan
+    c.requires.plan
     c.requires.held
     (g.M.Memory.heap c.put_entry.new.memory) c.put_entry.ensures.heap
     (g.M.Memory.heap c.put_entry-2.new.memory) c.put_entry-2.ensures.heap
@@ -268,7 +268,7 @@ returns-clause-grants g c =
     let none : take c.none-waiting.result.count c.none-waiting.result.words ≡ [] =
     ap (λ n. take n c.none-waiting.result.words) c.none-waiting.ensures.none in
     let words : take waiting.count waiting.words ≡ words_of_pairs (waiting3 h a c.requires.known
-        c.requires.sound c.args.entries c.args.plan c.requires.plan
+    c.requires.sound c.args.entries c.args.plan c.requires.plan
     c.requires.held) =
     words-are h a c.requires.known c.requires.sound c.args.entries c.args.plan c.requires.plan
     c.requires.held
@@ -278,7 +278,7 @@ returns-clause-grants g c =
     (take waiting.count waiting.words) c.put_entry.ensures.words c.put_entry-2.ensures.words
     c.put_entry-3.ensures.words in
     let count = ap (λ ws. length ws / 2) words ∙ words-count h a c.requires.known c.requires.sound
-        c.args.entries c.args.plan c.requires.plan
+    c.args.entries c.args.plan c.requires.plan
     c.requires.held in
     let plan = c.args.plan in
     then-used _ _ _ c.args.slot (present_in plan) (added_records (added_by plan)) 0 0
@@ -300,7 +300,7 @@ returns-clause-shows g c = λ names s shows distinct within.
     let none : take c.none-waiting.result.count c.none-waiting.result.words ≡ [] =
     ap (λ n. take n c.none-waiting.result.words) c.none-waiting.ensures.none in
     let words : take waiting.count waiting.words ≡ words_of_pairs (waiting3 h a c.requires.known
-        c.requires.sound c.args.entries c.args.plan c.requires.plan
+    c.requires.sound c.args.entries c.args.plan c.requires.plan
     c.requires.held) =
     words-are h a c.requires.known c.requires.sound c.args.entries c.args.plan c.requires.plan
     c.requires.held
@@ -312,7 +312,7 @@ returns-clause-shows g c = λ names s shows distinct within.
     let now = g.M.Memory.heap c.append_waiting.new.memory in
     let third = g.M.Memory.heap c.put_entry-3.new.memory in
     let before = store-before h a c.requires.known c.requires.sound c.args.entries c.args.plan
-        c.requires.plan
+    c.requires.plan
     c.requires.held
     (g.M.Memory.heap c.put_entry.new.memory) c.put_entry.ensures.heap
     (g.M.Memory.heap c.put_entry-2.new.memory) c.put_entry-2.ensures.heap
