@@ -8,3 +8,4 @@ pub mod Printing
 pub mod Stacking
 pub mod Turning
 pub mod Naming
+pub mod Noting

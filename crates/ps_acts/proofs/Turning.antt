@@ -285,7 +285,8 @@ module _ (operator : Operator) (trial : Trial) (l mid : Lent) (error : ErrorName
         let births : birth_at mid.heap mid.error_dictionary ≡ birth_at l.heap l.error_dictionary =
         ap (λ (m : Lent). birth_at m.heap m.error_dictionary) same in
         let printed_same : mid.printed ≡ l.printed = ap (λ (m : Lent). m.printed) same in
-        let note = notes.did.meets mid.names store acts.good.first left.shown.shows in
+        let note = notes.did.meets mid.names store acts.good.first acts.good.names left.shown.shows
+        in
         let kept : Scene = record (scene_of l store) { names = names } in
         let next =
         noted_left mid acts.good heap grants notes.keeps store _ kept left note.0 note.1 in

@@ -1,5 +1,5 @@
 -- When a step, or a part of one, went as the definitions say (PLRM2, 3.5, 3.10).
-use Rattle.std.specs.Prelude.{◌≡◌, ℕ, ◌<◌, Bool, true, false, IsTrue, List, Result, Ok, Err}
+use Rattle.std.specs.Prelude.{◌≡◌, ◌≢◌, ℕ, ◌<◌, Bool, true, false, IsTrue, List, AllPairs, Result, Ok, Err}
 use Rattle.ps_language.specs.declared.errors.ErrorName.{ErrorName}
 use Rattle.ps_language.specs.declared.operators.Operator.{Operator}
 use Rattle.ps_language.specs.Value.{Store}
@@ -25,10 +25,12 @@ use Rattle.ps_acts.specs.Operators.{row_now, records_of}
 
 -- ---- errors
 
--- every store that was shown is shown with the entries of the error, and no string is shorter
+-- every store that was shown under names met once each is shown with the entries of the error, and
+-- no string is shorter
 pub record IsNoted (error : ErrorName) (operator : Operator) (address : ℕ) (old new : Heap) : Type 0
   where
-    pub meets : (names : List (List ℕ)) (s : Store) → BeginWithFirst names → Shows old names s
+    pub meets : (names : List (List ℕ)) (s : Store) → BeginWithFirst names
+        → AllPairs (λ one later. one ≢ later) names → Shows old names s
         → Shows new names (with_error error (command_of operator) (birth_at old address) s)
         × Lasts s (with_error error (command_of operator) (birth_at old address) s)
 

@@ -1,18 +1,15 @@
 //! A step by an operator, and the error that it notes (PLRM2, 3.5, 3.10).
 
 ghost use Rattle.std.specs.Prelude.{◌≡◌, ◌<◌, IsTrue};
-ghost use Rattle.ps_mem.specs.References.{StandsAs};
-ghost use Rattle.ps_mem.specs.Shows.{IsSound};
 ghost use Rattle.ps_acts.specs.Lent.{lent, IsGood};
 ghost use Rattle.ps_acts.specs.Operators.{is_done};
-ghost use Rattle.ps_acts.specs.Turns.{Notes, Turns, operator_turn, operator_needs};
+ghost use Rattle.ps_acts.specs.Turns.{Turns, operator_turn, operator_needs};
 
 use crate::breaks::Break;
 use crate::dispatch::operate;
 use crate::lent::{Context, Shared, Trial};
+use crate::notes::note;
 use ps_control::frames::Cause;
-use ps_language::errors::ErrorName;
-use ps_language::kinds::Kind;
 use ps_language::operators::Operator;
 use ps_mem::{Memory, SLOTS};
 use ps_ops::failure::NotMade;
@@ -26,37 +23,15 @@ pub enum Turned {
     Breaks(Cause),
 }
 
-/// Notes errors in `$error` (PLRM2, 3.10).
-pub trait ErrorNotes {
-    /// Puts the entries of an error into the `$error` at an address: up to three values or pairs,
-    /// which never grow it, by at most five records.
-    ///
-    /// `LogFull`: the log of the slot is open and takes fewer than five. `LogClosed`: it is closed.
-    fn note<M: Memory>(
-        &self,
-        memory: &mut M,
-        slot: u32,
-        address: u32,
-        error: ErrorName,
-        operator: Operator,
-    ) -> Result<(), NotMade>
-        requires slot { slot < SLOTS }
-        requires sound { IsSound (M.heap memory.old) }
-        requires stands { StandsAs (M.heap memory.old) Kind.Dictionary address 4 }
-        ensures { Notes error operator slot address result (M.heap memory.old)
-            (M.heap memory.new) (M.grants memory.old) (M.grants memory.new) };
-}
-
 /// A step by an operator. An error is noted, and an unwinding for stop begins.
 ///
 /// Each `NotMade` comes for what the step asks for; nothing has changed then.
-pub fn operated<M: Memory, N: ErrorNotes>(
+pub fn operated<M: Memory>(
     operator: Operator,
     context: &mut Context,
     shared: &mut Shared,
     memory: &mut M,
     trial: Trial,
-    notes: &N,
 ) -> Result<Turned, NotMade>
     requires slot { trial.slot < SLOTS }
     requires done { IsTrue (is_done operator) }
@@ -71,7 +46,7 @@ pub fn operated<M: Memory, N: ErrorNotes>(
         Err(Break::Unwinds(cause)) => Ok(Turned::Breaks(cause)),
         Err(Break::NotMade(reason)) => Err(reason),
         Err(Break::Raises(error)) => {
-            match notes.note(
+            match note(
                 memory,
                 trial.slot,
                 context.error_dictionary,

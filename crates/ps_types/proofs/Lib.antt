@@ -3,3 +3,4 @@ pub mod Attributed
 pub mod Reduced
 pub mod Rows
 pub mod Typed
+pub mod First
