@@ -17,6 +17,7 @@ use Rattle.ps_operands.specs.Kept.{AreFrom}
 use Rattle.ps_operands.proofs.Sources.{have_from}
 use Rattle.ps_ops.specs.Does.{values_in, ObservesAs, Observes}
 use Rattle.ps_ops.proofs.Ready.{plain_within, ready_from}
+use Rattle.ps_types.specs.Met.{ObservesMet}
 use Rattle.ps_control.specs.declared.frames.Frame.{Frame}
 use Rattle.ps_control.specs.declared.frames.Cause.{Cause}
 use Rattle.ps_control.specs.Turns.{cause_of}
@@ -34,6 +35,10 @@ use Rattle.ps_acts.proofs.Meeting.{keeps-same, lasts-same, logs-same, stays_as, 
 made_framed : (P : Type 0) (result : Result Unit ErrorName) → OnNotMade (made result) P
 made_framed P (Ok _) = tt
 made_framed P (Err _) = tt
+
+-- the operands of what is good
+pub held : {l : Lent} → IsGood l → IsReady l.heap l.operands
+held good = record { sound = good.sound; values = good.operands }
 
 -- ---- other operands over a memory that keeps what stood
 
@@ -103,6 +108,13 @@ does_observes row result h before after did from = record {
       (did.agrees (birth_at h) names) from within;
 }
 
+-- under any names, so under those that begin with the first ones
+pub under_first : (row : Store → List Value → Outcome (List Value)) (result : Result Unit ErrorName)
+    (h : Heap) (before after : List Word) → Observes row result h before after
+    → ObservesMet row result h before after
+under_first row result h before after did =
+    record { meets = λ names store met. did.meets names store }
+
 module _ (l : Lent) (good : IsGood l) (trial : Trial) (after : List Word) where
   observed_as : (result : Result Unit ErrorName) (outcome : Outcome (List Value)) (store : Store)
       → IsShown l store → ObservesAs result outcome l.names store l.heap l.operands after
@@ -123,12 +135,12 @@ module _ (l : Lent) (good : IsGood l) (trial : Trial) (after : List Word) where
       }
 
   observed_here : (row : Store → List Value → Outcome (List Value)) (result : Result Unit ErrorName)
-      → Observes row result l.heap l.operands after → IsReady l.heap after
+      → ObservesMet row result l.heap l.operands after → IsReady l.heap after
       → Acts no_records (reading_row row) trial (made result) l (over l l.heap l.grants after)
   observed_here row result did ready = record {
     meets = λ store shown.
         observed_as result (row store (values_in l.heap l.names l.operands)) store shown
-        (did.meets l.names store shown.shows shown.operands);
+        (did.meets l.names store good.first shown.shows shown.operands);
     good = changed_good l good l.heap l.grants after (keeps-same l.heap) ready;
     keeps = keeps-same l.heap;
     stays = stays_as l _ refl refl refl (omega arith);
@@ -147,18 +159,16 @@ observes_acts l good trial row result new left after same kept did ready =
     (sym same)
     (subst (λ g. Acts no_records (reading_row row) trial (made result) l (over l l.heap g after))
     (sym kept)
-    (observed_here l good trial after row result did ready))
+    (observed_here l good trial after row result
+    (under_first row result l.heap l.operands after did) ready))
 
--- one on operands alone
-pub does_acts : (l : Lent) → IsGood l → (trial : Trial) (row : List Value → Outcome (List Value))
-    (result : Result Unit ErrorName) (after : List Word) → Does row result l.operands after
-    → AreFrom l.operands after
+-- one that reads no store
+pub operands_acts : (l : Lent) → IsGood l → (trial : Trial)
+    (row : List Value → Outcome (List Value)) (result : Result Unit ErrorName) (after : List Word)
+    → ObservesMet (λ store. row) result l.heap l.operands after → IsReady l.heap after
     → Acts no_records (operand_row row) trial (made result) l (over l l.heap l.grants after)
-does_acts l good trial row result after did from =
-    let acts = observed_here l good trial after (λ store. row) result
-    (does_observes row result l.heap l.operands after did from)
-    (ready_from l.heap l.operands after (record { sound = good.sound; values = good.operands })
-    from) in
+operands_acts l good trial row result after did ready =
+    let acts = observed_here l good trial after (λ store. row) result did ready in
     record {
       meets = acts.meets;
       good = acts.good;
@@ -167,6 +177,17 @@ does_acts l good trial row result after did from =
       logs = acts.logs;
       framed = acts.framed;
     }
+
+-- one on operands alone, whatever the memory
+pub does_acts : (l : Lent) → IsGood l → (trial : Trial) (row : List Value → Outcome (List Value))
+    (result : Result Unit ErrorName) (after : List Word) → Does row result l.operands after
+    → AreFrom l.operands after
+    → Acts no_records (operand_row row) trial (made result) l (over l l.heap l.grants after)
+does_acts l good trial row result after did from =
+    operands_acts l good trial row result after
+    (under_first (λ store. row) result l.heap l.operands after
+    (does_observes row result l.heap l.operands after did from))
+    (ready_from l.heap l.operands after (held good) from)
 
 -- ---- operators that push frames
 
@@ -253,7 +274,4 @@ unwinds_acts l good trial effect cause is = record {
 -- operands and frames of what is good
 pub ready : {l : Lent} → IsGood l
     → controls.IsReadyFor l.heap (length l.program) (controls.stacks l.operands l.frames)
-ready good = record {
-  operands = record { sound = good.sound; values = good.operands };
-  frames = good.frames;
-}
+ready good = record { operands = held good; frames = good.frames }

@@ -1,7 +1,7 @@
 -- The row of each operator, and the records that it puts.
 use Rattle.std.specs.Prelude.{ℕ, Bool, true, false}
 use Rattle.ps_language.specs.declared.operators.Operator.{Operator}
-use Rattle.ps_language.specs.declared.operators.Operator.TheVariants.{Get, Put, Copy, Eq, Ne, Gt, Ge, Lt, Le, MakeString, Length, GetInterval, PutInterval, Astore, Forall, Search, AnchorSearch, Dict, EndDict, MaxLength, Def, Load, Store as StoreKey, Undef, Known, Where, CurrentDict, CountDictStack, ClearDictStack, ErrorDict, Exit, TypeOf, Cvlit, Cvx, Xcheck, ExecuteOnly, NoAccess, ReadOnly, Cvi, Cvn, Cvs, EqualsEquals, Stack, Pstack, Print, CurrentContext, Fork, Join, Detach, Lock, Monitor, Condition, Wait, Notify, Yield, VmStatus, VmReclaim}
+use Rattle.ps_language.specs.declared.operators.Operator.TheVariants.{Get, Put, Copy, Eq, Ne, Gt, Ge, Lt, Le, Length, GetInterval, PutInterval, Astore, Forall, Search, Dict, EndDict, MaxLength, Def, Load, Store as StoreKey, Undef, Known, Where, CurrentDict, CountDictStack, ClearDictStack, ErrorDict, Exit, NoAccess, ReadOnly, Cvi, Cvn, Cvs, EqualsEquals, Stack, Pstack, Print, CurrentContext, Fork, Join, Detach, Lock, Monitor, Condition, Wait, Notify, Yield, VmStatus, VmReclaim}
 use Rattle.ps_language.specs.Effect.{Scene}
 use Rattle.ps_language.specs.Scan.{scan}
 use Rattle.ps_language.specs.Rows.{Row, reading_row, changing_row, row_of}
@@ -27,14 +27,12 @@ is_done Gt = false
 is_done Ge = false
 is_done Lt = false
 is_done Le = false
-is_done MakeString = false
 is_done Length = false
 is_done GetInterval = false
 is_done PutInterval = false
 is_done Astore = false
 is_done Forall = false
 is_done Search = false
-is_done AnchorSearch = false
 is_done Dict = false
 is_done EndDict = false
 is_done MaxLength = false
@@ -49,11 +47,6 @@ is_done CountDictStack = false
 is_done ClearDictStack = false
 is_done ErrorDict = false
 is_done Exit = false
-is_done TypeOf = false
-is_done Cvlit = false
-is_done Cvx = false
-is_done Xcheck = false
-is_done ExecuteOnly = false
 is_done NoAccess = false
 is_done ReadOnly = false
 is_done Cvi = false

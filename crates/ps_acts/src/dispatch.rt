@@ -14,7 +14,10 @@ use ps_language::operators::Operator;
 use ps_mem::{Memory, SLOTS};
 use ps_operands::{arithmetic, logic, stack_operators};
 use ps_ops::{arrays, changes, makes};
-use ps_types::access;
+use ps_strings::makes::string;
+use ps_strings::searches::anchorsearch;
+use ps_types::types::type_of;
+use ps_types::{access, attributes};
 
 /// Does what an operator does, each by its own function. `get` and `put` are on arrays alone.
 ///
@@ -74,8 +77,20 @@ pub fn operate<M: Memory>(
         )),
         Operator::Quit => Err(Break::Unwinds(Cause::Quit)),
         Operator::Bind => made(control::begin_bind(&mut context.operands, &mut context.frames)),
+        Operator::TypeOf => made(type_of(&mut context.operands)),
+        Operator::Cvlit => made(attributes::cvlit(&mut context.operands)),
+        Operator::Cvx => made(attributes::cvx(&mut context.operands)),
+        Operator::Xcheck => made(attributes::xcheck(&mut context.operands)),
+        Operator::ExecuteOnly => made(attributes::executeonly(&mut context.operands, memory)),
         Operator::Rcheck => made(access::rcheck(&mut context.operands, memory)),
         Operator::Wcheck => made(access::wcheck(&mut context.operands, memory)),
+        Operator::AnchorSearch => made(anchorsearch(&mut context.operands, memory)),
+        Operator::MakeString => tried(string(
+            &mut context.operands,
+            memory,
+            trial.slot,
+            trial.refused,
+        )),
         Operator::Array => tried(makes::array(
             &mut context.operands,
             memory,
@@ -99,14 +114,12 @@ pub fn operate<M: Memory>(
         | Operator::Ge
         | Operator::Lt
         | Operator::Le
-        | Operator::MakeString
         | Operator::Length
         | Operator::GetInterval
         | Operator::PutInterval
         | Operator::Astore
         | Operator::Forall
         | Operator::Search
-        | Operator::AnchorSearch
         | Operator::Dict
         | Operator::EndDict
         | Operator::MaxLength
@@ -121,11 +134,6 @@ pub fn operate<M: Memory>(
         | Operator::ClearDictStack
         | Operator::ErrorDict
         | Operator::Exit
-        | Operator::TypeOf
-        | Operator::Cvlit
-        | Operator::Cvx
-        | Operator::Xcheck
-        | Operator::ExecuteOnly
         | Operator::NoAccess
         | Operator::ReadOnly
         | Operator::Cvi

@@ -9,7 +9,7 @@ use Rattle.ps_language.specs.Outcome.{Outcome, leaves, fails, given, given_that,
 use Rattle.ps_language.specs.Objects.{made_between, making, changing}
 use Rattle.ps_language.specs.Access.{with_part_elements}
 use Rattle.ps_language.specs.ArrayRows.{array_put_row, array_putinterval_row, array_copy_row}
-use Rattle.ps_language.specs.RowsSequences.{array_row, end_array_row, astore_row}
+use Rattle.ps_language.specs.RowsSequences.{array_row, end_array_row, string_row, astore_row}
 use Rattle.ps_language.proofs.AskedLemmas.{made-same, elements-unasked}
 use Rattle.ps_language.specs.SmallRows.{copy_by, small_copy_row}
 
@@ -108,6 +108,11 @@ pub array_made : (store : Store) (operands : List Value)
     → Leaving (IsMade store) (array_row store operands)
 array_made store [] = leaving_error (IsMade store) StackUnderflow
 array_made store (k ∷ rest) = search (leaving_given, leaving_given_that, making_made)
+
+pub string_made : (store : Store) (operands : List Value)
+    → Leaving (IsMade store) (string_row store operands)
+string_made store [] = leaving_error (IsMade store) StackUnderflow
+string_made store (k ∷ rest) = search (leaving_given, leaving_given_that, making_made)
 
 pub end_array_made : (store : Store) (operands : List Value)
     → Leaving (IsMade store) (end_array_row store operands)

@@ -4,7 +4,7 @@ ghost use Rattle.ps_language.specs.RowsSequences as sequences;
 ghost use Rattle.ps_mem.specs.Heap.{Heap};
 ghost use Rattle.ps_mem.specs.Keeps.{Keeps};
 ghost use Rattle.ps_mem.specs.Shows.{IsReady};
-ghost use Rattle.ps_ops.specs.Does.{Makes, KeepsLogs};
+ghost use Rattle.ps_ops.specs.Does.{Makes, KeepsLogs, KeepsLogsWithin};
 
 use crate::readers::string_word;
 use ps_language::errors::ErrorName;
@@ -28,6 +28,7 @@ pub fn string<M: Memory>(
     requires ready { IsReady (M.heap memory.old) operands.old }
     ensures does { Makes sequences.string_row refused result (M.heap memory.old)
         (M.heap memory.new) operands.old operands.new }
+    ensures spends { KeepsLogsWithin 0 (M.grants memory.old) (M.grants memory.new) slot }
     ensures ready { IsReady (M.heap memory.new) operands.new }
     ensures keeps { Keeps (M.heap memory.old) (M.heap memory.new) }
     ensures logs { KeepsLogs (M.grants memory.old) (M.grants memory.new) slot }

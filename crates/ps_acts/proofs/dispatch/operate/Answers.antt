@@ -1,7 +1,7 @@
 -- Each operator by its name and by what its own contract says.
 use Rattle.std.proofs.Common.{refl}
-use Rattle.ps_operators.proofs.Asking.{array_made, end_array_made, put_unasked}
-use Rattle.ps_acts.proofs.Lifts.{does_acts, observes_acts, controls_acts, ready}
+use Rattle.ps_operators.proofs.Asking.{array_made, end_array_made, string_made, put_unasked}
+use Rattle.ps_acts.proofs.Lifts.{does_acts, operands_acts, observes_acts, controls_acts, ready, held, under_first}
 use Rattle.ps_acts.proofs.Changing.{makes_acts, changes_acts, put_lasts}
 use Rattle.ps_acts.proofs.Named.{named}
 use Rattle.ps_acts.proofs.dispatch.operate.Goals as goal
@@ -164,8 +164,46 @@ returns-in-Wcheck g c = named c.in-Wcheck.is c.made-in-Wcheck.ensures
     (observes_acts _ c.requires.good _ _ _ _ _ _ c.wcheck.ensures.heap c.wcheck.ensures.grants
     c.wcheck.ensures.row c.wcheck.ensures.ready)
 
+pub returns-in-TypeOf : goal.returns-in-TypeOf
+returns-in-TypeOf g c = named c.in-TypeOf.is c.made-in-TypeOf.ensures
+    (operands_acts _ c.requires.good _ _ _ _ (c.type_of.ensures.row _ (held c.requires.good))
+    (c.type_of.ensures.ready _ (held c.requires.good)))
+
+pub returns-in-Cvlit : goal.returns-in-Cvlit
+returns-in-Cvlit g c = named c.in-Cvlit.is c.made-in-Cvlit.ensures
+    (operands_acts _ c.requires.good _ _ _ _
+    (under_first _ _ _ _ _ (c.cvlit.ensures.row _ (held c.requires.good)))
+    (c.cvlit.ensures.ready _ (held c.requires.good)))
+
+pub returns-in-Cvx : goal.returns-in-Cvx
+returns-in-Cvx g c = named c.in-Cvx.is c.made-in-Cvx.ensures
+    (operands_acts _ c.requires.good _ _ _ _
+    (under_first _ _ _ _ _ (c.cvx.ensures.row _ (held c.requires.good)))
+    (c.cvx.ensures.ready _ (held c.requires.good)))
+
+pub returns-in-Xcheck : goal.returns-in-Xcheck
+returns-in-Xcheck g c = named c.in-Xcheck.is c.made-in-Xcheck.ensures
+    (operands_acts _ c.requires.good _ _ _ _
+    (under_first _ _ _ _ _ (c.xcheck.ensures.row _ (held c.requires.good)))
+    (c.xcheck.ensures.ready _ (held c.requires.good)))
+
+pub returns-in-ExecuteOnly : goal.returns-in-ExecuteOnly
+returns-in-ExecuteOnly g c = named c.in-ExecuteOnly.is c.made-in-ExecuteOnly.ensures
+    (operands_acts _ c.requires.good _ _ _ _ (under_first _ _ _ _ _ c.executeonly.ensures.row)
+    c.executeonly.ensures.ready)
+
+pub returns-in-AnchorSearch : goal.returns-in-AnchorSearch
+returns-in-AnchorSearch g c = named c.in-AnchorSearch.is c.made-in-AnchorSearch.ensures
+    (observes_acts _ c.requires.good _ _ _ _ _ _ c.anchorsearch.ensures.heap
+    c.anchorsearch.ensures.grants c.anchorsearch.ensures.does c.anchorsearch.ensures.ready)
+
+pub returns-in-MakeString : goal.returns-in-MakeString
+returns-in-MakeString g c = named c.in-MakeString.is c.tried.ensures
+    (makes_acts _ c.requires.good _ _ _ _ c.string.ensures.keeps _ _ string_made
+    c.string.ensures.does c.string.ensures.ready c.string.ensures.spends)
+
 pub returns-in-Array : goal.returns-in-Array
-returns-in-Array g c = named c.in-Array.is c.tried.ensures
+returns-in-Array g c = named c.in-Array.is c.tried-in-Array.ensures
     (makes_acts _ c.requires.good _ _ _ _ c.array.ensures.keeps _ _ array_made c.array.ensures.does
     c.array.ensures.ready c.array.ensures.spends)
 
