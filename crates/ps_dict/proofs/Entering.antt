@@ -105,7 +105,7 @@ with_value-front (pair ∷ xs) ys zero v below = refl
 with_value-front (pair ∷ xs) ys (suc i) v below =
     ap (λ zs. pair ∷ zs) (with_value-front xs ys i v (omega (arith, below)))
 
-place-with_value : (pairs : List (Word × Word)) (i : ℕ) (v key : Word)
+pub place-with_value : (pairs : List (Word × Word)) (i : ℕ) (v key : Word)
     → place_of (with_value pairs i v) key ≡ place_of pairs key
 unfolding place_of with_value
 place-with_value [] i v key = refl

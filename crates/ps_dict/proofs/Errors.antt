@@ -59,7 +59,7 @@ firsts : (P : Word → Type 0) (pairs : List (Word × Word))
 firsts P [] all = tt
 firsts P (pair ∷ pairs) all = (all.0.0, firsts P pairs all.1)
 
-words-back : (pairs : List (Word × Word)) → pairs_of_words (words_of_pairs pairs) ≡ pairs
+pub words-back : (pairs : List (Word × Word)) → pairs_of_words (words_of_pairs pairs) ≡ pairs
 unfolding pairs_of_words
 words-back [] = refl
 words-back (pair ∷ pairs) = ap (λ ps. pair ∷ ps) (words-back pairs)

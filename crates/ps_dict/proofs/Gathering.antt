@@ -5,6 +5,7 @@ use Rattle.std.proofs.lemmas.List.{length-map, length-take-le, take_all}
 use Rattle.std.proofs.lemmas.Bool.{cases_lt}
 use Rattle.ps_language.specs.declared.kinds.Kind.TheVariants.{Dictionary as DictionaryKind}
 use Rattle.ps_word.specs.declared.words.Word.{Word}
+use Rattle.ps_word.specs.Format.{IsWord}
 use Rattle.ps_mem.specs.Heap.{Heap, birth_at, fields_at, zero_word}
 use Rattle.ps_mem.specs.Index.{hash_of, hashes_of, has_free, placed, index_of, index_word, index_words}
 use Rattle.ps_mem.specs.References.{StandsAs}
@@ -62,6 +63,63 @@ beside-within p i n h = elim (cases_lt p i) [
 
 -- ---- position by position
 
+-- the index of the first of some pairs, in a list outside the memory
+module _ (births : ℕ → ℕ) (capacity : ℕ) (few : capacity ≤ 21845) (pairs : List (Word × Word))
+    (room : length pairs ≤ capacity) (p : ℕ) (more : p < length pairs) where
+  first_fit : length (take p pairs) ≡ p
+  first_fit = length-take-le p pairs (omega (arith, more))
+
+  abbrev hashes : List ℕ
+  hashes = hashes_of births (take p pairs)
+
+  hashes-count : length hashes ≡ p
+  hashes-count = length-map (take p pairs) (λ (pair : Word × Word). hash_of births pair.0)
+      ∙ first_fit
+
+  abbrev pub positions : List (Option ℕ)
+  positions = index_of capacity (hashes_of births (take p pairs))
+
+  index : IsIndex capacity hashes positions
+  index = is-index capacity hashes (let n = hashes-count in omega (arith, n, more, room))
+
+  pub positions-words : index_words births capacity (take p pairs) ≡ map index_word positions
+  unfolding index_words
+  positions-words = refl
+
+  pub positions-count : length positions ≡ capacity
+  positions-count = index.count
+
+  pub positions-long : length (index_words births capacity (take p pairs)) ≡ capacity
+  positions-long = length-index_words births capacity (take p pairs)
+      (let n = first_fit in omega (arith, n, more, room))
+
+  pub positions-small : (place q : ℕ) → slice_get positions place ≡ Some (Some q) → q < 2 ^ 31
+  positions-small place q at =
+      let low : IsBelow (length hashes) (Some q) =
+      all_at (IsBelow (length hashes)) positions place (Some q) index.below at in
+      let n = hashes-count in
+      omega (arith, low, n, more, room, few)
+
+  pub positions-free : has_free positions ≡ true
+  positions-free = elim (free_or positions) [
+    | inl (has, _) ↦ has
+    | inr (_, none) ↦ let left = index.left in let n = hashes-count in
+        absurd (omega (arith, left, n, none, more, room))
+  ]
+
+  pub positions-next : (k v : Word) → slice_get pairs p ≡ Some (k, v) → (place : ℕ) → (w : Word)
+      → IsNatural w p → IsWord w.0
+      → placed p (hash_of births k % capacity) positions ≡ slice_set positions place (Some p)
+      → slice_set (index_words births capacity (take p pairs)) place w ≡ index_words births
+      capacity (take (p + 1) pairs)
+  positions-next k v pair place w natural word there_is =
+      index_words-more births capacity (take p pairs) k v place w
+      (let n = first_fit in omega (arith, n, more, room))
+      (subst (IsNatural w) (sym first_fit) natural) word
+      (subst (λ m. placed m (hash_of births k % capacity) positions ≡ slice_set positions place
+      (Some m)) (sym first_fit) there_is)
+      ∙ ap (index_words births capacity) (sym (take-next pairs p (k, v) pair))
+
 module _ (h : Heap) (a : ℕ) (known : StandsAs h DictionaryKind a 4) (sound : IsSound h) (gone : ℕ)
     (there : gone < count_at h a) where
   abbrev pub rest : List (Word × Word)
@@ -83,51 +141,32 @@ module _ (h : Heap) (a : ℕ) (known : StandsAs h DictionaryKind a 4) (sound : I
       (take_all p rest (let n = length-rest in omega (arith, n, past)))
 
   module _ (p : ℕ) (more : p + 1 < count_at h a) where
-    pairs_fit : length (take p rest) ≡ p
-    pairs_fit = length-take-le p rest (let n = length-rest in omega (arith, n, more))
+    few : capacity_at h a ≤ 21845
+    few = few-places h a known sound
 
-    room : p < capacity_at h a
-    room = let fits = count-fits h a known sound in omega (arith, fits, more)
+    room : length rest ≤ capacity_at h a
+    room = let n = length-rest in let fits = count-fits h a known sound in omega (arith, n, fits)
 
-    abbrev hashes : List ℕ
-    hashes = hashes_of (birth_at h) (take p rest)
-
-    count : length hashes ≡ p
-    count = length-map (take p rest) (λ (pair : Word × Word). hash_of (birth_at h) pair.0)
-        ∙ pairs_fit
+    below : p < length rest
+    below = let n = length-rest in omega (arith, n, more)
 
     abbrev pub spots : List (Option ℕ)
     spots = index_of (capacity_at h a) (hashes_of (birth_at h) (take p rest))
 
-    index : IsIndex (capacity_at h a) hashes spots
-    index = is-index (capacity_at h a) hashes (let n = count in let r = room in omega (arith, n, r))
-
     pub gathered-words : gathered p ≡ map index_word spots
-    unfolding index_words
-    gathered-words = refl
+    gathered-words = positions-words (birth_at h) (capacity_at h a) few rest room p below
 
     pub gathered-count : length spots ≡ capacity_at h a
-    gathered-count = index.count
+    gathered-count = positions-count (birth_at h) (capacity_at h a) few rest room p below
 
     pub gathered-long : length (gathered p) ≡ capacity_at h a
-    gathered-long = length-index_words (birth_at h) (capacity_at h a) (take p rest)
-        (let n = pairs_fit in let r = room in omega (arith, n, r))
+    gathered-long = positions-long (birth_at h) (capacity_at h a) few rest room p below
 
     pub gathered-small : (place q : ℕ) → slice_get spots place ≡ Some (Some q) → q < 2 ^ 31
-    gathered-small place q at =
-        let low : IsBelow (length hashes) (Some q) =
-        all_at (IsBelow (length hashes)) spots place (Some q) index.below at in
-        let n = count in
-        let r = room in
-        let few = few-places h a known sound in
-        omega (arith, low, n, r, few)
+    gathered-small = positions-small (birth_at h) (capacity_at h a) few rest room p below
 
     pub gathered-free : has_free spots ≡ true
-    gathered-free = elim (free_or spots) [
-      | inl (has, _) ↦ has
-      | inr (_, none) ↦ let left = index.left in let n = count in let r = room in
-          absurd (omega (arith, left, n, none, r))
-    ]
+    gathered-free = positions-free (birth_at h) (capacity_at h a) few rest room p below
 
     abbrev pub from : ℕ
     from = if nat_lt p gone then p else p + 1
@@ -145,11 +184,5 @@ module _ (h : Heap) (a : ℕ) (known : StandsAs h DictionaryKind a 4) (sound : I
           → slice_set (gathered p) place w ≡ gathered (p + 1)
       gathered-next place w natural held there_is =
           let (v, pair) = key-pair h a known sound from from-within k read in
-          let r = room in
-          index_words-more (birth_at h) (capacity_at h a) (take p rest) k v place w
-          (let n = pairs_fit in omega (arith, n, r))
-          (subst (IsNatural w) (sym pairs_fit) natural) held.word
-          (subst (λ m. placed m (hash_of (birth_at h) k % capacity_at h a) spots ≡ slice_set spots
-          place (Some m)) (sym pairs_fit) there_is)
-          ∙ ap (index_words (birth_at h) (capacity_at h a))
-          (sym (take-next rest p (k, v) (get-without (pairs_at h a) p gone ∙ pair)))
+          positions-next (birth_at h) (capacity_at h a) few rest room p below k v
+          (get-without (pairs_at h a) p gone ∙ pair) place w natural held.word there_is

@@ -25,3 +25,4 @@ pub mod Several
 pub mod Granted
 pub mod Entering
 pub mod Errors
+pub mod Merging

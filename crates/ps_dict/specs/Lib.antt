@@ -1,5 +1,6 @@
 pub mod Entries
 pub mod Keys
+pub mod Merges
 pub mod Places
 pub mod Puts
 pub mod Removals

@@ -9,5 +9,6 @@ mod fills;
 pub mod index;
 pub mod keys;
 pub mod makes;
+pub mod merges;
 pub mod plans;
 pub mod removals;
