@@ -58,7 +58,7 @@ pub front-zeros : (items : List Word) (m n : ℕ) → m ≡ length items + n
 front-zeros items m n is = splice-zero (replicate m zero_word) items
     ∙ ap (λ ws. items ++ ws) (drop-zeros (length items) m n is)
 
-drop-front : {A : Type 0} (xs ys : List A) → drop (length xs) (xs ++ ys) ≡ ys
+pub drop-front : {A : Type 0} (xs ys : List A) → drop (length xs) (xs ++ ys) ≡ ys
 drop-front [] ys = refl
 drop-front (x ∷ xs) ys = drop-front xs ys
 

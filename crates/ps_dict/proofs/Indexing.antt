@@ -41,7 +41,7 @@ set-left [] ys i x h = absurd (omega arith)
 set-left (y ∷ xs) ys zero x h = refl
 set-left (y ∷ xs) ys (suc i) x h = ap (λ zs. y ∷ zs) (set-left xs ys i x (omega (arith, h)))
 
-set-right : {A : Type 0} (xs ys : List A) (i : ℕ) (x : A)
+pub set-right : {A : Type 0} (xs ys : List A) (i : ℕ) (x : A)
     → slice_set (xs ++ ys) (length xs + i) x ≡ xs ++ slice_set ys i x
 set-right [] ys i x = ap (λ n. slice_set ys n x) (let e : 0 + i ≡ i = omega arith in e)
 set-right (y ∷ xs) ys i x =

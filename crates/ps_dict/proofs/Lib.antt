@@ -26,3 +26,5 @@ pub mod Granted
 pub mod Entering
 pub mod Errors
 pub mod Merging
+pub mod WholeBodies
+pub mod Overwriting

@@ -2,6 +2,7 @@
 #![tactic(auto)]
 
 mod appends;
+mod bodies;
 pub mod changes;
 pub mod dictionaries;
 pub mod entries;

@@ -14,6 +14,7 @@ ghost use Rattle.ps_dict.specs.Puts.{AfterChange};
 ghost use Rattle.ps_dict.specs.Removals as removals;
 ghost use Rattle.ps_dict.specs.Removals.{without_place, with_pairs_moved};
 
+use crate::bodies::push_nulls;
 use crate::changes::natural_word;
 use crate::dictionaries::{COUNT, body, capacity, length};
 use crate::index::{first_place, free_in};
@@ -105,22 +106,6 @@ pub fn remove<M: Memory>(
     memory.store(slot, address, COUNT, &[fewer]);
     memory.store(slot, body, 2 * capacity, scratch.as_slice());
     scratch.clear();
-    Ok(())
-}
-
-/// Adds nulls to an empty list, so many. `AllocError`: the list lacks room for them, and its growth
-/// was refused; it is empty still.
-fn push_nulls(scratch: &mut Vec<Word>, count: u32) -> Result<(), AllocError>
-    requires empty { scratch.old.items ≡ [] }
-    ensures nulls { OnOk result (scratch.new.items ≡ replicate count zero_word) }
-    ensures unchanged { OnErr result (scratch.new.items ≡ []) }
-    ensures full { OnErr result (vec_capacity scratch.old < count) }
-    ensures room { vec_capacity scratch.old ≤ vec_capacity scratch.new }
-{
-    scratch.reserve(count as usize)?;
-    for _ in 0..count {
-        scratch.push(Word::null())?;
-    }
     Ok(())
 }
 

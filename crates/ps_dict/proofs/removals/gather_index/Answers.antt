@@ -1,4 +1,4 @@
-use Rattle.std.proofs.Common.{rules, ◌≡◌, ◌+◌, ◌*◌, ◌%◌, ◌<◌, ◌∙◌, Some, ap, sym, arith, subst, length}
+use Rattle.std.proofs.Common.{rules, ◌≡◌, ◌+◌, ◌*◌, ◌%◌, ◌++◌, ◌<◌, ◌∙◌, Some, ap, sym, arith, subst, length}
 use Rattle.std.specs.Prelude.{slice_get, slice_set}
 use Rattle.ps_mem.specs.Heap.{Heap, birth_at, fields_at, zero_word}
 use Rattle.std.proofs.Common.{replicate}
@@ -21,8 +21,9 @@ loop-position-init g c =
       heap = search rules;
       grants = search rules;
       items = c.in_ok-push_nulls.ensures.nulls
+          ∙ (ap (λ ws. ws ++ replicate c.capacity-capacity.result zero_word) c.requires.empty
           ∙ (ap (λ n. replicate n zero_word) is_capacity
-          ∙ gathered-none h a c.requires.known c.requires.sound c.args.gone c.requires.place);
+          ∙ gathered-none h a c.requires.known c.requires.sound c.args.gone c.requires.place));
       room = search rules;
     }
 
