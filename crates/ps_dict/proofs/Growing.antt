@@ -62,7 +62,7 @@ pub drop-front : {A : Type 0} (xs ys : List A) → drop (length xs) (xs ++ ys) �
 drop-front [] ys = refl
 drop-front (x ∷ xs) ys = drop-front xs ys
 
-second-there : (fields : List Word) (a b c d w : Word) → fields ≡ a ∷ b ∷ c ∷ d ∷ []
+pub second-there : (fields : List Word) (a b c d w : Word) → fields ≡ a ∷ b ∷ c ∷ d ∷ []
     → slice_get fields 2 ≡ Some w → c ≡ w
 second-there fields a b c d w are at = let one : Some c ≡ Some w =
     sym (ap (λ ws. slice_get ws 2) are) ∙ at in cc

@@ -28,3 +28,4 @@ pub mod Errors
 pub mod Merging
 pub mod WholeBodies
 pub mod Overwriting
+pub mod NewBodies

@@ -72,7 +72,8 @@ module _ (h : Heap) (sound : IsSound h) (names : List (List ℕ)) (s : Store)
   )
 
   at-place : (o : Option ℕ) (pairs : List (Word × Word)) (pair : Word × Word)
-      → first_place (map (pair_of (birth_at h) names) pairs) (value_of (birth_at h) names pair.0) ≡ o
+      → first_place (map (pair_of (birth_at h) names) pairs) (value_of (birth_at h) names pair.0)
+      ≡ o
       → map (pair_of (birth_at h) names) (put_at o pairs pair) ≡ put_pair
       (map (pair_of (birth_at h) names) pairs) (pair_of (birth_at h) names pair)
   at-place (Some i) pairs pair at =

@@ -13,10 +13,12 @@ ghost use Rattle.ps_dict.specs.Places.{body_at, capacity_at};
 ghost use Rattle.ps_dict.specs.Puts.{AfterChange};
 
 use crate::changes::natural_word;
-use crate::dictionaries::{COUNT, body};
+use crate::dictionaries::{ACCESS, COUNT, body};
+use crate::fills::fill_words;
 use crate::index::{first_place, free_in};
 use ps_language::kinds::Kind;
 use ps_mem::Memory;
+use ps_word::values::Content;
 use ps_word::words::Word;
 use std::alloc::AllocError;
 
@@ -106,4 +108,49 @@ pub(crate) fn write_over<M: Memory>(
     let number = natural_word(count);
     memory.store(slot, body, 0, words);
     memory.store(slot, address, COUNT, &[number]);
+}
+
+/// Gives a dictionary a new body of these words, of a capacity, by one store of its fields: in a
+/// cycle one record. The words are those of a body of that capacity, with so many pairs.
+pub(crate) fn write_new<M: Memory>(
+    memory: &mut M,
+    slot: u32,
+    address: u32,
+    count: u32,
+    capacity: u32,
+    words: &[Word],
+)
+    requires granted { 1 ≤ (M.grants memory.old).records slot }
+    requires words_granted { 2 + 3 * capacity ≤ (M.grants memory.old).words }
+    requires capacity { capacity ≤ 21845 }
+    requires sound { IsSound (M.heap memory.old) }
+    requires known { StandsAs (M.heap memory.old) Kind.Dictionary address 4 }
+    requires count { count ≡ length (take count (pairs_of_words words.now)) }
+    requires room { count ≤ capacity }
+    requires held { AreValues (M.heap memory.old)
+        (words_of_pairs (take count (pairs_of_words words.now))) }
+    requires words { words.now ≡ whole_body (birth_at (M.heap memory.old)) capacity
+        (take count (pairs_of_words words.now)) }
+    ensures sound { IsSound (M.heap memory.new) }
+    ensures keeps { Keeps (M.heap memory.old) (M.heap memory.new) }
+    ensures grants { AfterChange (M.grants memory.old) (M.grants memory.new) slot 1
+        (2 + 3 * capacity) }
+    ensures shows { (names : List (List ℕ)) (s : Store) → Shows (M.heap memory.old) names s
+        → AreWithin (M.heap memory.old) names s
+        (words_of_pairs (take count (pairs_of_words words.now)))
+        → Shows (M.heap memory.new) names
+        (with_dictionary s (birth_at (M.heap memory.old) address)
+        (record (dictionary_at s (birth_at (M.heap memory.old) address)) {
+          pairs = map (pair_of (birth_at (M.heap memory.old)) names)
+              (take count (pairs_of_words words.now));
+          capacity = capacity;
+        })) }
+{
+    let access = memory.load(address, ACCESS);
+    let body = memory.alloc_body(address, 3 * capacity);
+    fill_words(memory, body, words);
+    let number = natural_word(count);
+    let room = natural_word(capacity);
+    let reference = Word::literal(Content::Body(body));
+    memory.store(slot, address, COUNT, &[number, room, access, reference]);
 }

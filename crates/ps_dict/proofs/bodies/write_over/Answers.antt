@@ -163,8 +163,9 @@ returns-clause-others g c = λ other ne ne'.
     let now2 : g.M.Memory.heap c.store-2.new.self ≡ after_number h a c.requires.known
     c.requires.sound ps room c.requires.held w is (c.natural_word-number.ensures.held h) =
     c.store-2.ensures.heap ∙ ap (λ (k : Heap). stored k a 0 (w ∷ [])) now1 in
-    ap (λ (k : Heap). object_at k other) now2 ∙ over-others h a c.requires.known c.requires.sound ps room
-    c.requires.held w is (c.natural_word-number.ensures.held h) other ne ne'
+    ap (λ (k : Heap). object_at k other) now2
+    ∙ over-others h a c.requires.known c.requires.sound ps room c.requires.held w is
+    (c.natural_word-number.ensures.held h) other ne ne'
 
 pub returns-clause-shows : goal.returns-clause-shows
 returns-clause-shows g c = λ names s shows within.
