@@ -1,5 +1,5 @@
 -- A dictionary that gets a new body with these pairs. (Draft, never checked: Growing.antt is to become its case of one pair more.)
-use Rattle.std.proofs.Common.{◌≡◌, ℕ, ◌+◌, ◌*◌, ◌-◌, ◌<◌, ◌≤◌, false, List, [], ◌∷◌, ◌++◌, length, map, take, drop, replicate, Some, None, refl, sym, ap, ◌∙◌, arith, subst}
+use Rattle.std.proofs.Common.{◌≡◌, ℕ, ◌*◌, ◌<◌, ◌≤◌, false, List, [], ◌∷◌, ◌++◌, length, map, replicate, Some, None, refl, sym, ap, ◌∙◌, arith, subst}
 use Rattle.std.specs.Prelude.{slice_get}
 use Rattle.std.specs.List.{AllByRecursion}
 use Rattle.std.proofs.lemmas.List.{length-replicate, length-map, drop_all, append-nil}
@@ -11,7 +11,7 @@ use Rattle.ps_word.specs.declared.values.Content.TheVariants.{Body}
 use Rattle.ps_word.specs.declared.values.Value.{Value as WordValue}
 use Rattle.ps_word.specs.Format.{content_in, value_in}
 use Rattle.ps_mem.specs.Heap.{Heap, Standing, object_at, birth_of, birth_at, fields_of, fields_at, stored, made_body, zero_word}
-use Rattle.ps_mem.specs.Index.{pairs_of_words, index_words}
+use Rattle.ps_mem.specs.Index.{index_words}
 use Rattle.ps_mem.specs.Keeps.{Keeps}
 use Rattle.ps_mem.specs.References.{StandsAs, IsKnown, IsKnownContent, AreKnown}
 use Rattle.ps_mem.specs.Shows.{IsNatural, IsValue, AreValues, DictionaryFields, IsSound, IsWithin, IsWithinContent, AreWithin, words_of_pairs, pair_of, Shows}

@@ -1,11 +1,11 @@
 -- A body that is written over as a whole, with the number of pairs.
-use Rattle.std.proofs.Common.{◌≡◌, ◌≢◌, ℕ, ◌+◌, ◌*◌, ◌≤◌, List, [], ◌∷◌, ◌++◌, length, map, Some, refl, sym, ap, ◌∙◌, arith}
+use Rattle.std.proofs.Common.{◌≡◌, ◌≢◌, ℕ, ◌≤◌, List, [], ◌∷◌, ◌++◌, length, map, Some, refl, sym, ap, ◌∙◌, arith}
 use Rattle.std.proofs.lemmas.List.{append-nil}
 use Rattle.ps_language.specs.declared.kinds.Kind.TheVariants.{Dictionary as DictionaryKind, Body as BodyKind}
 use Rattle.ps_language.specs.Value.{Store}
 use Rattle.ps_language.specs.Access.{splice, dictionary_at, with_dictionary}
 use Rattle.ps_word.specs.declared.words.Word.{Word}
-use Rattle.ps_mem.specs.Heap.{Heap, Standing, object_at, birth_at, fields_of, fields_at, stored}
+use Rattle.ps_mem.specs.Heap.{Heap, object_at, birth_at, fields_of, fields_at, stored}
 use Rattle.ps_mem.specs.Keeps.{Keeps}
 use Rattle.ps_mem.specs.References.{StandsAs, IsKnown, AreKnown}
 use Rattle.ps_mem.specs.Shows.{IsNatural, IsValue, AreValues, IsSound, IsWithin, AreWithin, words_of_pairs, pair_of, Shows}
@@ -15,7 +15,7 @@ use Rattle.ps_mem.proofs.HeapLemmas.{object_at-stored_same, object_at-stored_oth
 use Rattle.ps_mem.proofs.KeepsLemmas.{known_values}
 use Rattle.ps_mem.proofs.ShowsLemmas.{known_fields}
 use Rattle.ps_dict.specs.Merges.{whole_body}
-use Rattle.ps_dict.specs.Places.{count_at, capacity_at, body_at}
+use Rattle.ps_dict.specs.Places.{capacity_at, body_at}
 use Rattle.ps_dict.proofs.Changing.{apart-body}
 use Rattle.ps_dict.proofs.Indexing.{drop-all}
 use Rattle.ps_dict.proofs.Naturals.{count_fields, natural-within}

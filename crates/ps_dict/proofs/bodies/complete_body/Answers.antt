@@ -1,10 +1,7 @@
-use Rattle.std.proofs.Common.{rules, ◌≡◌, ℕ, ◌+◌, ◌-◌, ◌*◌, ◌/◌, ◌%◌, ◌++◌, ◌<◌, ◌≤◌, ◌∙◌, [], List, Some, ap, sym, arith, subst, length, take, drop, replicate, get_or}
+use Rattle.std.proofs.Common.{rules, ◌≡◌, ◌+◌, ◌-◌, ◌*◌, ◌/◌, ◌%◌, ◌++◌, ◌<◌, ◌≤◌, ◌∙◌, Some, ap, sym, arith, subst, length, take, replicate, get_or}
 use Rattle.std.specs.Prelude.{slice_get, slice_set}
-use Rattle.std.proofs.lemmas.List.{take_all, length-drop}
-use Rattle.ps_word.specs.declared.words.Word.{Word}
 use Rattle.ps_mem.specs.Heap.{Heap, birth_at, zero_word}
 use Rattle.ps_mem.specs.Index.{pairs_of_words, index_words, hash_of, placed}
-use Rattle.ps_dict.specs.Merges.{whole_body}
 use Rattle.ps_dict.proofs.Fresh.{length-in_twos, pair-in_twos}
 use Rattle.ps_dict.proofs.WholeBodies.{front-get, body-long, body-slice, body-set, body-none, body-whole}
 use Rattle.ps_dict.proofs.Gathering.{positions, positions-words, positions-count, positions-long, positions-small, positions-free, positions-next}

@@ -1,5 +1,4 @@
-use Rattle.std.proofs.Common.{◌≡◌, ◌<◌, ◌≤◌, ◌*◌, ◌∙◌, [], ◌∷◌, Some, None, ap, sym, arith, subst, length, take, map, replicate}
-use Rattle.std.specs.Prelude.{slice_get}
+use Rattle.std.proofs.Common.{◌≡◌, ◌≤◌, ◌*◌, ◌∙◌, [], ◌∷◌, None, ap, sym, arith, subst, length, take, map}
 use Rattle.ps_language.specs.Access.{dictionary_at, with_dictionary}
 use Rattle.ps_mem.specs.Heap.{Heap, object_at, birth_at, fields_at, stored, made_body}
 use Rattle.ps_mem.specs.Index.{pairs_of_words}
@@ -108,7 +107,8 @@ store-requires-clause-known g c =
     subst (IsNatural w) c.requires.count c.natural_word-number.ensures.value in
     subst (λ (m : Heap). NamesStanding m a (w ∷ x ∷ y ∷ z ∷ [])) (sym now)
     (record {
-      known = λ o at text. four_known h a c.requires.known c.requires.sound b free k c.requires.capacity ps
+      known = λ o at text. four_known h a c.requires.known c.requires.sound b free k
+          c.requires.capacity ps
           room c.requires.held w x y z count c.natural_word-room.ensures.value
           c.load-access.ensures.answer c.literal-reference.ensures.value
           (c.natural_word-number.ensures.held h) (c.natural_word-room.ensures.held h);
@@ -141,7 +141,8 @@ store-requires-clause-place g c =
     let count : IsNatural w (length ps) =
     subst (IsNatural w) c.requires.count c.natural_word-number.ensures.value in
     let long = four h a c.requires.known c.requires.sound in
-    let same = ap length (grown-fields h a c.requires.known c.requires.sound b free k c.requires.capacity ps
+    let same = ap length (grown-fields h a c.requires.known c.requires.sound b free k
+    c.requires.capacity ps
     room c.requires.held) in
     subst (λ (m : Heap). 4 ≤ length (fields_at m a)) (sym now) (omega (arith, long, same))
 
@@ -171,12 +172,14 @@ returns-clause-sound g c =
     let z = c.literal-reference.result in
     let count : IsNatural w (length ps) =
     subst (IsNatural w) c.requires.count c.natural_word-number.ensures.value in
-    let last : g.M.Memory.heap c.store.new.self ≡ end h a c.requires.known c.requires.sound b free k c.requires.capacity ps
+    let last : g.M.Memory.heap c.store.new.self ≡ end h a c.requires.known c.requires.sound b
+    free k c.requires.capacity ps
     room c.requires.held w x y z count c.natural_word-room.ensures.value
     c.load-access.ensures.answer c.literal-reference.ensures.value
     (c.natural_word-number.ensures.held h) (c.natural_word-room.ensures.held h) =
     c.store.ensures.heap ∙ ap (λ (m : Heap). stored m a 0 (w ∷ x ∷ y ∷ z ∷ [])) now in
-    subst IsSound (sym last) (end-sound h a c.requires.known c.requires.sound b free k c.requires.capacity ps
+    subst IsSound (sym last) (end-sound h a c.requires.known c.requires.sound b free k
+    c.requires.capacity ps
     room c.requires.held w x y z count c.natural_word-room.ensures.value
     c.load-access.ensures.answer c.literal-reference.ensures.value
     (c.natural_word-number.ensures.held h) (c.natural_word-room.ensures.held h))
@@ -207,12 +210,14 @@ returns-clause-keeps g c =
     let z = c.literal-reference.result in
     let count : IsNatural w (length ps) =
     subst (IsNatural w) c.requires.count c.natural_word-number.ensures.value in
-    let last : g.M.Memory.heap c.store.new.self ≡ end h a c.requires.known c.requires.sound b free k c.requires.capacity ps
+    let last : g.M.Memory.heap c.store.new.self ≡ end h a c.requires.known c.requires.sound b
+    free k c.requires.capacity ps
     room c.requires.held w x y z count c.natural_word-room.ensures.value
     c.load-access.ensures.answer c.literal-reference.ensures.value
     (c.natural_word-number.ensures.held h) (c.natural_word-room.ensures.held h) =
     c.store.ensures.heap ∙ ap (λ (m : Heap). stored m a 0 (w ∷ x ∷ y ∷ z ∷ [])) now in
-    subst (Keeps h) (sym last) (end-keeps h a c.requires.known c.requires.sound b free k c.requires.capacity ps
+    subst (Keeps h) (sym last) (end-keeps h a c.requires.known c.requires.sound b free k
+    c.requires.capacity ps
     room c.requires.held w x y z count c.natural_word-room.ensures.value
     c.load-access.ensures.answer c.literal-reference.ensures.value
     (c.natural_word-number.ensures.held h) (c.natural_word-room.ensures.held h))
@@ -243,7 +248,8 @@ returns-clause-shows g c = λ names s shows within.
     let z = c.literal-reference.result in
     let count : IsNatural w (length ps) =
     subst (IsNatural w) c.requires.count c.natural_word-number.ensures.value in
-    let last : g.M.Memory.heap c.store.new.self ≡ end h a c.requires.known c.requires.sound b free k c.requires.capacity ps
+    let last : g.M.Memory.heap c.store.new.self ≡ end h a c.requires.known c.requires.sound b
+    free k c.requires.capacity ps
     room c.requires.held w x y z count c.natural_word-room.ensures.value
     c.load-access.ensures.answer c.literal-reference.ensures.value
     (c.natural_word-number.ensures.held h) (c.natural_word-room.ensures.held h) =
@@ -255,4 +261,5 @@ returns-clause-shows g c = λ names s shows within.
     (end-shows h a c.requires.known c.requires.sound b free k c.requires.capacity ps
     room c.requires.held w x y z count c.natural_word-room.ensures.value
     c.load-access.ensures.answer c.literal-reference.ensures.value
-    (c.natural_word-number.ensures.held h) (c.natural_word-room.ensures.held h) names s shows within)
+    (c.natural_word-number.ensures.held h) (c.natural_word-room.ensures.held h) names s shows
+    within)

@@ -1,13 +1,12 @@
-use Rattle.std.proofs.Common.{◌≡◌, ◌≤◌, ◌+◌, ◌∙◌, [], ◌∷◌, List, ap, sym, arith, subst, length, map, take}
+use Rattle.std.proofs.Common.{◌≡◌, ◌≤◌, ◌∙◌, [], ◌∷◌, ap, sym, arith, subst, length, map, take}
 use Rattle.ps_language.specs.Access.{dictionary_at, with_dictionary}
-use Rattle.ps_word.specs.declared.words.Word.{Word}
 use Rattle.ps_mem.specs.Heap.{Heap, birth_at, object_at, fields_at, stored}
 use Rattle.ps_mem.specs.Index.{pairs_of_words}
 use Rattle.ps_mem.specs.Keeps.{Keeps}
 use Rattle.ps_mem.specs.References.{NamesStanding}
 use Rattle.ps_mem.specs.Shows.{IsNatural, IsSound, Shows, pair_of}
 use Rattle.ps_dict.specs.Places.{capacity_at, body_at}
-use Rattle.ps_dict.proofs.Overwriting.{words, after_body, after_number, words-fit, words-known, number-place, over-others, over-births, over-keeps, over-sound, over-shows}
+use Rattle.ps_dict.proofs.Overwriting.{after_body, after_number, words-fit, words-known, number-place, over-others, over-births, over-keeps, over-sound, over-shows}
 use Rattle.ps_dict.proofs.Probing.{few-places}
 use Rattle.ps_dict.proofs.WholeBodies.{whole-long}
 use Rattle.ps_dict.proofs.bodies.write_over.Goals as goal
