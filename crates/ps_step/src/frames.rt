@@ -9,12 +9,12 @@ use ps_word::values::Part;
 /// What is being executed.
 #[derive(Clone, Copy, Debug, PartialEq, Eq)]
 pub enum Frame {
-    /// The program, from a place on.
-    Text { at: usize },
     /// The elements of a procedure that are left, at least one.
     Procedure { rest: Part },
     /// An array, the index of its next element, and the procedure that is done for each.
     Forall { over: Part, at: u16, body: Part },
+    /// The program, from a place on.
+    Text { at: usize },
 }
 
 /// The frames, the topmost first.

@@ -157,15 +157,21 @@ impl Interpreter {
     {
         match self.stage {
             Stage::Running => match self.frames.top() {
-                Some(Frame::Text { at }) => self.scan(memory, slot, refused, at),
                 Some(Frame::Procedure { rest }) => self.take_element(memory, slot, refused, rest),
                 Some(Frame::Forall { over, at, body }) => {
                     self.turn(memory, over, at, body);
                     Ok(())
                 }
+                Some(Frame::Text { at }) => match self.scan(memory, slot, refused, at) {
+                    Ok(()) => Ok(()),
+                    Err(reason) => Err(reason),
+                },
                 None => Ok(()),
             },
-            Stage::Unwinding { error, command } => self.unwind(error, command),
+            Stage::Unwinding { error, command } => match self.unwind(error, command) {
+                Ok(()) => Ok(()),
+                Err(reason) => Err(reason),
+            },
             Stage::Finished => Ok(()),
         }
     }
@@ -517,10 +523,10 @@ impl Interpreter {
             (M.grants memory.new) (M.heap memory.old) (M.heap memory.new) self.old self.new }
     {
         let word = element(memory, rest, 0);
-        if rest.length == 1 {
-            self.take_last(memory, slot, refused, rest, word)
-        } else {
+        if rest.length > 1 {
             self.take_first(memory, slot, refused, rest, word)
+        } else {
+            self.take_last(memory, slot, refused, rest, word)
         }
     }
 

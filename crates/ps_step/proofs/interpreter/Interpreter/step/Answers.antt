@@ -13,14 +13,25 @@ returns-in-None g c = goes_bare c.args.refused c.args.slot (g.M.Memory.grants c.
     (g.M.Memory.heap c.args.memory.now) c.args.self.now c.requires.good
     ((sym c.in-None.is ∙ c.top.ensures) ∙ ap (λ (m : Machine). first_of m.frames) c.self.view_is)
 
-pub returns-in-Unwinding : goal.returns-in-Unwinding
-returns-in-Unwinding g c =
-    goes_unwound c.args.refused c.unwind.result c.args.slot (g.M.Memory.grants c.args.memory.now)
-    (g.M.Memory.heap c.args.memory.now) c.args.self.now c.unwind.new.self c.in-Unwinding.error
-    c.in-Unwinding.command
+pub returns-in-Ok-unwind : goal.returns-in-Ok-unwind
+returns-in-Ok-unwind g c =
+    let went = goes_unwound c.args.refused c.unwind.result c.args.slot
+    (g.M.Memory.grants c.args.memory.now) (g.M.Memory.heap c.args.memory.now) c.args.self.now
+    c.unwind.new.self c.in-Unwinding.error c.in-Unwinding.command
     (sym (ap (λ (m : Machine). m.stage) c.self.view_is) ∙ c.in-Unwinding.is) c.requires.good
     c.unwind.ensures.made c.unwind.ensures.reason c.unwind.ensures.last c.unwind.ensures.full
-    c.unwind.ensures.unmade
+    c.unwind.ensures.unmade in
+    rw (← c.in-Ok-unwind.is) went
+
+pub returns-in-Err-unwind : goal.returns-in-Err-unwind
+returns-in-Err-unwind g c =
+    let went = goes_unwound c.args.refused c.unwind.result c.args.slot
+    (g.M.Memory.grants c.args.memory.now) (g.M.Memory.heap c.args.memory.now) c.args.self.now
+    c.unwind.new.self c.in-Unwinding.error c.in-Unwinding.command
+    (sym (ap (λ (m : Machine). m.stage) c.self.view_is) ∙ c.in-Unwinding.is) c.requires.good
+    c.unwind.ensures.made c.unwind.ensures.reason c.unwind.ensures.last c.unwind.ensures.full
+    c.unwind.ensures.unmade in
+    rw (← c.in-Err-unwind.is) went
 
 pub returns-in-Finished : goal.returns-in-Finished
 returns-in-Finished g c = goes_finished c.args.refused c.args.slot (g.M.Memory.grants
