@@ -23,7 +23,7 @@ pub struct Turn {
 /// held up, and tells how many: memory and context keep each schedule
 /// that they kept, with as many steps more. Fewer are made only where no step is left, or the next
 /// is held up for the reason that is told.
-#[inline]
+#[inline(never)]
 pub fn make_steps<M: Memory>(
     interpreter: &mut Interpreter,
     memory: &mut M,
