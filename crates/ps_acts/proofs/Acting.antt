@@ -1,20 +1,23 @@
 -- An operator acts: by an error, by a reason, or by what it leaves.
-use Rattle.std.proofs.Common.{◌≡◌, ℕ, ◌≤◌, List, ◌++◌, arith, false, Ok, Err, refl}
+use Rattle.std.proofs.Common.{◌≡◌, ℕ, ◌≤◌, List, ◌++◌, arith, false, Result, Ok, Err, refl, sym, subst}
 use Rattle.ps_language.specs.declared.errors.ErrorName.{ErrorName}
 use Rattle.ps_language.specs.Value.{Store}
 use Rattle.ps_language.specs.Effect.{Scene, makes, raises}
 use Rattle.ps_language.specs.Objects.{lacks_room}
 use Rattle.ps_language.specs.Rows.{Row}
+use Rattle.ps_mem.specs.Heap.{Grants}
 use Rattle.ps_mem.specs.Keeps.{Keeps}
 use Rattle.ps_ops.specs.declared.failure.NotMade.{NotMade as Reason}
-use Rattle.ps_ops.specs.Does.{KeepsLogsWithin, most_records}
+use Rattle.ps_ops.specs.Does.{KeepsLogsWithin, most_records, spent}
+use Rattle.ps_acts.specs.declared.breaks.Break.{Break}
 use Rattle.ps_acts.specs.declared.breaks.Break.TheVariants.{Raises, NotMade}
 use Rattle.ps_acts.specs.declared.lent.Trial.{Trial}
-use Rattle.ps_acts.specs.Lent.{Lent, scene_of, IsShown, IsGood}
-use Rattle.ps_acts.specs.Acts.{needs_between, IsReason, Lasts, Stays, effect_in, Acts}
-use Rattle.ps_acts.proofs.Meeting.{keeps-same, logs-same, stays_as, made_meets, wanting_meets, raised_meets, meets_by}
+use Rattle.ps_acts.specs.declared.lent.Scratch.{Scratch}
+use Rattle.ps_acts.specs.Lent.{Lent, rooms_of, IsEmpty, scene_of, IsShown, IsGood}
+use Rattle.ps_acts.specs.Acts.{Asked, IsAtLeast, needs_between, IsReason, Lasts, Stays, OnNotMade, Meets, effect_in, Acts}
+use Rattle.ps_acts.proofs.Meeting.{keeps-same, logs-same, stays_as, at_least-same, made_meets, wanting_meets, raised_meets, meets_by}
 
-module _ (row : Row) (trial : Trial) (records : Scene → ℕ) (l : Lent) where
+module _ (row : Row) (trial : Trial) (asks : Scene → Asked) (l : Lent) where
   -- the row makes what is left, for which there is room
   pub record Made (new : Lent) (store : Store) : Type 0 where
     pub after : Store
@@ -24,7 +27,7 @@ module _ (row : Row) (trial : Trial) (records : Scene → ℕ) (l : Lent) where
     pub shown : IsShown new after
     pub lasts : Lasts store after
     pub printed : new.printed ≡ l.printed ++ output
-    pub logs : KeepsLogsWithin (records (scene_of l store)) l.grants new.grants trial.slot
+    pub logs : KeepsLogsWithin (asks (scene_of l store)).records l.grants new.grants trial.slot
 
   -- the row would make something, and there is a reason why not
   pub record Wants (reason : Reason) (new : Lent) (store : Store) : Type 0 where
@@ -32,59 +35,71 @@ module _ (row : Row) (trial : Trial) (records : Scene → ℕ) (l : Lent) where
     pub output : List ℕ
     pub is : effect_in row l store ≡ makes scene output
     pub enough : lacks_room trial.refused store scene.store ≡ false
-    pub why : IsReason (needs_between (records (scene_of l store)) (scene_of l store) scene output)
+    pub why : IsReason (needs_between (asks (scene_of l store)) (scene_of l store) scene output)
         trial.slot l new reason
 
   module _ (good : IsGood l) where
+    -- ---- nothing has changed but what was granted, and the room of the output and of the lists
+    module _ (grants : Grants) (room : ℕ) (scratch : Scratch) where
+      abbrev but : Lent
+      but = record l { grants = grants; room = room; scratch = scratch }
+
+      module _ (more : l.room ≤ room) (least : IsAtLeast (rooms_of l.scratch) (rooms_of scratch))
+          (empty : IsEmpty scratch) (logs : KeepsLogsWithin 0 l.grants grants trial.slot) where
+        same_acts : (result : Result Unit Break) → OnNotMade result (l.frames ≡ l.frames)
+            → spent result most_records ≡ 0
+            → ((store : Store) → IsShown l store
+            → Meets asks (effect_in row l store) trial result (scene_of l store) l but)
+            → Acts asks row trial result l but
+        same_acts result framed none meets = record {
+          meets = meets;
+          good = record {
+            sound = good.sound;
+            operands = good.operands;
+            dictionaries = good.dictionaries;
+            frames = good.frames;
+            error_stands = good.error_stands;
+            names = good.names;
+            first = good.first;
+            empty = empty;
+          };
+          keeps = keeps-same l.heap;
+          stays = stays_as l _ refl refl refl (omega (arith, more)) least;
+          logs = subst (λ (n : ℕ). KeepsLogsWithin n l.grants grants trial.slot) (sym none) logs;
+          framed = framed;
+        }
+
+        pub raising_acts : (error : ErrorName)
+            → ((store : Store) → IsShown l store → effect_in row l store ≡ raises error)
+            → Acts asks row trial (Err (Raises error)) l but
+        raising_acts error is = same_acts (Err (Raises error)) tt refl λ store shown.
+            meets_by asks trial (scene_of l store) l but (Err (Raises error)) _ _ (is store shown)
+            (raised_meets asks trial (scene_of l store) l but error refl logs)
+
+        pub wanting_acts : (reason : Reason)
+            → ((store : Store) → IsShown l store → Wants reason but store)
+            → Acts asks row trial (Err (NotMade reason)) l but
+        wanting_acts reason wants = same_acts (Err (NotMade reason)) refl refl λ store shown.
+            let w = wants store shown in
+            meets_by asks trial (scene_of l store) l but (Err (NotMade reason)) _ _ w.is
+            (wanting_meets asks trial (scene_of l store) l but w.scene w.output w.enough reason
+            w.why refl logs)
+
     pub raised_acts : (error : ErrorName)
         → ((store : Store) → IsShown l store → effect_in row l store ≡ raises error)
-        → Acts records row trial (Err (Raises error)) l l
-    raised_acts error is = record {
-      meets = λ store shown.
-          meets_by records trial (scene_of l store) l l (Err (Raises error)) _ _ (is store shown)
-          (raised_meets records trial (scene_of l store) l l error refl
-          (logs-same 0 l.grants trial.slot));
-      good = good;
-      keeps = keeps-same l.heap;
-      stays = stays_as l l refl refl refl (omega arith);
-      logs = logs-same _ l.grants trial.slot;
-      framed = tt;
-    }
-
-    -- the room of the output may have grown
-    pub wanting_acts : (reason : Reason) (room : ℕ) → l.room ≤ room
-        → ((store : Store) → IsShown l store → Wants reason (record l { room = room }) store)
-        → Acts records row trial (Err (NotMade reason)) l (record l { room = room })
-    wanting_acts reason room more wants = record {
-      meets = λ store shown.
-          let w = wants store shown in
-          meets_by records trial (scene_of l store) l _ (Err (NotMade reason)) _ _ w.is
-          (wanting_meets records trial (scene_of l store) l _ w.scene w.output w.enough reason w.why
-          refl (logs-same 0 l.grants trial.slot));
-      good = record {
-        sound = good.sound;
-        operands = good.operands;
-        dictionaries = good.dictionaries;
-        frames = good.frames;
-        error_stands = good.error_stands;
-        names = good.names;
-        first = good.first;
-      };
-      keeps = keeps-same l.heap;
-      stays = stays_as l _ refl refl refl (omega (arith, more));
-      logs = logs-same _ l.grants trial.slot;
-      framed = refl;
-    }
+        → Acts asks row trial (Err (Raises error)) l l
+    raised_acts = raising_acts l.grants l.room l.scratch (omega arith) (at_least-same _) good.empty
+        (logs-same 0 l.grants trial.slot)
 
     pub left_acts : (new : Lent) → IsGood new → Keeps l.heap new.heap → Stays l new
         → KeepsLogsWithin most_records l.grants new.grants trial.slot
         → ((store : Store) → IsShown l store → Made new store)
-        → Acts records row trial (Ok tt) l new
+        → Acts asks row trial (Ok tt) l new
     left_acts new well keeps stays logs made = record {
       meets = λ store shown.
           let m = made store shown in
-          meets_by records trial (scene_of l store) l new (Ok tt) _ _ m.is
-          (made_meets records trial (scene_of l store) l new (scene_of new m.after) m.output
+          meets_by asks trial (scene_of l store) l new (Ok tt) _ _ m.is
+          (made_meets asks trial (scene_of l store) l new (scene_of new m.after) m.output
           m.enough
           (record { is = refl; shown = m.shown; lasts = m.lasts }) m.printed m.logs);
       good = well;

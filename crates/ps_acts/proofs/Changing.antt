@@ -37,8 +37,8 @@ use Rattle.ps_control.specs.declared.frames.Frame.{Frame}
 use Rattle.ps_acts.specs.declared.lent.Trial.{Trial}
 use Rattle.ps_acts.specs.Breaks.{tried}
 use Rattle.ps_acts.specs.Lent.{Lent, scene_of, IsShown, IsGood}
-use Rattle.ps_acts.specs.Acts.{Needs, needs_as, no_records, stored_records, IsReason, Lasts, IsLeft, ActsAs, OnNotMade, Meets, Acts, over}
-use Rattle.ps_acts.proofs.Meeting.{lasts-same, logs_more, stays_as, lacks_nothing, made_meets, wanting_meets}
+use Rattle.ps_acts.specs.Acts.{Asked, Needs, needs_as, nothing_asked, stores, IsReason, Lasts, IsLeft, ActsAs, OnNotMade, Meets, Acts, over}
+use Rattle.ps_acts.proofs.Meeting.{lasts-same, logs_more, stays_as, at_least-same, lacks_nothing, made_meets, wanting_meets}
 use Rattle.ps_acts.proofs.Lifts.{changed_good, changed_left}
 
 -- ---- no string is shorter after what a row leaves
@@ -180,19 +180,19 @@ module _ (l : Lent) (good : IsGood l) (trial : Trial) (new : Heap) (left : Grant
   one_record n = grind (arith, nat_tests)
 
   module _ (count : List Value → ℕ) where
-    abbrev records : Scene → ℕ
-    records = stored_records count
+    abbrev asks : Scene → Asked
+    asks = stores count
 
     changed_as : (result : Result Unit Failure) (outcome : Outcome Change) (store : Store)
         → IsShown l store → Leaving (IsUnasked store) outcome → RowLasts store outcome
-        → Logs (spent (tried result) (records (scene_of l store)))
+        → Logs (spent (tried result) (asks (scene_of l store)).records)
         → Agrees (λ reason change. IsRecordReason reason
         (count (values_in l.heap l.names l.operands))
         trial.slot l.grants left) result outcome l.names l.heap new l.operands after
-        → Meets records (change_effect (scene_of l store) outcome) trial (tried result)
+        → Meets asks (change_effect (scene_of l store) outcome) trial (tried result)
         (scene_of l store) l (over l new left after)
     changed_as (Ok _) (leaves change) store shown none lasts logs did =
-        made_meets records trial (scene_of l store) l (over l new left after) _ []
+        made_meets asks trial (scene_of l store) l (over l new left after) _ []
         (lacks_nothing trial.refused store change.store none.such)
         (changed_left l good new left after keeps store change.store lasts.lasts shown did.store
         did.within change.operands did.operands) (sym (append-nil l.printed)) logs
@@ -201,7 +201,7 @@ module _ (l : Lent) (good : IsGood l) (trial : Trial) (new : Heap) (left : Grant
     changed_as (Err (Error error)) (fails raised) store shown none lasts logs did =
         record { did = (did.0, λ i. over l (did.1 i) left (did.2 i)); logs = logs }
     changed_as (Err (NotMade reason)) (leaves change) store shown none lasts logs did =
-        wanting_meets records trial (scene_of l store) l (over l new left after) _ []
+        wanting_meets asks trial (scene_of l store) l (over l new left after) _ []
         (lacks_nothing trial.refused store change.store none.such) reason
         (record_reason reason (count (values_in l.heap l.names l.operands)) _ refl did.0)
         (λ i. over l (did.1 i) left (did.2 i)) logs
@@ -214,7 +214,7 @@ module _ (l : Lent) (good : IsGood l) (trial : Trial) (new : Heap) (left : Grant
         → Changes row count result trial.slot l.grants left l.heap new l.operands after
         → IsReady new after
         → ((values : List Value) → Logs (spent result (min 1 (count values))))
-        → Acts records (changing_row row) trial (tried result) l (over l new left after)
+        → Acts asks (changing_row row) trial (tried result) l (over l new left after)
     changes_acts row result none lasts did ready logs = record {
       meets = λ store shown.
           let values = values_in l.heap l.names l.operands in
@@ -223,7 +223,7 @@ module _ (l : Lent) (good : IsGood l) (trial : Trial) (new : Heap) (left : Grant
           (did.meets l.names store shown.shows shown.operands);
       good = changed_good l good new left after keeps ready;
       keeps = keeps;
-      stays = stays_as l _ refl refl refl (omega arith);
+      stays = stays_as l _ refl refl refl (omega arith) (at_least-same _);
       logs = tried_logs result _ _ l.grants left trial.slot (one_record (count [])) (logs []);
       framed = tried_framed l.frames result;
     }
@@ -237,7 +237,7 @@ module _ (l : Lent) (good : IsGood l) (trial : Trial) (new : Heap) (left : Grant
   room_reason LogClosed needs some why = absurd why
   room_reason (NeedSpace words) needs some why =
       let same = why.0 in (same, omega (arith, same, some), why.1)
-  room_reason Memory needs some why = inr (inr (some, why))
+  room_reason Memory needs some why = inr (inr (inl (some, why)))
 
   -- nothing but what was granted
   same_left : new ≡ l.heap → after ≡ l.operands → (store : Store) → IsShown l store
@@ -270,7 +270,7 @@ module _ (l : Lent) (good : IsGood l) (trial : Trial) (new : Heap) (left : Grant
         → Agrees (λ reason c. IsRoomReason reason l.heap (made_between store c.store)
         (length c.store - length store)) result
         (if lacking then fails VmError else leaves change) l.names l.heap new l.operands after
-        → ActsAs (needs_as 0 (scene_of l store) (makes made_scene []) lacking) trial.slot
+        → ActsAs (needs_as (nothing_asked (scene_of l store)) (scene_of l store) (makes made_scene []) lacking) trial.slot
         (scene_of l store) (tried result) (makes made_scene []) lacking l (over l new left after)
     made_as true (Ok _) did = absurd did
     made_as true (Err (Error error)) did = (
@@ -296,7 +296,7 @@ module _ (l : Lent) (good : IsGood l) (trial : Trial) (new : Heap) (left : Grant
       → Agrees (λ reason c. IsRoomReason reason l.heap (made_between store c.store)
       (length c.store - length store)) result (refusing trial.refused store outcome) l.names l.heap
       new l.operands after
-      → Meets no_records (change_effect (scene_of l store) outcome) trial (tried result)
+      → Meets nothing_asked (change_effect (scene_of l store) outcome) trial (tried result)
       (scene_of l store) l (over l new left after)
   makes_as result (leaves change) store shown made logs did = record {
     did = made_as change store shown made.such (lacks_room trial.refused store change.store) result
@@ -311,7 +311,7 @@ module _ (l : Lent) (good : IsGood l) (trial : Trial) (new : Heap) (left : Grant
   pub makes_acts : (row : Store → List Value → Outcome Change) (result : Result Unit Failure)
       → ((store : Store) (operands : List Value) → Leaving (IsMade store) (row store operands))
       → Makes row trial.refused result l.heap new l.operands after → IsReady new after → Logs 0
-      → Acts no_records (changing_row row) trial (tried result) l (over l new left after)
+      → Acts nothing_asked (changing_row row) trial (tried result) l (over l new left after)
   makes_acts row result made did ready logs = record {
     meets = λ store shown.
         let values = values_in l.heap l.names l.operands in
@@ -320,7 +320,7 @@ module _ (l : Lent) (good : IsGood l) (trial : Trial) (new : Heap) (left : Grant
         (did.meets l.names store shown.shows shown.operands);
     good = changed_good l good new left after keeps ready;
     keeps = keeps;
-    stays = stays_as l _ refl refl refl (omega arith);
+    stays = stays_as l _ refl refl refl (omega arith) (at_least-same _);
     logs = logs_more 0 _ l.grants left trial.slot (omega arith) logs;
     framed = tried_framed l.frames result;
   }

@@ -1,11 +1,6 @@
 pub mod Kept
 pub mod Meeting
 pub mod Lifts
-pub mod Named
 pub mod Changing
 pub mod Acting
-pub mod Printing
-pub mod Stacking
-pub mod Turning
 pub mod Naming
-pub mod Noting

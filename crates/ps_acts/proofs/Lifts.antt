@@ -27,9 +27,9 @@ use Rattle.ps_acts.specs.declared.breaks.Break.TheVariants.{Unwinds}
 use Rattle.ps_acts.specs.declared.lent.Trial.{Trial}
 use Rattle.ps_acts.specs.Breaks.{made}
 use Rattle.ps_acts.specs.Lent.{Lent, scene_of, IsShown, IsGood}
-use Rattle.ps_acts.specs.Acts.{no_records, Lasts, IsLeft, OnNotMade, Meets, Acts, over}
+use Rattle.ps_acts.specs.Acts.{nothing_asked, Lasts, IsLeft, OnNotMade, Meets, Acts, over}
 use Rattle.ps_acts.proofs.Kept.{frames-good, frames-same, frames-within}
-use Rattle.ps_acts.proofs.Meeting.{keeps-same, lasts-same, logs-same, stays_as, lacks_for_same, made_meets, unwound_meets, meets_by}
+use Rattle.ps_acts.proofs.Meeting.{keeps-same, lasts-same, logs-same, stays_as, at_least-same, lacks_for_same, made_meets, unwound_meets, meets_by}
 
 -- what is always made
 made_framed : (P : Type 0) (result : Result Unit ErrorName) → OnNotMade (made result) P
@@ -53,6 +53,7 @@ module _ (l : Lent) (good : IsGood l) (new : Heap) (left : Grants) (after : List
     error_stands = stands-kept l.heap new keeps _ l.error_dictionary _ good.error_stands;
     names = good.names;
     first = good.first;
+    empty = good.empty;
   }
 
   pub changed_left : (s t : Store) → Lasts s t → IsShown l s → Shows new l.names t
@@ -118,10 +119,10 @@ under_first row result h before after did =
 module _ (l : Lent) (good : IsGood l) (trial : Trial) (after : List Word) where
   observed_as : (result : Result Unit ErrorName) (outcome : Outcome (List Value)) (store : Store)
       → IsShown l store → ObservesAs result outcome l.names store l.heap l.operands after
-      → Meets no_records (operands_effect (scene_of l store) outcome) trial (made result)
+      → Meets nothing_asked (operands_effect (scene_of l store) outcome) trial (made result)
       (scene_of l store) l (over l l.heap l.grants after)
   observed_as (Ok _) (leaves operands) store shown did =
-      made_meets no_records trial (scene_of l store) l (over l l.heap l.grants after)
+      made_meets nothing_asked trial (scene_of l store) l (over l l.heap l.grants after)
       (record (scene_of l store) { operands = operands }) [] (lacks_for_same trial.refused store)
       (changed_left l good l.heap l.grants after (keeps-same l.heap) store store (lasts-same store)
       shown shown.shows did.1 operands did.0) (sym (append-nil l.printed))
@@ -136,14 +137,14 @@ module _ (l : Lent) (good : IsGood l) (trial : Trial) (after : List Word) where
 
   observed_here : (row : Store → List Value → Outcome (List Value)) (result : Result Unit ErrorName)
       → ObservesMet row result l.heap l.operands after → IsReady l.heap after
-      → Acts no_records (reading_row row) trial (made result) l (over l l.heap l.grants after)
+      → Acts nothing_asked (reading_row row) trial (made result) l (over l l.heap l.grants after)
   observed_here row result did ready = record {
     meets = λ store shown.
         observed_as result (row store (values_in l.heap l.names l.operands)) store shown
         (did.meets l.names store good.first shown.shows shown.operands);
     good = changed_good l good l.heap l.grants after (keeps-same l.heap) ready;
     keeps = keeps-same l.heap;
-    stays = stays_as l _ refl refl refl (omega arith);
+    stays = stays_as l _ refl refl refl (omega arith) (at_least-same _);
     logs = logs-same _ l.grants trial.slot;
     framed = made_framed _ result;
   }
@@ -153,11 +154,11 @@ pub observes_acts : (l : Lent) → IsGood l → (trial : Trial)
     (row : Store → List Value → Outcome (List Value)) (result : Result Unit ErrorName) (new : Heap)
     (left : Grants) (after : List Word) → new ≡ l.heap → left ≡ l.grants
     → Observes row result l.heap l.operands after → IsReady l.heap after
-    → Acts no_records (reading_row row) trial (made result) l (over l new left after)
+    → Acts nothing_asked (reading_row row) trial (made result) l (over l new left after)
 observes_acts l good trial row result new left after same kept did ready =
-    subst (λ h. Acts no_records (reading_row row) trial (made result) l (over l h left after))
+    subst (λ h. Acts nothing_asked (reading_row row) trial (made result) l (over l h left after))
     (sym same)
-    (subst (λ g. Acts no_records (reading_row row) trial (made result) l (over l l.heap g after))
+    (subst (λ g. Acts nothing_asked (reading_row row) trial (made result) l (over l l.heap g after))
     (sym kept)
     (observed_here l good trial after row result
     (under_first row result l.heap l.operands after did) ready))
@@ -166,7 +167,7 @@ observes_acts l good trial row result new left after same kept did ready =
 pub operands_acts : (l : Lent) → IsGood l → (trial : Trial)
     (row : List Value → Outcome (List Value)) (result : Result Unit ErrorName) (after : List Word)
     → ObservesMet (λ store. row) result l.heap l.operands after → IsReady l.heap after
-    → Acts no_records (operand_row row) trial (made result) l (over l l.heap l.grants after)
+    → Acts nothing_asked (operand_row row) trial (made result) l (over l l.heap l.grants after)
 operands_acts l good trial row result after did ready =
     let acts = observed_here l good trial after (λ store. row) result did ready in
     record {
@@ -182,7 +183,7 @@ operands_acts l good trial row result after did ready =
 pub does_acts : (l : Lent) → IsGood l → (trial : Trial) (row : List Value → Outcome (List Value))
     (result : Result Unit ErrorName) (after : List Word) → Does row result l.operands after
     → AreFrom l.operands after
-    → Acts no_records (operand_row row) trial (made result) l (over l l.heap l.grants after)
+    → Acts nothing_asked (operand_row row) trial (made result) l (over l l.heap l.grants after)
 does_acts l good trial row result after did from =
     operands_acts l good trial row result after
     (under_first (λ store. row) result l.heap l.operands after
@@ -200,12 +201,12 @@ module _ (l : Lent) (good : IsGood l) (operands : List Word) (frames : List Fram
       → IsShown l store
       → ControlsAs result outcome l.heap l.names store (values_in l.heap l.names l.dictionaries)
       (controls.stacks l.operands l.frames) (controls.stacks operands frames)
-      → Meets no_records (effect_by quiet outcome) trial (made result) (scene_of l store) l
+      → Meets nothing_asked (effect_by quiet outcome) trial (made result) (scene_of l store) l
       with_stacks
   controlled_as (Ok _) (leaves scene) store shown did =
-      subst (λ (s : Scene). Meets no_records (quiet s) trial (Ok tt) (scene_of l store) l
+      subst (λ (s : Scene). Meets nothing_asked (quiet s) trial (Ok tt) (scene_of l store) l
       with_stacks) did.0
-      (made_meets no_records trial (scene_of l store) l with_stacks (scene_of with_stacks store) []
+      (made_meets nothing_asked trial (scene_of l store) l with_stacks (scene_of with_stacks store) []
       (lacks_for_same trial.refused store)
       (record {
         is = refl;
@@ -232,7 +233,7 @@ module _ (l : Lent) (good : IsGood l) (operands : List Word) (frames : List Fram
   pub controls_acts : (row : List Value → Scene → Outcome Scene) (result : Result Unit ErrorName)
       → Controls row result l.heap (length l.program) (controls.stacks l.operands l.frames)
       (controls.stacks operands frames)
-      → Acts no_records (scene_row (scene_effect row)) trial (made result) l with_stacks
+      → Acts nothing_asked (scene_row (scene_effect row)) trial (made result) l with_stacks
   controls_acts row result did = record {
     meets = λ store shown.
         controlled_as result (row (scene_of l store).operands (scene_of l store)) store shown
@@ -246,9 +247,10 @@ module _ (l : Lent) (good : IsGood l) (operands : List Word) (frames : List Fram
       error_stands = good.error_stands;
       names = good.names;
       first = good.first;
+      empty = good.empty;
     };
     keeps = keeps-same l.heap;
-    stays = stays_as l _ refl refl refl (omega arith);
+    stays = stays_as l _ refl refl refl (omega arith) (at_least-same _);
     logs = logs-same _ l.grants trial.slot;
     framed = made_framed _ result;
   }
@@ -257,16 +259,16 @@ module _ (l : Lent) (good : IsGood l) (operands : List Word) (frames : List Fram
 
 pub unwinds_acts : (l : Lent) → IsGood l → (trial : Trial) (effect : Scene → Effect) (cause : Cause)
     → ((store : Store) → effect (scene_of l store) ≡ unwinds (cause_of cause) (scene_of l store))
-    → Acts no_records (scene_row effect) trial (Err (Unwinds cause)) l l
+    → Acts nothing_asked (scene_row effect) trial (Err (Unwinds cause)) l l
 unwinds_acts l good trial effect cause is = record {
   meets = λ store shown.
-      meets_by no_records trial (scene_of l store) l l (Err (Unwinds cause)) _ _ (is store)
-      (unwound_meets no_records trial (scene_of l store) l l cause (scene_of l store)
+      meets_by nothing_asked trial (scene_of l store) l l (Err (Unwinds cause)) _ _ (is store)
+      (unwound_meets nothing_asked trial (scene_of l store) l l cause (scene_of l store)
       (record { is = refl; shown = shown; lasts = lasts-same store }) refl
       (logs-same 0 l.grants trial.slot));
   good = good;
   keeps = keeps-same l.heap;
-  stays = stays_as l l refl refl refl (omega arith);
+  stays = stays_as l l refl refl refl (omega arith) (at_least-same _);
   logs = logs-same _ l.grants trial.slot;
   framed = tt;
 }

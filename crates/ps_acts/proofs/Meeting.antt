@@ -17,8 +17,8 @@ use Rattle.ps_control.specs.Turns.{cause_of}
 use Rattle.ps_acts.specs.declared.breaks.Break.{Break}
 use Rattle.ps_acts.specs.declared.breaks.Break.TheVariants.{Unwinds, Raises, NotMade}
 use Rattle.ps_acts.specs.declared.lent.Trial.{Trial}
-use Rattle.ps_acts.specs.Lent.{Lent}
-use Rattle.ps_acts.specs.Acts.{needs_as, needs_between, IsReason, Lasts, IsLeft, IsSame, IsRefused, ActsAs, Stays, Meets}
+use Rattle.ps_acts.specs.Lent.{Lent, Rooms, rooms_of}
+use Rattle.ps_acts.specs.Acts.{needs_as, needs_between, IsReason, Lasts, IsLeft, IsSame, IsRefused, ActsAs, IsAtLeast, Stays, Meets, Asked}
 
 -- ---- what stays
 
@@ -54,16 +54,22 @@ logs_more few most old new slot more logs =
       put_no_other = logs.put_no_other;
     }
 
+pub at_least-same : (rooms : Rooms) → IsAtLeast rooms rooms
+at_least-same rooms =
+    record { text = omega arith; sought = omega arith; words = omega arith }
+
 pub stays_as : (old new : Lent) → new.program ≡ old.program
     → new.error_dictionary ≡ old.error_dictionary → new.names ≡ old.names
-    → length old.printed + old.room ≤ length new.printed + new.room → Stays old new
-stays_as old new program address names capacity = record {
+    → length old.printed + old.room ≤ length new.printed + new.room
+    → IsAtLeast (rooms_of old.scratch) (rooms_of new.scratch) → Stays old new
+stays_as old new program address names capacity scratch = record {
   program = program;
   error_dictionary = address;
   formed = [];
   names = subst (λ (ns : List (List ℕ)). ns ≡ old.names ++ []) (sym names)
       (sym (append-nil old.names));
   capacity = capacity;
+  scratch = scratch;
 }
 
 -- ---- room for what is made
@@ -82,10 +88,10 @@ lacks_for_same refused s = lacks_nothing refused s s (made-same s)
 
 -- ---- by the effect
 
-module _ (records : Scene → ℕ) (trial : Trial) (before : Scene) (old new : Lent) where
+module _ (asks : Scene → Asked) (trial : Trial) (before : Scene) (old new : Lent) where
   abbrev Did : Effect → Result Unit Break → Bool → Type 0
   Did effect result lacking =
-      ActsAs (needs_as (records before) before effect lacking) trial.slot before result effect
+      ActsAs (needs_as (asks before) before effect lacking) trial.slot before result effect
       lacking old new
 
   abbrev Logs : ℕ → Type 0
@@ -94,16 +100,16 @@ module _ (records : Scene → ℕ) (trial : Trial) (before : Scene) (old new : L
   module _ (scene : Scene) (output : List ℕ) where
     module _ (enough : lacks_room trial.refused before.store scene.store ≡ false) where
       pub made_meets : IsLeft before.store new scene → new.printed ≡ old.printed ++ output
-          → Logs (records before) → Meets records (makes scene output) trial (Ok tt) before old new
+          → Logs (asks before).records → Meets asks (makes scene output) trial (Ok tt) before old new
       made_meets left printed logs = record {
         did = subst (Did (makes scene output) (Ok tt)) (sym enough) (left, printed);
         logs = logs;
       }
 
       pub wanting_meets : (reason : Reason)
-          → IsReason (needs_between (records before) before scene output) trial.slot old new reason
+          → IsReason (needs_between (asks before) before scene output) trial.slot old new reason
           → IsSame old new → Logs 0
-          → Meets records (makes scene output) trial (Err (NotMade reason)) before old new
+          → Meets asks (makes scene output) trial (Err (NotMade reason)) before old new
       wanting_meets reason why same logs = record {
         did = subst (Did (makes scene output) (Err (NotMade reason))) (sym enough) (why, same);
         logs = logs;
@@ -111,23 +117,23 @@ module _ (records : Scene → ℕ) (trial : Trial) (before : Scene) (old new : L
 
     pub refused_meets : lacks_room trial.refused before.store scene.store ≡ true
         → IsRefused trial.slot before old new scene.names → Logs 0
-        → Meets records (makes scene output) trial (Err (Raises VmError)) before old new
+        → Meets asks (makes scene output) trial (Err (Raises VmError)) before old new
     refused_meets lacking refused logs = record {
       did = subst (Did (makes scene output) (Err (Raises VmError))) (sym lacking) (refl, refused);
       logs = logs;
     }
 
   pub raised_meets : (error : ErrorName) → IsSame old new → Logs 0
-      → Meets records (raises error) trial (Err (Raises error)) before old new
+      → Meets asks (raises error) trial (Err (Raises error)) before old new
   raised_meets error same logs = record { did = (refl, same); logs = logs }
 
   pub unwound_meets : (cause : Cause) (scene : Scene) → IsLeft before.store new scene
       → new.printed ≡ old.printed → Logs 0
-      → Meets records (unwinds (cause_of cause) scene) trial (Err (Unwinds cause)) before old new
+      → Meets asks (unwinds (cause_of cause) scene) trial (Err (Unwinds cause)) before old new
   unwound_meets cause scene left printed logs = record { did = (refl, left, printed); logs = logs }
 
   pub meets_by : (result : Result Unit Break) (effect other : Effect) → effect ≡ other
-      → Meets records other trial result before old new
-      → Meets records effect trial result before old new
+      → Meets asks other trial result before old new
+      → Meets asks effect trial result before old new
   meets_by result effect other is meets =
-      subst (λ (e : Effect). Meets records e trial result before old new) (sym is) meets
+      subst (λ (e : Effect). Meets asks e trial result before old new) (sym is) meets

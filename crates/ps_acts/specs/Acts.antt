@@ -17,41 +17,54 @@ use Rattle.ps_control.specs.Turns.{cause_of}
 use Rattle.ps_acts.specs.declared.breaks.Break.{Break}
 use Rattle.ps_acts.specs.declared.breaks.Break.TheVariants.{Unwinds, Raises, NotMade}
 use Rattle.ps_acts.specs.declared.lent.Trial.{Trial}
-use Rattle.ps_acts.specs.Lent.{Lent, scene_of, around_of, IsShown, IsGood}
+use Rattle.ps_acts.specs.Lent.{Lent, Rooms, rooms_of, scene_of, around_of, IsShown, IsGood}
 
 -- ---- what is asked for
 
--- what a step asks for: bytes of the output, names, records of the log, words and birth numbers
+abbrev pub no_rooms : Rooms
+no_rooms = record { text = 0; sought = 0; words = 0 }
+
+-- what an operator asks for that the language doesn't say: records of the log, and room for what it
+-- reads
+pub record Asked : Type 0 where
+  pub records : ℕ
+  pub scratch : Rooms
+
+-- what a step asks for: bytes of the output, names, records of the log, words and birth numbers,
+-- and room for what it reads
 pub record Needs : Type 0 where
   pub bytes : ℕ
   pub names : ℕ
   pub records : ℕ
   pub words : ℕ
   pub births : ℕ
+  pub scratch : Rooms
 
 abbrev pub nothing_needed : Needs
-nothing_needed = record { bytes = 0; names = 0; records = 0; words = 0; births = 0 }
+nothing_needed =
+    record { bytes = 0; names = 0; records = 0; words = 0; births = 0; scratch = no_rooms }
 
 -- the names that a scene has more
 abbrev pub names_formed : (before after : Scene) → ℕ
 names_formed before after = length after.names - length before.names
 
--- A scene that is made asks for its output, its names and its new objects; records is the one
--- number that the language doesn't say
-abbrev pub needs_between : (records : ℕ) → (before after : Scene) → (output : List ℕ) → Needs
-needs_between records before after output = record {
+-- a scene that is made asks for its output, its names and its new objects too
+abbrev pub needs_between : Asked → (before after : Scene) → (output : List ℕ) → Needs
+needs_between asked before after output = record {
   bytes = length output;
   names = names_formed before after;
-  records = records;
+  records = asked.records;
   words = made_between before.store after.store;
   births = length after.store - length before.store;
+  scratch = asked.scratch;
 }
 
--- A refused step forms its names and makes nothing. Where it forms some it asks for its note too
-abbrev pub needs_of_refused : (names : ℕ) → Needs
-needs_of_refused zero = nothing_needed
-needs_of_refused (suc names) =
-    record nothing_needed { names = suc names; records = most_records }
+-- A refused step reads, forms its names and makes nothing. Where it forms some it asks for its note
+-- too
+abbrev pub needs_of_refused : (scratch : Rooms) → (names : ℕ) → Needs
+needs_of_refused scratch zero = record nothing_needed { scratch = scratch }
+needs_of_refused scratch (suc names) =
+    record nothing_needed { names = suc names; records = most_records; scratch = scratch }
 
 -- whether the effect is refused the room that it asks for
 abbrev pub lacks : (refused : Bool) → (before : Scene) → Effect → Bool
@@ -59,23 +72,31 @@ lacks refused before (makes scene output) = lacks_room refused before.store scen
 lacks refused before effect = false
 
 -- by the effect, and whether it lacks room
-abbrev pub needs_as : (records : ℕ) → (before : Scene) → Effect → (lacking : Bool) → Needs
-needs_as records before (makes scene output) false = needs_between records before scene output
-needs_as records before (makes scene output) true = needs_of_refused (names_formed before scene)
-needs_as records before effect lacking = nothing_needed
+abbrev pub needs_as : Asked → (before : Scene) → Effect → (lacking : Bool) → Needs
+needs_as asked before (makes scene output) false = needs_between asked before scene output
+needs_as asked before (makes scene output) true =
+    needs_of_refused asked.scratch (names_formed before scene)
+needs_as asked before effect lacking = nothing_needed
 
--- the records of operators that store nothing, and of those that store so many elements at once
-abbrev pub no_records : Scene → ℕ
-no_records scene = 0
+-- of operators that store nothing and read into no list, and of those that store so many elements
+-- at once
+abbrev pub nothing_asked : Scene → Asked
+nothing_asked scene = record { records = 0; scratch = no_rooms }
 
-abbrev pub stored_records : (List Value → ℕ) → Scene → ℕ
-stored_records count scene = min 1 (count scene.operands)
+abbrev pub stores : (List Value → ℕ) → Scene → Asked
+stores count scene = record { records = min 1 (count scene.operands); scratch = no_rooms }
 
 -- ---- why a step is not made
 
+-- one of the lists is too small
+abbrev pub LacksRooms : (has needs : Rooms) → Type 0
+LacksRooms has needs =
+    (has.text < needs.text) ⊎ ((has.sought < needs.sought) ⊎ (has.words < needs.words))
+
 -- LogFull: the log is open and takes fewer records than are asked for. LogClosed: it is closed, and
 -- one at least is asked for. NeedSpace: the words have no room. Memory: the output has less room
--- than its bytes, or a name is formed, or an object is made in a memory that grows
+-- than its bytes, or a name is formed, or an object is made in a memory that grows, or a list that
+-- is read into is too small
 abbrev pub IsReason : Needs → (slot : ℕ) → (old new : Lent) → Reason → Type 0
 IsReason needs slot old new LogFull =
     (old.grants.closed slot ≡ false) × (new.grants.records slot < needs.records)
@@ -84,7 +105,9 @@ IsReason needs slot old new (NeedSpace words) =
     (words ≡ needs.words) × (1 ≤ words) × (has_room old.heap needs.words needs.births ≡ false)
 IsReason needs slot old new Memory =
     (old.room < needs.bytes)
-    ⊎ ((1 ≤ needs.names) ⊎ ((1 ≤ needs.words) × IsTrue old.heap.space.grows))
+    ⊎ ((1 ≤ needs.names)
+    ⊎ (((1 ≤ needs.words) × IsTrue old.heap.space.grows)
+    ⊎ LacksRooms (rooms_of old.scratch) needs.scratch))
 
 -- ---- what is left
 
@@ -98,9 +121,9 @@ pub record IsLeft (before : Store) (l : Lent) (scene : Scene) : Type 0 where
   pub shown : IsShown l scene.store
   pub lasts : Lasts before scene.store
 
--- nothing has changed but what was granted, and how much room the output has
+-- nothing has changed but what was granted, and how much room the output and the lists have
 abbrev pub IsSame : (old new : Lent) → Type 0
-IsSame old new = new ≡ record old { grants = new.grants; room = new.room }
+IsSame old new = new ≡ record old { grants = new.grants; room = new.room; scratch = new.scratch }
 
 -- An error can be noted: where a refused step formed names, it asked first for the records of its
 -- note. The names stay, so the note must not be refused then
@@ -112,7 +135,8 @@ MayNote slot old new names =
 -- a refused step: nothing has changed but for its names, which are shown
 pub record IsRefused (slot : ℕ) (before : Scene) (old new : Lent) (names : List (List ℕ)) : Type 0
   where
-    pub is : new ≡ record old { grants = new.grants; room = new.room; names = names }
+    pub is : new ≡ record old
+      { grants = new.grants; room = new.room; names = names; scratch = new.scratch }
     pub left : IsLeft before.store new (record before { names = names })
     pub may_note : MayNote slot old new names
 
@@ -135,14 +159,21 @@ ActsAs needs slot before result effect lacking old new = ⊥
 
 -- ---- the relation
 
--- The program and the place of $error stay, names are only added, and the output's capacity, its
--- bytes and its room, never shrinks
+-- no list is smaller
+pub record IsAtLeast (few more : Rooms) : Type 0 where
+  pub text : few.text ≤ more.text
+  pub sought : few.sought ≤ more.sought
+  pub words : few.words ≤ more.words
+
+-- The program and the place of $error stay, names are only added, and no list shrinks: neither the
+-- output's capacity, its bytes and its room, nor that of those that are read into
 pub record Stays (old new : Lent) : Type 0 where
   pub program : new.program ≡ old.program
   pub error_dictionary : new.error_dictionary ≡ old.error_dictionary
   pub formed : List (List ℕ)
   pub names : new.names ≡ old.names ++ formed
   pub capacity : length old.printed + old.room ≤ length new.printed + new.room
+  pub scratch : IsAtLeast (rooms_of old.scratch) (rooms_of new.scratch)
 
 -- of a step that is not made
 abbrev pub OnNotMade : Result Unit Break → Type 0 → Type 0
@@ -150,11 +181,11 @@ OnNotMade (Err (NotMade reason)) P = P
 OnNotMade result P = Unit {0}
 
 -- of a store that is shown: the effect came about, and by no more records than it asks for
-pub record Meets (records : Scene → ℕ) (effect : Effect) (trial : Trial)
+pub record Meets (asks : Scene → Asked) (effect : Effect) (trial : Trial)
     (result : Result Unit Break) (before : Scene) (old new : Lent) : Type 0 where
-  pub did : ActsAs (needs_as (records before) before effect (lacks trial.refused before effect))
+  pub did : ActsAs (needs_as (asks before) before effect (lacks trial.refused before effect))
       trial.slot before result effect (lacks trial.refused before effect) old new
-  pub logs : KeepsLogsWithin (spent result (records before)) old.grants new.grants trial.slot
+  pub logs : KeepsLogsWithin (spent result (asks before).records) old.grants new.grants trial.slot
 
 -- the effect of a row on what a store shows
 abbrev pub effect_in : Row → Lent → Store → Effect
@@ -162,10 +193,10 @@ effect_in row l store = effect_of row (around_of l) (scene_of l store)
 
 -- For every store that the memory shows, the operator of this row did what the row says. What is
 -- lent stays good, what stood goes on standing, and the logs are kept
-pub record Acts (records : Scene → ℕ) (row : Row) (trial : Trial) (result : Result Unit Break)
+pub record Acts (asks : Scene → Asked) (row : Row) (trial : Trial) (result : Result Unit Break)
     (old new : Lent) : Type 0 where
   pub meets : (store : Store) → IsShown old store
-      → Meets records (effect_in row old store) trial result (scene_of old store) old new
+      → Meets asks (effect_in row old store) trial result (scene_of old store) old new
   pub good : IsGood new
   pub keeps : Keeps old.heap new.heap
   pub stays : Stays old new

@@ -1,5 +1,5 @@
 -- What is lent to an operator, as words, and the scene that it shows (PLRM2, 3.4).
-use Rattle.std.specs.Prelude.{◌≢◌, ℕ, ◌-◌, List, length, AllPairs, vec_capacity}
+use Rattle.std.specs.Prelude.{◌≡◌, ◌≢◌, ℕ, ◌-◌, List, [], length, AllPairs, vec_capacity}
 use Rattle.ps_language.specs.declared.kinds.Kind.TheVariants.{Dictionary}
 use Rattle.ps_language.specs.Value.{Store}
 use Rattle.ps_language.specs.Effect.{Around, Scene}
@@ -12,6 +12,7 @@ use Rattle.ps_types.specs.Met.{BeginWithFirst}
 use Rattle.ps_control.specs.declared.frames.Frame.{Frame}
 use Rattle.ps_control.specs.Frames.{frames_in, AreFrames, AreFramesWithin}
 use Rattle.ps_acts.specs.declared.lent.Context.{Context}
+use Rattle.ps_acts.specs.declared.lent.Scratch.{Scratch}
 use Rattle.ps_acts.specs.declared.lent.Shared.{Shared}
 
 -- the stacks have the topmost first
@@ -26,6 +27,7 @@ pub record Lent : Type 0 where
   pub names : List (List ℕ)
   pub printed : List ℕ
   pub room : ℕ  -- the bytes that can be printed before the output grows
+  pub scratch : Scratch
 
 abbrev pub lent : Heap → Grants → Context → Shared → Lent
 lent heap grants context shared = record {
@@ -39,7 +41,27 @@ lent heap grants context shared = record {
   names = shared.names;
   printed = shared.printed.items;
   room = vec_capacity shared.printed - length shared.printed.items;
+  scratch = shared.scratch;
 }
+
+-- how much can be read before the lists for it grow: bytes, bytes that are sought, and words
+pub record Rooms : Type 0 where
+  pub text : ℕ
+  pub sought : ℕ
+  pub words : ℕ
+
+abbrev pub rooms_of : Scratch → Rooms
+rooms_of scratch = record {
+  text = vec_capacity scratch.text;
+  sought = vec_capacity scratch.sought;
+  words = vec_capacity scratch.words;
+}
+
+-- nothing is left in it
+pub record IsEmpty (scratch : Scratch) : Type 0 where
+  pub text : scratch.text.items ≡ []
+  pub sought : scratch.sought.items ≡ []
+  pub words : scratch.words.items ≡ []
 
 -- ---- what it stands for
 
@@ -67,8 +89,9 @@ pub record IsShown (l : Lent) (store : Store) : Type 0 where
 
 -- ---- what holds of it in every memory
 
--- What is held refers to what stands in a sound memory, $error stands, no name is met twice, and
--- the names begin with the first ones, among which those of $error are
+-- What is held refers to what stands in a sound memory, $error stands, no name is met twice, the
+-- names begin with the first ones, among which those of $error are, and nothing is left of what an
+-- operator read
 pub record IsGood (l : Lent) : Type 0 where
   pub sound : IsSound l.heap
   pub operands : AreValues l.heap l.operands
@@ -77,3 +100,4 @@ pub record IsGood (l : Lent) : Type 0 where
   pub error_stands : StandsAs l.heap Dictionary l.error_dictionary 4
   pub names : AllPairs (λ one later. one ≢ later) l.names
   pub first : BeginWithFirst l.names
+  pub empty : IsEmpty l.scratch

@@ -19,6 +19,15 @@ pub struct Context {
     pub error_dictionary: u32,
 }
 
+/// Lists into which an operator reads; between operators they are empty, and keep their room.
+#[derive(Drop)]
+pub struct Scratch {
+    pub text: Vec<u8>,
+    /// What is sought in that text.
+    pub sought: Vec<u8>,
+    pub words: Vec<Word>,
+}
+
 /// What all contexts share beside the memory.
 #[derive(Drop)]
 pub struct Shared {
@@ -26,6 +35,7 @@ pub struct Shared {
     pub program: Vec<u8>,
     pub names: Names,
     pub printed: Vec<u8>,
+    pub scratch: Scratch,
 }
 
 /// How a step is tried.

@@ -22,6 +22,7 @@ use ps_word::values::{Content, Part, Value};
 use ps_word::words::Word;
 use std::alloc::Global;
 use std::process::Abort;
+use std::hash::RandomState;
 use std::test::Fail;
 
 /// A value of a row, in the order of making: an array takes the values before it.
@@ -379,7 +380,7 @@ fn expect_row<M: Memory>(
 #[test]
 fn rows_are_shown(rt: HostRuntime) -> Result<(), Fail> {
     let mut memory = PlainMemory::new(rt.alloc());
-    let mut names = Names::new(rt.alloc());
+    let mut names = Names::new(rt.alloc(), RandomState::new(&rt)?);
     for row in &ROWS {
         expect_row(&rt, rt.alloc(), &mut memory, &mut names, row);
     }
@@ -415,7 +416,7 @@ fn expect_nested<M: Memory>(
 #[test]
 fn arrays_are_gone_into_32_deep(rt: HostRuntime) -> Result<(), Fail> {
     let mut memory = PlainMemory::new(rt.alloc());
-    let names = Names::new(rt.alloc());
+    let names = Names::new(rt.alloc(), RandomState::new(&rt)?);
     let mut wanted = Vec::from_slice(rt.alloc(), &[b'['; 32])?;
     wanted.push(b'0')?;
     wanted.extend_from_slice(&[b']'; 32])?;
@@ -472,7 +473,7 @@ fn expect_lines<M: Memory>(
 #[test]
 fn lines_are_shown(rt: HostRuntime) -> Result<(), Fail> {
     let mut memory = PlainMemory::new(rt.alloc());
-    let mut names = Names::new(rt.alloc());
+    let mut names = Names::new(rt.alloc(), RandomState::new(&rt)?);
     let plain = b"--nostringval--\ny\nx\n1\n";
     let full = b"[3 {4}]\n/y\n(x)\n1\n";
     expect_lines(&rt, rt.alloc(), &mut memory, &mut names, Form::Plain, plain);

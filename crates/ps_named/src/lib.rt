@@ -2,4 +2,3 @@
 #![tactic(auto)]
 
 pub mod names;
-pub mod texts;

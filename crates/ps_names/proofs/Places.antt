@@ -1,11 +1,11 @@
 -- Where texts stand, and what becomes of that with one more.
 use Rattle.std.specs.Prelude.{unwrap_or, option_map}
-use Rattle.std.proofs.Common.{◌≡◌, ℕ, suc, ◌+◌, ◌<◌, ◌≤◌, ◌≢◌, Bool, true, false, not, cond, ◌||◌, List, [], ◌∷◌, ◌++◌, map, length, slice_get, get_or, position, Option, None, Some, IsSome, is_some, nat_lt, bytes_eq, Vec, refl, sym, ap, subst, ◌∙◌, arith}
+use Rattle.std.proofs.Common.{◌≡◌, ℕ, suc, ◌+◌, ◌<◌, ◌≤◌, ◌≢◌, Bool, true, false, not, cond, ◌||◌, List, [], ◌∷◌, ◌++◌, map, take, length, slice_get, get_or, position, Option, None, Some, IsSome, is_some, nat_lt, bytes_eq, Vec, refl, sym, ap, subst, ◌∙◌, arith}
 use Rattle.std.specs.List.{position_or_len, list_any}
 use Rattle.std.proofs.lemmas.Bool.{true≢false}
 use Rattle.std.proofs.lemmas.Bool.Decides.{nat_tests}
-use Rattle.std.proofs.lemmas.List.{length-map, map-append, length_push, get_or_push, get_or_append_left}
-use Rattle.std.proofs.lemmas.List.Elements.{All-nil, All-get_or, All-push}
+use Rattle.std.proofs.lemmas.List.{length-map, map-append, length-take, get_or-take, take-map, length_push, get_or_push, get_or_append_left}
+use Rattle.std.proofs.lemmas.List.Elements.{All-nil, All-take, All-get_or, All-push}
 use Rattle.std.proofs.lemmas.List.Folds.{list_any_at}
 use Rattle.std.proofs.lemmas.List.Sums.{prefix_len-le-length, position_or_len_is}
 use Rattle.std.proofs.lemmas.List.Quantifiers.{position-Some, all_pairs_push}
@@ -195,3 +195,22 @@ module _ {A : Type 0} (buffers : List (Vec ℕ A)) (buffer : Vec ℕ A) (text : 
   pub names_inserted : AreNames (texts_of buffers) → length text ≤ name_limit → length names < names_limit
       → (after : List (Vec ℕ A)) → after ≡ insert_key (λ a b. bytes_eq a.items b.items) buffers buffer → AreNames (texts_of after)
   names_inserted are_names short room after is = subst AreNames (sym (inserted after is)) (names_with text names new (subst AreNames are are_names) short room)
+
+-- ---- the first ones
+
+module _ (names : List (List ℕ)) (count : ℕ) where
+  within_taken : (i : ℕ) → i < length (take count names) → (i < count) × (i < length names)
+  within_taken i within =
+      let long = length-take count names in
+      (grind (arith, within, long), grind (arith, within, long))
+
+  pub names_taken : AreNames names → AreNames (take count names)
+  names_taken are = record {
+    different = λ i j d before within.
+        let last = within_taken j within in
+        λ same. are.different i j d before last.1
+        (sym (get_or-take count names i d (omega (arith, before, last.0)))
+        ∙ same ∙ get_or-take count names j d last.0);
+    short = All-take (λ t. length t ≤ name_limit) count names are.short;
+    few = let fewer = length-take count names in let all = are.few in grind (arith, fewer, all);
+  }

@@ -1,14 +1,17 @@
 //! The texts of names in the order of meeting.
 
-ghost use Rattle.std.specs.Prelude.{◌≡◌, ℕ, ◌<◌, ◌≤◌, ◌↔◌, ◌++◌, [], ◌∷◌, length, unwrap_or, slice_get, Some, None, IsOk, IsSome, IfOk, IfSome, OnOk, OnErr, IsErrOf, option_map};
+ghost use Rattle.std.specs.Prelude.{◌≡◌, ℕ, take, ◌<◌, ◌≤◌, ◌↔◌, ◌++◌, [], ◌∷◌, length, unwrap_or, slice_get, Some, None, IsOk, IsSome, IfOk, IfSome, OnOk, OnErr, IsErrOf, option_map};
 ghost use Rattle.std.specs.List.{position_or_len};
 ghost use Rattle.std.specs.Str.{bytes_eq};
 ghost use Rattle.ps_language.specs.Dictionaries.{meet};
+ghost use Rattle.ps_language.specs.Worlds.{first_names};
 ghost use Rattle.ps_language.specs.Limits.{name_limit, names_limit};
 ghost use Rattle.ps_names.specs.Names.{place_of, AreNames};
 
+use crate::first::{FIRST_COUNT, first_name};
 use indexmap::IndexSet;
 use std::alloc::{AllocError, Global};
+use std::hash::RandomState;
 use std::marker::Model;
 use thiserror::Error;
 
@@ -41,7 +44,7 @@ pub enum NamesFault {
 /// There are at most `NAMES_LIMIT`, of at most `NAME_LIMIT` bytes each.
 #[derive(Drop)]
 pub struct Names {
-    texts: IndexSet<Vec<u8>>,
+    texts: IndexSet<Vec<u8>, RandomState>,
 }
 
 impl Model for Names {
@@ -57,13 +60,28 @@ impl Model for Names {
 }
 
 impl Names {
-    /// No names yet. It takes no memory.
-    pub fn new(alloc: Global) -> Names
+    /// No names yet. It takes no memory. The keys, which no program can know, decide which texts
+    /// collide; nothing that is answered depends on them.
+    pub fn new(alloc: Global, keys: RandomState) -> Names
         ensures { result ≡ [] }
     {
         Names {
-            texts: IndexSet::new(alloc),
+            texts: IndexSet::with_hasher(alloc, keys),
         }
+    }
+
+    /// The names that every run has met at its start (PLRM2, 3.7). Fails where memory for them is
+    /// refused.
+    pub fn with_first(alloc: Global, keys: RandomState) -> Result<Names, AllocError>
+        ensures { IfOk result (λ names. names ≡ first_names) }
+    {
+        let mut names = Names::new(alloc, keys);
+        for number in 0..FIRST_COUNT {
+            let Ok(_) = names.intern(first_name(number)) else {
+                return Err(AllocError);
+            };
+        }
+        Ok(names)
     }
 
     /// How many names there are.
@@ -145,5 +163,11 @@ impl Names {
         owned.extend_from_slice(text)?;
         self.texts.insert(owned)?;
         Ok(())
+    }
+    /// Takes back all but so many names, those that were met first.
+    pub fn truncate(&mut self, count: usize)
+        ensures { self.new ≡ take count self.old }
+    {
+        self.texts.truncate(count);
     }
 }

@@ -8,7 +8,7 @@ ghost use Rattle.ps_mem.specs.Meaning.{value_of, text_of_name};
 
 use itoa::Buffer;
 use ps_named::names::text_at;
-use ps_named::texts::operator_name;
+use ps_names::texts::operator_name;
 use ps_word::values::Content;
 use ps_word::words::Word;
 use std::alloc::AllocError;

@@ -1,8 +1,12 @@
 -- Operands and what their words stand for.
-use Rattle.std.proofs.Common.{◌≡◌, ℕ, zero, suc, ◌+◌, ◌-◌, ◌≤◌, List, [], ◌∷◌, ◌++◌, map, take, drop, length, Some, refl, sym, ap, arith, ◌∙◌}
+use Rattle.std.proofs.Common.{◌≡◌, ℕ, zero, suc, ◌+◌, ◌-◌, ◌≤◌, List, [], ◌∷◌, ◌++◌, map, take, drop, length, Some, None, refl, sym, ap, arith, ◌∙◌}
 use Rattle.std.specs.Prelude.{slice_get, slice_range, reverse}
 use Rattle.std.proofs.lemmas.List.{reverse-append, length-reverse, length-append, length-take, map-append, take-map}
 use Rattle.ps_stacks.specs.Tops.{first_of, first_two_of, first_three_of}
+
+pub none_left : {A : Type 0} (xs : List A) → None ≡ first_of xs → xs ≡ []
+none_left [] none = refl
+none_left (x ∷ xs) none = cc
 
 pub first_split : {A : Type 0} (xs : List A) (x : A) → Some x ≡ first_of xs → xs ≡ x ∷ drop 1 xs
 first_split [] x e = cc

@@ -8,7 +8,7 @@ ghost use Rattle.ps_step.specs.Machine.{command_of};
 use itoa::Buffer;
 use ps_language::errors::ErrorName;
 use ps_language::operators::Operator;
-use ps_named::texts::{error_text, operator_name};
+use ps_names::texts::{error_text, operator_name};
 use ps_operators::texts::text_of;
 use ps_scan::Span;
 use ps_word::words::Word;

@@ -10,7 +10,7 @@ ghost use Rattle.ps_text.specs.Shown.{GoesOn, separator};
 use itoa::Buffer;
 use ps_language::access::Access;
 use ps_language::operators::Operator;
-use ps_named::texts::operator_name;
+use ps_names::texts::operator_name;
 use ps_names::{NameId, Names};
 use std::alloc::AllocError;
 

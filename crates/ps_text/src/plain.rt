@@ -14,7 +14,7 @@ use crate::appends::{add, append_ended, boolean_text, is_readable};
 use itoa::Buffer;
 use ps_language::kinds::Kind;
 use ps_mem::Memory;
-use ps_named::texts::operator_name;
+use ps_names::texts::operator_name;
 use ps_names::{NameId, Names};
 use ps_seq::strings::byte;
 use ps_word::values::{Content, Part};

@@ -1,0 +1,196 @@
+-- What the operators on the dictionary stack leave.
+use Rattle.std.proofs.Common.{◌≡◌, ℕ, ◌<◌, ◌≤◌, arith, true, false, List, [], ◌∷◌, drop, length, None, Some, refl, sym, append-nil}
+use Rattle.std.specs.Prelude.{option_map, nat_lt, map}
+use Rattle.std.proofs.lemmas.Bool.Decides.{nat_tests}
+use Rattle.std.proofs.lemmas.List.{length-map, drop-map}
+use Rattle.ps_language.specs.declared.access.Access.{Access}
+use Rattle.ps_language.specs.declared.errors.ErrorName.TheVariants.{StackUnderflow, TypeCheck, InvalidAccess, DictStackOverflow, DictStackUnderflow}
+use Rattle.ps_language.specs.Value.{Store}
+use Rattle.ps_language.specs.Access.{is_readable, dictionary_at}
+use Rattle.ps_language.specs.Readers.{as_dictionary, dictionary_in}
+use Rattle.ps_language.specs.Effect.{raises}
+use Rattle.ps_language.specs.Rows.{stacking_row}
+use Rattle.ps_language.specs.RowsDictionaries.{begin_row, end_row}
+use Rattle.ps_stacks.specs.Tops.{first_of}
+use Rattle.ps_word.specs.declared.words.Word.{Word}
+use Rattle.ps_word.specs.declared.values.Content.{Content}
+use Rattle.ps_word.specs.declared.values.Content.TheVariants.{Null, Integer, Boolean, Mark, Name, Operator, Array, Text, Dictionary, Lock, Condition, Body}
+use Rattle.ps_word.specs.Format.{content_in}
+use Rattle.ps_word.specs.Readers as words
+use Rattle.ps_mem.specs.Heap.{birth_at}
+use Rattle.ps_mem.specs.Meaning.{value_of, what_of}
+use Rattle.ps_mem.specs.Shows.{IsValue, IsWithin, Shows}
+use Rattle.ps_ops.proofs.Operands.{first_split}
+use Rattle.ps_ops.proofs.Held.{first_held, rest_held}
+use Rattle.ps_types.proofs.Accesses.{dictionary_has}
+use Rattle.ps_acts.specs.declared.lent.Trial.{Trial}
+use Rattle.ps_acts.specs.Lent.{Lent, IsShown, IsGood}
+use Rattle.ps_acts.specs.Acts.{nothing_asked, effect_in}
+use Rattle.ps_acts.proofs.Acting.{Made}
+use Rattle.ps_acts.proofs.Meeting.{lasts-same, logs-same, lacks_for_same}
+use Rattle.ps_ops.proofs.Operands.{none_left}
+
+module _ (births : ℕ → ℕ) (names : List (List ℕ)) where
+  dictionary_content : (content : Content)
+      → dictionary_in (what_of births names content) ≡ option_map births
+      (words.as_dictionary content)
+  dictionary_content Null = refl
+  dictionary_content (Integer _) = refl
+  dictionary_content (Boolean _) = refl
+  dictionary_content Mark = refl
+  dictionary_content (Name _) = refl
+  dictionary_content (Operator _) = refl
+  dictionary_content (Array _) = refl
+  dictionary_content (Text _) = refl
+  dictionary_content (Dictionary _) = refl
+  dictionary_content (Lock _) = refl
+  dictionary_content (Condition _) = refl
+  dictionary_content (Body _) = refl
+
+  pub dictionary_is : (w : Word)
+      → as_dictionary (value_of births names w) ≡ option_map births
+      (words.as_dictionary (content_in w.0))
+  unfolding as_dictionary value_of
+  dictionary_is w = dictionary_content (content_in w.0)
+
+fewer : {A B : Type 0} (f : A → B) (xs : List A) (n : ℕ) → length xs < n
+    → nat_lt (length (map f xs)) n ≡ true
+fewer f xs n few = let same = length-map xs f in grind (arith, nat_tests)
+
+no_fewer : {A B : Type 0} (f : A → B) (xs : List A) (n : ℕ) → n ≤ length xs
+    → nat_lt (length (map f xs)) n ≡ false
+no_fewer f xs n many = let same = length-map xs f in grind (arith, nat_tests)
+
+module _ (trial : Trial) (l : Lent) where
+  pub begin_empty : None ≡ first_of l.operands → (store : Store) → IsShown l store
+      → effect_in (stacking_row begin_row) l store ≡ raises StackUnderflow
+  begin_empty none store shown = rw (none_left l.operands none) refl
+
+  module _ (w : Word) (one : Some w ≡ first_of l.operands) where
+    pub begin_wrong : None ≡ words.as_dictionary (content_in w.0) → (store : Store)
+        → IsShown l store → effect_in (stacking_row begin_row) l store ≡ raises TypeCheck
+    begin_wrong none store shown =
+        rw (first_split l.operands w one, dictionary_is (birth_at l.heap) l.names w, sym none) refl
+
+    module _ (a : ℕ) (is : Some a ≡ words.as_dictionary (content_in w.0)) (access : Access)
+        (value : (names : List (List ℕ)) (s : Store) → Shows l.heap names s
+        → access ≡ (dictionary_at s (birth_at l.heap a)).access) where
+      pub begin_hidden : is_readable access ≡ false → (store : Store) → IsShown l store
+          → effect_in (stacking_row begin_row) l store ≡ raises InvalidAccess
+      begin_hidden hidden store shown =
+          rw (
+            first_split l.operands w one,
+            dictionary_is (birth_at l.heap) l.names w,
+            sym is,
+            dictionary_has (birth_at l.heap) l.names store w a is,
+            sym (value l.names store shown.shows),
+            hidden,
+          ) refl
+
+      module _ (readable : is_readable access ≡ true) where
+        pub begin_full : 20 ≤ length l.dictionaries → (store : Store) → IsShown l store
+            → effect_in (stacking_row begin_row) l store ≡ raises DictStackOverflow
+        begin_full many store shown =
+            rw (
+              first_split l.operands w one,
+              dictionary_is (birth_at l.heap) l.names w,
+              sym is,
+              dictionary_has (birth_at l.heap) l.names store w a is,
+              sym (value l.names store shown.shows),
+              readable,
+              no_fewer (value_of (birth_at l.heap) l.names) l.dictionaries 20 many,
+            ) refl
+
+        pub begin_made : length l.dictionaries < 20 → (store : Store) → IsShown l store
+            → Made (stacking_row begin_row) trial nothing_asked l
+            (record l { operands = drop 1 l.operands; dictionaries = w ∷ l.dictionaries }) store
+        begin_made few store shown = record {
+          after = store;
+          enough = lacks_for_same trial.refused store;
+          lasts = lasts-same store;
+          logs = logs-same 0 l.grants trial.slot;
+          output = [];
+          is = rw (
+            first_split l.operands w one,
+            dictionary_is (birth_at l.heap) l.names w,
+            sym is,
+            dictionary_has (birth_at l.heap) l.names store w a is,
+            sym (value l.names store shown.shows),
+            readable,
+            fewer (value_of (birth_at l.heap) l.names) l.dictionaries 20 few,
+          ) refl;
+          shown = record {
+            shows = shown.shows;
+            operands = rest_held (IsWithin (birth_at l.heap) l.names store) l.operands
+                shown.operands 1;
+            dictionaries = (
+              first_held (IsWithin (birth_at l.heap) l.names store) l.operands
+                  shown.operands w one,
+              shown.dictionaries,
+            );
+            frames = shown.frames;
+          };
+          printed = sym (append-nil l.printed);
+        }
+
+    pub begin_good : IsGood l → IsGood
+        (record l { operands = drop 1 l.operands; dictionaries = w ∷ l.dictionaries })
+    begin_good good = record {
+      sound = good.sound;
+      operands = rest_held (IsValue l.heap) l.operands good.operands 1;
+      dictionaries = (
+        first_held (IsValue l.heap) l.operands good.operands w one,
+        good.dictionaries,
+      );
+      frames = good.frames;
+      error_stands = good.error_stands;
+      names = good.names;
+      first = good.first;
+      empty = good.empty;
+    }
+
+  pub end_few : length l.dictionaries ≤ 2 → (store : Store) → IsShown l store
+      → effect_in (stacking_row end_row) l store ≡ raises DictStackUnderflow
+  end_few few store shown = rw (test) refl
+    where
+      test : nat_lt 2 (length (map (value_of (birth_at l.heap) l.names) l.dictionaries)) ≡ false
+      test =
+          let same = length-map l.dictionaries (value_of (birth_at l.heap) l.names) in
+          grind (arith, nat_tests)
+
+  pub end_made : 2 < length l.dictionaries → (store : Store) → IsShown l store
+      → Made (stacking_row end_row) trial nothing_asked l
+      (record l { dictionaries = drop 1 l.dictionaries }) store
+  end_made many store shown = record {
+    after = store;
+    enough = lacks_for_same trial.refused store;
+    lasts = lasts-same store;
+    logs = logs-same 0 l.grants trial.slot;
+    output = [];
+    is = rw (test, drop-map (value_of (birth_at l.heap) l.names) 1 l.dictionaries) refl;
+    shown = record {
+      shows = shown.shows;
+      operands = shown.operands;
+      dictionaries =
+          rest_held (IsWithin (birth_at l.heap) l.names store) l.dictionaries shown.dictionaries 1;
+      frames = shown.frames;
+    };
+    printed = sym (append-nil l.printed);
+  }
+    where
+      test : nat_lt 2 (length (map (value_of (birth_at l.heap) l.names) l.dictionaries)) ≡ true
+      test =
+          let same = length-map l.dictionaries (value_of (birth_at l.heap) l.names) in
+          grind (arith, nat_tests)
+
+  pub end_good : IsGood l → IsGood (record l { dictionaries = drop 1 l.dictionaries })
+  end_good good = record {
+    sound = good.sound;
+    operands = good.operands;
+    dictionaries = rest_held (IsValue l.heap) l.dictionaries good.dictionaries 1;
+    frames = good.frames;
+    error_stands = good.error_stands;
+    names = good.names;
+    first = good.first;
+    empty = good.empty;
+  }

@@ -1,0 +1,4 @@
+//! The operators on dictionaries and on the dictionary stack (PLRM2, 8 'Operators': Dictionary).
+#![tactic(auto)]
+
+pub mod stack;

@@ -1,0 +1,71 @@
+//! The operators on the dictionary stack (PLRM2, 8 'Operators': Dictionary).
+
+ghost use Rattle.std.specs.Prelude.{◌≡◌, ◌<◌, ◌∷◌, length};
+ghost use Rattle.ps_language.specs.Rows.{stacking_row};
+ghost use Rattle.ps_language.specs.RowsDictionaries as rows;
+ghost use Rattle.ps_acts.specs.Acts.{Acts, nothing_asked};
+ghost use Rattle.ps_acts.specs.Lent.{lent, IsGood};
+
+use ps_acts::breaks::Break;
+use ps_acts::lent::{Context, Dictionaries, Shared, Trial};
+use ps_dict::dictionaries::access;
+use ps_language::errors::ErrorName;
+use ps_mem::Memory;
+use ps_ops::arrays::is_readable;
+use ps_word::words::Word;
+
+/// Pushes a dictionary for which there is room.
+fn push_within(dictionaries: &mut Dictionaries, word: Word)
+    requires { length dictionaries.old < 20 }
+    ensures { dictionaries.new ≡ word ∷ dictionaries.old }
+{
+    let _ = dictionaries.push(word);
+}
+
+/// `D begin`. Raises `stackunderflow`, `typecheck`, `invalidaccess` and `dictstackoverflow`.
+pub fn begin<M: Memory>(
+    context: &mut Context,
+    shared: &mut Shared,
+    memory: &mut M,
+) -> Result<(), Break>
+    requires good { IsGood
+        (lent (M.heap memory.old) (M.grants memory.old) context.old shared.old) }
+    ensures acts { (trial : Trial) → Acts nothing_asked (stacking_row rows.begin_row) trial result
+        (lent (M.heap memory.old) (M.grants memory.old) context.old shared.old)
+        (lent (M.heap memory.new) (M.grants memory.new) context.new shared.new) }
+{
+    let Some(word) = context.operands.top() else {
+        return Err(Break::Raises(ErrorName::StackUnderflow));
+    };
+    let Some(address) = word.as_dictionary() else {
+        return Err(Break::Raises(ErrorName::TypeCheck));
+    };
+    if !is_readable(access(memory, address)) {
+        return Err(Break::Raises(ErrorName::InvalidAccess));
+    }
+    if context.dictionaries.is_full() {
+        return Err(Break::Raises(ErrorName::DictStackOverflow));
+    }
+    push_within(&mut context.dictionaries, word);
+    context.operands.discard(1);
+    Ok(())
+}
+
+/// `end`. Raises `dictstackunderflow` where no more than the two lowest stand.
+pub fn end<M: Memory>(
+    context: &mut Context,
+    shared: &mut Shared,
+    memory: &mut M,
+) -> Result<(), Break>
+    requires good { IsGood
+        (lent (M.heap memory.old) (M.grants memory.old) context.old shared.old) }
+    ensures acts { (trial : Trial) → Acts nothing_asked (stacking_row rows.end_row) trial result
+        (lent (M.heap memory.old) (M.grants memory.old) context.old shared.old)
+        (lent (M.heap memory.new) (M.grants memory.new) context.new shared.new) }
+{
+    if context.dictionaries.len() <= 2 {
+        return Err(Break::Raises(ErrorName::DictStackUnderflow));
+    }
+    context.dictionaries.discard(1);
+    Ok(())
+}

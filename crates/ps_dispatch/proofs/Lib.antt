@@ -1,0 +1,3 @@
+pub mod Named
+pub mod Noting
+pub mod Turning

@@ -1,0 +1,160 @@
+//! Each operator by what it is lent (PLRM2, 8 'Operators').
+
+ghost use Rattle.std.specs.Prelude.{◌≡◌, ◌<◌, IsTrue};
+ghost use Rattle.ps_acts.specs.Acts.{Acts};
+ghost use Rattle.ps_acts.specs.Lent.{lent, IsGood};
+ghost use Rattle.ps_dispatch.specs.Operators.{asked_of, row_now, is_done};
+
+use ps_acts::breaks::{Break, made, tried};
+use ps_acts::lent::{Context, Shared, Trial};
+use ps_dictionary_operators::stack as dictionaries;
+use ps_output_operators::lines as output;
+use ps_control::control;
+use ps_control::frames::Cause;
+use ps_language::operators::Operator;
+use ps_mem::{Memory, SLOTS};
+use ps_operands::{arithmetic, logic, stack_operators};
+use ps_ops::{arrays, changes, makes};
+use ps_strings::makes::string;
+use ps_strings::searches::anchorsearch;
+use ps_types::types::type_of;
+use ps_types::{access, attributes};
+
+/// Does what an operator does, each by its own function. `get` and `put` are on arrays alone.
+///
+/// `Raises`: the errors of its row, in their order. `NotMade`: for what it asks for, behind them.
+pub fn operate<M: Memory>(
+    operator: Operator,
+    context: &mut Context,
+    shared: &mut Shared,
+    memory: &mut M,
+    trial: Trial,
+) -> Result<(), Break>
+    requires slot { trial.slot < SLOTS }
+    requires done { IsTrue (is_done operator) }
+    requires good { IsGood
+        (lent (M.heap memory.old) (M.grants memory.old) context.old shared.old) }
+    ensures { Acts (asked_of operator) (row_now operator) trial result
+        (lent (M.heap memory.old) (M.grants memory.old) context.old shared.old)
+        (lent (M.heap memory.new) (M.grants memory.new) context.new shared.new) }
+{
+    match operator {
+        Operator::Pop => made(stack_operators::pop(&mut context.operands)),
+        Operator::Exch => made(stack_operators::exch(&mut context.operands)),
+        Operator::Dup => made(stack_operators::dup(&mut context.operands)),
+        Operator::Index => made(stack_operators::index(&mut context.operands)),
+        Operator::Roll => made(stack_operators::roll(&mut context.operands)),
+        Operator::Clear => made(stack_operators::clear(&mut context.operands)),
+        Operator::Count => made(stack_operators::count(&mut context.operands)),
+        Operator::Mark => made(stack_operators::mark(&mut context.operands)),
+        Operator::ClearToMark => made(stack_operators::cleartomark(&mut context.operands)),
+        Operator::CountToMark => made(stack_operators::counttomark(&mut context.operands)),
+        Operator::Add => made(arithmetic::add(&mut context.operands)),
+        Operator::Sub => made(arithmetic::sub(&mut context.operands)),
+        Operator::Mul => made(arithmetic::mul(&mut context.operands)),
+        Operator::Idiv => made(arithmetic::idiv(&mut context.operands)),
+        Operator::Mod => made(arithmetic::modulo(&mut context.operands)),
+        Operator::Neg => made(arithmetic::neg(&mut context.operands)),
+        Operator::Abs => made(arithmetic::abs(&mut context.operands)),
+        Operator::And => made(logic::and(&mut context.operands)),
+        Operator::Or => made(logic::or(&mut context.operands)),
+        Operator::Xor => made(logic::xor(&mut context.operands)),
+        Operator::Not => made(logic::not(&mut context.operands)),
+        Operator::Bitshift => made(arithmetic::bitshift(&mut context.operands)),
+        Operator::BeginArray => made(stack_operators::mark(&mut context.operands)),
+        Operator::Get => made(arrays::get(&mut context.operands, memory)),
+        Operator::Aload => made(arrays::aload(&mut context.operands, memory)),
+        Operator::BeginDict => made(stack_operators::mark(&mut context.operands)),
+        Operator::Exec => made(control::exec(&mut context.operands, &mut context.frames)),
+        Operator::If => made(control::if_then(&mut context.operands, &mut context.frames)),
+        Operator::IfElse => made(control::if_then_else(&mut context.operands, &mut context.frames)),
+        Operator::For => made(control::begin_for(&mut context.operands, &mut context.frames)),
+        Operator::Repeat => made(control::begin_repeat(&mut context.operands, &mut context.frames)),
+        Operator::Loop => made(control::begin_loop(&mut context.operands, &mut context.frames)),
+        Operator::Stop => Err(Break::Unwinds(Cause::Stop)),
+        Operator::Stopped => made(control::begin_stopped(
+            &mut context.operands,
+            &mut context.frames,
+        )),
+        Operator::Quit => Err(Break::Unwinds(Cause::Quit)),
+        Operator::Bind => made(control::begin_bind(&mut context.operands, &mut context.frames)),
+        Operator::TypeOf => made(type_of(&mut context.operands)),
+        Operator::Cvlit => made(attributes::cvlit(&mut context.operands)),
+        Operator::Cvx => made(attributes::cvx(&mut context.operands)),
+        Operator::Xcheck => made(attributes::xcheck(&mut context.operands)),
+        Operator::ExecuteOnly => made(attributes::executeonly(&mut context.operands, memory)),
+        Operator::Rcheck => made(access::rcheck(&mut context.operands, memory)),
+        Operator::Wcheck => made(access::wcheck(&mut context.operands, memory)),
+        Operator::AnchorSearch => made(anchorsearch(&mut context.operands, memory)),
+        Operator::MakeString => tried(string(
+            &mut context.operands,
+            memory,
+            trial.slot,
+            trial.refused,
+        )),
+        Operator::Array => tried(makes::array(
+            &mut context.operands,
+            memory,
+            trial.slot,
+            trial.refused,
+        )),
+        Operator::EndArray => tried(makes::end_array(
+            &mut context.operands,
+            memory,
+            trial.slot,
+            trial.refused,
+        )),
+        Operator::Put => tried(changes::put(&mut context.operands, memory, trial.slot)),
+        Operator::Equals => output::equals(context, shared, memory),
+        Operator::Begin => dictionaries::begin(context, shared, memory),
+        Operator::End => dictionaries::end(context, shared, memory),
+        Operator::Copy
+        | Operator::Eq
+        | Operator::Ne
+        | Operator::Gt
+        | Operator::Ge
+        | Operator::Lt
+        | Operator::Le
+        | Operator::Length
+        | Operator::GetInterval
+        | Operator::PutInterval
+        | Operator::Astore
+        | Operator::Forall
+        | Operator::Search
+        | Operator::Dict
+        | Operator::EndDict
+        | Operator::MaxLength
+        | Operator::Def
+        | Operator::Load
+        | Operator::Store
+        | Operator::Undef
+        | Operator::Known
+        | Operator::Where
+        | Operator::CurrentDict
+        | Operator::CountDictStack
+        | Operator::ClearDictStack
+        | Operator::ErrorDict
+        | Operator::Exit
+        | Operator::NoAccess
+        | Operator::ReadOnly
+        | Operator::Cvi
+        | Operator::Cvn
+        | Operator::Cvs
+        | Operator::EqualsEquals
+        | Operator::Stack
+        | Operator::Pstack
+        | Operator::Print
+        | Operator::CurrentContext
+        | Operator::Fork
+        | Operator::Join
+        | Operator::Detach
+        | Operator::Lock
+        | Operator::Monitor
+        | Operator::Condition
+        | Operator::Wait
+        | Operator::Notify
+        | Operator::Yield
+        | Operator::VmStatus
+        | Operator::VmReclaim => unreachable!(),
+    }
+}

@@ -1,0 +1,7 @@
+//! Each operator by its own function, and a step by an operator with the error that it notes
+//! (PLRM2, 3.5, 3.10, 8 'Operators').
+#![tactic(auto)]
+
+pub mod dispatch;
+pub mod notes;
+pub mod turns;

@@ -1,0 +1,105 @@
+-- What is printed, or why it isn't.
+use Rattle.std.proofs.Common.{◌≡◌, ℕ, ◌+◌, ◌-◌, ◌<◌, ◌≤◌, ◌++◌, arith, List, [], ◌∷◌, drop, length, None, Some, refl, sym, ap, subst, ◌∙◌, inl}
+use Rattle.std.proofs.lemmas.Bool.Decides.{nat_tests}
+use Rattle.std.proofs.lemmas.List.{length-append, length-take}
+use Rattle.std.specs.Prelude.{take}
+use Rattle.ps_language.specs.declared.errors.ErrorName.TheVariants.{StackUnderflow}
+use Rattle.ps_language.specs.Value.{Value, Store}
+use Rattle.ps_language.specs.Effect.{makes, raises}
+use Rattle.ps_language.specs.Rows.{Row, printing_row}
+use Rattle.ps_language.specs.RowsOutput.{print_line, line}
+use Rattle.ps_stacks.specs.Tops.{first_of}
+use Rattle.ps_word.specs.declared.words.Word.{Word}
+use Rattle.ps_mem.specs.Heap.{birth_at}
+use Rattle.ps_mem.specs.Meaning.{value_of}
+use Rattle.ps_mem.specs.Shows.{IsValue, IsWithin}
+use Rattle.ps_ops.specs.declared.failure.NotMade.TheVariants.{Memory}
+use Rattle.ps_ops.proofs.Operands.{first_split, none_left}
+use Rattle.ps_ops.proofs.Held.{rest_held}
+use Rattle.ps_acts.specs.declared.lent.Trial.{Trial}
+use Rattle.ps_acts.specs.Lent.{Lent, scene_of, IsShown, IsGood}
+use Rattle.ps_acts.specs.Acts.{nothing_asked, effect_in}
+use Rattle.ps_acts.proofs.Acting.{Made, Wants}
+use Rattle.ps_acts.proofs.Meeting.{lasts-same, logs-same, lacks_for_same}
+
+-- ---- any row that prints and takes so many operands
+
+module _ (l : Lent) (row : Row) (taken : ℕ) (output : Store → List ℕ) where
+  abbrev pub taken_off : Lent
+  taken_off = record l { operands = drop taken l.operands }
+
+  abbrev pub Prints : Type 0
+  Prints = (store : Store) → IsShown l store
+      → effect_in row l store ≡ makes (scene_of taken_off store) (output store)
+
+  module _ (trial : Trial) (prints : Prints) where
+    pub prints_made : (printed : List ℕ) (room : ℕ)
+        → ((store : Store) → IsShown l store → printed ≡ l.printed ++ output store)
+        → (store : Store) → IsShown l store
+        → Made row trial nothing_asked l
+        (record l { operands = drop taken l.operands; printed = printed; room = room }) store
+    prints_made printed room are store shown = record {
+      after = store;
+      output = output store;
+      is = prints store shown;
+      enough = lacks_for_same trial.refused store;
+      shown = record {
+        shows = shown.shows;
+        operands =
+            rest_held (IsWithin (birth_at l.heap) l.names store) l.operands shown.operands taken;
+        dictionaries = shown.dictionaries;
+        frames = shown.frames;
+      };
+      lasts = lasts-same store;
+      printed = are store shown;
+      logs = logs-same 0 l.grants trial.slot;
+    }
+
+    -- the output is longer than the room
+    pub prints_wants : (capacity room : ℕ) → l.room ≡ capacity - length l.printed
+        → ((store : Store) → IsShown l store → capacity < length (l.printed ++ output store))
+        → (store : Store) → IsShown l store
+        → Wants row trial nothing_asked l Memory (record l { room = room }) store
+    prints_wants capacity room is full store shown = record {
+      scene = scene_of taken_off store;
+      output = output store;
+      is = prints store shown;
+      enough = lacks_for_same trial.refused store;
+      why = let long = full store shown in
+          let both = length-append l.printed (output store) in inl (omega (arith, is, long, both));
+    }
+
+-- ---- a line of the topmost operand
+
+module _ (text : Store → Value → List ℕ) (l : Lent) where
+  pub line_empty : None ≡ first_of l.operands → (store : Store) → IsShown l store
+      → effect_in (printing_row (print_line text)) l store ≡ raises StackUnderflow
+  line_empty none store shown = rw (none_left l.operands none) refl
+
+  pub line_prints : (w : Word) → Some w ≡ first_of l.operands
+      → Prints l (printing_row (print_line text)) 1
+      (λ store. line text store (value_of (birth_at l.heap) l.names w))
+  line_prints w one store shown = rw (first_split l.operands w one) refl
+
+-- ---- what is lent then
+
+-- fewer operands, and other output
+pub good_drop : (l : Lent) (printed : List ℕ) (room n : ℕ) → IsGood l
+    → IsGood (record l { operands = drop n l.operands; printed = printed; room = room })
+good_drop l printed room n good = record {
+  sound = good.sound;
+  operands = rest_held (IsValue l.heap) l.operands good.operands n;
+  dictionaries = good.dictionaries;
+  frames = good.frames;
+  error_stands = good.error_stands;
+  names = good.names;
+  first = good.first;
+  empty = good.empty;
+}
+
+-- a capacity that isn't less takes no less, behind an output that begins as the old one
+pub grown : (old new : List ℕ) (few many : ℕ) → few ≤ many → take (length old) new ≡ old
+    → length old + (few - length old) ≤ length new + (many - length new)
+grown old new few many more front =
+    let cut = sym (ap length front) ∙ length-take (length old) new in
+    grind (arith, nat_tests, cut, more)

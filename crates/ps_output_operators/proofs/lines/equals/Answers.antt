@@ -1,0 +1,50 @@
+-- The line, no operand, or no memory for it.
+use Rattle.std.proofs.Common.{arith, refl, sym, ◌∙◌}
+use Rattle.ps_language.specs.Texts.{plain_text}
+use Rattle.ps_language.specs.declared.errors.ErrorName.TheVariants.{StackUnderflow}
+use Rattle.ps_ops.specs.declared.failure.NotMade.TheVariants.{Memory}
+use Rattle.ps_mem.specs.Heap.{birth_at}
+use Rattle.ps_mem.specs.Shows.{IsValue, IsWithin}
+use Rattle.ps_ops.proofs.Held.{first_held}
+use Rattle.ps_acts.proofs.Meeting.{keeps-same, logs-same, stays_as, at_least-same}
+use Rattle.ps_acts.proofs.Acting.{raised_acts, wanting_acts, left_acts}
+use Rattle.ps_output_operators.proofs.Printing.{line_empty, line_prints, prints_made, prints_wants, good_drop, grown}
+use Rattle.ps_output_operators.proofs.lines.equals.Goals as goal
+
+pub returns-in_default : goal.returns-in_default
+returns-in_default g c = record {
+  acts = λ trial. raised_acts _ trial _ _ c.requires.good StackUnderflow
+      (line_empty plain_text _ (sym c.in_default.is ∙ c.top.ensures));
+}
+
+pub append_plain_line-requires-clause-held : goal.append_plain_line-requires-clause-held
+append_plain_line-requires-clause-held g c =
+    first_held (IsValue (g.M.Memory.heap c.args.memory.now)) _ c.requires.good.operands _
+    c.in-Some.ensures
+
+pub returns-in-Ok : goal.returns-in-Ok
+returns-in-Ok g c =
+    let births = birth_at (g.M.Memory.heap c.args.memory.now) in
+    rw (c.discard.ensures, c.append_plain_line.ensures.heap, c.append_plain_line.ensures.grants)
+    (record {
+      acts = λ trial. left_acts _ trial _ _ c.requires.good _ (good_drop _ _ _ 1 c.requires.good)
+          (keeps-same _)
+          (stays_as _ _ refl refl refl (grown _ _ _ _ c.append_plain_line.ensures.capacity
+          c.append_plain_line.ensures.front) (at_least-same _)) (logs-same _ _ _)
+          (prints_made _ _ 1 _ trial (line_prints plain_text _ _ c.in-Some.ensures) _ _
+          (λ store shown. c.in-Ok.ensures.ok store shown.shows
+          (first_held (IsWithin births _ store) _ shown.operands _ c.in-Some.ensures)));
+    })
+
+pub returns-in-Err : goal.returns-in-Err
+returns-in-Err g c =
+    let births = birth_at (g.M.Memory.heap c.args.memory.now) in
+    rw (c.append_plain_line.ensures.heap, c.append_plain_line.ensures.grants, c.in-Err.ensures.err)
+    (record {
+      acts = λ trial. wanting_acts _ trial _ _ c.requires.good _ _ _
+          (omega (arith, c.append_plain_line.ensures.capacity)) (at_least-same _)
+          c.requires.good.empty (logs-same 0 _ _) Memory
+          (prints_wants _ _ 1 _ trial (line_prints plain_text _ _ c.in-Some.ensures) _ _ refl
+          (λ store shown. c.in-Err.ensures.full store shown.shows
+          (first_held (IsWithin births _ store) _ shown.operands _ c.in-Some.ensures)));
+    })
