@@ -1,3 +1,4 @@
+pub mod Exiting
 pub mod Named
 pub mod Noting
 pub mod Turning

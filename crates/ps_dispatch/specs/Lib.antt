@@ -1,2 +1,3 @@
+pub mod Exits
 pub mod Operators
 pub mod Turns

@@ -1,7 +1,7 @@
 -- The row of each operator, and what it asks for that the language does not say.
-use Rattle.std.specs.Prelude.{ℕ, Bool, true, false}
+use Rattle.std.specs.Prelude.{Bool, true, false}
 use Rattle.ps_language.specs.declared.operators.Operator.{Operator}
-use Rattle.ps_language.specs.declared.operators.Operator.TheVariants.{Get, Put, Copy, Eq, Ne, Gt, Ge, Lt, Le, Length, GetInterval, PutInterval, Astore, Forall, Search, Dict, EndDict, MaxLength, Def, Load, Store as StoreKey, Undef, Known, Where, CurrentDict, CountDictStack, ClearDictStack, ErrorDict, Exit, NoAccess, ReadOnly, Cvi, Cvn, Cvs, EqualsEquals, Stack, Pstack, Print, CurrentContext, Fork, Join, Detach, Lock, Monitor, Condition, Wait, Notify, Yield, VmStatus, VmReclaim}
+use Rattle.ps_language.specs.declared.operators.Operator.TheVariants.{Get, Put, Copy, Eq, Ne, Gt, Ge, Lt, Le, Length, GetInterval, PutInterval, Astore, Forall, Search, Dict, EndDict, MaxLength, Def, Load, Store as StoreKey, Undef, Known, Where, CurrentDict, CountDictStack, ClearDictStack, ErrorDict, NoAccess, ReadOnly, Cvi, Cvn, Cvs, CurrentContext, Fork, Join, Detach, Lock, Monitor, Condition, Wait, Notify, Yield, VmStatus, VmReclaim}
 use Rattle.ps_language.specs.Effect.{Scene}
 use Rattle.ps_language.specs.Scan.{scan}
 use Rattle.ps_language.specs.Rows.{Row, reading_row, changing_row, row_of}
@@ -46,16 +46,11 @@ is_done CurrentDict = false
 is_done CountDictStack = false
 is_done ClearDictStack = false
 is_done ErrorDict = false
-is_done Exit = false
 is_done NoAccess = false
 is_done ReadOnly = false
 is_done Cvi = false
 is_done Cvn = false
 is_done Cvs = false
-is_done EqualsEquals = false
-is_done Stack = false
-is_done Pstack = false
-is_done Print = false
 is_done CurrentContext = false
 is_done Fork = false
 is_done Join = false

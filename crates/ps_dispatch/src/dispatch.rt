@@ -5,10 +5,12 @@ ghost use Rattle.ps_acts.specs.Acts.{Acts};
 ghost use Rattle.ps_acts.specs.Lent.{lent, IsGood};
 ghost use Rattle.ps_dispatch.specs.Operators.{asked_of, row_now, is_done};
 
+use crate::exits::exit;
 use ps_acts::breaks::{Break, made, tried};
 use ps_acts::lent::{Context, Shared, Trial};
 use ps_dictionary_operators::stack as dictionaries;
 use ps_output_operators::lines as output;
+use ps_output_operators::strings::print;
 use ps_control::control;
 use ps_control::frames::Cause;
 use ps_language::operators::Operator;
@@ -17,6 +19,7 @@ use ps_operands::{arithmetic, logic, stack_operators};
 use ps_ops::{arrays, changes, makes};
 use ps_strings::makes::string;
 use ps_strings::searches::anchorsearch;
+use ps_text::lines::Form;
 use ps_types::types::type_of;
 use ps_types::{access, attributes};
 
@@ -71,6 +74,7 @@ pub fn operate<M: Memory>(
         Operator::For => made(control::begin_for(&mut context.operands, &mut context.frames)),
         Operator::Repeat => made(control::begin_repeat(&mut context.operands, &mut context.frames)),
         Operator::Loop => made(control::begin_loop(&mut context.operands, &mut context.frames)),
+        Operator::Exit => exit(&context.frames),
         Operator::Stop => Err(Break::Unwinds(Cause::Stop)),
         Operator::Stopped => made(control::begin_stopped(
             &mut context.operands,
@@ -106,6 +110,10 @@ pub fn operate<M: Memory>(
         )),
         Operator::Put => tried(changes::put(&mut context.operands, memory, trial.slot)),
         Operator::Equals => output::equals(context, shared, memory),
+        Operator::EqualsEquals => output::equals_equals(context, shared, memory),
+        Operator::Stack => output::show_stack(context, shared, memory, Form::Plain),
+        Operator::Pstack => output::show_stack(context, shared, memory, Form::Full),
+        Operator::Print => print(context, shared, memory),
         Operator::Begin => dictionaries::begin(context, shared, memory),
         Operator::End => dictionaries::end(context, shared, memory),
         Operator::Copy
@@ -134,16 +142,11 @@ pub fn operate<M: Memory>(
         | Operator::CountDictStack
         | Operator::ClearDictStack
         | Operator::ErrorDict
-        | Operator::Exit
         | Operator::NoAccess
         | Operator::ReadOnly
         | Operator::Cvi
         | Operator::Cvn
         | Operator::Cvs
-        | Operator::EqualsEquals
-        | Operator::Stack
-        | Operator::Pstack
-        | Operator::Print
         | Operator::CurrentContext
         | Operator::Fork
         | Operator::Join

@@ -3,5 +3,6 @@
 #![tactic(auto)]
 
 pub mod dispatch;
+pub mod exits;
 pub mod notes;
 pub mod turns;

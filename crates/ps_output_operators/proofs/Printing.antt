@@ -1,24 +1,32 @@
 -- What is printed, or why it isn't.
-use Rattle.std.proofs.Common.{◌≡◌, ℕ, ◌+◌, ◌-◌, ◌<◌, ◌≤◌, ◌++◌, arith, List, [], ◌∷◌, drop, length, None, Some, refl, sym, ap, subst, ◌∙◌, inl}
+use Rattle.std.proofs.Common.{◌≡◌, ℕ, ◌+◌, ◌-◌, ◌<◌, ◌≤◌, ◌++◌, arith, List, map, drop, length, true, false, Option, None, Some, refl, sym, ap, subst, ◌∙◌, inl}
 use Rattle.std.proofs.lemmas.Bool.Decides.{nat_tests}
-use Rattle.std.proofs.lemmas.List.{length-append, length-take}
-use Rattle.std.specs.Prelude.{take}
-use Rattle.ps_language.specs.declared.errors.ErrorName.TheVariants.{StackUnderflow}
+use Rattle.std.proofs.lemmas.List.{length-append, length-take, length-drop, take_all, reverse-reverse}
+use Rattle.std.specs.Prelude.{Vec, vec_capacity, take, reverse, slice_range, option_map}
+use Rattle.std.specs.List.{flat_map, AllByRecursion}
+use Rattle.ps_language.specs.declared.errors.ErrorName.TheVariants.{StackUnderflow, TypeCheck, InvalidAccess}
 use Rattle.ps_language.specs.Value.{Value, Store}
 use Rattle.ps_language.specs.Effect.{makes, raises}
 use Rattle.ps_language.specs.Rows.{Row, printing_row}
-use Rattle.ps_language.specs.RowsOutput.{print_line, line}
+use Rattle.ps_language.specs.RowsOutput.{print_line, print_row, line}
+use Rattle.ps_language.specs.Access.{is_readable, part_bytes}
+use Rattle.ps_language.specs.Readers.{as_string}
 use Rattle.ps_stacks.specs.Tops.{first_of}
 use Rattle.ps_word.specs.declared.words.Word.{Word}
 use Rattle.ps_mem.specs.Heap.{birth_at}
-use Rattle.ps_mem.specs.Meaning.{value_of}
+use Rattle.ps_word.specs.declared.values.Part.{Part}
+use Rattle.ps_mem.specs.Meaning.{value_of, part_of}
 use Rattle.ps_mem.specs.Shows.{IsValue, IsWithin}
 use Rattle.ps_ops.specs.declared.failure.NotMade.TheVariants.{Memory}
 use Rattle.ps_ops.proofs.Operands.{first_split, none_left}
-use Rattle.ps_ops.proofs.Held.{rest_held}
+use Rattle.ps_ops.proofs.Held.{rest_held, all_reverse}
+use Rattle.ps_text.specs.declared.lines.Form.{Form}
+use Rattle.ps_text.specs.declared.lines.Form.TheVariants.{Plain, Full}
+use Rattle.ps_text.specs.Forms.{text_as}
 use Rattle.ps_acts.specs.declared.lent.Trial.{Trial}
 use Rattle.ps_acts.specs.Lent.{Lent, scene_of, IsShown, IsGood}
 use Rattle.ps_acts.specs.Acts.{nothing_asked, effect_in}
+use Rattle.ps_output_operators.specs.Stacks.{stack_row_as}
 use Rattle.ps_acts.proofs.Acting.{Made, Wants}
 use Rattle.ps_acts.proofs.Meeting.{lasts-same, logs-same, lacks_for_same}
 
@@ -57,16 +65,17 @@ module _ (l : Lent) (row : Row) (taken : ℕ) (output : Store → List ℕ) wher
 
     -- the output is longer than the room
     pub prints_wants : (capacity room : ℕ) → l.room ≡ capacity - length l.printed
+        → length l.printed ≤ capacity
         → ((store : Store) → IsShown l store → capacity < length (l.printed ++ output store))
         → (store : Store) → IsShown l store
         → Wants row trial nothing_asked l Memory (record l { room = room }) store
-    prints_wants capacity room is full store shown = record {
+    prints_wants capacity room is fits full store shown = record {
       scene = scene_of taken_off store;
       output = output store;
       is = prints store shown;
       enough = lacks_for_same trial.refused store;
       why = let long = full store shown in
-          let both = length-append l.printed (output store) in inl (omega (arith, is, long, both));
+          let both = length-append l.printed (output store) in inl (omega (arith, is, fits, long, both));
     }
 
 -- ---- a line of the topmost operand
@@ -80,6 +89,61 @@ module _ (text : Store → Value → List ℕ) (l : Lent) where
       → Prints l (printing_row (print_line text)) 1
       (λ store. line text store (value_of (birth_at l.heap) l.names w))
   line_prints w one store shown = rw (first_split l.operands w one) refl
+
+-- ---- a line of each operand
+
+-- what holds of all operands holds of them from the lowest up
+pub all_turned : (P : Word → Type 0) (xs : List Word) (count : ℕ) (words : List Word)
+    → count ≡ length xs → words ≡ reverse (take count xs) → AllByRecursion P xs
+    → AllByRecursion P words
+all_turned P xs count words all is each =
+    subst (AllByRecursion P)
+    (sym (is ∙ ap reverse (take_all count xs (omega (arith, all))))) (all_reverse P xs each)
+
+turned : (xs : List Word) (count : ℕ) (words : List Word) → count ≡ length xs
+    → words ≡ reverse (take count xs) → reverse words ≡ xs
+turned xs count words all is =
+    ap reverse is ∙ reverse-reverse (take count xs) ∙ take_all count xs (omega (arith, all))
+
+module _ (l : Lent) where
+  pub stack_prints : (form : Form) (count : ℕ) (words : List Word) → count ≡ length l.operands
+      → words ≡ reverse (take count l.operands) → Prints l (printing_row (stack_row_as form)) 0
+      (λ store. flat_map (line (text_as form) store)
+      (map (value_of (birth_at l.heap) l.names) (reverse words)))
+  stack_prints Plain count words all is store shown =
+      rw (turned l.operands count words all is) refl
+  stack_prints Full count words all is store shown =
+      rw (turned l.operands count words all is) refl
+
+-- ---- the bytes of a string
+
+pub part_length : (xs : List ℕ) (from count : ℕ) → from + count ≤ length xs
+    → length (slice_range xs from (from + count)) ≡ count
+part_length xs from count within =
+    let taken = length-take ((from + count) - from) (drop from xs) in
+    let dropped = length-drop from xs in
+    grind (arith, nat_tests, taken, dropped, within)
+
+module _ (l : Lent) (w : Word) (one : Some w ≡ first_of l.operands) where
+  abbrev AsString : Option Part → Type 0
+  AsString part = (births : ℕ → ℕ) (names : List (List ℕ))
+      → as_string (value_of births names w) ≡ option_map (part_of births) part
+
+  pub print_wrong : AsString None → (store : Store) → IsShown l store
+      → effect_in (printing_row print_row) l store ≡ raises TypeCheck
+  print_wrong none store shown =
+      rw (first_split l.operands w one, none (birth_at l.heap) l.names) refl
+
+  module _ (part : Part) (is : AsString (Some part)) where
+    pub print_hidden : is_readable part.access ≡ false → (store : Store) → IsShown l store
+        → effect_in (printing_row print_row) l store ≡ raises InvalidAccess
+    print_hidden hidden store shown =
+        rw (first_split l.operands w one, is (birth_at l.heap) l.names, hidden) refl
+
+    pub print_prints : is_readable part.access ≡ true → Prints l (printing_row print_row) 1
+        (λ store. part_bytes store (part_of (birth_at l.heap) part))
+    print_prints readable store shown =
+        rw (first_split l.operands w one, is (birth_at l.heap) l.names, readable) refl
 
 -- ---- what is lent then
 
@@ -103,3 +167,12 @@ pub grown : (old new : List ℕ) (few many : ℕ) → few ≤ many → take (len
 grown old new few many more front =
     let cut = sym (ap length front) ∙ length-take (length old) new in
     grind (arith, nat_tests, cut, more)
+
+-- a list that is no shorter, of a capacity that isn't less, takes no less
+pub grown_by : (few many old new : ℕ) → few ≤ many → old ≤ new
+    → old + (few - old) ≤ new + (many - new)
+grown_by few many old new more longer = grind (arith, nat_tests, more, longer)
+
+-- what stands in a list fits into it
+pub fits : {A : Type 0} (v : Vec ℕ A) → length v.items ≤ vec_capacity v
+fits v = let has = v.ok.0 in let within = v.ok.1 in omega (arith, has, within)

@@ -1,5 +1,5 @@
 -- The rows of the operators that show the whole operand stack (PLRM2, 8 'Operators': File).
-use Rattle.std.specs.Prelude.{ℕ, List}
+use Rattle.std.specs.Prelude.{List}
 use Rattle.ps_language.specs.Outcome.{Outcome, Printing}
 use Rattle.ps_language.specs.RowsOutput.{stack_row, pstack_row}
 use Rattle.ps_language.specs.Value.{Value, Store}

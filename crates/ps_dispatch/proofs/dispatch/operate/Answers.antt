@@ -3,6 +3,7 @@ use Rattle.std.proofs.Common.{refl}
 use Rattle.ps_operators.proofs.Asking.{array_made, end_array_made, string_made, put_unasked}
 use Rattle.ps_acts.proofs.Lifts.{does_acts, operands_acts, observes_acts, controls_acts, ready, held, under_first}
 use Rattle.ps_acts.proofs.Changing.{makes_acts, changes_acts, put_lasts}
+use Rattle.ps_dispatch.proofs.Exiting.{exit_acts}
 use Rattle.ps_dispatch.proofs.Named.{named}
 use Rattle.ps_dispatch.proofs.dispatch.operate.Goals as goal
 
@@ -218,8 +219,24 @@ returns-in-Put g c = named c.in-Put.is c.tried-in-Put.ensures
     (λ store shown. put_lasts _ _ store shown.shows _ c.requires.good.operands) c.put.ensures.does
     c.put.ensures.ready (λ values. c.put.ensures.spends))
 
+pub returns-in-Exit : goal.returns-in-Exit
+returns-in-Exit g c = named c.in-Exit.is refl
+    (exit_acts _ c.requires.good _ _ (c.exit.ensures (g.M.Memory.heap c.args.memory.now) _))
+
 pub returns-in-Equals : goal.returns-in-Equals
 returns-in-Equals g c = named c.in-Equals.is refl (c.equals.ensures.acts _)
+
+pub returns-in-EqualsEquals : goal.returns-in-EqualsEquals
+returns-in-EqualsEquals g c = named c.in-EqualsEquals.is refl (c.equals_equals.ensures.acts _)
+
+pub returns-in-Stack : goal.returns-in-Stack
+returns-in-Stack g c = named c.in-Stack.is refl (c.show_stack.ensures.acts _)
+
+pub returns-in-Pstack : goal.returns-in-Pstack
+returns-in-Pstack g c = named c.in-Pstack.is refl (c.show_stack-in-Pstack.ensures.acts _)
+
+pub returns-in-Print : goal.returns-in-Print
+returns-in-Print g c = named c.in-Print.is refl (c.print.ensures.acts _)
 
 pub returns-in-Begin : goal.returns-in-Begin
 returns-in-Begin g c = named c.in-Begin.is refl (c.begin.ensures.acts _)

@@ -8,7 +8,7 @@ use Rattle.ps_mem.specs.Shows.{IsValue, IsWithin}
 use Rattle.ps_ops.proofs.Held.{first_held}
 use Rattle.ps_acts.proofs.Meeting.{keeps-same, logs-same, stays_as, at_least-same}
 use Rattle.ps_acts.proofs.Acting.{raised_acts, wanting_acts, left_acts}
-use Rattle.ps_output_operators.proofs.Printing.{line_empty, line_prints, prints_made, prints_wants, good_drop, grown}
+use Rattle.ps_output_operators.proofs.Printing.{line_empty, line_prints, prints_made, prints_wants, good_drop, grown, fits}
 use Rattle.ps_output_operators.proofs.lines.equals.Goals as goal
 
 pub returns-in_default : goal.returns-in_default
@@ -45,6 +45,7 @@ returns-in-Err g c =
           (omega (arith, c.append_plain_line.ensures.capacity)) (at_least-same _)
           c.requires.good.empty (logs-same 0 _ _) Memory
           (prints_wants _ _ 1 _ trial (line_prints plain_text _ _ c.in-Some.ensures) _ _ refl
+          (fits c.args.shared.now.printed)
           (λ store shown. c.in-Err.ensures.full store shown.shows
           (first_held (IsWithin births _ store) _ shown.operands _ c.in-Some.ensures)));
     })
