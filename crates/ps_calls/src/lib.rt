@@ -11,6 +11,8 @@ mod dictionaries;
 #[cfg(test)]
 mod names;
 #[cfg(test)]
+mod operators;
+#[cfg(test)]
 mod records;
 #[cfg(test)]
 mod searches;
