@@ -6,6 +6,7 @@ ghost use Rattle.ps_mem.specs.References.{StandsAs};
 ghost use Rattle.ps_mem.specs.Shows.{IsSound};
 
 use ps_dict::changes::{put, set_access};
+use ps_dict::copies::{MergePlan, plan_merge, put_merged};
 use ps_dict::dictionaries::{access, capacity, length, pair, position, value_of_key};
 use ps_dict::entries::{ErrorEntries, plan_error, put_error};
 use ps_dict::keys::is_same_key;
@@ -162,6 +163,69 @@ fn index_row<M: Memory>(rt: &impl Abort, memory: &mut M, scratch: &mut Vec<Word>
     assert_eq!(rt; capacity(memory, address), 12);
 }
 
+// D1 D2 copy, which takes so many records
+fn copy_pairs<M: Memory>(
+    rt: &impl Abort,
+    memory: &mut M,
+    from: u32,
+    to: u32,
+    records: u32,
+    scratch: &mut Vec<Word>,
+)
+    requires sound { IsSound (M.heap memory.old) }
+    requires source { StandsAs (M.heap memory.old) Kind.Dictionary from 4 }
+    requires target { StandsAs (M.heap memory.old) Kind.Dictionary to 4 }
+    requires scratch { scratch.old.items ≡ [] }
+    ensures sound { IsSound (M.heap memory.new) }
+    ensures keeps { Keeps (M.heap memory.old) (M.heap memory.new) }
+    ensures source { StandsAs (M.heap memory.new) Kind.Dictionary from 4 }
+    ensures target { StandsAs (M.heap memory.new) Kind.Dictionary to 4 }
+    ensures scratch { scratch.new.items ≡ [] }
+{
+    match plan_merge(memory, to, from, scratch) {
+        Ok(plan) => {
+            assert!(rt; plan != MergePlan::Full, "full");
+            let words = plan.words();
+            assert_eq!(rt; plan.records(), records);
+            assert!(rt; memory.need(words, 0).is_ok());
+            assert!(rt; memory.permit(1, records) == Permit::Yes);
+            put_merged(memory, 1, to, from, plan, scratch.as_slice());
+            scratch.clear();
+        }
+        Err(_) => assert!(rt; false, "no memory"),
+    }
+}
+
+// << 1 10 3 1 2 10 >> << 2 1 >> copy: the present key keeps its place, and the dictionary grows
+// once, for three pairs; then the same again, in place; then from a dictionary without pairs, and
+// into it
+fn copies_row<M: Memory>(rt: &impl Abort, memory: &mut M, scratch: &mut Vec<Word>)
+    requires sound { IsSound (M.heap memory.old) }
+    requires scratch { scratch.old.items ≡ [] }
+{
+    let one = Word::integer(1);
+    let two = Word::integer(2);
+    let three = Word::integer(3);
+    let ten = Word::integer(10);
+    assert!(rt; memory.need(6 + 2 + 9, 1).is_ok());
+    let from = make_dictionary(memory, &[one, ten, three, one, two, ten]);
+    assert!(rt; memory.need(6 + 2 + 3, 1).is_ok());
+    let to = make_dictionary(memory, &[two, one]);
+    copy_pairs(rt, memory, from, to, 1, scratch);
+    copy_pairs(rt, memory, from, to, 2, scratch);
+    expect_keys(rt, memory, to, &[2, 1, 3]);
+    expect_value(rt, memory, to, 2, 10);
+    expect_value(rt, memory, to, 1, 10);
+    expect_value(rt, memory, to, 3, 1);
+    assert_eq!(rt; capacity(memory, to), 6);
+    assert!(rt; memory.need(6 + 2, 1).is_ok());
+    let none = new_dictionary(memory, 0);
+    copy_pairs(rt, memory, none, to, 0, scratch);
+    copy_pairs(rt, memory, to, none, 1, scratch);
+    assert_eq!(rt; capacity(memory, none), 4);
+    assert_eq!(rt; length(memory, none), 3);
+}
+
 // 2 dict with the second key of an error's entries: its value is another, the first key goes last,
 // and the third has no room
 fn error_row<M: Memory>(rt: &impl Abort, memory: &mut M)
@@ -231,6 +295,8 @@ fn plain_memory_has_the_rows(rt: HostRuntime) -> Result<(), Fail> {
     access_row(&rt, &mut fifth);
     let mut sixth = PlainMemory::new(rt.alloc());
     error_row(&rt, &mut sixth);
+    let mut seventh = PlainMemory::new(rt.alloc());
+    copies_row(&rt, &mut seventh, &mut scratch);
     Ok(())
 }
 
@@ -255,5 +321,8 @@ fn bounded_memory_has_the_rows(rt: HostRuntime) -> Result<(), Fail> {
     let mut sixth = BoundedMemory::new(rt.alloc(), 4096)?;
     sixth.open_cycle();
     error_row(&rt, &mut sixth);
+    let mut seventh = BoundedMemory::new(rt.alloc(), 4096)?;
+    seventh.open_cycle();
+    copies_row(&rt, &mut seventh, &mut scratch);
     Ok(())
 }

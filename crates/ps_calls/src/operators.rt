@@ -16,12 +16,7 @@ use std::process::Abort;
 use std::test::Fail;
 
 /// Counts no operand, prints the count, pops what isn't there.
-fn step_row<M: Memory>(
-    rt: &impl Abort,
-    context: &mut Context,
-    shared: &mut Shared,
-    memory: &mut M,
-)
+fn step_row<M: Memory>(rt: &impl Abort, context: &mut Context, shared: &mut Shared, memory: &mut M)
     requires good { IsGood
         (lent (M.heap memory.old) (M.grants memory.old) context.old shared.old) }
 {

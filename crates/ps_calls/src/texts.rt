@@ -21,8 +21,8 @@ use ps_text::types::type_name;
 use ps_word::values::{Content, Part, Value};
 use ps_word::words::Word;
 use std::alloc::Global;
-use std::process::Abort;
 use std::hash::RandomState;
+use std::process::Abort;
 use std::test::Fail;
 
 /// A value of a row, in the order of making: an array takes the values before it.

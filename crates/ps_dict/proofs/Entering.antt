@@ -24,13 +24,12 @@ use Rattle.ps_dict.specs.Places.{count_at, capacity_at, body_at, pairs_at, place
 use Rattle.ps_dict.specs.Puts.{with_value}
 use Rattle.ps_dict.specs.Entries.{with_entries, with_value_at, waiting_with}
 use Rattle.ps_dict.proofs.KeyLemmas.{same_keys}
-use Rattle.ps_dict.proofs.Pairs.{slice_get_there, find_at, find_none, length-words_of_pairs}
+use Rattle.ps_dict.proofs.Pairs.{words-append, slice_get_there, find_at, find_none, length-words_of_pairs}
 use Rattle.ps_dict.proofs.Shapes.{there, count-shown, capacity-shown}
 use Rattle.ps_dict.proofs.Reading.{position-shown, position-below}
 use Rattle.ps_dict.proofs.Changing.{with_twice, dictionary_at-with, with-lengths}
 use Rattle.ps_dict.proofs.WordRuns.{put-present, put-absent}
 use Rattle.ps_dict.proofs.Rewriting.{after_value, replaced-keeps, replaced-sound, replaced-shows, replaced-others, value-count_at, value-capacity_at, value-body_at, value-pairs_at}
-use Rattle.ps_dict.proofs.Growing.{words-append}
 
 -- ---- the place of a key among more pairs
 

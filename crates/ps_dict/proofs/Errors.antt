@@ -17,7 +17,7 @@ use Rattle.ps_dict.specs.declared.entries.ErrorPlan.{ErrorPlan}
 use Rattle.ps_dict.specs.Keys.{same_words}
 use Rattle.ps_dict.specs.Places.{count_at, capacity_at, pairs_at, place_of}
 use Rattle.ps_dict.specs.Entries.{AreApart, added_by, entry_pairs, error_plan_at, one_where_there, waiting_with, with_entries, with_value_at}
-use Rattle.ps_dict.proofs.Pairs.{length-words_of_pairs}
+use Rattle.ps_dict.proofs.Pairs.{all_words, length-words_of_pairs}
 use Rattle.ps_dict.proofs.Shapes.{count-fits}
 use Rattle.ps_dict.proofs.Reading.{position-below}
 use Rattle.ps_dict.proofs.Entering.{with_waiting, waiting-all, waiting-words, Entered, entered-none, entered-then, entered-value, EntriesShown, entries-none, entries-more, dictionary-now, within-now, with-now}
@@ -46,12 +46,6 @@ count-waiting None room k entry waiting so_far =
     ] refl
 
 -- ---- the words of pairs
-
-words-all : (P : Word → Type 0) (pairs : List (Word × Word))
-    → AllByRecursion (λ (pair : Word × Word). P pair.0 × P pair.1) pairs
-    → AllByRecursion P (words_of_pairs pairs)
-words-all P [] all = tt
-words-all P (pair ∷ pairs) all = (all.0.0, (all.0.1, words-all P pairs all.1))
 
 firsts : (P : Word → Type 0) (pairs : List (Word × Word))
     → AllByRecursion (λ (pair : Word × Word). P pair.0 × P pair.1) pairs
@@ -124,7 +118,7 @@ module _ (h : Heap) (a : ℕ) (known : StandsAs h DictionaryKind a 4) (sound : I
       (held.0, held.1.0) (held.1.1.0, held.1.1.1.0) (held.1.1.1.1.0, held.1.1.1.1.1.0)
 
   pub words-held : AreValues h (words_of_pairs waiting3)
-  words-held = words-all (IsValue h) waiting3 waiting-held
+  words-held = all_words (IsValue h) waiting3 waiting-held
 
   pub words-count : length (words_of_pairs waiting3) / 2 ≡ added_by plan
   words-count =
@@ -256,7 +250,7 @@ module _ (h : Heap) (a : ℕ) (known : StandsAs h DictionaryKind a 4) (sound : I
 
           pub within-before : AreWithin h3 names store-before (words_of_pairs waiting3)
           unfolding store-before
-          within-before = words-all (IsWithin (birth_at h3) names store-before) waiting3
+          within-before = all_words (IsWithin (birth_at h3) names store-before) waiting3
               (all-third (λ (pair : Word × Word). IsWithin (birth_at h3) names store-before pair.0
               × IsWithin (birth_at h3) names store-before pair.1)
               (into entries.newerror.0 held.0 within.0, into entries.newerror.1 held.1.0 within.1.0) (

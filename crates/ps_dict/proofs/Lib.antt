@@ -29,3 +29,4 @@ pub mod Merging
 pub mod WholeBodies
 pub mod Overwriting
 pub mod NewBodies
+pub mod Copying

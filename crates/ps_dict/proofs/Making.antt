@@ -15,6 +15,7 @@ use Rattle.ps_mem.specs.Index.{index_word, index_of, index_words}
 use Rattle.ps_mem.specs.Keeps.{Extends}
 use Rattle.ps_mem.specs.References.{StandsAs, IsKnown, IsKnownContent, AreKnown}
 use Rattle.ps_mem.specs.Shows.{IsNatural, IsValue, DictionaryFields, dictionary_fields, IsSound, IsWithin, IsWithinContent, Shows}
+use Rattle.ps_mem.proofs.Lists.{splice-zero}
 use Rattle.ps_mem.proofs.HeapLemmas.{object_at-made_same, object_at-made_other, object_at-made_body_same, object_at-made_body_other, object_at-stored_same, object_at-stored_other, next-stored, next-made, next-made_body}
 use Rattle.ps_mem.proofs.KeepsLemmas.{Extends-then, Extends-made, Extends-made_body, Extends-stored}
 use Rattle.ps_mem.proofs.NewShows.{IsSound-new_dictionary, Shows-new_dictionary}
@@ -39,6 +40,18 @@ dropped-zeros (suc m) n =
 pub free-words : (n : ℕ) → replicate n zero_word ≡ map index_word (replicate n None)
 free-words zero = refl
 free-words (suc n) = ap (λ zs. zero_word ∷ zs) (free-words n)
+
+pub drop-zeros : (k m n : ℕ) → m ≡ k + n → drop k (replicate m zero_word) ≡ replicate n zero_word
+drop-zeros zero m n is = let same : m ≡ n = omega (arith, is) in
+    ap (λ j. replicate j zero_word) same
+drop-zeros (suc k) zero n is = absurd (omega arith)
+drop-zeros (suc k) (suc m) n is = drop-zeros k m n (omega (arith, is))
+
+-- words at the front of nulls
+pub front-zeros : (items : List Word) (m n : ℕ) → m ≡ length items + n
+    → splice (replicate m zero_word) 0 items ≡ items ++ replicate n zero_word
+front-zeros items m n is = splice-zero (replicate m zero_word) items
+    ∙ ap (λ ws. items ++ ws) (drop-zeros (length items) m n is)
 
 pub no-index : (births : ℕ → ℕ) (c : ℕ) → replicate c zero_word ≡ index_words births c []
 unfolding index_words index_of

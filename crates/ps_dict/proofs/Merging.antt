@@ -19,7 +19,7 @@ use Rattle.ps_dict.specs.Places.{count_at, pairs_at, place_of, first_place}
 use Rattle.ps_dict.specs.Puts.{with_value}
 use Rattle.ps_dict.specs.Merges.{put_at, put_words, merged}
 use Rattle.ps_dict.proofs.KeyLemmas.{same_keys}
-use Rattle.ps_dict.proofs.Pairs.{place-first, length-words_of_pairs}
+use Rattle.ps_dict.proofs.Pairs.{all_words, place-first, length-words_of_pairs}
 use Rattle.ps_dict.proofs.Shapes.{count-fits, length-pairs, pairs-values}
 use Rattle.ps_dict.proofs.Probing.{few-places}
 use Rattle.ps_dict.proofs.WordRuns.{put-present, put-absent, map-with_value, length-with_value}
@@ -58,7 +58,7 @@ module _ (h : Heap) (sound : IsSound h) (names : List (List ℕ)) (s : Store)
   abbrev Held : Word → Type 0
   Held w = IsValue h w × IsWithin (birth_at h) names s w
 
-  abbrev AreHeld : List (Word × Word) → Type 0
+  abbrev pub AreHeld : List (Word × Word) → Type 0
   AreHeld pairs = AllByRecursion (λ (pair : Word × Word). Held pair.0 × Held pair.1) pairs
 
   same-as : (key : Word) → Held key → (pairs : List (Word × Word)) → AreHeld pairs
@@ -249,12 +249,6 @@ length-merged pairs (pair ∷ more) =
 
 -- ---- of two dictionaries
 
-both-all : (P : Word → Type 0) (pairs : List (Word × Word))
-    → AllByRecursion (λ (pair : Word × Word). P pair.0 × P pair.1) pairs
-    → AllByRecursion P (words_of_pairs pairs)
-both-all P [] all = tt
-both-all P (pair ∷ pairs) all = (all.0.0, (all.0.1, both-all P pairs all.1))
-
 keys-of : (h : Heap) (ws : List Word) → AllByRecursion (IsValue h) ws → AllByRecursion IsKey ws
 keys-of h [] all = tt
 keys-of h (w ∷ ws) all =
@@ -266,7 +260,7 @@ module _ (h : Heap) (sound : IsSound h) (to from : ℕ) (target : StandsAs h Dic
   so_far = merged (pairs_at h to) (take i (pairs_at h from))
 
   pub merged-held : AllByRecursion (IsValue h) (words_of_pairs so_far)
-  merged-held = both-all (IsValue h) so_far
+  merged-held = all_words (IsValue h) so_far
       (all-merged (IsValue h) (pairs_at h to) (take i (pairs_at h from))
       (pairs-values h to target sound)
       (all_take _ i (pairs_at h from) (pairs-values h from source sound)))

@@ -1,4 +1,4 @@
--- A dictionary that gets a new body with these pairs. (Draft, never checked: Growing.antt is to become its case of one pair more.)
+-- A dictionary that gets a new body with these pairs.
 use Rattle.std.proofs.Common.{◌≡◌, ℕ, ◌*◌, ◌<◌, ◌≤◌, false, List, [], ◌∷◌, ◌++◌, length, map, replicate, Some, None, refl, sym, ap, ◌∙◌, arith, subst}
 use Rattle.std.specs.Prelude.{slice_get}
 use Rattle.std.specs.List.{AllByRecursion}
@@ -19,13 +19,17 @@ use Rattle.ps_mem.proofs.Lists.{splice-zero}
 use Rattle.ps_mem.proofs.HeapLemmas.{next-stored, next-made_body}
 use Rattle.ps_mem.proofs.KeepsLemmas.{Keeps-Extends, Keeps-then, IsValue-kept, AreValues-kept, AreWithin-kept, known_values, value_of-kept, index_words-kept, known_keys-first}
 use Rattle.ps_mem.proofs.NewShows.{NewObject, NewObject-made_body, NewObject-filled, IsSound-new_body, Shows-new_body}
-use Rattle.ps_dict.specs.Merges.{whole_body}
+use Rattle.ps_dict.specs.Bodies.{whole_body, with_body}
 use Rattle.ps_dict.proofs.Changing.{fields-sound, fields-keeps, fields-shows}
-use Rattle.ps_dict.proofs.Growing.{second-there}
 use Rattle.ps_dict.proofs.Indexing.{drop-all}
 use Rattle.ps_dict.proofs.Naturals.{natural-within}
 use Rattle.ps_dict.proofs.Shapes.{shape, four, birth-dictionary, access-is, access-shown}
 use Rattle.ps_dict.proofs.WholeBodies.{whole-long, whole-pairs, whole-index, whole-values, whole-within}
+
+pub second-there : (fields : List Word) (a b c d w : Word) → fields ≡ a ∷ b ∷ c ∷ d ∷ []
+    → slice_get fields 2 ≡ Some w → c ≡ w
+second-there fields a b c d w are at = let one : Some c ≡ Some w =
+    sym (ap (λ ws. slice_get ws 2) are) ∙ at in cc
 
 module _ (h : Heap) (a : ℕ) (known : StandsAs h DictionaryKind a 4) (sound : IsSound h) (b : ℕ)
     (free : object_at h b ≡ None) (c : ℕ) (few : c ≤ 21845) (pairs : List (Word × Word))
@@ -34,7 +38,7 @@ module _ (h : Heap) (a : ℕ) (known : StandsAs h DictionaryKind a 4) (sound : I
   words = whole_body (birth_at h) c pairs
 
   abbrev pub grown : Heap
-  grown = stored (made_body h b (birth_at h a) (3 * c)) b 0 words
+  grown = with_body h a b c pairs
 
   abbrev pub body : Standing
   body = record { kind = BodyKind; birth = birth_at h a; fields = words }
@@ -42,7 +46,7 @@ module _ (h : Heap) (a : ℕ) (known : StandsAs h DictionaryKind a 4) (sound : I
   pub words-long : length words ≡ 3 * c
   words-long = whole-long (birth_at h) c pairs room
 
-  over : splice (replicate (3 * c) zero_word) 0 words ≡ words
+  pub over : splice (replicate (3 * c) zero_word) 0 words ≡ words
   over =
       let n = words-long in
       let zeros : length (replicate (3 * c) zero_word) ≡ 3 * c =
@@ -52,7 +56,7 @@ module _ (h : Heap) (a : ℕ) (known : StandsAs h DictionaryKind a 4) (sound : I
       (omega (arith, n, zeros)))
       ∙ append-nil words)
 
-  blank : NewObject h (made_body h b (birth_at h a) (3 * c)) b
+  pub blank : NewObject h (made_body h b (birth_at h a) (3 * c)) b
       (record { kind = BodyKind; birth = birth_at h a; fields = replicate (3 * c) zero_word })
   blank = NewObject-made_body h b (birth_at h a) (3 * c) free
 
@@ -82,7 +86,7 @@ module _ (h : Heap) (a : ℕ) (known : StandsAs h DictionaryKind a 4) (sound : I
       known_values made words
       (AreValues-kept h made (Keeps-Extends h made blank.extends) words words-values)
 
-  known_keys : AllByRecursion (λ (pair : Word × Word). IsKnown h pair.0) pairs
+  pub known_keys : AllByRecursion (λ (pair : Word × Word). IsKnown h pair.0) pairs
   known_keys = subst (AllByRecursion (λ (pair : Word × Word). IsKnown h pair.0))
       (whole-pairs (birth_at h) c pairs room)
       (known_keys-first h (length pairs) words (known_values h words words-values))

@@ -14,7 +14,7 @@ use Rattle.ps_mem.proofs.Lists.{all_splice, splice-zero}
 use Rattle.ps_mem.proofs.HeapLemmas.{object_at-stored_same, object_at-stored_other, birth_at-stored, next-stored}
 use Rattle.ps_mem.proofs.KeepsLemmas.{known_values}
 use Rattle.ps_mem.proofs.ShowsLemmas.{known_fields}
-use Rattle.ps_dict.specs.Merges.{whole_body}
+use Rattle.ps_dict.specs.Bodies.{whole_body}
 use Rattle.ps_dict.specs.Places.{capacity_at, body_at}
 use Rattle.ps_dict.proofs.Changing.{apart-body}
 use Rattle.ps_dict.proofs.Indexing.{drop-all}

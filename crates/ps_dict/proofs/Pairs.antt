@@ -1,5 +1,5 @@
 -- Lists of pairs: their words, and the place of a key among them.
-use Rattle.std.proofs.Common.{◌≡◌, ℕ, zero, suc, ◌+◌, ◌*◌, ◌<◌, ◌≤◌, true, false, List, [], ◌∷◌, ◌++◌, length, map, take, Option, Some, None, refl, sym, ap, ◌∙◌, arith}
+use Rattle.std.proofs.Common.{◌≡◌, ℕ, zero, suc, ◌+◌, ◌*◌, ◌<◌, ◌≤◌, true, false, List, [], ◌∷◌, ◌++◌, length, map, take, drop, Option, Some, None, refl, sym, ap, ◌∙◌, arith}
 use Rattle.std.specs.Prelude.{slice_get, option_map}
 use Rattle.std.specs.List.{AllByRecursion}
 use Rattle.ps_language.specs.Value.{Value}
@@ -72,12 +72,31 @@ pub take-front_all : {A : Type 0} (xs ys : List A) → take (length xs) (xs ++ y
 take-front_all [] ys = refl
 take-front_all (x ∷ xs) ys = ap (λ zs. x ∷ zs) (take-front_all xs ys)
 
+pub drop-front : {A : Type 0} (xs ys : List A) → drop (length xs) (xs ++ ys) ≡ ys
+drop-front [] ys = refl
+drop-front (x ∷ xs) ys = drop-front xs ys
+
+pub words-taken : (n : ℕ) (ws : List Word) → 2 * n ≤ length ws
+    → words_of_pairs (take n (pairs_of_words ws)) ≡ take (2 * n) ws
+unfolding pairs_of_words
+words-taken zero ws h = refl
+words-taken (suc n) [] h = absurd (omega arith)
+words-taken (suc n) (x ∷ []) h = absurd (omega arith)
+words-taken (suc n) (x ∷ y ∷ ws) h =
+    let two : 2 * suc n ≡ suc (suc (2 * n)) = omega arith in
+    ap (λ zs. x ∷ y ∷ zs) (words-taken n ws (omega arith)) ∙ sym (ap (λ k. take k (x ∷ y ∷ ws)) two)
+
+pub words-append : (ps qs : List (Word × Word)) → words_of_pairs (ps ++ qs) ≡ words_of_pairs ps
+    ++ words_of_pairs qs
+words-append [] qs = refl
+words-append (p ∷ ps) qs = ap (λ ws. p.0 ∷ p.1 ∷ ws) (words-append ps qs)
+
 pub length-words_of_pairs : (pairs : List (Word × Word))
     → length (words_of_pairs pairs) ≡ 2 * length pairs
 length-words_of_pairs [] = refl
 length-words_of_pairs (pair ∷ pairs) = let e = length-words_of_pairs pairs in omega (arith, e)
 
--- what holds of each word holds of the words of each pair
+-- what holds of each word holds of the words of each pair, and so back
 module _ (P : Word → Type 0) where
   pub all_pairs : (ws : List Word) → AllByRecursion P ws
       → AllByRecursion (λ (pair : Word × Word). P pair.0 × P pair.1) (pairs_of_words ws)
@@ -85,6 +104,12 @@ module _ (P : Word → Type 0) where
   all_pairs [] h = tt
   all_pairs (a ∷ []) h = tt
   all_pairs (a ∷ b ∷ ws) h = ((h.0, h.1.0), all_pairs ws h.1.1)
+
+  pub all_words : (pairs : List (Word × Word))
+      → AllByRecursion (λ (pair : Word × Word). P pair.0 × P pair.1) pairs
+      → AllByRecursion P (words_of_pairs pairs)
+  all_words [] all = tt
+  all_words (pair ∷ pairs) all = (all.0.0, (all.0.1, all_words pairs all.1))
 
 -- ---- the place of a key by words
 

@@ -15,7 +15,7 @@ use Rattle.ps_mem.proofs.HeapLemmas.{object_at-stored_same, object_at-stored_oth
 use Rattle.ps_mem.proofs.KeepsLemmas.{Keeps-stored, IsValue-kept, AreValues-kept, known_values}
 use Rattle.ps_mem.proofs.ShowsLemmas.{known_fields}
 use Rattle.ps_dict.specs.Places.{count_at, capacity_at, body_at, pairs_at, IsPlaceFor}
-use Rattle.ps_dict.proofs.Pairs.{pairs-of_words_of_pairs, take-front_all, length-words_of_pairs}
+use Rattle.ps_dict.proofs.Pairs.{words-append, pairs-of_words_of_pairs, take-front_all, length-words_of_pairs}
 use Rattle.ps_dict.proofs.Shapes.{shape, four, fields-dictionary, dictionary_is_no_text, body-stands, body-room, body-values, body-within, count-fits, length-pairs, indexed-is, shown, pairs-shown, holds-shown}
 use Rattle.ps_dict.proofs.Probing.{few-places}
 use Rattle.ps_dict.proofs.Changing.{apart-body}
@@ -23,7 +23,7 @@ use Rattle.ps_dict.proofs.Naturals.{count_fields, natural-within}
 use Rattle.ps_dict.proofs.Appending.{splice-behind, front-words}
 use Rattle.ps_dict.proofs.Indexing.{drop-end, index-values, index-within, length-index_words, indexing-same, indexing-long, indexing-keeps, indexing-next, place-free}
 use Rattle.ps_dict.proofs.Fresh.{take-next, all-there, length-in_twos, pair-in_twos}
-use Rattle.ps_dict.proofs.Growing.{words-append, drop-zeros}
+use Rattle.ps_dict.proofs.Making.{drop-zeros}
 use Rattle.ps_dict.proofs.Rewriting.{rewritten-keeps, rewritten-sound, rewritten-shows}
 
 -- ---- their positions, one after another

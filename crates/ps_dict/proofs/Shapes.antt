@@ -27,7 +27,7 @@ use Rattle.ps_mem.proofs.Lists.{all_take}
 use Rattle.ps_mem.proofs.ShowsLemmas.{body_values}
 use Rattle.ps_dict.specs.Places.{natural_of, natural_in, body_in, count_at, capacity_at, access_at, body_at, pairs_at}
 use Rattle.ps_mem.specs.Index.{pairs_of_words, index_words}
-use Rattle.ps_dict.proofs.Pairs.{all_pairs, length-pairs_of_words, pairs-of_words_of_pairs, take-front_all}
+use Rattle.ps_dict.proofs.Pairs.{all_pairs, words-taken, length-pairs_of_words, pairs-of_words_of_pairs, take-front_all}
 
 -- ---- fields
 
@@ -202,6 +202,13 @@ module _ (h : Heap) (a : ℕ) (known : StandsAs h DictionaryKind a 4) where
         length-take-le (count_at h a) (pairs_of_words (fields_at h (body_at h a)))
         (length-pairs_of_words (count_at h a) (fields_at h (body_at h a))
         (omega (arith, room, fits)))
+
+    -- the words of the pairs
+    pub pair-words : take (2 * count_at h a) (fields_at h (body_at h a)) ≡ words_of_pairs
+        (pairs_at h a)
+    unfolding pairs_at
+    pair-words = let room = body-room in let fits = count-fits in
+        sym (words-taken (count_at h a) (fields_at h (body_at h a)) (omega (arith, room, fits)))
 
     pub pairs-values : AllByRecursion (λ (pair : Word × Word). IsValue h pair.0 × IsValue h pair.1)
         (pairs_at h a)

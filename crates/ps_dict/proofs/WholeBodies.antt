@@ -9,11 +9,10 @@ use Rattle.ps_mem.specs.Index.{pairs_of_words, index_words}
 use Rattle.ps_mem.specs.Shows.{IsValue, AreValues, IsWithin, AreWithin, words_of_pairs}
 use Rattle.ps_mem.proofs.Lists.{all_append}
 use Rattle.ps_mem.proofs.ZeroLemmas.{AreValues-zeros, AreWithin-zeros}
-use Rattle.ps_dict.specs.Merges.{whole_body}
+use Rattle.ps_dict.specs.Bodies.{whole_body}
 use Rattle.ps_dict.proofs.Fresh.{length-in_twos}
-use Rattle.ps_dict.proofs.Growing.{drop-front}
 use Rattle.ps_dict.proofs.Indexing.{set-right, length-index_words, index-values, index-within}
-use Rattle.ps_dict.proofs.Pairs.{length-words_of_pairs, pairs-of_words_of_pairs, take-front_all}
+use Rattle.ps_dict.proofs.Pairs.{drop-front, length-words_of_pairs, pairs-of_words_of_pairs, take-front_all}
 use Rattle.ps_dict.proofs.Making.{more-zeros, no-index}
 use Rattle.ps_dict.proofs.Several.{words-of_twos}
 

@@ -1,3 +1,4 @@
+pub mod Bodies
 pub mod Entries
 pub mod Keys
 pub mod Merges

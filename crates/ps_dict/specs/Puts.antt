@@ -1,14 +1,13 @@
 -- What a put of a key does: which words it writes, and how many records and words of room it takes.
-use Rattle.std.specs.Prelude.{ℕ, ◌≡◌, ◌≢◌, ◌≤◌, ◌+◌, Option, Some, None, zero, suc, List, [], ◌∷◌, length, take, ◌*◌, ◌++◌, nat_lt, if◌then◌else◌}
+use Rattle.std.specs.Prelude.{ℕ, ◌≡◌, ◌≢◌, ◌≤◌, ◌+◌, Option, Some, None, zero, suc, List, [], ◌∷◌, length, nat_lt, if◌then◌else◌}
 use Rattle.ps_language.specs.Value.{Value, Dictionary}
 use Rattle.ps_language.specs.Limits.{capacity_limit}
 use Rattle.ps_language.specs.Dictionaries.{grown_capacity, body_words}
 use Rattle.ps_word.specs.declared.words.Word.{Word}
-use Rattle.ps_mem.specs.Heap.{Heap, Grants, birth_at, fields_at, stored, made_body}
-use Rattle.ps_mem.specs.Index.{index_words}
+use Rattle.ps_mem.specs.Heap.{Heap, Grants}
 use Rattle.ps_dict.specs.declared.plans.PutPlan.{PutPlan}
 use Rattle.ps_dict.specs.declared.plans.PutPlan.TheVariants.{Replace, Append, Grow, Full}
-use Rattle.ps_dict.specs.Places.{count_at, capacity_at, body_at, pairs_at, place_of, first_place}
+use Rattle.ps_dict.specs.Places.{count_at, capacity_at, pairs_at, place_of, first_place}
 
 -- where the key is there, its value is replaced; else a pair goes last, in a greater body where the capacity is used up
 abbrev pub plan_from : Option ℕ → ℕ → ℕ → PutPlan
@@ -32,15 +31,6 @@ unfoldable pub with_value : {K V : Type 0} → List (K × V) → ℕ → V → L
 with_value [] place value = []
 with_value (pair ∷ pairs) zero value = (pair.0, value) ∷ pairs
 with_value (pair ∷ pairs) (suc place) value = pair ∷ with_value pairs place value
-
--- a new body of a capacity at an address, for a dictionary: its pairs, one more, and their index
-abbrev pub with_body : Heap → (dictionary body capacity : ℕ) → (key value : Word) → Heap
-with_body h dictionary body capacity key value =
-    stored
-    (stored (made_body h body (birth_at h dictionary) (3 * capacity)) body 0
-    (take (2 * count_at h dictionary) (fields_at h (body_at h dictionary)) ++ key ∷ value ∷ []))
-    body (2 * capacity) (index_words (birth_at h) capacity
-    (pairs_at h dictionary ++ (key, value) ∷ []))
 
 -- the stores that it makes
 abbrev pub records_of : PutPlan → ℕ

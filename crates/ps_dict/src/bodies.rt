@@ -1,6 +1,6 @@
 //! The words of a whole body, put together in a list outside the memory.
 
-ghost use Rattle.std.specs.Prelude.{◌≡◌, ◌≢◌, ℕ, ◌+◌, ◌*◌, ◌/◌, ◌++◌, ◌<◌, ◌≤◌, List, OnOk, OnErr, length, map, replicate, take, vec_capacity};
+ghost use Rattle.std.specs.Prelude.{◌≡◌, ◌≢◌, ℕ, ◌+◌, ◌*◌, ◌/◌, ◌++◌, ◌<◌, ◌≤◌, List, [], OnOk, OnErr, length, map, replicate, take, vec_capacity};
 ghost use Rattle.ps_language.specs.Value.{Store};
 ghost use Rattle.ps_language.specs.Access.{dictionary_at, with_dictionary};
 ghost use Rattle.ps_mem.specs.Heap.{birth_at, object_at, zero_word};
@@ -8,7 +8,7 @@ ghost use Rattle.ps_mem.specs.Index.{pairs_of_words};
 ghost use Rattle.ps_mem.specs.Keeps.{Keeps};
 ghost use Rattle.ps_mem.specs.References.{StandsAs};
 ghost use Rattle.ps_mem.specs.Shows.{AreValues, AreWithin, IsSound, Shows, pair_of, words_of_pairs};
-ghost use Rattle.ps_dict.specs.Merges.{whole_body};
+ghost use Rattle.ps_dict.specs.Bodies.{whole_body};
 ghost use Rattle.ps_dict.specs.Places.{body_at, capacity_at};
 ghost use Rattle.ps_dict.specs.Puts.{AfterChange};
 
@@ -40,7 +40,7 @@ pub(crate) fn push_nulls(scratch: &mut Vec<Word>, count: u32) -> Result<(), Allo
 
 /// Makes the words of pairs, key before value, those of a whole body of a capacity: nulls behind
 /// them, and their index behind those. `AllocError`: the list lacks room for the body, and its
-/// growth was refused; it is what it was.
+/// growth was refused; it is empty then.
 pub(crate) fn complete_body<M: Memory>(
     memory: &mut M,
     capacity: u32,
@@ -54,12 +54,18 @@ pub(crate) fn complete_body<M: Memory>(
     ensures grants { M.grants memory.new ≡ M.grants memory.old }
     ensures words { OnOk result (scratch.new.items ≡ whole_body (birth_at (M.heap memory.old))
         capacity (pairs_of_words scratch.old.items)) }
-    ensures unchanged { OnErr result (scratch.new.items ≡ scratch.old.items) }
+    ensures empty { OnErr result (scratch.new.items ≡ []) }
     ensures full { OnErr result (vec_capacity scratch.old < 3 * capacity) }
     ensures room { vec_capacity scratch.old ≤ vec_capacity scratch.new }
 {
     let count = (scratch.len() / 2) as u32;
-    push_nulls(scratch, 3 * capacity - 2 * count)?;
+    match push_nulls(scratch, 3 * capacity - 2 * count) {
+        Ok(()) => {}
+        Err(error) => {
+            scratch.clear();
+            return Err(error);
+        }
+    }
     for position in 0..count {
         let key = scratch[2 * position as usize];
         let start = first_place(memory, key, capacity);

@@ -5,8 +5,8 @@ ghost use Rattle.ps_mem.specs.Heap.{object_at, birth_at, fields_at, stored, made
 ghost use Rattle.ps_mem.specs.Index.{pairs_of_words, index_words};
 ghost use Rattle.ps_mem.specs.References.{StandsAs, AreKnown};
 ghost use Rattle.ps_mem.specs.Shows.{IsValue, AreValues, IsSound};
-ghost use Rattle.ps_dict.specs.Places.{count_at, body_at};
-ghost use Rattle.ps_dict.specs.Puts.{with_body};
+ghost use Rattle.ps_dict.specs.Places.{count_at, body_at, pairs_at};
+ghost use Rattle.ps_dict.specs.Bodies.{with_body};
 
 use crate::changes::natural_word;
 use crate::dictionaries::{body, length};
@@ -122,8 +122,8 @@ pub(crate) fn new_body<M: Memory>(
     requires value { IsValue (M.heap memory.old) value }
     ensures address { result < 2 ^ 24 }
     ensures free { object_at (M.heap memory.old) result ≡ None }
-    ensures heap { M.heap memory.new ≡ with_body (M.heap memory.old) address result capacity key
-        value }
+    ensures heap { M.heap memory.new ≡ with_body (M.heap memory.old) address result capacity
+        (pairs_at (M.heap memory.old) address ++ (key, value) ∷ []) }
     ensures grants { AfterNew (M.grants memory.old) (M.grants memory.new) result (2 + 3 * capacity)
         0 }
 {

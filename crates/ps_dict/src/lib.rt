@@ -4,12 +4,13 @@
 mod appends;
 mod bodies;
 pub mod changes;
+pub mod copies;
 pub mod dictionaries;
 pub mod entries;
 mod fills;
 pub mod index;
 pub mod keys;
 pub mod makes;
-pub mod merges;
+mod merges;
 pub mod plans;
 pub mod removals;

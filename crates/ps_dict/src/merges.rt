@@ -133,7 +133,7 @@ fn push_pairs<M: Memory>(
 /// The words of the pairs of one dictionary put into another in order, in an empty list.
 /// `AllocError`: the list lacks room for the words of both, and its growth was refused; it is
 /// empty still.
-pub fn merge_words<M: Memory>(
+pub(crate) fn merge_words<M: Memory>(
     memory: &mut M,
     to: u32,
     from: u32,

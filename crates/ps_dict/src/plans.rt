@@ -60,7 +60,7 @@ impl PutPlan {
 
 /// The capacity of a dictionary that is to have a pair more than its capacity: twice the capacity
 /// and four, at most 21,845.
-fn next_capacity(capacity: u32, count: u32) -> u32
+pub(crate) fn next_capacity(capacity: u32, count: u32) -> u32
     requires full { capacity < count }
     requires limit { capacity < 21845 }
     requires few { count ≤ 21845 }

@@ -24,3 +24,8 @@ error_row-requires g c = record {
   sound = subst IsSound (sym (c.open_cycle-5.ensures.heap ∙ c.in_ok-sixth.ensures.empty))
       (IsSound-empty _);
 }
+
+pub copies_row-requires-clause-sound : goal.copies_row-requires-clause-sound
+copies_row-requires-clause-sound g c =
+    subst IsSound (sym (c.open_cycle-6.ensures.heap ∙ c.in_ok-seventh.ensures.empty))
+    (IsSound-empty _)

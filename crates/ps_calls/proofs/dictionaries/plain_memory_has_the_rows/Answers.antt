@@ -22,3 +22,6 @@ access_row-requires g c =
 pub error_row-requires : goal.error_row-requires
 error_row-requires g c =
     record { sound = subst IsSound (sym c.new-sixth.ensures) (IsSound-empty _) }
+
+pub copies_row-requires-clause-sound : goal.copies_row-requires-clause-sound
+copies_row-requires-clause-sound g c = subst IsSound (sym c.new-seventh.ensures) (IsSound-empty _)

@@ -11,7 +11,7 @@ pub loop-position-init : goal.loop-position-init
 loop-position-init g c = record {
   heap = search rules;
   grants = search rules;
-  items = c.in_ok-push_nulls.ensures.nulls
+  items = c.in-Ok.ensures.nulls
       ∙ body-none (birth_at (g.M.Memory.heap c.args.memory.now)) c.args.capacity
       c.args.scratch.now.items c.requires.even c.requires.room _ (omega arith);
   room = search rules;

@@ -5,7 +5,7 @@ use Rattle.ps_mem.specs.Shows.{words_of_pairs}
 use Rattle.ps_dict.specs.Places.{pairs_at, place_of}
 use Rattle.ps_dict.specs.Merges.{merged}
 use Rattle.ps_dict.proofs.Pairs.{place_below, length-words_of_pairs}
-use Rattle.ps_dict.proofs.Growing.{words-append}
+use Rattle.ps_dict.proofs.Pairs.{words-append}
 use Rattle.ps_dict.proofs.Merging.{merged-next, put-at, set-value}
 use Rattle.ps_dict.proofs.merges.merge_pair.Goals as goal
 

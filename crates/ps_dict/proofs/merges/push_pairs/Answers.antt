@@ -3,7 +3,7 @@ use Rattle.std.specs.Prelude.{slice_get}
 use Rattle.ps_mem.specs.Heap.{Heap, fields_at}
 use Rattle.ps_dict.specs.Places.{count_at, body_at}
 use Rattle.ps_dict.proofs.Fresh.{take-next}
-use Rattle.ps_dict.proofs.Growing.{pair-words}
+use Rattle.ps_dict.proofs.Shapes.{pair-words}
 use Rattle.ps_dict.proofs.Shapes.{count-fits, body-room}
 use Rattle.ps_dict.proofs.merges.push_pairs.Goals as goal
 

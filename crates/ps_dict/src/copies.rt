@@ -1,0 +1,186 @@
+//! The pairs of one dictionary put into another (PLRM2, 8 'copy'): a step reads, and asks for
+//! records and room, before it writes anything.
+
+ghost use Rattle.std.specs.Prelude.{◌≡◌, ◌≢◌, ◌↔◌, ℕ, ◌+◌, ◌*◌, ◌/◌, ◌^◌, ◌<◌, ◌≤◌, List, [], None, Some, IfOk, OnErr, length, vec_capacity};
+ghost use Rattle.std.specs.List.{AllPairs};
+ghost use Rattle.ps_language.specs.Value.{Store, Dictionary};
+ghost use Rattle.ps_language.specs.Access.{dictionary_at, with_dictionary};
+ghost use Rattle.ps_language.specs.Dictionaries.{grown_capacity, holding, put_pairs};
+ghost use Rattle.ps_mem.specs.Heap.{birth_at};
+ghost use Rattle.ps_mem.specs.Index.{pairs_of_words};
+ghost use Rattle.ps_mem.specs.Keeps.{Keeps};
+ghost use Rattle.ps_mem.specs.References.{StandsAs};
+ghost use Rattle.ps_mem.specs.Shows.{AreValues, IsSound, Shows};
+ghost use Rattle.ps_dict.specs.Merges as merges;
+ghost use Rattle.ps_dict.specs.Merges.{body_plan, merge_plan_at, merge_planned, merge_words_at, merge_room, planned_words};
+ghost use Rattle.ps_dict.specs.Puts.{AfterChange};
+
+use crate::bodies::{complete_body, write_new, write_over};
+use crate::dictionaries::{capacity, length};
+use crate::merges::merge_words;
+use crate::plans::{CAPACITY_LIMIT, next_capacity};
+use ps_language::kinds::Kind;
+use ps_mem::Memory;
+use ps_word::words::Word;
+use std::alloc::AllocError;
+
+/// What putting the pairs of one dictionary into another does.
+#[derive(Clone, Copy, Debug, PartialEq, Eq)]
+pub enum MergePlan {
+    /// The source has no pairs, and nothing changes.
+    Keep,
+    /// So many pairs are written over the body that there is.
+    Rewrite { count: u32 },
+    /// So many pairs go into a new body of this capacity.
+    Grow { count: u32, capacity: u32 },
+    /// They would be more than 21,845.
+    Full,
+}
+
+impl MergePlan {
+    /// How many records the put asks for: those of the body and of the number of pairs, or that of
+    /// the fields.
+    pub fn records(self) -> u32
+        ensures { result ≡ merges.records_of self }
+    {
+        match self {
+            MergePlan::Keep | MergePlan::Full => 0,
+            MergePlan::Rewrite { .. } => 2,
+            MergePlan::Grow { .. } => 1,
+        }
+    }
+
+    /// How many words of room the put asks for: those of a new body with its header.
+    pub fn words(self) -> u32
+        requires { (count capacity : ℕ) → self ≡ MergePlan.Grow count capacity → capacity ≤ 21845 }
+        ensures { result ≡ merges.words_of self }
+    {
+        match self {
+            MergePlan::Grow { capacity, .. } => 2 + 3 * capacity,
+            MergePlan::Keep | MergePlan::Rewrite { .. } | MergePlan::Full => 0,
+        }
+    }
+}
+
+/// What the pairs put together, given by their words, do to a dictionary of a capacity; the list
+/// becomes the words of the whole body. `AllocError`: the list lacks room for those, and its growth
+/// was refused; it is empty then.
+fn plan_body<M: Memory>(
+    memory: &mut M,
+    capacity: u32,
+    scratch: &mut Vec<Word>,
+) -> Result<MergePlan, AllocError>
+    requires limit { capacity ≤ 21845 }
+    requires few { length scratch.old.items < 2 ^ 31 }
+    requires even { 2 * (length scratch.old.items / 2) ≡ length scratch.old.items }
+    requires held { AreValues (M.heap memory.old) scratch.old.items }
+    ensures heap { M.heap memory.new ≡ M.heap memory.old }
+    ensures grants { M.grants memory.new ≡ M.grants memory.old }
+    ensures plan { IfOk result (λ plan. plan ≡ body_plan (length scratch.old.items / 2) capacity) }
+    ensures words { IfOk result
+        (λ plan. scratch.new.items ≡ planned_words plan (birth_at (M.heap memory.old)) capacity
+        (pairs_of_words scratch.old.items)) }
+    ensures empty { OnErr result (scratch.new.items ≡ []) }
+    ensures full { OnErr result
+        (vec_capacity scratch.old < 3 * grown_capacity capacity (length scratch.old.items / 2)) }
+    ensures room { vec_capacity scratch.old ≤ vec_capacity scratch.new }
+{
+    let count = (scratch.len() / 2) as u32;
+    if count <= capacity {
+        complete_body(memory, capacity, scratch)?;
+        Ok(MergePlan::Rewrite { count })
+    } else if count <= CAPACITY_LIMIT {
+        let grown = next_capacity(capacity, count);
+        complete_body(memory, grown, scratch)?;
+        Ok(MergePlan::Grow {
+            count,
+            capacity: grown,
+        })
+    } else {
+        scratch.clear();
+        Ok(MergePlan::Full)
+    }
+}
+
+/// What putting the pairs of `from` into `to` in order will do; the words of the whole body are put
+/// together in `scratch`, which is empty before. `Full` exactly where the pairs would be too many.
+///
+/// `AllocError`: the list lacks room for the words of the pairs of both, or for those of the whole
+/// body, and its growth was refused; it is empty then.
+pub fn plan_merge<M: Memory>(
+    memory: &mut M,
+    to: u32,
+    from: u32,
+    scratch: &mut Vec<Word>,
+) -> Result<MergePlan, AllocError>
+    requires sound { IsSound (M.heap memory.old) }
+    requires target { StandsAs (M.heap memory.old) Kind.Dictionary to 4 }
+    requires source { StandsAs (M.heap memory.old) Kind.Dictionary from 4 }
+    requires empty { scratch.old.items ≡ [] }
+    ensures heap { M.heap memory.new ≡ M.heap memory.old }
+    ensures grants { M.grants memory.new ≡ M.grants memory.old }
+    ensures plan { IfOk result (λ plan. plan ≡ merge_plan_at (M.heap memory.old) to from) }
+    ensures words { IfOk result
+        (λ plan. scratch.new.items ≡ merge_words_at (M.heap memory.old) to from plan) }
+    ensures limit { IfOk result
+        (λ plan. (count capacity : ℕ) → plan ≡ MergePlan.Grow count capacity → capacity ≤ 21845) }
+    ensures value { (names : List (List ℕ)) (s : Store) → Shows (M.heap memory.old) names s
+        → AllPairs (λ first later. first ≢ later) names → IfOk result
+        (λ plan. plan ≡ merge_planned (dictionary_at s (birth_at (M.heap memory.old) to))
+        (dictionary_at s (birth_at (M.heap memory.old) from))) }
+    ensures full { (names : List (List ℕ)) (s : Store) → Shows (M.heap memory.old) names s
+        → AllPairs (λ first later. first ≢ later) names → IfOk result
+        (λ plan. (plan ≡ MergePlan.Full) ↔
+        (holding (dictionary_at s (birth_at (M.heap memory.old) to))
+        (put_pairs (dictionary_at s (birth_at (M.heap memory.old) to)).pairs
+        (dictionary_at s (birth_at (M.heap memory.old) from)).pairs) ≡ None)) }
+    ensures empty { OnErr result (scratch.new.items ≡ []) }
+    ensures short { OnErr result
+        (vec_capacity scratch.old < merge_room (M.heap memory.old) to from) }
+    ensures room { vec_capacity scratch.old ≤ vec_capacity scratch.new }
+{
+    if length(memory, from) == 0 {
+        return Ok(MergePlan::Keep);
+    }
+    let capacity = capacity(memory, to);
+    merge_words(memory, to, from, scratch)?;
+    plan_body(memory, capacity, scratch)
+}
+
+/// Puts the pairs of `from` into `to` in order, as `plan_merge` planned it in this memory, by the
+/// words that it put together: a present key keeps its place and its object, and new ones go last,
+/// in their order. The dictionary grows once, by the number of pairs that it has then. The plan's
+/// records, at most two, are granted in the slot, and its words.
+pub fn put_merged<M: Memory>(
+    memory: &mut M,
+    slot: u32,
+    to: u32,
+    _from: u32,
+    plan: MergePlan,
+    words: &[Word],
+)
+    requires plan { plan ≡ merge_plan_at (M.heap memory.old) to _from }
+    requires possible { plan ≢ MergePlan.Full }
+    requires words { words.now ≡ merge_words_at (M.heap memory.old) to _from plan }
+    requires granted { merges.records_of plan ≤ (M.grants memory.old).records slot }
+    requires room { merges.words_of plan ≤ (M.grants memory.old).words }
+    requires sound { IsSound (M.heap memory.old) }
+    requires target { StandsAs (M.heap memory.old) Kind.Dictionary to 4 }
+    requires source { StandsAs (M.heap memory.old) Kind.Dictionary _from 4 }
+    ensures sound { IsSound (M.heap memory.new) }
+    ensures keeps { Keeps (M.heap memory.old) (M.heap memory.new) }
+    ensures grants { AfterChange (M.grants memory.old) (M.grants memory.new) slot
+        (merges.records_of plan) (merges.words_of plan) }
+    ensures shows { (names : List (List ℕ)) (s : Store) → Shows (M.heap memory.old) names s
+        → AllPairs (λ first later. first ≢ later) names → (d : Dictionary)
+        → holding (dictionary_at s (birth_at (M.heap memory.old) to))
+        (put_pairs (dictionary_at s (birth_at (M.heap memory.old) to)).pairs
+        (dictionary_at s (birth_at (M.heap memory.old) _from)).pairs) ≡ Some d
+        → Shows (M.heap memory.new) names (with_dictionary s (birth_at (M.heap memory.old) to) d) }
+{
+    match plan {
+        MergePlan::Rewrite { count } => write_over(memory, slot, to, count, words),
+        MergePlan::Grow { count, capacity } => write_new(memory, slot, to, count, capacity, words),
+        MergePlan::Keep | MergePlan::Full => {}
+    }
+}
