@@ -4,6 +4,7 @@ pub mod Counted
 pub mod Cycles
 pub mod Facts
 pub mod Falling
+pub mod Flipped
 pub mod GoesOn
 pub mod Loads
 pub mod Logged

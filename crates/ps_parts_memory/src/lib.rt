@@ -7,7 +7,10 @@
 #![tactic(auto)]
 
 ghost use Rattle.std.specs.Prelude.{ℕ};
+ghost use Rattle.ps_core_parts.specs.declared.events.Event.TheVariants.{CycleStore};
 ghost use Rattle.ps_core_laws.specs.Kept.{VmKnows};
+ghost use Rattle.ps_core_laws.specs.Runs.{Whenever};
+ghost use Rattle.ps_parts_memory.specs.Flips.{KeepsIndexes};
 ghost use Rattle.ps_parts_memory.specs.Laws.{OfParts, StoresGoOn, LoadsGoOn, LoadsControl};
 ghost use Rattle.ps_parts_memory.specs.Laws.{LoadsFields, LoadsHeaders, IsCounted, HasRoomGranted, Stores};
 ghost use Rattle.ps_parts_memory.specs.Laws.{Logs, Fills, Copies, GrantsLogs, Makes, MakesBodies};
@@ -56,6 +59,9 @@ pub fn memory_laws()
     ensures opens { OfParts Opens }
     // Where a record is granted in a cycle, the log may be closed, and is closed then; no other is.
     ensures closes { OfParts ClosesLogs }
+    // After a flip a dictionary's body has its index where its replica is: keys go by births, and
+    // never by addresses.
+    ensures indexes { Whenever CycleStore KeepsIndexes }
     // At the start nothing stands.
     ensures start { (space : ℕ) → StartsEmpty space }
 {

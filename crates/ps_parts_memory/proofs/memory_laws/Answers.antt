@@ -1,8 +1,10 @@
+use Rattle.ps_core_laws.specs.Runs.{run}
 use Rattle.ps_parts_memory.proofs.Facts.{facts, part_knows, head_found}
 use Rattle.ps_parts_memory.proofs.Bodies.{makes_bodies}
 use Rattle.ps_parts_memory.proofs.Copied.{copies}
 use Rattle.ps_parts_memory.proofs.Counted.{counted}
 use Rattle.ps_parts_memory.proofs.Cycles.{grants, sees_heads, opens, closes_logs}
+use Rattle.ps_parts_memory.proofs.Flipped.{replicas_low, keeps-indexes}
 use Rattle.ps_parts_memory.proofs.GoesOn.{goes_on, loads_go_on}
 use Rattle.ps_parts_memory.proofs.Loads.{control_loads, field_loads, header_loads}
 use Rattle.ps_parts_memory.proofs.Room.{heap_start}
@@ -65,6 +67,13 @@ returns-clause-opens c = λ v r. opens v (part_knows c.law.ensures.kept v r)
 
 pub returns-clause-closes : goal.returns-clause-closes
 returns-clause-closes c = λ v r. closes_logs v (part_knows c.law.ensures.kept v r)
+
+pub returns-clause-indexes : goal.returns-clause-indexes
+returns-clause-indexes c = λ space size events h roots p.
+    keeps-indexes (run space events) roots (c.law.ensures.pairs space size events h)
+    (c.law.ensures.carries space size events h roots p)
+    (c.law.ensures.flips space size events h roots p)
+    (replicas_low (run space events) (c.law.ensures.kept space size events h))
 
 pub returns-clause-start : goal.returns-clause-start
 returns-clause-start c = heap_start
