@@ -1,9 +1,9 @@
 -- Operators that change objects or make them.
 use Rattle.std.proofs.Common.{◌≡◌, ℕ, ◌-◌, ◌<◌, ◌≤◌, arith, Bool, true, false, List, [], ◌∷◌, length, Option, Some, None, Result, Ok, Err, refl, sym, ap, subst, ◌∙◌, append-nil, inl, inr}
 use Rattle.std.proofs.lemmas.Bool.Decides.{eqb_tells, nat_tests}
-use Rattle.std.specs.Prelude.{min, slice_get, if◌then◌else◌}
+use Rattle.std.specs.Prelude.{min, nat_le, slice_get, if◌then◌else◌}
 use Rattle.ps_language.specs.declared.errors.ErrorName.{ErrorName}
-use Rattle.ps_language.specs.declared.errors.ErrorName.TheVariants.{VmError, InvalidAccess, RangeCheck}
+use Rattle.ps_language.specs.declared.errors.ErrorName.TheVariants.{VmError, InvalidAccess, RangeCheck, StackUnderflow}
 use Rattle.ps_language.specs.Value.{Part as PartValue, Value, Store, Object, array_object, string_object, dictionary_object, lock_object, condition_object}
 use Rattle.ps_language.specs.Access.{is_writable, bytes, bytes_in, with_elements}
 use Rattle.ps_language.specs.Outcome.{Outcome, leaves, fails, given, given_that, Change}
@@ -13,6 +13,7 @@ use Rattle.ps_language.specs.Effect.{Scene, makes}
 use Rattle.ps_language.specs.Acts.{change_effect}
 use Rattle.ps_language.specs.Rows.{changing_row}
 use Rattle.ps_language.specs.ArrayRows.{array_put_row}
+use Rattle.ps_language.specs.RowsSequences.{astore_row}
 use Rattle.ps_language.proofs.AskedLemmas.{made-new}
 use Rattle.ps_word.specs.declared.words.Word.{Word}
 use Rattle.ps_word.specs.declared.values.Content.{Content}
@@ -66,7 +67,7 @@ lasts_given_that s true error next left = left
 lasts_given_that s false error next left = record { lasts = tt }
 
 -- other elements where no string is
-elements_last : (s : Store) (b : ℕ) (es : List Value) → bytes s b ≡ [] → (c : ℕ)
+pub elements_last : (s : Store) (b : ℕ) (es : List Value) → bytes s b ≡ [] → (c : ℕ)
     → length (bytes s c) ≤ length (bytes (with_elements s b es) c)
 unfolding bytes with_elements
 elements_last s b es none c = elim (eqb_tells b c) [
@@ -107,7 +108,7 @@ module _ (h : Heap) (names : List (List ℕ)) (s : Store) (shows : Shows h names
   array_content (Body _) known p is = cc
 
   -- an array among the operands is no string
-  array_bytes : (w : Word) → IsValue h w → (p : PartValue)
+  pub array_bytes : (w : Word) → IsValue h w → (p : PartValue)
       → as_array (value_of (birth_at h) names w) ≡ Some p → bytes s p.birth ≡ []
   unfolding as_array value_of IsKnown
   array_bytes w value p is = array_content (content_in w.0) value.known p is
@@ -123,6 +124,15 @@ module _ (h : Heap) (names : List (List ℕ)) (s : Store) (shows : Shows h names
       lasts_given_that s (is_writable part.access) InvalidAccess _
       (lasts_given {A = ℕ} s (index_below number part.count) RangeCheck _ λ index _.
       elements_changing _ s part.birth _ (array_bytes x values.1.1.0 part is))
+
+  pub astore_lasts : (operands : List Word) → AreValues h operands
+      → RowLasts s (astore_row s (values_in h names operands))
+  astore_lasts [] values = record { lasts = tt }
+  astore_lasts (x ∷ rest) values =
+      lasts_given s (as_array (value_of (birth_at h) names x)) _ _ λ part is.
+      lasts_given_that s (is_writable part.access) InvalidAccess _
+      (lasts_given_that s (nat_le part.count (length (values_in h names rest))) StackUnderflow _
+      (elements_changing _ s part.birth _ (array_bytes x values.0 part is)))
 
 -- an object has a header at least
 size_positive : (object : Object) → 1 ≤ size_of object
@@ -213,18 +223,19 @@ module _ (l : Lent) (good : IsGood l) (trial : Trial) (new : Heap) (left : Grant
         → RowLasts store (row store (values_in l.heap l.names l.operands)))
         → Changes row count result trial.slot l.grants left l.heap new l.operands after
         → IsReady new after
-        → ((values : List Value) → Logs (spent result (min 1 (count values))))
+        → ((names : List (List ℕ)) → Logs (spent result (min 1 (count (values_in l.heap names
+        l.operands)))))
         → Acts asks (changing_row row) trial (tried result) l (over l new left after)
     changes_acts row result none lasts did ready logs = record {
       meets = λ store shown.
           let values = values_in l.heap l.names l.operands in
           changed_as result (row store values) store shown (none store values) (lasts store shown)
-          (tried_logs result _ _ l.grants left trial.slot (omega arith) (logs values))
+          (tried_logs result _ _ l.grants left trial.slot (omega arith) (logs l.names))
           (did.meets l.names store shown.shows shown.operands);
       good = changed_good l good new left after keeps ready;
       keeps = keeps;
       stays = stays_as l _ refl refl refl (omega arith) (at_least-same _);
-      logs = tried_logs result _ _ l.grants left trial.slot (one_record (count [])) (logs []);
+      logs = tried_logs result _ _ l.grants left trial.slot (one_record _) (logs l.names);
       framed = tried_framed l.frames result;
     }
 

@@ -4,3 +4,7 @@ pub mod Lifts
 pub mod Changing
 pub mod Acting
 pub mod Naming
+pub mod Stacked
+pub mod Forming
+pub mod Alike
+pub mod Direct

@@ -136,7 +136,7 @@ MayNote slot old new names =
 pub record IsRefused (slot : ℕ) (before : Scene) (old new : Lent) (names : List (List ℕ)) : Type 0
   where
     pub is : new ≡ record old
-      { grants = new.grants; room = new.room; names = names; scratch = new.scratch }
+        { grants = new.grants; room = new.room; names = names; scratch = new.scratch }
     pub left : IsLeft before.store new (record before { names = names })
     pub may_note : MayNote slot old new names
 

@@ -1,1 +1,6 @@
 pub mod Stacking
+pub mod Reading
+pub mod Keying
+pub mod Looking
+pub mod Formed
+pub mod Finding

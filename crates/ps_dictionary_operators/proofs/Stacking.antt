@@ -1,5 +1,5 @@
 -- What the operators on the dictionary stack leave.
-use Rattle.std.proofs.Common.{◌≡◌, ℕ, ◌<◌, ◌≤◌, arith, true, false, List, [], ◌∷◌, drop, length, None, Some, refl, sym, append-nil}
+use Rattle.std.proofs.Common.{◌≡◌, ℕ, ◌<◌, ◌-◌, ◌≤◌, arith, true, false, List, [], ◌∷◌, drop, length, None, Some, refl, sym}
 use Rattle.std.specs.Prelude.{option_map, nat_lt, map}
 use Rattle.std.proofs.lemmas.Bool.Decides.{nat_tests}
 use Rattle.std.proofs.lemmas.List.{length-map, drop-map}
@@ -7,10 +7,10 @@ use Rattle.ps_language.specs.declared.access.Access.{Access}
 use Rattle.ps_language.specs.declared.errors.ErrorName.TheVariants.{StackUnderflow, TypeCheck, InvalidAccess, DictStackOverflow, DictStackUnderflow}
 use Rattle.ps_language.specs.Value.{Store}
 use Rattle.ps_language.specs.Access.{is_readable, dictionary_at}
-use Rattle.ps_language.specs.Readers.{as_dictionary, dictionary_in}
+use Rattle.ps_language.specs.Readers.{as_dictionary, dictionary_in, natural, push}
 use Rattle.ps_language.specs.Effect.{raises}
 use Rattle.ps_language.specs.Rows.{stacking_row}
-use Rattle.ps_language.specs.RowsDictionaries.{begin_row, end_row}
+use Rattle.ps_language.specs.RowsDictionaries.{begin_row, end_row, cleardictstack_row, currentdict_row, countdictstack_row}
 use Rattle.ps_stacks.specs.Tops.{first_of}
 use Rattle.ps_word.specs.declared.words.Word.{Word}
 use Rattle.ps_word.specs.declared.values.Content.{Content}
@@ -19,15 +19,17 @@ use Rattle.ps_word.specs.Format.{content_in}
 use Rattle.ps_word.specs.Readers as words
 use Rattle.ps_mem.specs.Heap.{birth_at}
 use Rattle.ps_mem.specs.Meaning.{value_of, what_of}
-use Rattle.ps_mem.specs.Shows.{IsValue, IsWithin, Shows}
+use Rattle.ps_mem.specs.Shows.{IsWithin, Shows}
 use Rattle.ps_ops.proofs.Operands.{first_split}
 use Rattle.ps_ops.proofs.Held.{first_held, rest_held}
 use Rattle.ps_types.proofs.Accesses.{dictionary_has}
-use Rattle.ps_acts.specs.declared.lent.Trial.{Trial}
-use Rattle.ps_acts.specs.Lent.{Lent, IsShown, IsGood}
-use Rattle.ps_acts.specs.Acts.{nothing_asked, effect_in}
-use Rattle.ps_acts.proofs.Acting.{Made}
-use Rattle.ps_acts.proofs.Meeting.{lasts-same, logs-same, lacks_for_same}
+use Rattle.ps_acts.specs.Lent.{Lent, scene_of, IsShown}
+use Rattle.ps_acts.specs.Acts.{effect_in}
+use Rattle.ps_operands.specs.Plain.{IsPlain}
+use Rattle.ps_ops.specs.Does.{values_in}
+use Rattle.ps_ops.proofs.Ready.{plain_within}
+use Rattle.ps_language.specs.Acts.{operands_effect}
+use Rattle.ps_acts.proofs.Stacked.{Stacks, PushesIn, same_stack_is}
 use Rattle.ps_ops.proofs.Operands.{none_left}
 
 module _ (births : ℕ → ℕ) (names : List (List ℕ)) where
@@ -61,7 +63,7 @@ no_fewer : {A B : Type 0} (f : A → B) (xs : List A) (n : ℕ) → n ≤ length
     → nat_lt (length (map f xs)) n ≡ false
 no_fewer f xs n many = let same = length-map xs f in grind (arith, nat_tests)
 
-module _ (trial : Trial) (l : Lent) where
+module _ (l : Lent) where
   pub begin_empty : None ≡ first_of l.operands → (store : Store) → IsShown l store
       → effect_in (stacking_row begin_row) l store ≡ raises StackUnderflow
   begin_empty none store shown = rw (none_left l.operands none) refl
@@ -101,15 +103,9 @@ module _ (trial : Trial) (l : Lent) where
               no_fewer (value_of (birth_at l.heap) l.names) l.dictionaries 20 many,
             ) refl
 
-        pub begin_made : length l.dictionaries < 20 → (store : Store) → IsShown l store
-            → Made (stacking_row begin_row) trial nothing_asked l
-            (record l { operands = drop 1 l.operands; dictionaries = w ∷ l.dictionaries }) store
-        begin_made few store shown = record {
-          after = store;
-          enough = lacks_for_same trial.refused store;
-          lasts = lasts-same store;
-          logs = logs-same 0 l.grants trial.slot;
-          output = [];
+        pub begin_stacks : length l.dictionaries < 20 → (store : Store) → IsShown l store
+            → Stacks (stacking_row begin_row) l (drop 1 l.operands) (w ∷ l.dictionaries) store
+        begin_stacks few store shown = record {
           is = rw (
             first_split l.operands w one,
             dictionary_is (birth_at l.heap) l.names w,
@@ -119,35 +115,14 @@ module _ (trial : Trial) (l : Lent) where
             readable,
             fewer (value_of (birth_at l.heap) l.names) l.dictionaries 20 few,
           ) refl;
-          shown = record {
-            shows = shown.shows;
-            operands = rest_held (IsWithin (birth_at l.heap) l.names store) l.operands
-                shown.operands 1;
-            dictionaries = (
-              first_held (IsWithin (birth_at l.heap) l.names store) l.operands
-                  shown.operands w one,
-              shown.dictionaries,
-            );
-            frames = shown.frames;
-          };
-          printed = sym (append-nil l.printed);
+          operands_within = rest_held (IsWithin (birth_at l.heap) l.names store) l.operands
+              shown.operands 1;
+          dictionaries_within = (
+            first_held (IsWithin (birth_at l.heap) l.names store) l.operands
+                shown.operands w one,
+            shown.dictionaries,
+          );
         }
-
-    pub begin_good : IsGood l → IsGood
-        (record l { operands = drop 1 l.operands; dictionaries = w ∷ l.dictionaries })
-    begin_good good = record {
-      sound = good.sound;
-      operands = rest_held (IsValue l.heap) l.operands good.operands 1;
-      dictionaries = (
-        first_held (IsValue l.heap) l.operands good.operands w one,
-        good.dictionaries,
-      );
-      frames = good.frames;
-      error_stands = good.error_stands;
-      names = good.names;
-      first = good.first;
-      empty = good.empty;
-    }
 
   pub end_few : length l.dictionaries ≤ 2 → (store : Store) → IsShown l store
       → effect_in (stacking_row end_row) l store ≡ raises DictStackUnderflow
@@ -158,24 +133,13 @@ module _ (trial : Trial) (l : Lent) where
           let same = length-map l.dictionaries (value_of (birth_at l.heap) l.names) in
           grind (arith, nat_tests)
 
-  pub end_made : 2 < length l.dictionaries → (store : Store) → IsShown l store
-      → Made (stacking_row end_row) trial nothing_asked l
-      (record l { dictionaries = drop 1 l.dictionaries }) store
-  end_made many store shown = record {
-    after = store;
-    enough = lacks_for_same trial.refused store;
-    lasts = lasts-same store;
-    logs = logs-same 0 l.grants trial.slot;
-    output = [];
+  pub end_stacks : 2 < length l.dictionaries → (store : Store) → IsShown l store
+      → Stacks (stacking_row end_row) l l.operands (drop 1 l.dictionaries) store
+  end_stacks many store shown = record {
     is = rw (test, drop-map (value_of (birth_at l.heap) l.names) 1 l.dictionaries) refl;
-    shown = record {
-      shows = shown.shows;
-      operands = shown.operands;
-      dictionaries =
-          rest_held (IsWithin (birth_at l.heap) l.names store) l.dictionaries shown.dictionaries 1;
-      frames = shown.frames;
-    };
-    printed = sym (append-nil l.printed);
+    operands_within = shown.operands;
+    dictionaries_within =
+        rest_held (IsWithin (birth_at l.heap) l.names store) l.dictionaries shown.dictionaries 1;
   }
     where
       test : nat_lt 2 (length (map (value_of (birth_at l.heap) l.names) l.dictionaries)) ≡ true
@@ -183,14 +147,51 @@ module _ (trial : Trial) (l : Lent) where
           let same = length-map l.dictionaries (value_of (birth_at l.heap) l.names) in
           grind (arith, nat_tests)
 
-  pub end_good : IsGood l → IsGood (record l { dictionaries = drop 1 l.dictionaries })
-  end_good good = record {
-    sound = good.sound;
-    operands = good.operands;
-    dictionaries = rest_held (IsValue l.heap) l.dictionaries good.dictionaries 1;
-    frames = good.frames;
-    error_stands = good.error_stands;
-    names = good.names;
-    first = good.first;
-    empty = good.empty;
+-- ---- all but the two lowest are taken off
+
+pub cleared_stacks : (l : Lent) (n : ℕ) → n ≡ length l.dictionaries - 2 → (store : Store)
+    → IsShown l store
+    → Stacks (stacking_row cleardictstack_row) l l.operands (drop n l.dictionaries) store
+cleared_stacks l n is store shown =
+    let same = length-map l.dictionaries (value_of (birth_at l.heap) l.names) in
+    record {
+      is = rw (same, sym is, drop-map (value_of (birth_at l.heap) l.names) n l.dictionaries) refl;
+      operands_within = shown.operands;
+      dictionaries_within =
+          rest_held (IsWithin (birth_at l.heap) l.names store) l.dictionaries shown.dictionaries n;
+    }
+
+-- ---- what is pushed
+
+module _ (l : Lent) where
+  pub current_none : None ≡ first_of l.dictionaries → (store : Store) → IsShown l store
+      → effect_in (stacking_row currentdict_row) l store ≡ raises DictStackUnderflow
+  current_none none store shown = rw (none_left l.dictionaries none) refl
+
+  pub current_pushes : (w : Word) → Some w ≡ first_of l.dictionaries → (store : Store)
+      → IsShown l store → PushesIn (stacking_row currentdict_row) l w store
+  current_pushes w one store shown = record {
+    is = by l.dictionaries one;
+    within = first_held (IsWithin (birth_at l.heap) l.names store) l.dictionaries
+        shown.dictionaries w one;
+  }
+    where
+      by : (words : List Word) → Some w ≡ first_of words
+          → effect_in (stacking_row currentdict_row) (record l { dictionaries = words }) store
+          ≡ operands_effect (scene_of (record l { dictionaries = words }) store)
+          (push (value_of (birth_at l.heap) l.names w) (values_in l.heap l.names l.operands))
+      by [] first = cc
+      by (x ∷ rest) first = let same : w ≡ x = cc in
+          rw same (same_stack_is (scene_of (record l { dictionaries = x ∷ rest }) store) _)
+
+  pub count_pushes : (w : Word) → IsPlain w
+      → ((births : ℕ → ℕ) (names : List (List ℕ)) → value_of births names w
+      ≡ natural (length l.dictionaries)) → (store : Store)
+      → IsShown l store → PushesIn (stacking_row countdictstack_row) l w store
+  count_pushes w plain means store shown = record {
+    is = rw (
+      length-map l.dictionaries (value_of (birth_at l.heap) l.names),
+      means (birth_at l.heap) l.names,
+    ) (same_stack_is (scene_of l store) _);
+    within = plain_within (birth_at l.heap) l.names store w plain;
   }

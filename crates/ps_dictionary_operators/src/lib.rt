@@ -1,4 +1,8 @@
 //! The operators on dictionaries and on the dictionary stack (PLRM2, 8 'Operators': Dictionary).
 #![tactic(auto)]
 
+pub mod finds;
+pub mod keys;
+pub mod lookups;
+pub mod reads;
 pub mod stack;

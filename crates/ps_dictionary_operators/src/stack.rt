@@ -6,11 +6,13 @@ ghost use Rattle.ps_language.specs.RowsDictionaries as rows;
 ghost use Rattle.ps_acts.specs.Acts.{Acts, nothing_asked};
 ghost use Rattle.ps_acts.specs.Lent.{lent, IsGood};
 
-use ps_acts::breaks::Break;
+use ps_acts::breaks::{Break, made};
 use ps_acts::lent::{Context, Dictionaries, Shared, Trial};
 use ps_dict::dictionaries::access;
 use ps_language::errors::ErrorName;
 use ps_mem::Memory;
+use ps_operands::plain::integer;
+use ps_operands::stack_operators::push;
 use ps_ops::arrays::is_readable;
 use ps_word::words::Word;
 
@@ -68,4 +70,55 @@ pub fn end<M: Memory>(
     }
     context.dictionaries.discard(1);
     Ok(())
+}
+
+/// `cleardictstack`: all but the two lowest are taken off.
+pub fn cleardictstack<M: Memory>(
+    context: &mut Context,
+    shared: &mut Shared,
+    memory: &mut M,
+) -> Result<(), Break>
+    requires good { IsGood
+        (lent (M.heap memory.old) (M.grants memory.old) context.old shared.old) }
+    ensures acts { (trial : Trial) → Acts nothing_asked (stacking_row rows.cleardictstack_row) trial
+        result (lent (M.heap memory.old) (M.grants memory.old) context.old shared.old)
+        (lent (M.heap memory.new) (M.grants memory.new) context.new shared.new) }
+{
+    let above = context.dictionaries.len().saturating_sub(2);
+    context.dictionaries.discard(above);
+    Ok(())
+}
+
+/// `currentdict D`: the topmost dictionary. Raises `stackoverflow`.
+pub fn currentdict<M: Memory>(
+    context: &mut Context,
+    shared: &mut Shared,
+    memory: &mut M,
+) -> Result<(), Break>
+    requires good { IsGood
+        (lent (M.heap memory.old) (M.grants memory.old) context.old shared.old) }
+    ensures acts { (trial : Trial) → Acts nothing_asked (stacking_row rows.currentdict_row) trial
+        result (lent (M.heap memory.old) (M.grants memory.old) context.old shared.old)
+        (lent (M.heap memory.new) (M.grants memory.new) context.new shared.new) }
+{
+    let Some(word) = context.dictionaries.top() else {
+        return Err(Break::Raises(ErrorName::DictStackUnderflow));
+    };
+    made(push(&mut context.operands, word))
+}
+
+/// `countdictstack n`: how many dictionaries stand on the stack. Raises `stackoverflow`.
+pub fn countdictstack<M: Memory>(
+    context: &mut Context,
+    shared: &mut Shared,
+    memory: &mut M,
+) -> Result<(), Break>
+    requires good { IsGood
+        (lent (M.heap memory.old) (M.grants memory.old) context.old shared.old) }
+    ensures acts { (trial : Trial) → Acts nothing_asked (stacking_row rows.countdictstack_row) trial
+        result (lent (M.heap memory.old) (M.grants memory.old) context.old shared.old)
+        (lent (M.heap memory.new) (M.grants memory.new) context.new shared.new) }
+{
+    let count = context.dictionaries.len() as i32;
+    made(push(&mut context.operands, integer(count)))
 }

@@ -1,0 +1,21 @@
+use Rattle.std.proofs.Common.{◌≡◌, ◌≢◌, ℕ, List, drop, AllPairs}
+use Rattle.ps_language.specs.Dictionaries.{look_up}
+use Rattle.ps_language.specs.Value.{Store, Value}
+use Rattle.ps_mem.specs.Heap.{birth_at}
+use Rattle.ps_mem.specs.Shows.{Shows}
+use Rattle.ps_ops.specs.Does.{values_in}
+use Rattle.ps_dictionary_operators.specs.Lookups.{IsSought}
+use Rattle.ps_dictionary_operators.proofs.lookups.look_up.Given as goal
+
+-- none of the dictionaries that were passed has the key
+abbrev pub invariant-loop-depth : goal.invariant-loop-depth
+invariant-loop-depth g l = record {
+  heap : g.M.Memory.heap l.memory ≡ g.M.Memory.heap l.fn.memory;
+  grants : g.M.Memory.grants l.memory ≡ g.M.Memory.grants l.fn.memory;
+  value : (names : List (List ℕ)) (s : Store) (k : Value)
+      → Shows (g.M.Memory.heap l.fn.memory) names s
+      → AllPairs (λ first later. first ≢ later) names
+      → IsSought (birth_at (g.M.Memory.heap l.fn.memory)) names s l.key k
+      → look_up s (values_in (g.M.Memory.heap l.fn.memory) names l.dictionaries) k
+      ≡ look_up s (drop l.depth (values_in (g.M.Memory.heap l.fn.memory) names l.dictionaries)) k;
+}
