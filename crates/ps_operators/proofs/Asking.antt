@@ -22,16 +22,16 @@ LeavesSuch P (fails error) = Unit {0}
 pub record Leaving (P : Change → Type 0) (outcome : Outcome Change) : Type 0 where
   pub such : LeavesSuch P outcome
 
-leaving_error : (P : Change → Type 0) (error : ErrorName) → Leaving P (fails error)
+pub leaving_error : (P : Change → Type 0) (error : ErrorName) → Leaving P (fails error)
 leaving_error P error = record { such = tt }
 
-leaving_given : {A : Type 0} (P : Change → Type 0) (thing : Option A) (error : ErrorName)
+pub leaving_given : {A : Type 0} (P : Change → Type 0) (thing : Option A) (error : ErrorName)
     (next : A → Outcome Change) → ((a : A) → Leaving P (next a))
     → Leaving P (given thing error next)
 leaving_given P None error next each = leaving_error P error
 leaving_given P (Some a) error next each = each a
 
-leaving_given_that : (P : Change → Type 0) (test : Bool) (error : ErrorName) (next : Outcome Change)
+pub leaving_given_that : (P : Change → Type 0) (test : Bool) (error : ErrorName) (next : Outcome Change)
     → Leaving P next → Leaving P (given_that test error next)
 leaving_given_that P true error next left = left
 leaving_given_that P false error next left = leaving_error P error

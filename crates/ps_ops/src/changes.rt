@@ -179,6 +179,7 @@ fn store_elements<M: Memory>(operands: &Operands, memory: &mut M, slot: u32, par
     ensures keeps { Keeps (M.heap memory.old) (M.heap memory.new) }
     ensures births { birth_at (M.heap memory.new) ≡ birth_at (M.heap memory.old) }
     ensures grants { AfterStore (M.grants memory.old) (M.grants memory.new) slot }
+    ensures nothing { part.length ≡ 0 → M.grants memory.new ≡ M.grants memory.old }
     ensures shows { (names : List (List ℕ)) (s : Store) → Shows (M.heap memory.old) names s → AreWithin (M.heap memory.old) names s operands.now → Shows (M.heap memory.new) names (with_part_elements s (part_of (birth_at (M.heap memory.old)) part) 0 (reverse (take part.length (values_in (M.heap memory.old) names operands.now)))) }
 {
     if part.length != 0 {
@@ -197,6 +198,9 @@ pub fn astore<M: Memory>(operands: &mut Operands, memory: &mut M, slot: u32) -> 
     requires slot { slot < SLOTS }
     requires ready { IsReady (M.heap memory.old) operands.old }
     ensures does { Changes sequences.astore_row rows.topmost_count result slot (M.grants memory.old) (M.grants memory.new) (M.heap memory.old) (M.heap memory.new) operands.old operands.new }
+    ensures spends { (names : List (List ℕ)) → KeepsLogsWithin (spent result (min 1
+        (rows.topmost_count (values_in (M.heap memory.old) names operands.old))))
+        (M.grants memory.old) (M.grants memory.new) slot }
     ensures ready { IsReady (M.heap memory.new) operands.new }
     ensures keeps { Keeps (M.heap memory.old) (M.heap memory.new) }
     ensures logs { KeepsLogs (M.grants memory.old) (M.grants memory.new) slot }

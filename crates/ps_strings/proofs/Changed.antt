@@ -28,7 +28,7 @@ use Rattle.ps_strings.specs.StringRows.{string_put_row}
 
 -- ---- bytes are as many as they were
 
-longer : (s : Store) (b : ℕ) (text : List ℕ) → slice_get s b ≡ Some (string_object (bytes s b))
+pub longer : (s : Store) (b : ℕ) (text : List ℕ) → slice_get s b ≡ Some (string_object (bytes s b))
     → length text ≡ length (bytes s b) → (c : ℕ) → length (bytes s c) ≤ length (bytes
     (with_bytes s b text) c)
 unfolding bytes with_bytes

@@ -5,7 +5,7 @@ ghost use Rattle.ps_language.specs.ArrayRows.{one_stored};
 ghost use Rattle.ps_mem.specs.Heap.{Heap};
 ghost use Rattle.ps_mem.specs.Keeps.{Keeps};
 ghost use Rattle.ps_mem.specs.Shows.{IsReady};
-ghost use Rattle.ps_ops.specs.Does.{Changes, KeepsLogs};
+ghost use Rattle.ps_ops.specs.Does.{Changes, KeepsLogs, KeepsLogsWithin, spent};
 ghost use Rattle.ps_strings.specs.StringRows as rows;
 
 use crate::readers::string_of;
@@ -29,6 +29,8 @@ pub fn put<M: Memory>(operands: &mut Operands, memory: &mut M, slot: u32) -> Res
     requires ready { IsReady (M.heap memory.old) operands.old }
     ensures does { Changes rows.string_put_row one_stored result slot (M.grants memory.old)
         (M.grants memory.new) (M.heap memory.old) (M.heap memory.new) operands.old operands.new }
+    ensures spends { KeepsLogsWithin (spent result 1) (M.grants memory.old) (M.grants memory.new)
+        slot }
     ensures ready { IsReady (M.heap memory.new) operands.new }
     ensures keeps { Keeps (M.heap memory.old) (M.heap memory.new) }
     ensures logs { KeepsLogs (M.grants memory.old) (M.grants memory.new) slot }

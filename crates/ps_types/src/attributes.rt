@@ -48,15 +48,25 @@ pub fn xcheck(operands: &mut Operands) -> Result<(), ErrorName>
     Ok(())
 }
 
-/// Whether an access may be reduced to execution alone: access is only ever taken away.
+/// How much of an access was taken away.
 #[inline]
-fn reduces_to_execution(access: Access) -> bool
-    ensures { result ≡ language.reduces_to access Access.ExecuteOnly }
+fn reduction_of(access: Access) -> u8
+    ensures { result ≡ language.reduction_of access }
 {
     match access {
-        Access::Unlimited | Access::ReadOnly | Access::ExecuteOnly => true,
-        Access::NoAccess => false,
+        Access::Unlimited => 0,
+        Access::ReadOnly => 1,
+        Access::ExecuteOnly => 2,
+        Access::NoAccess => 3,
     }
+}
+
+/// Whether an access may be reduced to another: access is only ever taken away.
+#[inline]
+pub fn reduces_to(access: Access, reduced: Access) -> bool
+    ensures { result ≡ language.reduces_to access reduced }
+{
+    reduction_of(access) <= reduction_of(reduced)
 }
 
 /// `X executeonly X`: an array or a string that can only be executed. Raises `stackunderflow`, `typecheck`, and `invalidaccess` where less is permitted.
@@ -71,7 +81,7 @@ pub fn executeonly<M: Memory>(operands: &mut Operands, memory: &M) -> Result<(),
     let Some(part) = word.as_part() else {
         return Err(ErrorName::TypeCheck);
     };
-    if !reduces_to_execution(part.access) {
+    if !reduces_to(part.access, Access::ExecuteOnly) {
         return Err(ErrorName::InvalidAccess);
     }
     operands.replace(1, word.with_access(Access::ExecuteOnly));

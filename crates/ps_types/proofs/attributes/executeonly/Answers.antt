@@ -10,11 +10,11 @@ use Rattle.ps_types.proofs.attributes.executeonly.Goals as goal
 pub returns-in_default-as_part-clause-row : goal.returns-in_default-as_part-clause-row
 returns-in_default-as_part-clause-row g c = executeonly_wrong _ _ _ c.in-Some.ensures c.in_default-as_part.ensures
 
-pub returns-then-not-reduces_to_execution-clause-row : goal.returns-then-not-reduces_to_execution-clause-row
-returns-then-not-reduces_to_execution-clause-row g c = executeonly_hidden _ _ _ c.in-Some.ensures _ c.in-Some-as_part.ensures (sym c.reduces_to_execution.ensures ∙ c.if-not-reduces_to_execution.true)
+pub returns-then-not-reduces_to-clause-row : goal.returns-then-not-reduces_to-clause-row
+returns-then-not-reduces_to-clause-row g c = executeonly_hidden _ _ _ c.in-Some.ensures _ c.in-Some-as_part.ensures (sym c.reduces_to.ensures ∙ c.if-not-reduces_to.true)
 
 pub returns-clause-row : goal.returns-clause-row
-returns-clause-row g c = rw (c.replace.ensures) (executeonly_reduced _ _ _ c.in-Some.ensures _ c.in-Some-as_part.ensures _ c.with_access.ensures.value (sym c.reduces_to_execution.ensures ∙ c.if-not-reduces_to_execution.false))
+returns-clause-row g c = rw (c.replace.ensures) (executeonly_reduced _ _ _ c.in-Some.ensures _ c.in-Some-as_part.ensures _ c.with_access.ensures.value (sym c.reduces_to.ensures ∙ c.if-not-reduces_to.false))
 
 pub returns-clause-ready : goal.returns-clause-ready
 returns-clause-ready g c =

@@ -1,0 +1,12 @@
+pub mod Known
+pub mod ElementRows
+pub mod IntervalRows
+pub mod StringPuts
+pub mod Measured
+pub mod LengthRow
+pub mod Short
+pub mod PairRows
+pub mod Copying
+pub mod PutIntervals
+pub mod CopyRows
+pub mod ReduceRows

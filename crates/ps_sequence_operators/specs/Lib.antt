@@ -1,0 +1,3 @@
+pub mod Kinds
+pub mod Pairs
+pub mod Asks
