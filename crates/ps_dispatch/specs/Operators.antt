@@ -1,11 +1,12 @@
 -- The row of each operator, and what it asks for that the language does not say.
 use Rattle.std.specs.Prelude.{Bool, true, false}
 use Rattle.ps_language.specs.declared.operators.Operator.{Operator}
-use Rattle.ps_language.specs.declared.operators.Operator.TheVariants.{Get, Put, Copy, Eq, Ne, Gt, Ge, Lt, Le, Length, GetInterval, PutInterval, Astore, Forall, Search, Dict, EndDict, MaxLength, Def, Load, Store as StoreKey, Undef, Known, Where, CurrentDict, CountDictStack, ClearDictStack, ErrorDict, NoAccess, ReadOnly, Cvi, Cvn, Cvs, CurrentContext, Fork, Join, Detach, Lock, Monitor, Condition, Wait, Notify, Yield, VmStatus, VmReclaim}
+use Rattle.ps_language.specs.declared.operators.Operator.TheVariants.{Get, Put, Copy, Eq, Ne, Gt, Ge, Lt, Le, PutInterval, Astore, Search, Dict, EndDict, Def, Store as StoreKey, Undef, ErrorDict, NoAccess, ReadOnly, Cvi, Cvn, Cvs, CurrentContext, Fork, Join, Detach, Lock, Monitor, Condition, Wait, Notify, Yield, VmStatus, VmReclaim}
 use Rattle.ps_language.specs.Effect.{Scene}
 use Rattle.ps_language.specs.Scan.{scan}
 use Rattle.ps_language.specs.Rows.{Row, reading_row, changing_row, row_of}
-use Rattle.ps_language.specs.ArrayRows.{array_get_row, array_put_row, one_stored}
+use Rattle.ps_language.specs.ArrayRows.{array_get_row, array_put_row, one_stored, topmost_count}
+use Rattle.ps_sequence_operators.specs.Asks.{putinterval_asks, reduce_asks}
 use Rattle.ps_acts.specs.Acts.{Asked, nothing_asked, stores}
 
 -- get and put on arrays alone as yet
@@ -16,6 +17,10 @@ row_now operator = row_of scan operator
 
 abbrev pub asked_of : Operator → Scene → Asked
 asked_of Put = stores one_stored
+asked_of PutInterval = putinterval_asks
+asked_of ReadOnly = reduce_asks
+asked_of NoAccess = reduce_asks
+asked_of Astore = stores topmost_count
 asked_of operator = nothing_asked
 
 -- those that are here
@@ -27,27 +32,13 @@ is_done Gt = false
 is_done Ge = false
 is_done Lt = false
 is_done Le = false
-is_done Length = false
-is_done GetInterval = false
-is_done PutInterval = false
-is_done Astore = false
-is_done Forall = false
 is_done Search = false
 is_done Dict = false
 is_done EndDict = false
-is_done MaxLength = false
 is_done Def = false
-is_done Load = false
 is_done StoreKey = false
 is_done Undef = false
-is_done Known = false
-is_done Where = false
-is_done CurrentDict = false
-is_done CountDictStack = false
-is_done ClearDictStack = false
 is_done ErrorDict = false
-is_done NoAccess = false
-is_done ReadOnly = false
 is_done Cvi = false
 is_done Cvn = false
 is_done Cvs = false

@@ -8,15 +8,22 @@ ghost use Rattle.ps_dispatch.specs.Operators.{asked_of, row_now, is_done};
 use crate::exits::exit;
 use ps_acts::breaks::{Break, made, tried};
 use ps_acts::lent::{Context, Shared, Trial};
-use ps_dictionary_operators::stack as dictionaries;
-use ps_output_operators::lines as output;
-use ps_output_operators::strings::print;
 use ps_control::control;
 use ps_control::frames::Cause;
+use ps_dictionary_operators::reads::maxlength;
+use ps_dictionary_operators::{finds, stack as dictionaries};
 use ps_language::operators::Operator;
 use ps_mem::{Memory, SLOTS};
 use ps_operands::{arithmetic, logic, stack_operators};
 use ps_ops::{arrays, changes, makes};
+use ps_output_operators::lines as output;
+use ps_output_operators::strings::print;
+use ps_sequence_operators::copies::putinterval;
+use ps_sequence_operators::elements::astore;
+use ps_sequence_operators::intervals::getinterval;
+use ps_sequence_operators::lengths::length;
+use ps_sequence_operators::loops::forall;
+use ps_sequence_operators::reductions::{noaccess, readonly};
 use ps_strings::makes::string;
 use ps_strings::searches::anchorsearch;
 use ps_text::lines::Form;
@@ -116,6 +123,20 @@ pub fn operate<M: Memory>(
         Operator::Print => print(context, shared, memory),
         Operator::Begin => dictionaries::begin(context, shared, memory),
         Operator::End => dictionaries::end(context, shared, memory),
+        Operator::MaxLength => maxlength(context, shared, memory),
+        Operator::CurrentDict => dictionaries::currentdict(context, shared, memory),
+        Operator::CountDictStack => dictionaries::countdictstack(context, shared, memory),
+        Operator::ClearDictStack => dictionaries::cleardictstack(context, shared, memory),
+        Operator::Known => finds::known(context, shared, memory),
+        Operator::Load => finds::load(context, shared, memory),
+        Operator::Where => finds::where_key(context, shared, memory),
+        Operator::GetInterval => getinterval(context, shared, memory),
+        Operator::Length => length(context, shared, memory),
+        Operator::PutInterval => putinterval(context, shared, memory, trial),
+        Operator::Forall => forall(context, shared, memory),
+        Operator::ReadOnly => readonly(context, shared, memory, trial),
+        Operator::NoAccess => noaccess(context, shared, memory, trial),
+        Operator::Astore => astore(context, shared, memory, trial),
         Operator::Copy
         | Operator::Eq
         | Operator::Ne
@@ -123,27 +144,13 @@ pub fn operate<M: Memory>(
         | Operator::Ge
         | Operator::Lt
         | Operator::Le
-        | Operator::Length
-        | Operator::GetInterval
-        | Operator::PutInterval
-        | Operator::Astore
-        | Operator::Forall
         | Operator::Search
         | Operator::Dict
         | Operator::EndDict
-        | Operator::MaxLength
         | Operator::Def
-        | Operator::Load
         | Operator::Store
         | Operator::Undef
-        | Operator::Known
-        | Operator::Where
-        | Operator::CurrentDict
-        | Operator::CountDictStack
-        | Operator::ClearDictStack
         | Operator::ErrorDict
-        | Operator::NoAccess
-        | Operator::ReadOnly
         | Operator::Cvi
         | Operator::Cvn
         | Operator::Cvs

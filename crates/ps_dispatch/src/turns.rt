@@ -5,10 +5,10 @@ ghost use Rattle.ps_acts.specs.Lent.{lent, IsGood};
 ghost use Rattle.ps_dispatch.specs.Operators.{is_done};
 ghost use Rattle.ps_dispatch.specs.Turns.{Turns, operator_turn, operator_needs};
 
-use ps_acts::breaks::Break;
 use crate::dispatch::operate;
-use ps_acts::lent::{Context, Shared, Trial};
 use crate::notes::note;
+use ps_acts::breaks::Break;
+use ps_acts::lent::{Context, Shared, Trial};
 use ps_control::frames::Cause;
 use ps_language::operators::Operator;
 use ps_mem::{Memory, SLOTS};

@@ -243,3 +243,45 @@ returns-in-Begin g c = named c.in-Begin.is refl (c.begin.ensures.acts _)
 
 pub returns-in-End : goal.returns-in-End
 returns-in-End g c = named c.in-End.is refl (c.end.ensures.acts _)
+
+pub returns-in-MaxLength : goal.returns-in-MaxLength
+returns-in-MaxLength g c = named c.in-MaxLength.is refl (c.maxlength.ensures.acts _)
+
+pub returns-in-CurrentDict : goal.returns-in-CurrentDict
+returns-in-CurrentDict g c = named c.in-CurrentDict.is refl (c.currentdict.ensures.acts _)
+
+pub returns-in-CountDictStack : goal.returns-in-CountDictStack
+returns-in-CountDictStack g c = named c.in-CountDictStack.is refl (c.countdictstack.ensures.acts _)
+
+pub returns-in-ClearDictStack : goal.returns-in-ClearDictStack
+returns-in-ClearDictStack g c = named c.in-ClearDictStack.is refl (c.cleardictstack.ensures.acts _)
+
+pub returns-in-Known : goal.returns-in-Known
+returns-in-Known g c = named c.in-Known.is refl (c.known.ensures.acts _)
+
+pub returns-in-Load : goal.returns-in-Load
+returns-in-Load g c = named c.in-Load.is refl (c.load.ensures.acts _)
+
+pub returns-in-Where : goal.returns-in-Where
+returns-in-Where g c = named c.in-Where.is refl (c.where_key.ensures.acts _)
+
+pub returns-in-GetInterval : goal.returns-in-GetInterval
+returns-in-GetInterval g c = named c.in-GetInterval.is refl (c.getinterval.ensures.acts _)
+
+pub returns-in-Astore : goal.returns-in-Astore
+returns-in-Astore g c = named c.in-Astore.is refl c.astore.ensures
+
+pub returns-in-Length : goal.returns-in-Length
+returns-in-Length g c = named c.in-Length.is refl (c.length.ensures.acts _)
+
+pub returns-in-PutInterval : goal.returns-in-PutInterval
+returns-in-PutInterval g c = named c.in-PutInterval.is refl c.putinterval.ensures
+
+pub returns-in-Forall : goal.returns-in-Forall
+returns-in-Forall g c = named c.in-Forall.is refl (c.forall.ensures.acts _)
+
+pub returns-in-ReadOnly : goal.returns-in-ReadOnly
+returns-in-ReadOnly g c = named c.in-ReadOnly.is refl c.readonly.ensures
+
+pub returns-in-NoAccess : goal.returns-in-NoAccess
+returns-in-NoAccess g c = named c.in-NoAccess.is refl c.noaccess.ensures
