@@ -5,8 +5,8 @@ ghost use Rattle.ps_language.specs.Small.{named, small_names};
 ghost use Rattle.ps_mem.specs.Meaning.{text_of_name};
 ghost use Rattle.ps_named.specs.Names.{named_value_of, is_small_named};
 
-use ps_names::texts::operator_name;
 use ps_language::operators::Operator;
+use ps_names::texts::operator_name;
 
 /// What a name stands for.
 #[derive(Clone, Copy, Debug, PartialEq, Eq)]
