@@ -4,3 +4,5 @@ pub mod Keying
 pub mod Looking
 pub mod Formed
 pub mod Finding
+pub mod Growths
+pub mod Putting

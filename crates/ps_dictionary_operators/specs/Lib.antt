@@ -1,2 +1,3 @@
 pub mod Keys
 pub mod Lookups
+pub mod Puts

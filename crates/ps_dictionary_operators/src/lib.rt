@@ -4,5 +4,6 @@
 pub mod finds;
 pub mod keys;
 pub mod lookups;
+pub mod puts;
 pub mod reads;
 pub mod stack;
