@@ -1,20 +1,22 @@
 -- What is lent once a name is formed, and without it again.
-use Rattle.std.proofs.Common.{◌≡◌, ◌≢◌, ℕ, zero, suc, ◌≤◌, ◌++◌, arith, Bool, true, false, List, [], length, take, Ok, Err, sym, ap, subst, ◌∙◌, append-nil, inl, inr, AllPairs, length-append, append_assoc, ◌-◌}
+use Rattle.std.proofs.Common.{◌≡◌, ◌≢◌, ℕ, zero, suc, ◌≤◌, ◌++◌, arith, Bool, true, false, List, [], length, take, Ok, Err, refl, sym, ap, subst, ◌∙◌, append-nil, inl, inr, AllPairs, length-append, append_assoc, ◌-◌}
 use Rattle.std.proofs.lemmas.List.{take-append-le, length-take}
+use Rattle.ps_language.specs.declared.errors.ErrorName.TheVariants.{VmError}
 use Rattle.ps_language.specs.Value.{Store}
 use Rattle.ps_language.specs.Effect.{Scene, Effect, makes, unwinds, raises, calls}
 use Rattle.ps_language.specs.Objects.{lacks_room}
 use Rattle.ps_language.specs.Rows.{Row}
 use Rattle.ps_language.specs.Worlds.{first_names}
+use Rattle.ps_mem.specs.Heap.{Grants}
 use Rattle.ps_ops.specs.declared.failure.NotMade.{NotMade as Reason}
 use Rattle.ps_ops.specs.declared.failure.NotMade.TheVariants.{LogFull, LogClosed, NeedSpace, Memory}
 use Rattle.ps_ops.specs.Does.{KeepsLogsWithin}
-use Rattle.ps_acts.specs.declared.breaks.Break.TheVariants.{NotMade}
+use Rattle.ps_acts.specs.declared.breaks.Break.TheVariants.{Raises, NotMade}
 use Rattle.ps_acts.specs.declared.lent.Trial.{Trial}
 use Rattle.ps_acts.specs.Lent.{Lent, Rooms, scene_of, IsShown, IsGood}
-use Rattle.ps_acts.specs.Acts.{Asked, needs_as, needs_of_refused, IsLeft, names_formed, lacks, IsReason, ActsAs, effect_in, Acts}
+use Rattle.ps_acts.specs.Acts.{Asked, needs_as, needs_of_refused, IsLeft, names_formed, lacks, IsReason, IsRefused, MayNote, ActsAs, effect_in, Acts}
 use Rattle.ps_acts.proofs.Naming.{named_left}
-use Rattle.ps_acts.proofs.Meeting.{meets_by}
+use Rattle.ps_acts.proofs.Meeting.{keeps-same, at_least-same, meets_by, refused_meets}
 
 begins_more : (first names more : List (List ℕ)) → take (length first) names ≡ first
     → take (length first) (names ++ more) ≡ first
@@ -70,6 +72,69 @@ module _ (l : Lent) (more names : List (List ℕ)) (are : names ≡ l.names ++ m
   formed_left store shown =
       subst (λ (ns : List (List ℕ)). IsLeft store (record l { names = ns })
       (record (scene_of l store) { names = ns })) (sym are) (named_left l more store shown)
+
+  -- ---- a refused step, whose names are formed
+  module _ (row : Row) (trial : Trial) (grants : Grants) where
+    abbrev refusing : Lent
+    refusing = record l { grants = grants; names = names }
+
+    -- the row lacks the room that it asks for
+    pub record Lacks (store : Store) : Type 0 where
+      pub scene : Scene
+      pub output : List ℕ
+      pub is : effect_in row l store ≡ makes scene output
+      pub names_are : scene.names ≡ names
+      pub lacking : lacks_room trial.refused store scene.store ≡ true
+
+    pub refused_acts : (asks : Scene → Asked) → IsGood formed
+        → KeepsLogsWithin 0 l.grants grants trial.slot → MayNote trial.slot l refusing names
+        → ((store : Store) → IsShown l store → Lacks store)
+        → Acts asks row trial (Err (Raises VmError)) l refusing
+    refused_acts asks good logs may each = record {
+      meets = λ store shown.
+          let lack = each store shown in
+          let left = formed_left store shown in
+          let refused : IsRefused trial.slot (scene_of l store) l refusing names = record {
+            is = refl;
+            left = record {
+              is = left.is;
+              shown = record {
+                shows = left.shown.shows;
+                operands = left.shown.operands;
+                dictionaries = left.shown.dictionaries;
+                frames = left.shown.frames;
+              };
+              lasts = left.lasts;
+            };
+            may_note = may;
+          } in
+          meets_by asks trial (scene_of l store) l refusing (Err (Raises VmError)) _ _ lack.is
+          (refused_meets asks trial (scene_of l store) l refusing lack.scene lack.output
+          lack.lacking
+          (subst (λ (ns : List (List ℕ)).
+          IsRefused trial.slot (scene_of l store) l refusing ns) (sym lack.names_are) refused) logs);
+      good = record {
+        sound = good.sound;
+        operands = good.operands;
+        dictionaries = good.dictionaries;
+        frames = good.frames;
+        error_stands = good.error_stands;
+        names = good.names;
+        first = good.first;
+        empty = good.empty;
+      };
+      keeps = keeps-same l.heap;
+      stays = record {
+        program = refl;
+        error_dictionary = refl;
+        formed = more;
+        names = are;
+        capacity = omega arith;
+        scratch = at_least-same _;
+      };
+      logs = logs;
+      framed = tt;
+    }
 
   -- the row of an operator, and another for what it does under the name
   module _ (row other : Row) (asks others : Scene → Asked) (trial : Trial)

@@ -62,13 +62,9 @@ module _ (births : ℕ → ℕ) (names : List (List ℕ)) (s : Store) (k : Value
   added text = length-append names (text ∷ [])
 
   -- where its name is formed, or stands
-  pub formed_is : (key : Key) → IsKeyIn births names s k key → IsForming names key (Ok tt)
-      → (outcome : Outcome Change)
-      → given_that (fits_key k) LimitCheck (forming names (texts_of_key s k) outcome)
-      ≡ unnamed (names_with names key) outcome
-  formed_is (Met w) is done outcome =
-      let forms : form names (texts_of_key s k) ≡ Some names = by is.texts in
-      rw (is.fits, forms) refl
+  pub key_forms : (key : Key) → IsKeyIn births names s k key → IsForming names key (Ok tt)
+      → (fits_key k ≡ true) × (form names (texts_of_key s k) ≡ Some (names_with names key))
+  key_forms (Met w) is done = (is.fits, by is.texts)
     where
       by : (texts_of_key s k ≡ []) ⊎ ((text : List ℕ) × (number : ℕ)
           × (texts_of_key s k ≡ text ∷ []) × (place_of text names ≡ Some number))
@@ -76,13 +72,21 @@ module _ (births : ℕ → ℕ) (names : List (List ℕ)) (s : Store) (k : Value
       by (inl none) = ap (form names) none ∙ none_formed
       by (inr one) = ap (form names) one.2
           ∙ one_formed one.0 names (sym (meet_known one.0 names one.1 one.3)) few
-  formed_is (Unmet text) is done outcome =
+  key_forms (Unmet text) is done =
       let size = added text.items in
-      let forms : form names (texts_of_key s k) ≡ Some (names ++ text.items ∷ []) =
-      ap (form names) is.0.texts ∙ one_formed text.items _
-      (sym (meet_new text.items names is.0.unmet)) (omega (arith, size, done)) in
-      rw (is.1, forms) refl
-  formed_is TooLong is done outcome = absurd done
+      (
+        is.1,
+        ap (form names) is.0.texts ∙ one_formed text.items _
+            (sym (meet_new text.items names is.0.unmet)) (omega (arith, size, done)),
+      )
+  key_forms TooLong is done = absurd done
+
+  pub formed_is : (key : Key) → IsKeyIn births names s k key → IsForming names key (Ok tt)
+      → (outcome : Outcome Change)
+      → given_that (fits_key k) LimitCheck (forming names (texts_of_key s k) outcome)
+      ≡ unnamed (names_with names key) outcome
+  formed_is key is done outcome =
+      let forms = key_forms key is done in rw (forms.0, forms.1) refl
 
   -- where it can't be
   pub unformed_is : (key : Key) → IsKeyIn births names s k key → (error : ErrorName)

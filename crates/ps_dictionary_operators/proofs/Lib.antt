@@ -6,3 +6,4 @@ pub mod Formed
 pub mod Finding
 pub mod Growths
 pub mod Putting
+pub mod Keyed

@@ -1,12 +1,14 @@
 -- What a put leaves, and what it lacks.
 use Rattle.std.proofs.Common.{◌≡◌, ◌≢◌, ℕ, ◌+◌, ◌-◌, ◌≤◌, ◌<◌, arith, Bool, true, false, List, [], ◌∷◌, drop, map, length, Option, Some, None, Ok, Err, refl, sym, ap, subst, ◌∙◌, inl, inr, append-nil, AllPairs}
 use Rattle.std.specs.Prelude.{IsTrue, slice_get, slice_set, not, ◌&&◌, ◌==◌}
+use Rattle.std.proofs.lemmas.Bool.Decides.{nat_tests}
 use Rattle.std.proofs.lemmas.List.{drop-map, length-map, length-set}
 use Rattle.ps_language.specs.declared.kinds.Kind.TheVariants.{Dictionary as DictionaryKind}
 use Rattle.ps_language.specs.Value.{Value, Dictionary, dictionary_object, Store}
 use Rattle.ps_language.specs.Access.{dictionary_at, with_dictionary}
 use Rattle.ps_language.specs.Dictionaries.{holding, put_pair}
-use Rattle.ps_language.specs.Effect.{Scene, makes}
+use Rattle.ps_language.specs.Effect.{Scene, makes, raises}
+use Rattle.ps_language.specs.declared.errors.ErrorName.TheVariants.{LimitCheck}
 use Rattle.ps_language.specs.Objects.{made_between, lacks_room, growth_of}
 use Rattle.ps_language.proofs.AskedLemmas.{made-set}
 use Rattle.ps_word.specs.declared.words.Word.{Word}
@@ -86,12 +88,17 @@ enough_room : (refused : Bool) (words : ℕ) → (IsTrue refused → words ≡ 0
 enough_room true words none = rw (none refl) refl
 enough_room false words none = refl
 
+lacks_some : (refused : Bool) (words : ℕ) → refused ≡ true → 0 < words
+    → refused && not (words == 0) ≡ true
+lacks_some true words is some =
+    let asks : (words == 0) ≡ false = grind (arith, nat_tests, some) in rw asks refl
+lacks_some false words is some = absurd (cc)
+
 -- ---- a pair is put
 
 module _ (l : Lent) (good : IsGood l) (a : ℕ) (k x : Word) (count : ℕ) (plan : PutPlan)
     (known : StandsAs l.heap DictionaryKind a 4) (k_held : IsValue l.heap k)
     (plan_is : plan ≡ plan_at l.heap a k) (possible : plan ≢ Full) (trial : Trial)
-    (room : IsTrue trial.refused → words_of plan ≡ 0)
     (inside : (store : Store) → IsShown l store
     → IsWithin (birth_at l.heap) l.names store k × IsWithin (birth_at l.heap) l.names store x)
     where
@@ -105,7 +112,7 @@ module _ (l : Lent) (good : IsGood l) (a : ℕ) (k x : Word) (count : ℕ) (plan
   value = value_of (birth_at l.heap) l.names x
 
   module _ (store : Store) (shown : IsShown l store) where
-    abbrev before : Dictionary
+    abbrev pub before : Dictionary
     before = dictionary_at store birth
 
     pub planned_is : planned before key ≡ plan
@@ -127,7 +134,7 @@ module _ (l : Lent) (good : IsGood l) (a : ℕ) (k x : Word) (count : ℕ) (plan
         omega (arith, fits, pairs, most)
 
     -- what it holds then
-    held_then : (d : Dictionary) × (holding before (put_pair before.pairs (key, value)) ≡ Some d)
+    pub held_then : (d : Dictionary) × (holding before (put_pair before.pairs (key, value)) ≡ Some d)
     held_then = by (holding before (put_pair before.pairs (key, value))) refl
       where
         by : (o : Option Dictionary)
@@ -137,17 +144,17 @@ module _ (l : Lent) (good : IsGood l) (a : ℕ) (k x : Word) (count : ℕ) (plan
         by None is = absurd (possible
             (sym planned_is ∙ (full-iff before key value limit).1 is))
 
-    abbrev after : Dictionary
+    abbrev pub after : Dictionary
     after = held_then.0
 
-    abbrev left_store : Store
+    abbrev pub left_store : Store
     left_store = with_dictionary store birth after
 
-    abbrev left_scene : Scene
+    abbrev pub left_scene : Scene
     left_scene = record (scene_of l store)
         { operands = drop count (values_in l.heap l.names l.operands); store = left_store }
 
-    effect_is : effect_in (putting (birth_at l.heap) a k x count) l store ≡ makes left_scene []
+    pub effect_is : effect_in (putting (birth_at l.heap) a k x count) l store ≡ makes left_scene []
     effect_is = rw held_then.1 refl
 
     words_are : made_between store left_store ≡ words_of plan
@@ -157,9 +164,17 @@ module _ (l : Lent) (good : IsGood l) (a : ℕ) (k x : Word) (count : ℕ) (plan
         (there l.heap a known good.sound l.names store shown.shows)
         ∙ (put_room before after key value few held_then.1 ∙ ap words_of planned_is)
 
-    enough : lacks_room trial.refused store left_store ≡ false
-    enough = enough_room trial.refused (made_between store left_store)
+    enough : (IsTrue trial.refused → words_of plan ≡ 0)
+        → lacks_room trial.refused store left_store ≡ false
+    enough room = enough_room trial.refused (made_between store left_store)
         (λ refused. words_are ∙ room refused)
+
+    -- refused the room of a new body
+    pub lacking : trial.refused ≡ true → 0 < words_of plan
+        → lacks_room trial.refused store left_store ≡ true
+    lacking refused some =
+        let same = words_are in
+        lacks_some trial.refused (made_between store left_store) refused (omega (arith, same, some))
 
     lasts : Lasts store left_store
     lasts = with-lengths store birth before after
@@ -196,12 +211,12 @@ module _ (l : Lent) (good : IsGood l) (a : ℕ) (k x : Word) (count : ℕ) (plan
         let some = why.0 in
         inr (inr (inl (omega (arith, same, some), why.1)))
 
-  pub lacking_acts : (grants : Grants) → KeepsLogsWithin 0 l.grants grants trial.slot
+  pub lacking_acts : (IsTrue trial.refused → words_of plan ≡ 0) → (grants : Grants) → KeepsLogsWithin 0 l.grants grants trial.slot
       → (reason : Reason)
       → IsLack (records_of plan) (words_of plan) trial.slot l.heap l.grants grants reason
       → Acts (putting_asks (birth_at l.heap) a k) (putting (birth_at l.heap) a k x count) trial
       (Err (NotMade reason)) l (record l { grants = grants })
-  lacking_acts grants logs reason why =
+  lacking_acts room grants logs reason why =
       wanting_acts (putting (birth_at l.heap) a k x count) trial
       (putting_asks (birth_at l.heap) a k) l good grants l.room l.scratch (omega arith)
       (at_least-same _) good.empty logs reason
@@ -209,11 +224,11 @@ module _ (l : Lent) (good : IsGood l) (a : ℕ) (k x : Word) (count : ℕ) (plan
         scene = left_scene store shown;
         output = [];
         is = effect_is store shown;
-        enough = enough store shown;
+        enough = enough store shown room;
         why = lack_is store shown grants reason why;
       }
 
-  pub put_acts : (new : Heap) (mid left : Grants) → IsSound new → (keeps : Keeps l.heap new)
+  pub put_acts : (IsTrue trial.refused → words_of plan ≡ 0) → (new : Heap) (mid left : Grants) → IsSound new → (keeps : Keeps l.heap new)
       → KeepsLogsWithin 0 l.grants mid trial.slot
       → AfterChange mid left trial.slot (records_of plan) (words_of plan)
       → ((store : Store) → IsShown l store → (d : Dictionary)
@@ -221,7 +236,7 @@ module _ (l : Lent) (good : IsGood l) (a : ℕ) (k x : Word) (count : ℕ) (plan
       (key, value)) ≡ Some d → Shows new l.names (with_dictionary store birth d))
       → Acts (putting_asks (birth_at l.heap) a k) (putting (birth_at l.heap) a k x count) trial
       (Ok tt) l (over l new left (drop count l.operands))
-  put_acts new mid left sound keeps asked change shows =
+  put_acts room new mid left sound keeps asked change shows =
       let logs = logs_changed l.grants mid left trial.slot _ _ asked change in
       let words = drop count l.operands in
       let held = rest_held (IsValue l.heap) l.operands good.operands count in
@@ -244,10 +259,18 @@ module _ (l : Lent) (good : IsGood l) (a : ℕ) (k x : Word) (count : ℕ) (plan
             after = left_store store shown;
             output = [];
             is = effect_is store shown ∙ ap (λ (s : Scene). makes s []) (sym is_left.is);
-            enough = enough store shown;
+            enough = enough store shown room;
             shown = is_left.shown;
             lasts = lasts store shown;
             printed = sym (append-nil l.printed);
             logs = subst (λ (n : ℕ). KeepsLogsWithin n l.grants left trial.slot)
                 (sym (records_are store shown)) logs;
           }
+
+-- the pairs would be too many
+pub full_raises : (l : Lent) (a : ℕ) (k x : Word) (count : ℕ) (store : Store)
+    → holding (dictionary_at store (birth_at l.heap a))
+    (put_pair (dictionary_at store (birth_at l.heap a)).pairs
+    (value_of (birth_at l.heap) l.names k, value_of (birth_at l.heap) l.names x)) ≡ None
+    → effect_in (putting (birth_at l.heap) a k x count) l store ≡ raises LimitCheck
+full_raises l a k x count store none = rw none refl

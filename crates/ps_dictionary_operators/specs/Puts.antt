@@ -9,6 +9,7 @@ use Rattle.ps_language.specs.Objects.{changing}
 use Rattle.ps_language.specs.Outcome.{given, unnamed}
 use Rattle.ps_language.specs.Readers.{as_dictionary}
 use Rattle.ps_language.specs.Rows.{Row, naming_row}
+use Rattle.ps_language.specs.RowsDictionaries.{put_into}
 use Rattle.ps_language.specs.Value.{Value}
 use Rattle.ps_word.specs.declared.words.Word.{Word}
 use Rattle.ps_mem.specs.Heap.{Heap, Grants, has_room}
@@ -54,6 +55,16 @@ putting_asks births address key scene = record {
       (value_of births scene.names key));
   scratch = no_rooms;
 }
+
+-- the same, whose key may be a string
+abbrev pub putting_key : (births : ℕ → ℕ) → (address : ℕ) → (key value : Word) → (count : ℕ) → Row
+putting_key births address key value count = naming_row λ names store operands.
+    put_into names store (births address) (value_of births names key) (value_of births names value)
+    (drop count operands)
+
+abbrev pub putting_key_asks : (births : ℕ → ℕ) → (address : ℕ) → (key : Word) → Scene → Asked
+putting_key_asks births address key scene =
+    put_asked scene (Some (births address)) (value_of births scene.names key)
 
 -- ---- what is lacked
 

@@ -1,7 +1,7 @@
 //! The operators that put a key with its value into a dictionary (PLRM2, 8 'Operators':
 //! Dictionary).
 
-ghost use Rattle.std.specs.Prelude.{◌≡◌, ◌≢◌, ◌<◌, ◌≤◌, ℕ, IsTrue, length, OnOk, IfErr, true};
+ghost use Rattle.std.specs.Prelude.{◌≡◌, ◌≢◌, ◌<◌, ◌≤◌, ℕ, IsTrue, length, OnOk, IfErr, true, false};
 ghost use Rattle.ps_language.specs.Value.{Store};
 ghost use Rattle.ps_mem.specs.Heap.{birth_at};
 ghost use Rattle.ps_mem.specs.References.{StandsAs};
@@ -93,4 +93,50 @@ fn put_planned<M: Memory>(
         }
         Err(reason) => Err(Break::NotMade(reason)),
     }
+}
+
+/// Whether a step is refused the room of a new body.
+#[inline]
+fn is_refused(trial: Trial, plan: PutPlan) -> bool
+    requires limit { (capacity : ℕ) → plan ≡ PutPlan.Grow capacity → capacity ≤ 21845 }
+    ensures yes { IsTrue result → (trial.refused ≡ true) × (0 < puts.words_of plan) }
+    ensures no { result ≡ false → IsTrue trial.refused → puts.words_of plan ≡ 0 }
+{
+    trial.refused && plan.words() > 0
+}
+
+/// Puts a pair. Raises `limitcheck` where the pairs would be too many, and `VMerror` in a refused
+/// step that would make a new body. Not made as `put_planned`.
+fn put_met<M: Memory>(
+    context: &mut Context,
+    shared: &mut Shared,
+    memory: &mut M,
+    trial: Trial,
+    entry: Entry,
+) -> Result<(), Break>
+    requires slot { trial.slot < SLOTS }
+    requires good { IsGood
+        (lent (M.heap memory.old) (M.grants memory.old) context.old shared.old) }
+    requires known { StandsAs (M.heap memory.old) Kind.Dictionary entry.address 4 }
+    requires key { IsValue (M.heap memory.old) entry.key }
+    requires value { IsValue (M.heap memory.old) entry.value }
+    requires operands { entry.operands ≤ length context.old.operands }
+    ensures acts { ((store : Store) → IsShown
+        (lent (M.heap memory.old) (M.grants memory.old) context.old shared.old) store
+        → IsWithin (birth_at (M.heap memory.old)) shared.old.names store entry.key
+        × IsWithin (birth_at (M.heap memory.old)) shared.old.names store entry.value)
+        → Acts (putting_asks (birth_at (M.heap memory.old)) entry.address entry.key)
+        (putting (birth_at (M.heap memory.old)) entry.address entry.key entry.value entry.operands)
+        trial result
+        (lent (M.heap memory.old) (M.grants memory.old) context.old shared.old)
+        (lent (M.heap memory.new) (M.grants memory.new) context.new shared.new) }
+{
+    let plan = plan_put(memory, entry.address, entry.key);
+    if matches!(plan, PutPlan::Full) {
+        return Err(Break::Raises(ErrorName::LimitCheck));
+    }
+    if is_refused(trial, plan) {
+        return Err(Break::Raises(ErrorName::VmError));
+    }
+    put_planned(context, shared, memory, trial.slot, plan, entry)
 }

@@ -11,7 +11,7 @@ returns-in-Ok-clause-acts g c = λ trial slot room inside.
     let keeps = rw c.asked.ensures.heap at c.put.ensures.keeps in
     rw (c.discard.ensures)
     (put_acts _ c.requires.good _ _ _ _ _ c.requires.known c.requires.key c.requires.plan
-    c.requires.possible trial room inside _ _ _ c.put.ensures.sound keeps asked change
+    c.requires.possible trial inside room _ _ _ c.put.ensures.sound keeps asked change
     (λ store shown d is. shows _ store shown.shows c.requires.good.names (inside store shown).0
     (inside store shown).1 d is))
 
@@ -21,4 +21,4 @@ returns-in-Err-clause-acts g c = λ trial slot room inside.
     let lack = rw (sym slot, c.records.ensures, c.words.ensures) at c.in-Err.ensures.reason in
     rw (c.asked.ensures.heap)
     (lacking_acts _ c.requires.good _ _ _ _ _ c.requires.known c.requires.key c.requires.plan
-    c.requires.possible trial room inside _ asked _ lack)
+    c.requires.possible trial inside room _ asked _ lack)

@@ -1,0 +1,64 @@
+-- A put of a key that may be a string, by the put of its word.
+use Rattle.std.proofs.Common.{◌≡◌, ℕ, ◌++◌, List, drop, Option, Some, true, refl, sym, ap, ◌∙◌, subst}
+use Rattle.std.proofs.lemmas.List.{drop-map}
+use Rattle.ps_language.specs.declared.errors.ErrorName.TheVariants.{LimitCheck}
+use Rattle.ps_language.specs.Value.{Value, Dictionary, Store}
+use Rattle.ps_language.specs.Access.{dictionary_at, with_dictionary}
+use Rattle.ps_language.specs.Dictionaries.{holding, put_pair, form, texts_of_key, fits_key}
+use Rattle.ps_language.specs.Effect.{Scene}
+use Rattle.ps_language.specs.Acts.{naming_effect}
+use Rattle.ps_language.specs.Equality.{key_of}
+use Rattle.ps_language.specs.Objects.{changing}
+use Rattle.ps_language.specs.Outcome.{given, unnamed}
+use Rattle.ps_word.specs.declared.words.Word.{Word}
+use Rattle.ps_mem.specs.Heap.{birth_at}
+use Rattle.ps_mem.specs.Meaning.{value_of}
+use Rattle.ps_mem.specs.Shows.{IsWithin}
+use Rattle.ps_mem.proofs.NameLemmas.{value_of-named, values_of-named}
+use Rattle.ps_dict.specs.Puts.{planned, records_of}
+use Rattle.ps_ops.specs.Does.{values_in}
+use Rattle.ps_acts.specs.Lent.{Lent, scene_of, IsShown}
+use Rattle.ps_acts.specs.Acts.{Asked, no_rooms, effect_in}
+use Rattle.ps_acts.proofs.Forming.{formed_left}
+use Rattle.ps_dictionary_operators.specs.Puts.{putting, putting_asks, putting_key, putting_key_asks}
+
+module _ (l : Lent) (a : ℕ) (k x w : Word) (count : ℕ) (more names : List (List ℕ))
+    (are : names ≡ l.names ++ more)
+    (keyed : (store : Store) → IsShown l store
+    → (key_of store (value_of (birth_at l.heap) l.names k) ≡ value_of (birth_at l.heap) names w)
+    × (fits_key (value_of (birth_at l.heap) l.names k) ≡ true)
+    × (form l.names (texts_of_key store (value_of (birth_at l.heap) l.names k)) ≡ Some names))
+    (inside : (store : Store) → IsShown l store → IsWithin (birth_at l.heap) l.names store x) where
+  abbrev births : ℕ → ℕ
+  births = birth_at l.heap
+
+  pub keyed_effects : (store : Store) → IsShown l store
+      → effect_in (putting_key births a k x count) l store
+      ≡ effect_in (putting births a w x count) (record l { names = names }) store
+  keyed_effects store shown =
+      let it = keyed store shown in
+      let left = formed_left l more names are store shown in
+      let value : value_of births names x ≡ value_of births l.names x =
+      ap (λ (ns : List (List ℕ)). value_of births ns x) are
+      ∙ value_of-named l.names more births store x (inside store shown) in
+      rw (it.0, it.1, it.2)
+      (ap (λ (v : Value). naming_effect (scene_of l store)
+      (given (holding (dictionary_at store (births a))
+      (put_pair (dictionary_at store (births a)).pairs (value_of births names w, v))) LimitCheck
+      λ new. unnamed names (changing (drop count (values_in l.heap l.names l.operands))
+      (with_dictionary store (births a) new)))) (sym value)
+      ∙ ap (λ (scene : Scene). naming_effect scene
+      (given (holding (dictionary_at store (births a))
+      (put_pair (dictionary_at store (births a)).pairs
+      (value_of births names w, value_of births names x))) LimitCheck
+      λ new. unnamed names (changing (drop count scene.operands)
+      (with_dictionary store (births a) new)))) (sym left.is))
+
+  pub keyed_asks : (store : Store) → IsShown l store
+      → putting_asks births a w (scene_of (record l { names = names }) store)
+      ≡ putting_key_asks births a k (scene_of l store)
+  keyed_asks store shown =
+      ap (λ (v : Value). record {
+        records = records_of (planned (dictionary_at store (births a)) v);
+        scratch = no_rooms;
+      }) (sym (keyed store shown).0)
