@@ -16,7 +16,7 @@ use Rattle.ps_acts.specs.declared.lent.Trial.{Trial}
 use Rattle.ps_acts.specs.Lent.{Lent, Rooms, scene_of, IsShown, IsGood}
 use Rattle.ps_acts.specs.Acts.{Asked, needs_as, needs_of_refused, IsLeft, names_formed, lacks, IsReason, IsRefused, MayNote, ActsAs, effect_in, Acts}
 use Rattle.ps_acts.proofs.Naming.{named_left}
-use Rattle.ps_acts.proofs.Meeting.{keeps-same, at_least-same, meets_by, refused_meets}
+use Rattle.ps_acts.proofs.Meeting.{keeps-same, stays_as, at_least-same, meets_by, refused_meets}
 
 begins_more : (first names more : List (List ℕ)) → take (length first) names ≡ first
     → take (length first) (names ++ more) ≡ first
@@ -134,6 +134,45 @@ module _ (l : Lent) (more names : List (List ℕ)) (are : names ≡ l.names ++ m
       };
       logs = logs;
       framed = tt;
+    }
+
+    -- it is not made, for want of the records of its note
+    pub unnoted_acts : (asks : Scene → Asked) → IsGood l
+        → KeepsLogsWithin 0 l.grants grants trial.slot → (reason : Reason)
+        → ((store : Store) → IsShown l store → Lacks store)
+        → ((store : Store) → IsReason (needs_of_refused (asks (scene_of l store)).scratch
+        (length names - length l.names)) trial.slot l (record l { grants = grants }) reason)
+        → Acts asks row trial (Err (NotMade reason)) l (record l { grants = grants })
+    unnoted_acts asks good logs reason each why = record {
+      meets = λ store shown.
+          let lack = each store shown in
+          meets_by asks trial (scene_of l store) l (record l { grants = grants })
+          (Err (NotMade reason)) _ _ lack.is
+          (record {
+            did = subst (λ (lacking : Bool). ActsAs (needs_as (asks (scene_of l store))
+                (scene_of l store) (makes lack.scene lack.output) lacking) trial.slot
+                (scene_of l store) (Err (NotMade reason)) (makes lack.scene lack.output) lacking l
+                (record l { grants = grants })) (sym lack.lacking)
+                (subst (λ (ns : List (List ℕ)). IsReason
+                (needs_of_refused (asks (scene_of l store)).scratch (length ns - length l.names))
+                trial.slot l (record l { grants = grants }) reason) (sym lack.names_are)
+                (why store), refl);
+            logs = logs;
+          });
+      good = record {
+        sound = good.sound;
+        operands = good.operands;
+        dictionaries = good.dictionaries;
+        frames = good.frames;
+        error_stands = good.error_stands;
+        names = good.names;
+        first = good.first;
+        empty = good.empty;
+      };
+      keeps = keeps-same l.heap;
+      stays = stays_as l _ refl refl refl (omega arith) (at_least-same _);
+      logs = logs;
+      framed = refl;
     }
 
   -- the row of an operator, and another for what it does under the name

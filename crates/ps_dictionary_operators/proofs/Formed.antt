@@ -73,8 +73,7 @@ module _ (births : ℕ → ℕ) (names : List (List ℕ)) (s : Store) (k : Value
       by (inr one) = ap (form names) one.2
           ∙ one_formed one.0 names (sym (meet_known one.0 names one.1 one.3)) few
   key_forms (Unmet text) is done =
-      let size = added text.items in
-      (
+      let size = added text.items in (
         is.1,
         ap (form names) is.0.texts ∙ one_formed text.items _
             (sym (meet_new text.items names is.0.unmet)) (omega (arith, size, done)),

@@ -1,8 +1,7 @@
 -- A put of a key that may be a string, by the put of its word.
-use Rattle.std.proofs.Common.{◌≡◌, ℕ, ◌++◌, List, drop, Option, Some, true, refl, sym, ap, ◌∙◌, subst}
-use Rattle.std.proofs.lemmas.List.{drop-map}
+use Rattle.std.proofs.Common.{◌≡◌, ℕ, ◌++◌, List, drop, Some, true, sym, ap, ◌∙◌}
 use Rattle.ps_language.specs.declared.errors.ErrorName.TheVariants.{LimitCheck}
-use Rattle.ps_language.specs.Value.{Value, Dictionary, Store}
+use Rattle.ps_language.specs.Value.{Value, Store}
 use Rattle.ps_language.specs.Access.{dictionary_at, with_dictionary}
 use Rattle.ps_language.specs.Dictionaries.{holding, put_pair, form, texts_of_key, fits_key}
 use Rattle.ps_language.specs.Effect.{Scene}
@@ -14,11 +13,11 @@ use Rattle.ps_word.specs.declared.words.Word.{Word}
 use Rattle.ps_mem.specs.Heap.{birth_at}
 use Rattle.ps_mem.specs.Meaning.{value_of}
 use Rattle.ps_mem.specs.Shows.{IsWithin}
-use Rattle.ps_mem.proofs.NameLemmas.{value_of-named, values_of-named}
+use Rattle.ps_mem.proofs.NameLemmas.{value_of-named}
 use Rattle.ps_dict.specs.Puts.{planned, records_of}
 use Rattle.ps_ops.specs.Does.{values_in}
 use Rattle.ps_acts.specs.Lent.{Lent, scene_of, IsShown}
-use Rattle.ps_acts.specs.Acts.{Asked, no_rooms, effect_in}
+use Rattle.ps_acts.specs.Acts.{no_rooms, effect_in}
 use Rattle.ps_acts.proofs.Forming.{formed_left}
 use Rattle.ps_dictionary_operators.specs.Puts.{putting, putting_asks, putting_key, putting_key_asks}
 

@@ -7,3 +7,4 @@ pub mod Finding
 pub mod Growths
 pub mod Putting
 pub mod Keyed
+pub mod Making

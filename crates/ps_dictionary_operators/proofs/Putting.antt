@@ -1,15 +1,15 @@
 -- What a put leaves, and what it lacks.
-use Rattle.std.proofs.Common.{◌≡◌, ◌≢◌, ℕ, ◌+◌, ◌-◌, ◌≤◌, ◌<◌, arith, Bool, true, false, List, [], ◌∷◌, drop, map, length, Option, Some, None, Ok, Err, refl, sym, ap, subst, ◌∙◌, inl, inr, append-nil, AllPairs}
-use Rattle.std.specs.Prelude.{IsTrue, slice_get, slice_set, not, ◌&&◌, ◌==◌}
+use Rattle.std.proofs.Common.{◌≡◌, ◌≢◌, ℕ, ◌-◌, ◌≤◌, ◌<◌, arith, Bool, true, false, [], drop, length, Option, Some, None, Ok, Err, refl, sym, ap, subst, ◌∙◌, inl, inr, append-nil}
+use Rattle.std.specs.Prelude.{IsTrue, not, ◌&&◌, ◌==◌}
 use Rattle.std.proofs.lemmas.Bool.Decides.{nat_tests}
-use Rattle.std.proofs.lemmas.List.{drop-map, length-map, length-set}
+use Rattle.std.proofs.lemmas.List.{drop-map, length-set}
 use Rattle.ps_language.specs.declared.kinds.Kind.TheVariants.{Dictionary as DictionaryKind}
 use Rattle.ps_language.specs.Value.{Value, Dictionary, dictionary_object, Store}
 use Rattle.ps_language.specs.Access.{dictionary_at, with_dictionary}
 use Rattle.ps_language.specs.Dictionaries.{holding, put_pair}
 use Rattle.ps_language.specs.Effect.{Scene, makes, raises}
 use Rattle.ps_language.specs.declared.errors.ErrorName.TheVariants.{LimitCheck}
-use Rattle.ps_language.specs.Objects.{made_between, lacks_room, growth_of}
+use Rattle.ps_language.specs.Objects.{made_between, lacks_room}
 use Rattle.ps_language.proofs.AskedLemmas.{made-set}
 use Rattle.ps_word.specs.declared.words.Word.{Word}
 use Rattle.ps_mem.specs.Heap.{Heap, Grants, birth_at, has_room}
@@ -20,7 +20,6 @@ use Rattle.ps_mem.specs.Shows.{IsValue, IsSound, IsWithin, Shows}
 use Rattle.ps_mem.proofs.KeepsLemmas.{AreValues-kept, AreWithin-kept, values_of-kept, known_values}
 use Rattle.ps_dict.specs.declared.plans.PutPlan.{PutPlan}
 use Rattle.ps_dict.specs.declared.plans.PutPlan.TheVariants.{Full, Replace, Append, Grow}
-use Rattle.ps_dict.specs.Places.{count_at, capacity_at}
 use Rattle.ps_dict.specs.Puts.{AfterChange, planned, plan_at, records_of, words_of}
 use Rattle.ps_dict.proofs.Changing.{with-lengths}
 use Rattle.ps_dict.proofs.Planning.{full-iff, plan-shown}
@@ -101,171 +100,170 @@ module _ (l : Lent) (good : IsGood l) (a : ℕ) (k x : Word) (count : ℕ) (plan
     (plan_is : plan ≡ plan_at l.heap a k) (possible : plan ≢ Full) (trial : Trial)
     (inside : (store : Store) → IsShown l store
     → IsWithin (birth_at l.heap) l.names store k × IsWithin (birth_at l.heap) l.names store x)
-    where
-  abbrev birth : ℕ
-  birth = birth_at l.heap a
+  where
+    abbrev birth : ℕ
+    birth = birth_at l.heap a
 
-  abbrev key : Value
-  key = value_of (birth_at l.heap) l.names k
+    abbrev key : Value
+    key = value_of (birth_at l.heap) l.names k
 
-  abbrev value : Value
-  value = value_of (birth_at l.heap) l.names x
+    abbrev value : Value
+    value = value_of (birth_at l.heap) l.names x
 
-  module _ (store : Store) (shown : IsShown l store) where
-    abbrev pub before : Dictionary
-    before = dictionary_at store birth
+    module _ (store : Store) (shown : IsShown l store) where
+      abbrev pub before : Dictionary
+      before = dictionary_at store birth
 
-    pub planned_is : planned before key ≡ plan
-    planned_is = plan-shown l.heap a known good.sound l.names store shown.shows k k_held good.names
-        (inside store shown).0 ∙ sym plan_is
+      pub planned_is : planned before key ≡ plan
+      planned_is = plan-shown l.heap a known good.sound l.names store shown.shows k k_held good.names
+          (inside store shown).0 ∙ sym plan_is
 
-    few : length before.pairs ≤ before.capacity
-    few =
-        let fits = count-fits l.heap a known good.sound in
-        let pairs = count-shown l.heap a known good.sound l.names store shown.shows in
-        let size = capacity-shown l.heap a known good.sound l.names store shown.shows in
-        omega (arith, fits, pairs, size)
+      few : length before.pairs ≤ before.capacity
+      few =
+          let fits = count-fits l.heap a known good.sound in
+          let pairs = count-shown l.heap a known good.sound l.names store shown.shows in
+          let size = capacity-shown l.heap a known good.sound l.names store shown.shows in
+          omega (arith, fits, pairs, size)
 
-    limit : length before.pairs ≤ 21845
-    limit =
-        let fits = count-fits l.heap a known good.sound in
-        let pairs = count-shown l.heap a known good.sound l.names store shown.shows in
-        let most = few-places l.heap a known good.sound in
-        omega (arith, fits, pairs, most)
+      limit : length before.pairs ≤ 21845
+      limit =
+          let fits = count-fits l.heap a known good.sound in
+          let pairs = count-shown l.heap a known good.sound l.names store shown.shows in
+          let most = few-places l.heap a known good.sound in
+          omega (arith, fits, pairs, most)
 
-    -- what it holds then
-    pub held_then : (d : Dictionary) × (holding before (put_pair before.pairs (key, value)) ≡ Some d)
-    held_then = by (holding before (put_pair before.pairs (key, value))) refl
-      where
-        by : (o : Option Dictionary)
-            → holding before (put_pair before.pairs (key, value)) ≡ o
-            → (d : Dictionary) × (holding before (put_pair before.pairs (key, value)) ≡ Some d)
-        by (Some d) is = (d, is)
-        by None is = absurd (possible
-            (sym planned_is ∙ (full-iff before key value limit).1 is))
+      -- what it holds then
+      pub held_then : (d : Dictionary) × (holding before (put_pair before.pairs (key, value)) ≡ Some d)
+      held_then = by (holding before (put_pair before.pairs (key, value))) refl
+        where
+          by : (o : Option Dictionary)
+              → holding before (put_pair before.pairs (key, value)) ≡ o
+              → (d : Dictionary) × (holding before (put_pair before.pairs (key, value)) ≡ Some d)
+          by (Some d) is = (d, is)
+          by None is = absurd (possible
+              (sym planned_is ∙ (full-iff before key value limit).1 is))
 
-    abbrev pub after : Dictionary
-    after = held_then.0
+      abbrev pub after : Dictionary
+      after = held_then.0
 
-    abbrev pub left_store : Store
-    left_store = with_dictionary store birth after
+      abbrev pub left_store : Store
+      left_store = with_dictionary store birth after
 
-    abbrev pub left_scene : Scene
-    left_scene = record (scene_of l store)
-        { operands = drop count (values_in l.heap l.names l.operands); store = left_store }
+      abbrev pub left_scene : Scene
+      left_scene = record (scene_of l store)
+          { operands = drop count (values_in l.heap l.names l.operands); store = left_store }
 
-    pub effect_is : effect_in (putting (birth_at l.heap) a k x count) l store ≡ makes left_scene []
-    effect_is = rw held_then.1 refl
+      pub effect_is : effect_in (putting (birth_at l.heap) a k x count) l store ≡ makes left_scene []
+      effect_is = rw held_then.1 refl
 
-    words_are : made_between store left_store ≡ words_of plan
-    unfolding with_dictionary
-    words_are =
-        made-set store birth (dictionary_object before) (dictionary_object after)
-        (there l.heap a known good.sound l.names store shown.shows)
-        ∙ (put_room before after key value few held_then.1 ∙ ap words_of planned_is)
+      words_are : made_between store left_store ≡ words_of plan
+      unfolding with_dictionary
+      words_are =
+          made-set store birth (dictionary_object before) (dictionary_object after)
+          (there l.heap a known good.sound l.names store shown.shows)
+          ∙ (put_room before after key value few held_then.1 ∙ ap words_of planned_is)
 
-    enough : (IsTrue trial.refused → words_of plan ≡ 0)
-        → lacks_room trial.refused store left_store ≡ false
-    enough room = enough_room trial.refused (made_between store left_store)
-        (λ refused. words_are ∙ room refused)
+      enough : (IsTrue trial.refused → words_of plan ≡ 0)
+          → lacks_room trial.refused store left_store ≡ false
+      enough room = enough_room trial.refused (made_between store left_store)
+          (λ refused. words_are ∙ room refused)
 
-    -- refused the room of a new body
-    pub lacking : trial.refused ≡ true → 0 < words_of plan
-        → lacks_room trial.refused store left_store ≡ true
-    lacking refused some =
-        let same = words_are in
-        lacks_some trial.refused (made_between store left_store) refused (omega (arith, same, some))
+      -- refused the room of a new body
+      pub lacking : trial.refused ≡ true → 0 < words_of plan
+          → lacks_room trial.refused store left_store ≡ true
+      lacking refused some =
+          let same = words_are in
+          lacks_some trial.refused (made_between store left_store) refused (omega (arith, same, some))
 
-    lasts : Lasts store left_store
-    lasts = with-lengths store birth before after
-        (there l.heap a known good.sound l.names store shown.shows)
+      lasts : Lasts store left_store
+      lasts = with-lengths store birth before after
+          (there l.heap a known good.sound l.names store shown.shows)
 
-    records_are : records_of (planned before key) ≡ records_of plan
-    records_are = ap records_of planned_is
+      records_are : records_of (planned before key) ≡ records_of plan
+      records_are = ap records_of planned_is
 
-    births_same : length left_store - length store ≡ 0
-    unfolding with_dictionary
-    births_same =
-        let same = length-set store birth (dictionary_object after) in omega (arith, same)
+      births_same : length left_store - length store ≡ 0
+      unfolding with_dictionary
+      births_same =
+          let same = length-set store birth (dictionary_object after) in omega (arith, same)
 
-    lack_is : (new : Grants) (reason : Reason)
-        → IsLack (records_of plan) (words_of plan) trial.slot l.heap l.grants new reason
-        → IsReason (needs_between (putting_asks (birth_at l.heap) a k (scene_of l store))
-        (scene_of l store) left_scene []) trial.slot l (record l { grants = new }) reason
-    lack_is new LogFull why =
-        (why.0, subst (λ (n : ℕ). new.records trial.slot < n) (sym records_are) why.1)
-    lack_is new LogClosed why =
-        let same = records_are in let some = why.0 in (omega (arith, same, some), why.1)
-    lack_is new (NeedSpace words) why =
-        let same = words_are in
-        let some = why.1 in
-        (
-          why.0 ∙ sym words_are,
-          omega (arith, why.0, some),
-          subst (λ (n : ℕ). has_room l.heap (made_between store left_store) n ≡ false)
-              (sym births_same)
-              (subst (λ (n : ℕ). has_room l.heap n 0 ≡ false) (sym words_are) why.2),
-        )
-    lack_is new Memory why =
-        let same = words_are in
-        let some = why.0 in
-        inr (inr (inl (omega (arith, same, some), why.1)))
+      lack_is : (new : Grants) (reason : Reason)
+          → IsLack (records_of plan) (words_of plan) trial.slot l.heap l.grants new reason
+          → IsReason (needs_between (putting_asks (birth_at l.heap) a k (scene_of l store))
+          (scene_of l store) left_scene []) trial.slot l (record l { grants = new }) reason
+      lack_is new LogFull why =
+          (why.0, subst (λ (n : ℕ). new.records trial.slot < n) (sym records_are) why.1)
+      lack_is new LogClosed why =
+          let same = records_are in let some = why.0 in (omega (arith, same, some), why.1)
+      lack_is new (NeedSpace words) why =
+          let same = words_are in
+          let some = why.1 in (
+            why.0 ∙ sym words_are,
+            omega (arith, why.0, some),
+            subst (λ (n : ℕ). has_room l.heap (made_between store left_store) n ≡ false)
+                (sym births_same)
+                (subst (λ (n : ℕ). has_room l.heap n 0 ≡ false) (sym words_are) why.2),
+          )
+      lack_is new Memory why =
+          let same = words_are in
+          let some = why.0 in
+          inr (inr (inl (omega (arith, same, some), why.1)))
 
-  pub lacking_acts : (IsTrue trial.refused → words_of plan ≡ 0) → (grants : Grants) → KeepsLogsWithin 0 l.grants grants trial.slot
-      → (reason : Reason)
-      → IsLack (records_of plan) (words_of plan) trial.slot l.heap l.grants grants reason
-      → Acts (putting_asks (birth_at l.heap) a k) (putting (birth_at l.heap) a k x count) trial
-      (Err (NotMade reason)) l (record l { grants = grants })
-  lacking_acts room grants logs reason why =
-      wanting_acts (putting (birth_at l.heap) a k x count) trial
-      (putting_asks (birth_at l.heap) a k) l good grants l.room l.scratch (omega arith)
-      (at_least-same _) good.empty logs reason
-      λ store shown. record {
-        scene = left_scene store shown;
-        output = [];
-        is = effect_is store shown;
-        enough = enough store shown room;
-        why = lack_is store shown grants reason why;
-      }
+    pub lacking_acts : (IsTrue trial.refused → words_of plan ≡ 0) → (grants : Grants) → KeepsLogsWithin 0 l.grants grants trial.slot
+        → (reason : Reason)
+        → IsLack (records_of plan) (words_of plan) trial.slot l.heap l.grants grants reason
+        → Acts (putting_asks (birth_at l.heap) a k) (putting (birth_at l.heap) a k x count) trial
+        (Err (NotMade reason)) l (record l { grants = grants })
+    lacking_acts room grants logs reason why =
+        wanting_acts (putting (birth_at l.heap) a k x count) trial
+        (putting_asks (birth_at l.heap) a k) l good grants l.room l.scratch (omega arith)
+        (at_least-same _) good.empty logs reason
+        λ store shown. record {
+          scene = left_scene store shown;
+          output = [];
+          is = effect_is store shown;
+          enough = enough store shown room;
+          why = lack_is store shown grants reason why;
+        }
 
-  pub put_acts : (IsTrue trial.refused → words_of plan ≡ 0) → (new : Heap) (mid left : Grants) → IsSound new → (keeps : Keeps l.heap new)
-      → KeepsLogsWithin 0 l.grants mid trial.slot
-      → AfterChange mid left trial.slot (records_of plan) (words_of plan)
-      → ((store : Store) → IsShown l store → (d : Dictionary)
-      → holding (dictionary_at store birth) (put_pair (dictionary_at store birth).pairs
-      (key, value)) ≡ Some d → Shows new l.names (with_dictionary store birth d))
-      → Acts (putting_asks (birth_at l.heap) a k) (putting (birth_at l.heap) a k x count) trial
-      (Ok tt) l (over l new left (drop count l.operands))
-  put_acts room new mid left sound keeps asked change shows =
-      let logs = logs_changed l.grants mid left trial.slot _ _ asked change in
-      let words = drop count l.operands in
-      let held = rest_held (IsValue l.heap) l.operands good.operands count in
-      left_acts (putting (birth_at l.heap) a k x count) trial (putting_asks (birth_at l.heap) a k)
-      l good (over l new left words)
-      (changed_good l good new left words keeps
-      (record { sound = sound; values = AreValues-kept l.heap new keeps words held }))
-      keeps (stays_as l _ refl refl refl (omega arith) (at_least-same _))
-      (more_records _ most_records l.grants left trial.slot (few_records plan) logs)
-      λ store shown.
-          let is_left = changed_left l good new left words keeps store (left_store store shown)
-          (lasts store shown) shown (shows store shown _ (held_then store shown).1)
-          (AreWithin-kept l.heap new keeps l.names store (left_store store shown)
-          (lasts store shown) words (known_values l.heap words held)
-          (rest_held (IsWithin (birth_at l.heap) l.names store) l.operands shown.operands count))
-          (drop count (values_in l.heap l.names l.operands))
-          (values_of-kept l.heap new keeps l.names words (known_values l.heap words held)
-          ∙ sym (drop-map (value_of (birth_at l.heap) l.names) count l.operands)) in
-          record {
-            after = left_store store shown;
-            output = [];
-            is = effect_is store shown ∙ ap (λ (s : Scene). makes s []) (sym is_left.is);
-            enough = enough store shown room;
-            shown = is_left.shown;
-            lasts = lasts store shown;
-            printed = sym (append-nil l.printed);
-            logs = subst (λ (n : ℕ). KeepsLogsWithin n l.grants left trial.slot)
-                (sym (records_are store shown)) logs;
-          }
+    pub put_acts : (IsTrue trial.refused → words_of plan ≡ 0) → (new : Heap) (mid left : Grants) → IsSound new → (keeps : Keeps l.heap new)
+        → KeepsLogsWithin 0 l.grants mid trial.slot
+        → AfterChange mid left trial.slot (records_of plan) (words_of plan)
+        → ((store : Store) → IsShown l store → (d : Dictionary)
+        → holding (dictionary_at store birth) (put_pair (dictionary_at store birth).pairs
+        (key, value)) ≡ Some d → Shows new l.names (with_dictionary store birth d))
+        → Acts (putting_asks (birth_at l.heap) a k) (putting (birth_at l.heap) a k x count) trial
+        (Ok tt) l (over l new left (drop count l.operands))
+    put_acts room new mid left sound keeps asked change shows =
+        let logs = logs_changed l.grants mid left trial.slot _ _ asked change in
+        let words = drop count l.operands in
+        let held = rest_held (IsValue l.heap) l.operands good.operands count in
+        left_acts (putting (birth_at l.heap) a k x count) trial (putting_asks (birth_at l.heap) a k)
+        l good (over l new left words)
+        (changed_good l good new left words keeps
+        (record { sound = sound; values = AreValues-kept l.heap new keeps words held }))
+        keeps (stays_as l _ refl refl refl (omega arith) (at_least-same _))
+        (more_records _ most_records l.grants left trial.slot (few_records plan) logs)
+        λ store shown.
+        let is_left = changed_left l good new left words keeps store (left_store store shown)
+        (lasts store shown) shown (shows store shown _ (held_then store shown).1)
+        (AreWithin-kept l.heap new keeps l.names store (left_store store shown)
+        (lasts store shown) words (known_values l.heap words held)
+        (rest_held (IsWithin (birth_at l.heap) l.names store) l.operands shown.operands count))
+        (drop count (values_in l.heap l.names l.operands))
+        (values_of-kept l.heap new keeps l.names words (known_values l.heap words held)
+        ∙ sym (drop-map (value_of (birth_at l.heap) l.names) count l.operands)) in
+        record {
+          after = left_store store shown;
+          output = [];
+          is = effect_is store shown ∙ ap (λ (s : Scene). makes s []) (sym is_left.is);
+          enough = enough store shown room;
+          shown = is_left.shown;
+          lasts = lasts store shown;
+          printed = sym (append-nil l.printed);
+          logs = subst (λ (n : ℕ). KeepsLogsWithin n l.grants left trial.slot)
+              (sym (records_are store shown)) logs;
+        }
 
 -- the pairs would be too many
 pub full_raises : (l : Lent) (a : ℕ) (k x : Word) (count : ℕ) (store : Store)

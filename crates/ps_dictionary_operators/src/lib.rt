@@ -4,6 +4,7 @@
 pub mod finds;
 pub mod keys;
 pub mod lookups;
+pub mod makes;
 pub mod puts;
 pub mod reads;
 pub mod stack;

@@ -41,6 +41,7 @@ fn asked<M: Memory>(memory: &mut M, slot: u32, records: u32, words: u32) -> Resu
     ensures logs { KeepsLogsWithin 0 (M.grants memory.old) (M.grants memory.new) slot }
     ensures granted { OnOk result ((records ≤ (M.grants memory.new).records slot)
         × (words ≤ (M.grants memory.new).words)) }
+    ensures open { OnOk result (1 ≤ records → (M.grants memory.new).closed slot ≡ false) }
     ensures reason { IfErr result
         (IsLack records words slot (M.heap memory.old) (M.grants memory.old) (M.grants memory.new)) }
 {

@@ -55,7 +55,7 @@ returns-then-is_refused g c =
 pub returns : goal.returns
 returns g c =
     let acts = rw (c.plan_put-plan.ensures.heap, c.plan_put-plan.ensures.grants)
-        at c.put_planned.ensures.acts in
+    at c.put_planned.ensures.acts in
     record {
       acts = λ inside. acts c.args.trial refl (c.is_refused.ensures.no c.if-is_refused.false) inside;
     }

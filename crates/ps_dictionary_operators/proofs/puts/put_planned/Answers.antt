@@ -1,5 +1,5 @@
 -- The pair is put, or there is a lack.
-use Rattle.std.proofs.Common.{sym, subst, ◌≡◌, ℕ}
+use Rattle.std.proofs.Common.{sym}
 use Rattle.ps_dictionary_operators.proofs.Putting.{put_acts, lacking_acts}
 use Rattle.ps_dictionary_operators.proofs.puts.put_planned.Goals as goal
 
