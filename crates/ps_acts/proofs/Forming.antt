@@ -152,11 +152,13 @@ module _ (l : Lent) (more names : List (List ℕ)) (are : names ≡ l.names ++ m
             did = subst (λ (lacking : Bool). ActsAs (needs_as (asks (scene_of l store))
                 (scene_of l store) (makes lack.scene lack.output) lacking) trial.slot
                 (scene_of l store) (Err (NotMade reason)) (makes lack.scene lack.output) lacking l
-                (record l { grants = grants })) (sym lack.lacking)
-                (subst (λ (ns : List (List ℕ)). IsReason
-                (needs_of_refused (asks (scene_of l store)).scratch (length ns - length l.names))
-                trial.slot l (record l { grants = grants }) reason) (sym lack.names_are)
-                (why store), refl);
+                (record l { grants = grants })) (sym lack.lacking) (
+                  subst (λ (ns : List (List ℕ)). IsReason
+                      (needs_of_refused (asks (scene_of l store)).scratch (length ns - length l.names))
+                      trial.slot l (record l { grants = grants }) reason) (sym lack.names_are)
+                      (why store),
+                  refl,
+                );
             logs = logs;
           });
       good = record {
