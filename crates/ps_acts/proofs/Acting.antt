@@ -1,5 +1,5 @@
 -- An operator acts: by an error, by a reason, or by what it leaves.
-use Rattle.std.proofs.Common.{◌≡◌, ℕ, ◌≤◌, List, ◌++◌, arith, false, Result, Ok, Err, refl, sym, subst}
+use Rattle.std.proofs.Common.{◌≡◌, ℕ, zero, suc, ◌≤◌, List, ◌++◌, arith, Bool, true, false, inl, inr, Result, Ok, Err, refl, sym, subst}
 use Rattle.ps_language.specs.declared.errors.ErrorName.{ErrorName}
 use Rattle.ps_language.specs.Value.{Store}
 use Rattle.ps_language.specs.Effect.{Scene, makes, raises}
@@ -8,14 +8,15 @@ use Rattle.ps_language.specs.Rows.{Row}
 use Rattle.ps_mem.specs.Heap.{Grants}
 use Rattle.ps_mem.specs.Keeps.{Keeps}
 use Rattle.ps_ops.specs.declared.failure.NotMade.{NotMade as Reason}
+use Rattle.ps_ops.specs.declared.failure.NotMade.TheVariants.{Memory}
 use Rattle.ps_ops.specs.Does.{KeepsLogsWithin, most_records, spent}
 use Rattle.ps_acts.specs.declared.breaks.Break.{Break}
 use Rattle.ps_acts.specs.declared.breaks.Break.TheVariants.{Raises, NotMade}
 use Rattle.ps_acts.specs.declared.lent.Trial.{Trial}
 use Rattle.ps_acts.specs.declared.lent.Scratch.{Scratch}
-use Rattle.ps_acts.specs.Lent.{Lent, rooms_of, IsEmpty, scene_of, IsShown, IsGood}
-use Rattle.ps_acts.specs.Acts.{Asked, IsAtLeast, needs_between, IsReason, Lasts, Stays, OnNotMade, Meets, effect_in, Acts}
-use Rattle.ps_acts.proofs.Meeting.{keeps-same, logs-same, stays_as, at_least-same, made_meets, wanting_meets, raised_meets, meets_by}
+use Rattle.ps_acts.specs.Lent.{Lent, Rooms, rooms_of, IsEmpty, scene_of, IsShown, IsGood}
+use Rattle.ps_acts.specs.Acts.{Asked, IsAtLeast, names_formed, needs_as, needs_between, needs_of_refused, IsReason, Lasts, Stays, OnNotMade, Meets, effect_in, Acts}
+use Rattle.ps_acts.proofs.Meeting.{keeps-same, logs-same, stays_as, at_least-same, made_meets, unmade_meets, wanting_meets, raised_meets, meets_by}
 
 module _ (row : Row) (trial : Trial) (asks : Scene → Asked) (l : Lent) where
   -- the row makes what is left, for which there is room
@@ -37,6 +38,28 @@ module _ (row : Row) (trial : Trial) (asks : Scene → Asked) (l : Lent) where
     pub enough : lacks_room trial.refused store scene.store ≡ false
     pub why : IsReason (needs_between (asks (scene_of l store)) (scene_of l store) scene output)
         trial.slot l new reason
+
+  -- the row would form a name
+  pub record FormsName (store : Store) : Type 0 where
+    pub scene : Scene
+    pub output : List ℕ
+    pub is : effect_in row l store ≡ makes scene output
+    pub formed : 1 ≤ names_formed (scene_of l store) scene
+
+  name_reason : (scratch : Rooms) (count : ℕ) (new : Lent) → 1 ≤ count
+      → IsReason (needs_of_refused scratch count) trial.slot l new Memory
+  name_reason scratch zero new some = absurd (omega (arith, some))
+  name_reason scratch (suc count) new some = inr (inl (omega arith))
+
+  -- its memory may be refused whether there is room for the rest or not
+  named_as : (scene : Scene) (output : List ℕ) (store : Store) (new : Lent) (lacking : Bool)
+      → 1 ≤ names_formed (scene_of l store) scene
+      → IsReason (needs_as (asks (scene_of l store)) (scene_of l store) (makes scene output)
+      lacking) trial.slot l new Memory
+  named_as scene output store new true some =
+      name_reason (asks (scene_of l store)).scratch (names_formed (scene_of l store) scene) new
+      some
+  named_as scene output store new false some = inr (inl some)
 
   module _ (good : IsGood l) where
     -- ---- nothing has changed but what was granted, and the room of the output and of the lists
@@ -84,6 +107,15 @@ module _ (row : Row) (trial : Trial) (asks : Scene → Asked) (l : Lent) where
             meets_by asks trial (scene_of l store) l but (Err (NotMade reason)) _ _ w.is
             (wanting_meets asks trial (scene_of l store) l but w.scene w.output w.enough reason
             w.why refl logs)
+
+        pub naming_acts : ((store : Store) → IsShown l store → FormsName store)
+            → Acts asks row trial (Err (NotMade Memory)) l but
+        naming_acts names = same_acts (Err (NotMade Memory)) refl refl λ store shown.
+            let n = names store shown in
+            meets_by asks trial (scene_of l store) l but (Err (NotMade Memory)) _ _ n.is
+            (unmade_meets asks trial (scene_of l store) l but n.scene n.output Memory
+            (named_as n.scene n.output store but
+            (lacks_room trial.refused store n.scene.store) n.formed) refl logs)
 
     pub raised_acts : (error : ErrorName)
         → ((store : Store) → IsShown l store → effect_in row l store ≡ raises error)

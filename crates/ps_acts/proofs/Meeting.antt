@@ -98,6 +98,14 @@ module _ (asks : Scene → Asked) (trial : Trial) (before : Scene) (old new : Le
   Logs most = KeepsLogsWithin most old.grants new.grants trial.slot
 
   module _ (scene : Scene) (output : List ℕ) where
+    -- not made, whether there is room or not
+    pub unmade_meets : (reason : Reason)
+        → IsReason (needs_as (asks before) before (makes scene output)
+        (lacks_room trial.refused before.store scene.store)) trial.slot old new reason
+        → IsSame old new → Logs 0
+        → Meets asks (makes scene output) trial (Err (NotMade reason)) before old new
+    unmade_meets reason why same logs = record { did = (why, same); logs = logs }
+
     module _ (enough : lacks_room trial.refused before.store scene.store ≡ false) where
       pub made_meets : IsLeft before.store new scene → new.printed ≡ old.printed ++ output
           → Logs (asks before).records → Meets asks (makes scene output) trial (Ok tt) before old new

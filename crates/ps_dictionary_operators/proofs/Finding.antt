@@ -32,13 +32,13 @@ use Rattle.ps_ops.specs.Does.{values_in}
 use Rattle.ps_types.proofs.Accesses.{dictionary_has}
 use Rattle.ps_acts.specs.Lent.{Lent, scene_of, IsShown, IsGood}
 use Rattle.ps_acts.specs.Acts.{effect_in}
-use Rattle.ps_dictionary_operators.specs.declared.keys.Key.{Key}
-use Rattle.ps_dictionary_operators.specs.declared.keys.Key.TheVariants.{Met, Unmet, TooLong}
-use Rattle.ps_dictionary_operators.specs.Keys.{IsKeyIn, IsKeyOf, word_in}
-use Rattle.ps_dictionary_operators.specs.Lookups.{IsSought, found_of}
+use Rattle.ps_keys.specs.declared.keys.Key.{Key}
+use Rattle.ps_keys.specs.declared.keys.Key.TheVariants.{Met, Unmet, TooLong}
+use Rattle.ps_keys.specs.Keys.{IsKeyIn, IsKeyOf, word_in}
+use Rattle.ps_keys.specs.Lookups.{IsSought, found_of}
 use Rattle.ps_acts.proofs.Stacked.{Stacks}
-use Rattle.ps_dictionary_operators.proofs.Formed.{formed_is, met_forms}
-use Rattle.ps_dictionary_operators.proofs.Stacking.{dictionary_is}
+use Rattle.ps_keys.proofs.Formed.{formed_is, met_forms}
+use Rattle.ps_keys.proofs.Looking.{dictionary_is}
 
 -- what a key is sought by
 pub sought_by : (births : ℕ → ℕ) (names : List (List ℕ)) (s : Store) (k : Value) (key : Key)

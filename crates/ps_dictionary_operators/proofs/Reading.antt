@@ -23,7 +23,7 @@ use Rattle.ps_types.proofs.Accesses.{dictionary_has}
 use Rattle.ps_acts.specs.Lent.{Lent, IsShown}
 use Rattle.ps_acts.specs.Acts.{effect_in}
 use Rattle.ps_acts.proofs.Stacked.{Stacks}
-use Rattle.ps_dictionary_operators.proofs.Stacking.{dictionary_is}
+use Rattle.ps_keys.proofs.Looking.{dictionary_is}
 
 module _ (l : Lent) where
   pub maxlength_empty : None ≡ first_of l.operands → (store : Store) → IsShown l store

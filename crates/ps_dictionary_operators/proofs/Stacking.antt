@@ -1,24 +1,22 @@
 -- What the operators on the dictionary stack leave.
 use Rattle.std.proofs.Common.{◌≡◌, ℕ, ◌<◌, ◌-◌, ◌≤◌, arith, true, false, List, [], ◌∷◌, drop, length, None, Some, refl, sym}
-use Rattle.std.specs.Prelude.{option_map, nat_lt, map}
+use Rattle.std.specs.Prelude.{nat_lt, map}
 use Rattle.std.proofs.lemmas.Bool.Decides.{nat_tests}
 use Rattle.std.proofs.lemmas.List.{length-map, drop-map}
 use Rattle.ps_language.specs.declared.access.Access.{Access}
 use Rattle.ps_language.specs.declared.errors.ErrorName.TheVariants.{StackUnderflow, TypeCheck, InvalidAccess, DictStackOverflow, DictStackUnderflow}
 use Rattle.ps_language.specs.Value.{Store}
 use Rattle.ps_language.specs.Access.{is_readable, dictionary_at}
-use Rattle.ps_language.specs.Readers.{as_dictionary, dictionary_in, natural, push}
+use Rattle.ps_language.specs.Readers.{natural, push}
 use Rattle.ps_language.specs.Effect.{raises}
 use Rattle.ps_language.specs.Rows.{stacking_row}
 use Rattle.ps_language.specs.RowsDictionaries.{begin_row, end_row, cleardictstack_row, currentdict_row, countdictstack_row}
 use Rattle.ps_stacks.specs.Tops.{first_of}
 use Rattle.ps_word.specs.declared.words.Word.{Word}
-use Rattle.ps_word.specs.declared.values.Content.{Content}
-use Rattle.ps_word.specs.declared.values.Content.TheVariants.{Null, Integer, Boolean, Mark, Name, Operator, Array, Text, Dictionary, Lock, Condition, Body}
 use Rattle.ps_word.specs.Format.{content_in}
 use Rattle.ps_word.specs.Readers as words
 use Rattle.ps_mem.specs.Heap.{birth_at}
-use Rattle.ps_mem.specs.Meaning.{value_of, what_of}
+use Rattle.ps_mem.specs.Meaning.{value_of}
 use Rattle.ps_mem.specs.Shows.{IsWithin, Shows}
 use Rattle.ps_ops.proofs.Operands.{first_split}
 use Rattle.ps_ops.proofs.Held.{first_held, rest_held}
@@ -31,29 +29,7 @@ use Rattle.ps_ops.proofs.Ready.{plain_within}
 use Rattle.ps_language.specs.Acts.{operands_effect}
 use Rattle.ps_acts.proofs.Stacked.{Stacks, PushesIn, same_stack_is}
 use Rattle.ps_ops.proofs.Operands.{none_left}
-
-module _ (births : ℕ → ℕ) (names : List (List ℕ)) where
-  dictionary_content : (content : Content)
-      → dictionary_in (what_of births names content) ≡ option_map births
-      (words.as_dictionary content)
-  dictionary_content Null = refl
-  dictionary_content (Integer _) = refl
-  dictionary_content (Boolean _) = refl
-  dictionary_content Mark = refl
-  dictionary_content (Name _) = refl
-  dictionary_content (Operator _) = refl
-  dictionary_content (Array _) = refl
-  dictionary_content (Text _) = refl
-  dictionary_content (Dictionary _) = refl
-  dictionary_content (Lock _) = refl
-  dictionary_content (Condition _) = refl
-  dictionary_content (Body _) = refl
-
-  pub dictionary_is : (w : Word)
-      → as_dictionary (value_of births names w) ≡ option_map births
-      (words.as_dictionary (content_in w.0))
-  unfolding as_dictionary value_of
-  dictionary_is w = dictionary_content (content_in w.0)
+use Rattle.ps_keys.proofs.Looking.{dictionary_is}
 
 fewer : {A B : Type 0} (f : A → B) (xs : List A) (n : ℕ) → length xs < n
     → nat_lt (length (map f xs)) n ≡ true

@@ -9,11 +9,11 @@ ghost use Rattle.ps_word.specs.Readers as readers;
 ghost use Rattle.ps_acts.specs.Acts.{Acts, nothing_asked};
 ghost use Rattle.ps_acts.specs.Lent.{lent, IsGood};
 
-use crate::keys::{form_key, is_null, is_readable_key, read_key};
-use crate::lookups::{find_in, look_up};
 use ps_acts::breaks::Break;
 use ps_acts::lent::{Context, Shared, Trial};
 use ps_dict::dictionaries::access;
+use ps_keys::keys::{form_key, is_null, is_readable_key, read_key};
+use ps_keys::lookups::{find_in, look_up};
 use ps_language::errors::ErrorName;
 use ps_mem::Memory;
 use ps_operands::plain::boolean;

@@ -2,8 +2,6 @@
 #![tactic(auto)]
 
 pub mod finds;
-pub mod keys;
-pub mod lookups;
 pub mod makes;
 pub mod puts;
 pub mod reads;

@@ -8,7 +8,7 @@ use Rattle.ps_ops.proofs.Held.{first_of_two_held, second_held, rest_held}
 use Rattle.ps_ops.proofs.Ready.{plain_value, plain_within}
 use Rattle.ps_types.proofs.Accesses.{dictionary_stands}
 use Rattle.ps_acts.proofs.Acting.{raised_acts}
-use Rattle.ps_dictionary_operators.proofs.Formed.{formed_name_acts, fault_acts}
+use Rattle.ps_keys.proofs.Formed.{formed_name_acts, fault_acts}
 use Rattle.ps_dictionary_operators.proofs.Finding.{known_wrong, known_unreadable, known_hidden, known_tail}
 use Rattle.ps_dictionary_operators.proofs.finds.known.Goals as goal
 

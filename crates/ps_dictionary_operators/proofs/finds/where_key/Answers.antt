@@ -7,7 +7,7 @@ use Rattle.ps_mem.specs.Shows.{IsValue, IsWithin}
 use Rattle.ps_ops.proofs.Held.{first_held, rest_held}
 use Rattle.ps_ops.proofs.Ready.{plain_value, plain_within}
 use Rattle.ps_ops.specs.Does.{values_in}
-use Rattle.ps_dictionary_operators.proofs.Formed.{formed_name_acts, fault_acts}
+use Rattle.ps_keys.proofs.Formed.{formed_name_acts, fault_acts}
 use Rattle.ps_acts.proofs.Acting.{raised_acts}
 use Rattle.ps_acts.proofs.Stacked.{stacked_acts}
 use Rattle.ps_dictionary_operators.proofs.Finding.{where_hidden, where_tail, where_full, where_stacks, word_there}

@@ -1,13 +1,15 @@
 //! Keys as dictionaries have them: a string stands for the name of its characters (PLRM2, 3.3.9).
 
-ghost use Rattle.std.specs.Prelude.{◌≡◌, ℕ, ◌+◌, List, Some, None, IfSome};
+ghost use Rattle.std.specs.Prelude.{◌≡◌, ℕ, ◌+◌, ◌<◌, List, Some, None, IfSome, false};
 ghost use Rattle.ps_language.specs.Access as language;
+ghost use Rattle.ps_language.specs.Limits.{names_limit};
 ghost use Rattle.ps_language.specs.Readers as readers;
 ghost use Rattle.ps_mem.specs.Heap.{Heap, birth_at};
 ghost use Rattle.ps_mem.specs.Meaning.{value_of};
 ghost use Rattle.ps_mem.specs.References.{StandsAs, words_for};
 ghost use Rattle.ps_mem.specs.Shows.{IsSound, IsValue};
-ghost use Rattle.ps_dictionary_operators.specs.Keys.{IsKeyOf, IsFormable, IsKeyWord, IsTextKey, Forms, word_in};
+ghost use Rattle.ps_word.specs.Format.{value_in, IsWord};
+ghost use Rattle.ps_keys.specs.Keys.{IsKeyOf, IsFormable, IsKeyWord, IsTextKey, Forms, word_in};
 
 use arrayvec::ArrayVec;
 use ps_acts::breaks::Break;
@@ -105,6 +107,16 @@ fn text_key<M: Memory>(memory: &mut M, names: &Names, part: Part) -> Key
         Some(id) => Key::Met(Word::literal(Content::Name(id.0))),
         None => Key::Unmet(text),
     }
+}
+
+/// The literal name of a number.
+#[inline]
+pub fn name_word(number: usize) -> Word
+    requires { number < names_limit }
+    ensures value { value_in result.0 ≡ record { content = Content.Name number; executable = false } }
+    ensures word { IsWord result.0 }
+{
+    Word::literal(Content::Name(number as u16))
 }
 
 /// Meets the name of a key.

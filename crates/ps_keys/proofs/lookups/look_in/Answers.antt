@@ -2,8 +2,8 @@
 use Rattle.std.proofs.Common.{sym, ◌∙◌}
 use Rattle.ps_mem.specs.Heap.{birth_at}
 use Rattle.ps_types.proofs.Accesses.{dictionary_stands}
-use Rattle.ps_dictionary_operators.proofs.Looking.{looks_found, looks_none}
-use Rattle.ps_dictionary_operators.proofs.lookups.look_in.Goals as goal
+use Rattle.ps_keys.proofs.Looking.{looks_found, looks_none}
+use Rattle.ps_keys.proofs.lookups.look_in.Goals as goal
 
 pub find_in-requires-clause-known : goal.find_in-requires-clause-known
 find_in-requires-clause-known g c = rw c.may_read.ensures.heap

@@ -1,6 +1,6 @@
 -- No dictionary has a name that was not met.
-use Rattle.ps_dictionary_operators.proofs.Looking.{unsought_missing}
-use Rattle.ps_dictionary_operators.proofs.lookups.find_in.Goals as goal
+use Rattle.ps_keys.proofs.Looking.{unsought_missing}
+use Rattle.ps_keys.proofs.lookups.find_in.Goals as goal
 
 pub returns-in-None-clause-value : goal.returns-in-None-clause-value
 returns-in-None-clause-value g c = λ names s k shows distinct sought.

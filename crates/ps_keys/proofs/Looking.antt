@@ -7,17 +7,44 @@ use Rattle.ps_language.specs.declared.kinds.Kind.TheVariants.{Dictionary as Dict
 use Rattle.ps_language.specs.Value.{Value, Store}
 use Rattle.ps_language.specs.Access.{dictionary_at, may_read}
 use Rattle.ps_language.specs.Dictionaries.{find, found_in, look_up, pairs_of}
+use Rattle.ps_language.specs.Readers.{as_dictionary, dictionary_in}
 use Rattle.ps_language.specs.Outcome.{Outcome, leaves, fails, given_that}
 use Rattle.ps_word.specs.declared.words.Word.{Word}
+use Rattle.ps_word.specs.declared.values.Content.{Content}
+use Rattle.ps_word.specs.declared.values.Content.TheVariants.{Null, Integer, Boolean, Mark, Name, Operator, Array, Text, Dictionary, Lock, Condition, Body}
 use Rattle.ps_word.specs.Format.{content_in}
 use Rattle.ps_word.specs.Readers as words
 use Rattle.ps_mem.specs.Heap.{Heap, birth_at}
 use Rattle.ps_mem.specs.References.{StandsAs}
-use Rattle.ps_mem.specs.Meaning.{value_of}
+use Rattle.ps_mem.specs.Meaning.{value_of, what_of}
 use Rattle.ps_mem.specs.Shows.{IsSound, Shows}
-use Rattle.ps_dictionary_operators.specs.Lookups.{IsSought, LooksIn}
-use Rattle.ps_dictionary_operators.proofs.Keying.{unmet_missing}
-use Rattle.ps_dictionary_operators.proofs.Stacking.{dictionary_is}
+use Rattle.ps_keys.specs.Lookups.{IsSought, LooksIn}
+use Rattle.ps_keys.proofs.Keying.{unmet_missing}
+
+-- ---- dictionaries among values
+
+module _ (births : ℕ → ℕ) (names : List (List ℕ)) where
+  dictionary_content : (content : Content)
+      → dictionary_in (what_of births names content) ≡ option_map births
+      (words.as_dictionary content)
+  dictionary_content Null = refl
+  dictionary_content (Integer _) = refl
+  dictionary_content (Boolean _) = refl
+  dictionary_content Mark = refl
+  dictionary_content (Name _) = refl
+  dictionary_content (Operator _) = refl
+  dictionary_content (Array _) = refl
+  dictionary_content (Text _) = refl
+  dictionary_content (Dictionary _) = refl
+  dictionary_content (Lock _) = refl
+  dictionary_content (Condition _) = refl
+  dictionary_content (Body _) = refl
+
+  pub dictionary_is : (w : Word)
+      → as_dictionary (value_of births names w) ≡ option_map births
+      (words.as_dictionary (content_in w.0))
+  unfolding as_dictionary value_of
+  dictionary_is w = dictionary_content (content_in w.0)
 
 -- ---- in one dictionary
 

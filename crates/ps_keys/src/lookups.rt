@@ -11,7 +11,7 @@ ghost use Rattle.ps_mem.specs.Meaning.{value_of};
 ghost use Rattle.ps_mem.specs.References.{StandsAs};
 ghost use Rattle.ps_mem.specs.Shows.{AreValues, AreWithin, IsSound, IsValue, IsWithin, Shows};
 ghost use Rattle.ps_ops.specs.Does.{values_in};
-ghost use Rattle.ps_dictionary_operators.specs.Lookups.{IsSought, LooksIn, found_of};
+ghost use Rattle.ps_keys.specs.Lookups.{IsSought, LooksIn, found_of};
 
 use ps_acts::lent::Dictionaries;
 use ps_dict::dictionaries::value_of_key;

@@ -1,8 +1,8 @@
 -- The name is met, or was met before.
 use Rattle.std.proofs.Common.{subst}
-use Rattle.ps_dictionary_operators.specs.Keys.{IsFormable}
-use Rattle.ps_dictionary_operators.proofs.Keying.{forms_met, forms_unmet}
-use Rattle.ps_dictionary_operators.proofs.keys.form_key.Goals as goal
+use Rattle.ps_keys.specs.Keys.{IsFormable}
+use Rattle.ps_keys.proofs.Keying.{forms_met, forms_unmet}
+use Rattle.ps_keys.proofs.keys.form_key.Goals as goal
 
 pub returns-in-Met : goal.returns-in-Met
 returns-in-Met c = forms_met _ _ _ c.in-Met.is c.len-count.ensures.names

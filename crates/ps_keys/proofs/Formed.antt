@@ -31,9 +31,9 @@ use Rattle.ps_acts.proofs.Acting.{raised_acts, wanting_acts}
 use Rattle.ps_acts.proofs.Forming.{formed_acts, formed_good, formed_left}
 use Rattle.ps_acts.proofs.Meeting.{logs-same, at_least-same, lacks_for_same}
 use Rattle.ps_acts.proofs.Stacked.{stacked_acts}
-use Rattle.ps_dictionary_operators.specs.declared.keys.Key.{Key}
-use Rattle.ps_dictionary_operators.specs.declared.keys.Key.TheVariants.{Met, Unmet, TooLong}
-use Rattle.ps_dictionary_operators.specs.Keys.{IsKey, IsKeyIn, IsKeyOf, IsForming, names_with}
+use Rattle.ps_keys.specs.declared.keys.Key.{Key}
+use Rattle.ps_keys.specs.declared.keys.Key.TheVariants.{Met, Unmet, TooLong}
+use Rattle.ps_keys.specs.Keys.{IsKey, IsKeyIn, IsKeyOf, IsForming, names_with}
 
 -- ---- the names of a key
 

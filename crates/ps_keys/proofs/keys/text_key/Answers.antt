@@ -4,8 +4,8 @@ use Rattle.ps_language.specs.Access.{bytes}
 use Rattle.ps_mem.specs.Heap.{birth_at}
 use Rattle.ps_ops.proofs.Operands.{run_next}
 use Rattle.ps_types.proofs.First.{name_held}
-use Rattle.ps_dictionary_operators.proofs.Keying.{read_whole}
-use Rattle.ps_dictionary_operators.proofs.keys.text_key.Goals as goal
+use Rattle.ps_keys.proofs.Keying.{read_whole}
+use Rattle.ps_keys.proofs.keys.text_key.Goals as goal
 
 pub loop-index-preserved : goal.loop-index-preserved
 loop-index-preserved g c =

@@ -4,8 +4,8 @@ use Rattle.ps_language.specs.Value.{Store, Value}
 use Rattle.ps_mem.specs.Heap.{birth_at}
 use Rattle.ps_mem.specs.Shows.{Shows}
 use Rattle.ps_ops.specs.Does.{values_in}
-use Rattle.ps_dictionary_operators.specs.Lookups.{IsSought}
-use Rattle.ps_dictionary_operators.proofs.lookups.look_up.Given as goal
+use Rattle.ps_keys.specs.Lookups.{IsSought}
+use Rattle.ps_keys.proofs.lookups.look_up.Given as goal
 
 -- none of the dictionaries that were passed has the key
 abbrev pub invariant-loop-depth : goal.invariant-loop-depth

@@ -1,8 +1,8 @@
 -- Of a string by its part.
 use Rattle.std.proofs.Common.{sym, ◌∙◌, []}
 use Rattle.ps_mem.specs.Meaning.{part_of, value_of}
-use Rattle.ps_dictionary_operators.proofs.Keying.{plain_key, string_key}
-use Rattle.ps_dictionary_operators.proofs.keys.is_readable_key.Goals as goal
+use Rattle.ps_keys.proofs.Keying.{plain_key, string_key}
+use Rattle.ps_keys.proofs.keys.is_readable_key.Goals as goal
 
 pub returns-in-Some : goal.returns-in-Some
 returns-in-Some c = λ births names.

@@ -1,7 +1,7 @@
 use Rattle.std.proofs.Common.{sym, ◌∙◌}
 use Rattle.ps_mem.specs.Heap.{birth_at}
-use Rattle.ps_dictionary_operators.proofs.Keying.{null_is}
-use Rattle.ps_dictionary_operators.proofs.keys.is_null.Goals as goal
+use Rattle.ps_keys.proofs.Keying.{null_is}
+use Rattle.ps_keys.proofs.keys.is_null.Goals as goal
 
 pub returns : goal.returns
 returns c = λ h names held.

@@ -1,5 +1,5 @@
 -- Keys by their words: strings become names, and nothing else changes.
-use Rattle.std.proofs.Common.{◌≡◌, ◌≢◌, ℕ, zero, suc, ◌+◌, ◌≤◌, ◌<◌, ◌||◌, arith, Bool, true, false, List, [], ◌∷◌, map, length, slice_get, Option, Some, None, refl, sym, ap, subst, ◌∙◌, inl, inr, bytes_eq, is_some, Ok, AllPairs, drop, length-drop, ◌-◌}
+use Rattle.std.proofs.Common.{◌≡◌, ◌≢◌, ℕ, zero, suc, ◌+◌, ◌≤◌, ◌<◌, ◌++◌, ◌||◌, arith, Bool, true, false, List, [], ◌∷◌, map, length, slice_get, Option, Some, None, refl, sym, ap, subst, ◌∙◌, inl, inr, bytes_eq, is_some, Ok, AllPairs, drop, length-drop, ◌-◌}
 use Rattle.std.specs.Prelude.{nat_le, slice_range}
 use Rattle.std.specs.List.{position_or_len, list_any, AllByRecursion}
 use Rattle.std.proofs.lemmas.List.{length-take}
@@ -18,7 +18,7 @@ use Rattle.ps_word.specs.declared.values.Part.{Part}
 use Rattle.ps_word.specs.declared.values.Content.{Content}
 use Rattle.ps_word.specs.declared.values.Content.TheVariants.{Null, Integer, Boolean, Mark, Name, Operator, Array, Text, Dictionary, Lock, Condition, Body}
 use Rattle.ps_word.specs.declared.values.Value.{Value as Packed}
-use Rattle.ps_word.specs.Format.{content_in, is_body}
+use Rattle.ps_word.specs.Format.{content_in, value_in, IsWord, is_body}
 use Rattle.ps_word.specs.Readers as words
 use Rattle.ps_mem.specs.Heap.{Heap, birth_at}
 use Rattle.ps_mem.specs.References.{StandsAs}
@@ -27,10 +27,10 @@ use Rattle.ps_mem.specs.Shows.{IsValue, IsSound, IsWithin, IsWithinContent, Show
 use Rattle.ps_dict.proofs.Shapes.{pairs-shown, pairs-within}
 use Rattle.arrayvec.specs.ArrayVec.{ArrayVec}
 use Rattle.ps_names.specs.Names.{place_of, AreNames}
-use Rattle.ps_names.proofs.Places.{any_position, next_place, meet_new, names_with as names_added, stands_at, known_short}
-use Rattle.ps_dictionary_operators.specs.declared.keys.Key.{Key}
-use Rattle.ps_dictionary_operators.specs.declared.keys.Key.TheVariants.{Met, Unmet, TooLong}
-use Rattle.ps_dictionary_operators.specs.Keys.{Reads, IsNameOf, IsUnmet, IsTextKey, IsKeyWord, IsFormable, IsKeyOf, IsNamed, Forms}
+use Rattle.ps_names.proofs.Places.{any_position, next_place, meet_new, names_with as names_added, stands_at, known_short, last_found}
+use Rattle.ps_keys.specs.declared.keys.Key.{Key}
+use Rattle.ps_keys.specs.declared.keys.Key.TheVariants.{Met, Unmet, TooLong}
+use Rattle.ps_keys.specs.Keys.{Reads, IsNameOf, IsUnmet, IsTextKey, IsKeyWord, IsFormable, IsKeyOf, IsNamed, Forms}
 
 -- ---- a name that was not met is the key of nothing
 
@@ -217,6 +217,18 @@ module _ (names : List (List ℕ)) (key : Key) (text : ArrayVec ℕ) (is : key �
         );
         unmade = λ break clash. cc;
       }
+
+-- the literal name of a text that was met last
+pub last_named : (names : List (List ℕ)) (text : List ℕ) → IsUnmet names text → AreNames names
+    → length names < names_limit → (w : Word)
+    → value_in w.0 ≡ record { content = Name (length names); executable = false } → IsWord w.0
+    → IsNameOf (names ++ text ∷ []) text w
+last_named names text unmet are room w is word = record {
+  number = length names;
+  is = is;
+  word = word;
+  met = last_found text names unmet.unmet are unmet.short room;
+}
 
 -- ---- what is read of a string
 

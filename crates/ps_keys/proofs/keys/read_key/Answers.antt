@@ -1,6 +1,6 @@
 -- A string is read, and nothing else.
-use Rattle.ps_dictionary_operators.proofs.Keying.{text_key_is, plain_key_is}
-use Rattle.ps_dictionary_operators.proofs.keys.read_key.Goals as goal
+use Rattle.ps_keys.proofs.Keying.{text_key_is, plain_key_is}
+use Rattle.ps_keys.proofs.keys.read_key.Goals as goal
 
 pub returns-in-Some-clause-key : goal.returns-in-Some-clause-key
 returns-in-Some-clause-key g c =

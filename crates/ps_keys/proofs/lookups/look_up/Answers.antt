@@ -1,8 +1,8 @@
 -- Each dictionary is looked through, the topmost first.
 use Rattle.std.proofs.Common.{◌∙◌, sym, rules}
 use Rattle.ps_mem.specs.Heap.{birth_at}
-use Rattle.ps_dictionary_operators.proofs.Looking.{found_here, missing_here, hidden_here}
-use Rattle.ps_dictionary_operators.proofs.lookups.look_up.Goals as goal
+use Rattle.ps_keys.proofs.Looking.{found_here, missing_here, hidden_here}
+use Rattle.ps_keys.proofs.lookups.look_up.Goals as goal
 
 pub returns-in-Err-clause-value : goal.returns-in-Err-clause-value
 returns-in-Err-clause-value g c = λ names s k shows distinct sought.

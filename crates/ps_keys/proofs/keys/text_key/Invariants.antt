@@ -4,7 +4,7 @@ use Rattle.ps_language.specs.Access.{bytes}
 use Rattle.ps_language.specs.Value.{Store}
 use Rattle.ps_mem.specs.Heap.{birth_at}
 use Rattle.ps_mem.specs.Shows.{Shows}
-use Rattle.ps_dictionary_operators.proofs.keys.text_key.Given as goal
+use Rattle.ps_keys.proofs.keys.text_key.Given as goal
 
 -- the first characters were read
 abbrev pub invariant-loop-index : goal.invariant-loop-index

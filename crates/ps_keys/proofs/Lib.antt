@@ -1,0 +1,3 @@
+pub mod Keying
+pub mod Looking
+pub mod Formed
