@@ -75,7 +75,7 @@ module _ (text : List ℕ) where
     content_apart (Condition _) within = refl
     content_apart (Body _) within = refl
 
-    word_apart : (w : Word) → IsWithin births names s w
+    pub word_apart : (w : Word) → IsWithin births names s w
         → same_key (value_of births names w) (literal_name text) ≡ false
     unfolding same_key value_of IsWithin
     word_apart w within = content_apart (content_in w.0) within

@@ -1,0 +1,4 @@
+pub mod Symmetry
+pub mod Equating
+pub mod Comparing
+pub mod Related

@@ -1,0 +1,102 @@
+//! The order of two integers, or of two strings by their bytes (PLRM2, 8 'gt').
+
+ghost use Rattle.std.specs.Prelude.{◌≡◌, ℕ, List};
+ghost use Rattle.ps_language.specs.Rows.{reading_row};
+ghost use Rattle.ps_mem.specs.Shows.{IsSound, IsValue};
+ghost use Rattle.ps_acts.specs.Acts.{Acts, nothing_asked};
+ghost use Rattle.ps_acts.specs.Lent.{lent, IsGood};
+ghost use Rattle.ps_relation_operators.specs.Relations as relations;
+ghost use Rattle.ps_relation_operators.specs.Relations.{Finds};
+
+use ps_acts::breaks::Break;
+use ps_acts::lent::{Context, Shared, Trial};
+use ps_language::errors::ErrorName;
+use ps_mem::Memory;
+use ps_operands::plain::boolean;
+use ps_ops::arrays::is_readable;
+use ps_ops::readers::integer_of;
+use ps_seq::strings::compare_bytes;
+use ps_strings::readers::string_of;
+use ps_word::words::Word;
+use std::cmp::Ordering;
+
+/// What an operator asks of the order of its operands.
+#[derive(Clone, Copy, Debug, PartialEq, Eq)]
+pub enum Relation {
+    Greater,
+    GreaterOrEqual,
+    Less,
+    LessOrEqual,
+}
+
+impl Relation {
+    /// Whether an order is what is asked.
+    fn holds(self, order: Ordering) -> bool
+        ensures { result ≡ relations.holds self order }
+    {
+        match self {
+            Relation::Greater => order.is_gt(),
+            Relation::GreaterOrEqual => order.is_ge(),
+            Relation::Less => order.is_lt(),
+            Relation::LessOrEqual => order.is_le(),
+        }
+    }
+}
+
+/// How two values compare. Raises `typecheck` but for two integers and two strings, and
+/// `invalidaccess` of a string that can't be read. The memory stays as it is.
+fn compare<M: Memory>(memory: &mut M, left: Word, right: Word) -> Result<Ordering, ErrorName>
+    requires sound { IsSound (M.heap memory.old) }
+    requires left { IsValue (M.heap memory.old) left }
+    requires right { IsValue (M.heap memory.old) right }
+    ensures heap { M.heap memory.new ≡ M.heap memory.old }
+    ensures grants { M.grants memory.new ≡ M.grants memory.old }
+    ensures found { (names : List (List ℕ)) → Finds relations.order result (M.heap memory.old) names
+        left right }
+{
+    if let Some(i) = integer_of(left) {
+        let Some(j) = integer_of(right) else {
+            return Err(ErrorName::TypeCheck);
+        };
+        return Ok(i.cmp(&j));
+    }
+    let Some(first) = string_of(left) else {
+        return Err(ErrorName::TypeCheck);
+    };
+    let Some(second) = string_of(right) else {
+        return Err(ErrorName::TypeCheck);
+    };
+    if !is_readable(first.access) || !is_readable(second.access) {
+        return Err(ErrorName::InvalidAccess);
+    }
+    Ok(compare_bytes(memory, first, second))
+}
+
+/// `a b gt t`, `ge`, `lt` or `le`, by the relation.
+///
+/// Raises `stackunderflow`, `typecheck` but for two integers and two strings, and `invalidaccess`
+/// of a string that can't be read.
+pub fn order<M: Memory>(
+    context: &mut Context,
+    shared: &mut Shared,
+    memory: &mut M,
+    relation: Relation,
+) -> Result<(), Break>
+    requires good { IsGood
+        (lent (M.heap memory.old) (M.grants memory.old) context.old shared.old) }
+    ensures acts { (trial : Trial) → Acts nothing_asked
+        (reading_row (relations.order_row_as relation)) trial result
+        (lent (M.heap memory.old) (M.grants memory.old) context.old shared.old)
+        (lent (M.heap memory.new) (M.grants memory.new) context.new shared.new) }
+{
+    let Some((right, left)) = context.operands.top_two() else {
+        return Err(Break::Raises(ErrorName::StackUnderflow));
+    };
+    match compare(memory, left, right) {
+        Ok(found) => {
+            context.operands.replace(2, boolean(relation.holds(found)));
+            Ok(())
+        }
+        Err(error) => Err(Break::Raises(error)),
+    }
+}
