@@ -15,7 +15,10 @@ extent_of so_far unfinished = None
 
 -- the extent of the string that is read, or the fault that is
 abbrev pub IsSized : (text : List ℕ) (at : ℕ) → Result Extent ScanFault → Reading → Type 0
-IsSized text at (Ok extent) reading = (value : List ℕ) × (reading ≡ token_then (string_token value) (drop extent.end text)) × (length value ≡ extent.length) × (extent.length ≤ 65535) × (at < extent.end) × (extent.end ≤ length text)
+IsSized text at (Ok extent) reading =
+    (value : List ℕ) × (reading ≡ token_then (string_token value) (drop extent.end text))
+    × (length value ≡ extent.length) × (extent.length ≤ 65535) × (at < extent.end)
+    × (extent.end ≤ length text)
 IsSized text at (Err fault) reading = IsStuckBy ⊥ reading fault
 
 -- how a string goes on at any depth: with the byte of a part and what follows it, or to the end of the text

@@ -1,5 +1,5 @@
-//! The number that a text begins with, by no memory: tokens are passed over, and none is kept (PLRM2,
-//! 3.2, 8 'cvi').
+//! The number that a text begins with, by no memory: tokens are passed over, and none is kept
+//! (PLRM2, 3.2, 8 'cvi').
 
 ghost use Rattle.std.specs.Prelude.{◌≡◌, ◌+◌, ◌<◌, ◌≤◌, ℕ, List, length, drop, slice_index};
 ghost use Rattle.ps_language.specs.Reading.{Reading, enclosed};

@@ -70,7 +70,8 @@ pub(crate) fn hex_extent(bytes: &[u8], at: usize) -> Result<Extent, ScanFault>
     requires digit { at < length bytes.now → slice_index bytes.now at ≢ 60 }
     ensures sized { IsSized bytes.now at result (after_hex_start (drop at bytes.now)) }
     ensures inner { IfOk result (λ extent. (at < extent.end) × (after_hex_start (drop at bytes.now)
-        ≡ sized_string (pairs (filter is_hex (slice_range bytes.now at (extent.end - 1)))) (drop extent.end bytes.now))) }
+        ≡ sized_string (pairs (filter is_hex (slice_range bytes.now at (extent.end - 1))))
+        (drop extent.end bytes.now))) }
 {
     if at >= bytes.len() {
         return Err(ScanFault::Syntax);
