@@ -144,7 +144,7 @@ size_positive condition_object = omega arith
 
 -- ---- operators that store elements
 
-tried_framed : (frames : List Frame) (result : Result Unit Failure)
+pub tried_framed : (frames : List Frame) (result : Result Unit Failure)
     → OnNotMade (tried result) (frames ≡ frames)
 tried_framed frames (Ok _) = tt
 tried_framed frames (Err (Error error)) = tt

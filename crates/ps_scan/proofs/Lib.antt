@@ -6,3 +6,4 @@ pub mod ReadingForms
 pub mod ScannerForms
 pub mod StringForms
 pub mod TokenForms
+pub mod Passing

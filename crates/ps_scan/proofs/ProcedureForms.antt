@@ -10,7 +10,7 @@ use Rattle.ps_language.proofs.ScanSteps.{elements_from_step}
 use Rattle.ps_scan.specs.Shown.{IsStuckBy, elements_in, token_at, simple_at}
 use Rattle.ps_scan.specs.declared.tokens.ScanFault as declared
 use Rattle.ps_scan.specs.declared.tokens.ScanFault.TheVariants.{Syntax, Limit, Memory}
-use Rattle.std.specs.Prelude.{⊤, Result, Ok, Err, OnOk, nat_lt, if◌then◌else◌}
+use Rattle.std.specs.Prelude.{Result, Ok, Err, OnOk, nat_lt, if◌then◌else◌}
 use Rattle.std.specs.Result.{is_err}
 
 -- the end of a procedure with these elements in front
@@ -83,11 +83,11 @@ unfolding enclosed
 enclosed_long whole front tail rest e f h = ap enclosed (sym e ∙ ap (with_all front) f ∙ all_end front rest) ∙ cond-false _ _ _ (lt-leb (count_of (elements_in front)) 65535 (omega (arith, count-elements front, h)))
 
 -- a faulty element in a procedure
-pub faulty_answer : (room : ℕ) (xs : List ℕ) (place here : ℕ) (known : Type 0) (front : List Token) (whole : Tail) (fault : declared.ScanFault) → drop here xs ≡ behind_blank false (drop place xs) → here < length xs → (byte_at xs here ≡ 125 → ⊥)
-    → with_all front (elements_at room xs place) ≡ whole → IsStuckBy known (token_at room xs here) fault → IsStuckBy ⊤ (enclosed whole) fault
-faulty_answer room xs place here known front whole Syntax e below n w h = enclosed_fault whole front (elements_at room xs place) syntax_fault w (faulty_element room xs place here syntax_fault e below n h)
-faulty_answer room xs place here known front whole Limit e below n w h = enclosed_fault whole front (elements_at room xs place) limit_fault w (faulty_element room xs place here limit_fault e below n h)
-faulty_answer room xs place here known front whole Memory e below n w h = tt
+pub faulty_answer : (room : ℕ) (xs : List ℕ) (place here : ℕ) (known other : Type 0) (front : List Token) (whole : Tail) (fault : declared.ScanFault) → (known → other) → drop here xs ≡ behind_blank false (drop place xs) → here < length xs → (byte_at xs here ≡ 125 → ⊥)
+    → with_all front (elements_at room xs place) ≡ whole → IsStuckBy known (token_at room xs here) fault → IsStuckBy other (enclosed whole) fault
+faulty_answer room xs place here known other front whole Syntax more e below n w h = enclosed_fault whole front (elements_at room xs place) syntax_fault w (faulty_element room xs place here syntax_fault e below n h)
+faulty_answer room xs place here known other front whole Limit more e below n w h = enclosed_fault whole front (elements_at room xs place) limit_fault w (faulty_element room xs place here limit_fault e below n h)
+faulty_answer room xs place here known other front whole Memory more e below n w h = more h
 
 -- nothing is left
 pub nothing_left : (room : ℕ) (xs : List ℕ) (place : ℕ) → length xs ≤ place → elements_at room xs place ≡ procedure_fault syntax_fault

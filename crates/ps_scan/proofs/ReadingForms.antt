@@ -10,7 +10,7 @@ use Rattle.ps_language.specs.Reading.{Reading, token_then, stuck, named, string_
 use Rattle.ps_language.specs.Scan.{leading, beyond, word_of, start_of, simple_by, regular_start, string_start, hex_start, angle_start, bracket_start, slash_start, stray_start, after_slash, after_angle, after_hex_start, string_from}
 use Rattle.ps_language.proofs.Places.{byte_at, leading_slice, beyond_on}
 use Rattle.ps_scan.specs.Numbers.{number_in}
-use Rattle.ps_scan.specs.Shown.{IsAnswer, simple_at, token_of}
+use Rattle.ps_scan.specs.Shown.{IsStuckBy, IsAnswer, simple_at, token_of}
 use Rattle.ps_scan.specs.declared.tokens.TokenKind.{TokenKind, ExecutableName}
 use Rattle.ps_scan.proofs.TokenForms.{executable_name_is}
 use Rattle.ps_scan.specs.declared.tokens.ScanFault.TheVariants.{Syntax, Limit, Memory}
@@ -122,6 +122,12 @@ same_answer starved known text at (Ok token) reading other more e h = (e ∙ h.0
 same_answer starved known text at (Err Syntax) reading other more e h = e ∙ h
 same_answer starved known text at (Err Limit) reading other more e h = e ∙ h
 same_answer starved known text at (Err Memory) reading other more e h = more h
+
+-- a fault that isn't of memory
+pub fault_more : (starved : Type 0) (reading : Reading) (fault : _) → IsStuckBy ⊥ reading fault → IsStuckBy starved reading fault
+fault_more starved reading Syntax h = h
+fault_more starved reading Limit h = h
+fault_more starved reading Memory h = absurd h
 
 pub regular_at : (xs : List ℕ) (at : ℕ) → is_regular (byte_at xs at) ≡ true → simple_at xs at ≡ simple_by regular_start (byte_at xs at) (drop (at + 1) xs)
 unfolding start_of

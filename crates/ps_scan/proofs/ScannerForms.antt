@@ -30,7 +30,7 @@ pub scan_token : (xs : List ℕ) (at here : ℕ) (token : Token) (end : ℕ) →
 unfolding as_scan
 scan_token xs at here token end e below f high = scan_reading xs at here e below ∙ ap (as_scan (length xs)) f ∙ ap (found token) (omega (arith, length-drop end xs, high))
 
-scan_fault : (xs : List ℕ) (at here : ℕ) (fault : language.ScanFault) → drop here xs ≡ behind_blank false (drop at xs) → here < length xs → token_at 32 xs here ≡ stuck fault → scan xs at ≡ faulty fault
+pub scan_fault : (xs : List ℕ) (at here : ℕ) (fault : language.ScanFault) → drop here xs ≡ behind_blank false (drop at xs) → here < length xs → token_at 32 xs here ≡ stuck fault → scan xs at ≡ faulty fault
 unfolding as_scan
 scan_fault xs at here fault e below f = scan_reading xs at here e below ∙ ap (as_scan (length xs)) f
 

@@ -1,18 +1,20 @@
 -- Escapes and parts of strings at a place.
-use Rattle.std.proofs.Common.{◌≡◌, ◌≢◌, refl, sym, ap, ◌∙◌, ℕ, zero, suc, ◌+◌, ◌-◌, ◌*◌, ◌%◌, ◌<◌, ◌≤◌, true, false, List, [], ◌∷◌, ◌++◌, length, drop, arith, Option, Some, None, inl, inr, add-one, subst}
-use Rattle.std.specs.Prelude.{option_to_list, is_some, ◌==◌, if◌then◌else◌}
+use Rattle.std.proofs.Common.{◌≡◌, ◌≢◌, refl, sym, ap, ◌∙◌, ℕ, zero, suc, ◌+◌, ◌-◌, ◌*◌, ◌%◌, ◌<◌, ◌≤◌, Bool, true, false, List, [], ◌∷◌, ◌++◌, length, drop, arith, Option, Some, None, inl, inr, add-one, subst, Vec, Global}
+use Rattle.std.specs.Prelude.{option_to_list, is_some, nat_le, ◌==◌, if◌then◌else◌}
 use Rattle.std.proofs.lemmas.Bool.{ne_eqb, cond-true, cond-false, cases_lt, le-leb, lt-leb}
-use Rattle.std.proofs.lemmas.List.{at_drop_more, at_drop_all, drop_more, drop-drop, length-append, append-nil, nil_from_length}
+use Rattle.std.proofs.lemmas.List.{at_drop_more, at_drop_all, drop_more, drop-drop, length-append, append-nil}
 use Rattle.ps_language.specs.Bytes.{is_octal, digit_of, value_in}
-use Rattle.ps_language.specs.Reading.{token_then, stuck, Ending, string_end, unfinished, with_front, sized_string, string_reading}
+use Rattle.ps_language.specs.Reading.{Reading, token_then, stuck, Ending, string_end, unfinished, with_front, sized_string, string_reading}
 use Rattle.ps_language.specs.Token.{string_token, syntax_fault, limit_fault}
 use Rattle.ps_language.specs.Scan.{after_return, octal_front, octal_rest, Escape, octal_escape, feed_escape, return_escape, byte_escape, escape_of, escape_front, escape_rest, string_escape, string_from, mark_of, plain}
 use Rattle.ps_language.proofs.Places.{byte_at}
 use Rattle.ps_language.proofs.ScanSteps.{with_front_twice}
 use Rattle.ps_language.proofs.StringPlaces.{string_opens, string_closes, string_is_over}
-use Rattle.ps_scan.specs.Shown.{IsSomeString}
+use Rattle.ps_scan.specs.Shown.{IsSomeString, token_of}
 use Rattle.ps_scan.specs.Strings.{extent_of, PartReads}
 use Rattle.ps_scan.specs.declared.strings.Part.{Part}
+use Rattle.ps_scan.specs.declared.tokens.TokenKind.{Text}
+use Rattle.ps_scan.proofs.TokenForms.{text_is}
 
 -- ---- octal escapes
 
@@ -261,38 +263,35 @@ pub read_long : (ending : Ending) (size : ℕ) (rest : List ℕ) → extent_of 0
 unfolding string_reading
 read_long ending size rest e h = let x = extent_is ending size rest e in ap string_reading x.1 ∙ sized_long x.0 rest (omega (arith, x.2, h))
 
-pub read_short : (ending : Ending) (size : ℕ) (rest value : List ℕ) → extent_of 0 ending ≡ Some (size, rest) → size ≤ 65535 → ((v r : List ℕ) → ending ≡ string_end v r → value ≡ v) → string_reading ending ≡ token_then (string_token value) rest
+pub read_extent : (ending : Ending) (size : ℕ) (rest value : List ℕ) → ending ≡ string_end value rest → length value ≡ size → size ≤ 65535 → string_reading ending ≡ token_then (string_token value) rest
 unfolding string_reading
-read_short ending size rest value e h is =
-    let x = extent_is ending size rest e in
-    ap string_reading x.1 ∙ sized_short x.0 rest (omega (arith, x.2, h)) ∙ ap (λ v. token_then (string_token v) rest) (sym (is x.0 rest x.1))
+read_extent ending size rest value e n h = ap string_reading e ∙ sized_short value rest (omega (arith, n, h))
+
+-- which bytes a string has that is read
+pub sized_is : (value bytes rest more : List ℕ) → sized_string value more ≡ token_then (string_token bytes) rest → string_end value more ≡ string_end bytes rest
+unfolding sized_string
+sized_is value bytes rest more e = by (nat_le (length value) 65535) e
+  where
+    by : (short : Bool) → (if short then token_then (string_token value) more else stuck limit_fault) ≡ token_then (string_token bytes) rest → string_end value more ≡ string_end bytes rest
+    by true same = let values : value ≡ bytes = cc in let rests : more ≡ rest = cc in (λ i. string_end (values i) (rests i))
+    by false same = cc
+
+pub sized_value : (value bytes rest more : List ℕ) → sized_string value more ≡ token_then (string_token bytes) rest → value ≡ bytes
+sized_value value bytes rest more e = let same = sized_is value bytes rest more e in cc
+
+pub ending_is : (ending : Ending) (bytes rest : List ℕ) → string_reading ending ≡ token_then (string_token bytes) rest → ending ≡ string_end bytes rest
+unfolding string_reading
+ending_is (string_end value more) bytes rest e = sized_is value bytes rest more e
+ending_is unfinished bytes rest e = cc
 
 -- a string with a byte is one that may take memory
-pub some_string : (ending : Ending) (size : ℕ) (rest : List ℕ) → extent_of 0 ending ≡ Some (size, rest) → size ≤ 65535 → (size ≡ 0 → ⊥) → IsSomeString (string_reading ending)
-some_string ending size rest e h n =
-    let x = extent_is ending size rest e in
-    subst IsSomeString (sym (read_short ending size rest x.0 e h (λ v r f. (let same : string_end x.0 rest ≡ string_end v r = sym x.1 ∙ f in let equal : x.0 ≡ v = cc in equal)))) (filled x.0 (λ z. n (sym x.2 ∙ z)))
+pub some_string : (reading : Reading) (value rest : List ℕ) → reading ≡ token_then (string_token value) rest → (length value ≡ 0 → ⊥) → IsSomeString reading
+some_string reading value rest e n = subst IsSomeString (sym e) (filled value n)
   where
     filled : (v : List ℕ) → (length v ≡ 0 → ⊥) → IsSomeString (token_then (string_token v) rest)
     filled [] m = m refl
     filled (b ∷ bs) m = tt
 
--- a string of no bytes
-pub no_bytes : (ending : Ending) (size : ℕ) (rest : List ℕ) → extent_of 0 ending ≡ Some (size, rest) → size ≡ 0 → (v r : List ℕ) → ending ≡ string_end v r → [] ≡ v
-no_bytes ending size rest e z v r f =
-    let pair : ◌≡◌ {A = ℕ × List ℕ} (0 + length v, r) (size, rest) = same_pair (0 + length v, r) (size, rest) (sym (ap (extent_of 0) f) ∙ e) in
-    let n : 0 + length v ≡ size = ap (λ p. p.0) pair in
-    sym (nil_from_length v (omega (arith, n, z)))
-  where
-    same_pair : (a b : ℕ × List ℕ) → Some a ≡ Some b → a ≡ b
-    same_pair a b h = cc
-
-pub empty_string : (value rest : List ℕ) → length value ≡ 0 → sized_string value rest ≡ token_then (string_token []) rest
-empty_string value rest e = ap (λ v. sized_string v rest) (nil_from_length value e) ∙ sized_short [] rest (omega arith)
-
-pub filled_string : (value rest : List ℕ) → length value ≤ 65535 → (length value ≡ 0 → ⊥) → IsSomeString (sized_string value rest)
-filled_string value rest h n = subst IsSomeString (sym (sized_short value rest h)) (filled value n)
-  where
-    filled : (v : List ℕ) → (length v ≡ 0 → ⊥) → IsSomeString (token_then (string_token v) rest)
-    filled [] m = m refl
-    filled (b ∷ bs) m = tt
+-- the token of a string that is kept
+pub string_kept : (xs : List ℕ) (reading : Reading) (value rest : List ℕ) (kept : Vec ℕ Global) → reading ≡ token_then (string_token value) rest → kept.items ≡ value → reading ≡ token_then (token_of xs (Text kept)) rest
+string_kept xs reading value rest kept e same = e ∙ (ap (λ v. token_then (string_token v) rest) (sym same) ∙ ap (λ t. token_then t rest) (sym (text_is xs kept)))

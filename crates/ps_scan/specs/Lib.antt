@@ -1,3 +1,4 @@
 pub mod Numbers
 pub mod Shown
 pub mod Strings
+pub mod Passed

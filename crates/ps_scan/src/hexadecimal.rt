@@ -1,10 +1,12 @@
-ghost use Rattle.std.specs.Prelude.{◌≡◌, ◌+◌, ◌/◌, ◌<◌, ◌≤◌, length, drop, filter, slice_index, IfOk};
+ghost use Rattle.std.specs.Prelude.{◌≡◌, ◌≢◌, ◌+◌, ◌-◌, ◌/◌, ◌<◌, ◌≤◌, length, drop, filter, slice_index, slice_range, IfOk};
 ghost use Rattle.ps_language.specs.Bytes.{is_hex, is_hex_or_white};
-ghost use Rattle.ps_language.specs.Reading.{pairs};
+ghost use Rattle.ps_language.specs.Reading.{pairs, sized_string};
 ghost use Rattle.ps_language.specs.Scan.{leading, beyond, after_hex_start};
 ghost use Rattle.ps_scan.specs.Shown.{IsAnswer, IsSomeString};
+ghost use Rattle.ps_scan.specs.Strings.{IsSized};
 
 use crate::classes::{digit_value, is_white_byte};
+use crate::strings::Extent;
 use crate::tokens::{SEQUENCE_LIMIT, ScanFault, Span, Token, TokenKind};
 use std::alloc::{AllocError, Global};
 
@@ -62,6 +64,35 @@ fn hex_bytes(alloc: Global, inner: &[u8], capacity: usize) -> Result<Vec<u8>, Al
     Ok(string)
 }
 
+/// The extent of the hexadecimal string whose digits begin at a place, unless it is too long.
+pub(crate) fn hex_extent(bytes: &[u8], at: usize) -> Result<Extent, ScanFault>
+    requires inside { at ≤ length bytes.now }
+    requires digit { at < length bytes.now → slice_index bytes.now at ≢ 60 }
+    ensures sized { IsSized bytes.now at result (after_hex_start (drop at bytes.now)) }
+    ensures inner { IfOk result (λ extent. (at < extent.end) × (after_hex_start (drop at bytes.now)
+        ≡ sized_string (pairs (filter is_hex (slice_range bytes.now at (extent.end - 1))))
+        (drop extent.end bytes.now))) }
+{
+    if at >= bytes.len() {
+        return Err(ScanFault::Syntax);
+    }
+    let digits = hex_digits(bytes, at);
+    if digits.end >= bytes.len() {
+        return Err(ScanFault::Syntax);
+    }
+    if bytes[digits.end] != b'>' {
+        return Err(ScanFault::Syntax);
+    }
+    let length = digits.count / 2 + digits.count % 2;
+    if length > SEQUENCE_LIMIT {
+        return Err(ScanFault::Limit);
+    }
+    Ok(Extent {
+        length,
+        end: digits.end + 1,
+    })
+}
+
 /// `<<`, or a hexadecimal string in angles.
 pub(crate) fn angle_token(alloc: Global, bytes: &[u8], at: usize) -> Result<Token, ScanFault>
     requires inside { at < length bytes.now }
@@ -70,35 +101,27 @@ pub(crate) fn angle_token(alloc: Global, bytes: &[u8], at: usize) -> Result<Toke
         IsAnswer (IsSomeString reading) bytes.now at result reading }
 {
     let start = at + 1;
-    if start >= bytes.len() {
-        return Err(ScanFault::Syntax);
+    if start < bytes.len() {
+        if bytes[start] == b'<' {
+            let end = at + 2;
+            return Ok(Token {
+                kind: TokenKind::ExecutableName(Span { start: at, end }),
+                end,
+            });
+        }
     }
-    if bytes[start] == b'<' {
-        let end = at + 2;
-        return Ok(Token {
-            kind: TokenKind::ExecutableName(Span { start: at, end }),
-            end,
-        });
-    }
-    let digits = hex_digits(bytes, start);
-    if digits.end >= bytes.len() {
-        return Err(ScanFault::Syntax);
-    }
-    if bytes[digits.end] != b'>' {
-        return Err(ScanFault::Syntax);
-    }
-    let end = digits.end + 1;
-    let length = digits.count / 2 + digits.count % 2;
-    if length > SEQUENCE_LIMIT {
-        return Err(ScanFault::Limit);
-    }
-    if length == 0 {
+    let extent = match hex_extent(bytes, start) {
+        Ok(extent) => extent,
+        Err(fault) => return Err(fault),
+    };
+    let end = extent.end;
+    if extent.length == 0 {
         return Ok(Token {
             kind: TokenKind::Text(Vec::new(alloc)),
             end,
         });
     }
-    match hex_bytes(alloc, &bytes[start..digits.end], length) {
+    match hex_bytes(alloc, &bytes[start..end - 1], extent.length) {
         Ok(string) => Ok(Token {
             kind: TokenKind::Text(string),
             end,

@@ -2,6 +2,7 @@
 #![tactic(auto)]
 
 mod classes;
+mod firsts;
 mod hexadecimal;
 mod law;
 mod numbers;
@@ -13,6 +14,7 @@ mod strings;
 mod tokens;
 mod words;
 
+pub use firsts::{NumberFault, first_number};
 pub use law::scanner_is_grammar;
 pub use scanner::next_token;
 pub use tokens::{NAME_LIMIT, NESTING_LIMIT, SEQUENCE_LIMIT, ScanFault, Span, Token, TokenKind};

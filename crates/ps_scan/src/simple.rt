@@ -1,4 +1,4 @@
-ghost use Rattle.std.specs.Prelude.{◌≡◌, ◌+◌, ◌<◌, ◌^◌, length, drop, slice_index};
+ghost use Rattle.std.specs.Prelude.{◌≡◌, ◌≢◌, ◌+◌, ◌<◌, ◌^◌, length, drop, slice_index};
 ghost use Rattle.ps_language.specs.Scan.{after_angle};
 ghost use Rattle.ps_scan.specs.Shown.{IsAnswer, IsAtString, simple_at};
 
@@ -41,20 +41,16 @@ fn bracket(at: usize) -> Token
     }
 }
 
-/// The token that begins at a place, procedures apart.
-pub(crate) fn simple_token(alloc: Global, bytes: &[u8], at: usize) -> Result<Token, ScanFault>
-    requires { at < length bytes.now }
-    ensures { IsAnswer (IsAtString bytes.now at (simple_at bytes.now at)) bytes.now at result (simple_at bytes.now at) }
+/// The token that begins at a place and is neither a string nor a procedure. It takes no memory.
+pub(crate) fn bare_token(bytes: &[u8], at: usize) -> Result<Token, ScanFault>
+    requires inside { at < length bytes.now }
+    requires string { slice_index bytes.now at ≢ 40 }
+    requires angle { slice_index bytes.now at ≢ 60 }
+    ensures { IsAnswer ⊥ bytes.now at result (simple_at bytes.now at) }
 {
     let first = bytes[at];
     if is_regular_byte(first) {
         return word_token(bytes, at);
-    }
-    if first == b'(' {
-        return string_token(alloc, bytes, at);
-    }
-    if first == b'<' {
-        return angle_token(alloc, bytes, at);
     }
     if first == b'>' {
         return closing_angles(bytes, at);
@@ -69,4 +65,19 @@ pub(crate) fn simple_token(alloc: Global, bytes: &[u8], at: usize) -> Result<Tok
         return Ok(bracket(at));
     }
     Err(ScanFault::Syntax)
+}
+
+/// The token that begins at a place, procedures apart.
+pub(crate) fn simple_token(alloc: Global, bytes: &[u8], at: usize) -> Result<Token, ScanFault>
+    requires { at < length bytes.now }
+    ensures { IsAnswer (IsAtString bytes.now at (simple_at bytes.now at)) bytes.now at result (simple_at bytes.now at) }
+{
+    let first = bytes[at];
+    if first == b'(' {
+        return string_token(alloc, bytes, at);
+    }
+    if first == b'<' {
+        return angle_token(alloc, bytes, at);
+    }
+    bare_token(bytes, at)
 }

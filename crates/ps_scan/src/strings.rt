@@ -3,7 +3,7 @@ ghost use Rattle.ps_language.specs.Bytes.{value_in, digit_of, is_octal};
 ghost use Rattle.ps_language.specs.Reading.{string_end, unfinished, with_front, string_reading};
 ghost use Rattle.ps_language.specs.Scan.{after_return, octal_front, octal_rest, escape_of, byte_escape, string_escape, string_from};
 ghost use Rattle.ps_scan.specs.Shown.{IsAnswer, IsSomeString};
-ghost use Rattle.ps_scan.specs.Strings.{extent_of, PartReads};
+ghost use Rattle.ps_scan.specs.Strings.{extent_of, IsSized, PartReads};
 
 use crate::classes::digit_value;
 use crate::tokens::{SEQUENCE_LIMIT, ScanFault, Token, TokenKind};
@@ -18,9 +18,9 @@ struct Part {
 
 /// How many bytes a string has, and the place behind it.
 #[derive(Clone, Copy)]
-struct Extent {
-    length: usize,
-    end: usize,
+pub(crate) struct Extent {
+    pub(crate) length: usize,
+    pub(crate) end: usize,
 }
 
 /// The place behind a carriage return: a line feed belongs to it.
@@ -234,6 +234,21 @@ fn string_bytes(
     Ok(string)
 }
 
+/// The extent of the string in parentheses that begins at a place, unless it is too long.
+pub(crate) fn sized_extent(bytes: &[u8], at: usize) -> Result<Extent, ScanFault>
+    requires { at ≤ length bytes.now }
+    ensures { IsSized bytes.now at result (string_reading (string_from 0 (drop at bytes.now))) }
+{
+    let extent = match string_extent(bytes, at) {
+        Some(extent) => extent,
+        None => return Err(ScanFault::Syntax),
+    };
+    if extent.length > SEQUENCE_LIMIT {
+        return Err(ScanFault::Limit);
+    }
+    Ok(extent)
+}
+
 /// A string in parentheses.
 pub(crate) fn string_token(alloc: Global, bytes: &[u8], at: usize) -> Result<Token, ScanFault>
     requires { at < length bytes.now }
@@ -241,13 +256,10 @@ pub(crate) fn string_token(alloc: Global, bytes: &[u8], at: usize) -> Result<Tok
         IsAnswer (IsSomeString reading) bytes.now at result reading }
 {
     let start = at + 1;
-    let extent = match string_extent(bytes, start) {
-        Some(extent) => extent,
-        None => return Err(ScanFault::Syntax),
+    let extent = match sized_extent(bytes, start) {
+        Ok(extent) => extent,
+        Err(fault) => return Err(fault),
     };
-    if extent.length > SEQUENCE_LIMIT {
-        return Err(ScanFault::Limit);
-    }
     if extent.length == 0 {
         return Ok(Token {
             kind: TokenKind::Text(Vec::new(alloc)),

@@ -10,3 +10,4 @@ pub mod Copying
 pub mod PutIntervals
 pub mod CopyRows
 pub mod ReduceRows
+pub mod Searching

@@ -1,6 +1,8 @@
 -- What the operators that change strings and arrays ask for, and why they are not made.
 use Rattle.std.specs.Prelude.{ℕ, ◌+◌, min, List, ◌∷◌, vec_capacity}
 use Rattle.ps_language.specs.Value.{What, integer_value, array_value, string_value, dictionary_value, Value}
+use Rattle.ps_language.specs.ArrayRows.{count_in}
+use Rattle.ps_language.specs.Readers.{as_string}
 use Rattle.ps_language.specs.Effect.{Scene}
 use Rattle.ps_mem.specs.Heap.{Grants}
 use Rattle.ps_mem.specs.References.{words_for}
@@ -70,3 +72,19 @@ reduced_first _ = record { records = 0; scratch = no_rooms }
 -- readonly and noaccess reduce the topmost
 abbrev pub reduce_asks : Scene → Asked
 reduce_asks scene = reduced_first scene.operands
+
+-- both strings are read
+abbrev pub search_asked : List Value → Asked
+search_asked (y ∷ x ∷ rest) = record {
+  records = 0;
+  scratch = record {
+    text = count_in (as_string x);
+    sought = count_in (as_string y);
+    words = 0;
+  };
+}
+search_asked _ = record { records = 0; scratch = no_rooms }
+
+-- search looks for the topmost in the second
+abbrev pub search_asks : Scene → Asked
+search_asks scene = search_asked scene.operands

@@ -10,3 +10,4 @@ pub mod lengths;
 pub mod loops;
 pub mod pairs;
 pub mod reductions;
+pub mod searches;

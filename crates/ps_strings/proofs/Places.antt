@@ -44,16 +44,16 @@ occurs_nearer b hay needle k o =
 
 -- ---- the place
 
-place_start : (needle hay : List ℕ) → starts_with nat_eq hay needle ≡ true → place_of needle hay
+pub place_start : (needle hay : List ℕ) → starts_with nat_eq hay needle ≡ true → place_of needle hay
     ≡ Some 0
 place_start needle [] e = rw e refl
 place_start needle (b ∷ hay) e = rw e refl
 
-place_next : (needle : List ℕ) (b : ℕ) (hay : List ℕ) → starts_with nat_eq (b ∷ hay) needle ≡ false
+pub place_next : (needle : List ℕ) (b : ℕ) (hay : List ℕ) → starts_with nat_eq (b ∷ hay) needle ≡ false
     → place_of needle (b ∷ hay) ≡ option_map suc (place_of needle hay)
 place_next needle b hay e = rw e refl
 
-place_none : (needle : List ℕ) → starts_with nat_eq [] needle ≡ false → place_of needle [] ≡ None
+pub place_none : (needle : List ℕ) → starts_with nat_eq [] needle ≡ false → place_of needle [] ≡ None
 place_none needle e = rw e refl
 
 -- found at the front

@@ -23,10 +23,10 @@ use Rattle.ps_ops.proofs.Operands.{first_two_split}
 use Rattle.ps_ops.proofs.Held.{first_of_two_held, second_held, rest_held, ready_with}
 use Rattle.ps_ops.proofs.Ready.{plain_value, plain_within}
 
-leaving_all : (vs : List Value) → length vs ≤ 500 → leaving vs ≡ leaves vs
+pub leaving_all : (vs : List Value) → length vs ≤ 500 → leaving vs ≡ leaves vs
 leaving_all vs h = grind (arith, nat_tests)
 
-leaving_none : (vs : List Value) → 500 < length vs → leaving vs ≡ fails StackOverflow
+pub leaving_none : (vs : List Value) → 500 < length vs → leaving vs ≡ fails StackOverflow
 leaving_none vs h = grind (arith, nat_tests)
 
 -- ---- any search of the second operand for the topmost one

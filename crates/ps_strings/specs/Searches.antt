@@ -1,8 +1,7 @@
 -- When what a search did is its row, or it was not made for want of memory.
 use Rattle.std.specs.Prelude.{◌≡◌, ◌⊎◌, ℕ, ◌+◌, ◌-◌, ◌<◌, true, List, ◌∷◌, drop, Result, Ok, Err}
-use Rattle.ps_language.specs.declared.errors.ErrorName.TheVariants.{StackOverflow}
 use Rattle.ps_language.specs.Value.{Value, Store}
-use Rattle.ps_language.specs.Outcome.{Outcome, leaves, fails}
+use Rattle.ps_language.specs.Outcome.{Outcome, leaves}
 use Rattle.ps_language.specs.Readers.{as_string, boolean, part_at, with_part}
 use Rattle.ps_language.specs.ArrayRows.{count_in}
 use Rattle.ps_word.specs.declared.words.Word.{Word}
@@ -11,7 +10,7 @@ use Rattle.ps_mem.specs.Heap.{Heap}
 use Rattle.ps_mem.specs.Meaning.{value_of, part_of}
 use Rattle.ps_operands.specs.Plain.{IsPlain}
 use Rattle.ps_mem.specs.Shows.{IsValue, IsWithin, AreWithin, Shows}
-use Rattle.ps_ops.specs.declared.failure.NotMade.TheVariants.{LogFull, LogClosed, NeedSpace, Memory}
+use Rattle.ps_ops.specs.declared.failure.NotMade.TheVariants.{Memory}
 use Rattle.ps_ops.specs.declared.failure.Failure.{Failure}
 use Rattle.ps_ops.specs.declared.failure.Failure.TheVariants.{Error, NotMade as NotMadeOf}
 use Rattle.ps_ops.specs.Does.{values_in, ObservesAs}
@@ -23,23 +22,16 @@ LacksRoom room sought_room (y ∷ x ∷ rest) = (room < count_in (as_string x)) 
     (sought_room < count_in (as_string y))
 LacksRoom room sought_room _ = ⊥
 
--- the row reads both strings: it raises nothing, or what it found doesn't fit
-abbrev pub ReadsBoth : Outcome (List Value) → Type 0
-ReadsBoth (leaves operands) = Unit {0}
-ReadsBoth (fails raised) = raised ≡ StackOverflow
-
--- the row; or a lack of memory where both strings are read, with the operands as they were
+-- the row; or a lack of memory where it leaves something, with the operands as they were
 abbrev pub SearchesAs : (Lacks : Type 0) → Result Unit Failure → Outcome (List Value) → List
     (List ℕ) → Store → Heap → (before after : List Word) → Type 0
 SearchesAs Lacks (Ok _) outcome names store h before after = ObservesAs
     (Ok tt) outcome names store h before after
 SearchesAs Lacks (Err (Error error)) outcome names store h before after = ObservesAs
     (Err error) outcome names store h before after
-SearchesAs Lacks (Err (NotMadeOf Memory)) outcome names store h before after = Lacks
-    × ReadsBoth outcome × (after ≡ before)
-SearchesAs Lacks (Err (NotMadeOf LogFull)) outcome names store h before after = ⊥
-SearchesAs Lacks (Err (NotMadeOf LogClosed)) outcome names store h before after = ⊥
-SearchesAs Lacks (Err (NotMadeOf (NeedSpace words))) outcome names store h before after = ⊥
+SearchesAs Lacks (Err (NotMadeOf Memory)) (leaves operands) names store h before after = Lacks
+    × (after ≡ before)
+SearchesAs Lacks (Err (NotMadeOf reason)) outcome names store h before after = ⊥
 
 -- for every store that the memory shows; room, sought_room: of the two lists into which the bytes
 -- are read

@@ -1,6 +1,6 @@
 //! The operators that search strings (PLRM2, 8 'Operators': String).
 
-ghost use Rattle.std.specs.Prelude.{◌≡◌, ◌⊎◌, ℕ, ◌+◌, ◌<◌, ◌≤◌, ◌^◌, ◌&&◌, List, [], length, nat_eq, IsTrue, Some, IfSome, IfOk, OnErr, vec_capacity};
+ghost use Rattle.std.specs.Prelude.{◌≡◌, ◌⊎◌, ℕ, ◌+◌, ◌<◌, ◌≤◌, ◌^◌, ◌&&◌, List, [], length, nat_eq, is_some, IsTrue, Some, IfSome, IfOk, OnErr, vec_capacity};
 ghost use Rattle.std.specs.List.{starts_with};
 ghost use Rattle.ps_language.specs.Value.{Store};
 ghost use Rattle.ps_language.specs.Access.{bytes, part_bytes};
@@ -169,11 +169,39 @@ fn find_part<M: Memory>(
     found
 }
 
+/// Whether a part of a string has the bytes of another at some place. It takes no memory: it is
+/// looked for in place, at each place in turn. The memory stays as it is.
+fn contains<M: Memory>(memory: &mut M, part: Part, wanted: Part) -> bool
+    requires sound { IsSound (M.heap memory.old) }
+    requires part { StandsAs (M.heap memory.old) Kind.Text part.address (words_for
+        (part.offset + part.length)) }
+    requires wanted { StandsAs (M.heap memory.old) Kind.Text wanted.address (words_for
+        (wanted.offset + wanted.length)) }
+    requires end { part.offset + part.length < 2 ^ 16 }
+    ensures heap { M.heap memory.new ≡ M.heap memory.old }
+    ensures grants { M.grants memory.new ≡ M.grants memory.old }
+    ensures value { (names : List (List ℕ)) (s : Store) → Shows (M.heap memory.old) names s
+        → part.offset + part.length ≤ length (bytes s (birth_at (M.heap memory.old) part.address))
+        → wanted.offset + wanted.length ≤ length (bytes s (birth_at
+        (M.heap memory.old) wanted.address)) → result ≡ is_some (sequences.place_of
+        (part_bytes s (part_of (birth_at (M.heap memory.old)) wanted)) (part_bytes s (part_of
+        (birth_at (M.heap memory.old)) part))) }
+{
+    for place in 0..part.length as u32 + 1 {
+        let rest = interval(part, place as u16, part.length - place as u16);
+        if begins_with(memory, rest, wanted) {
+            return true;
+        }
+    }
+    false
+}
+
 /// `S T search behind match before true` at the first place where `S` has the bytes of `T`, else `S
 /// false`. What is pushed shares the bytes of `S`. Raises `stackunderflow`, `typecheck` where one
-/// is no string, `invalidaccess`, and `stackoverflow` where the parts and `true` don't fit. Not
-/// made where `text` lacks room for the bytes of `S` or `sought` for those of `T`, and a growth was
-/// refused. The lists are empty before and after; their room is kept for the next call.
+/// is no string, `invalidaccess`, and `stackoverflow` where the parts and `true` don't fit. Where
+/// they wouldn't fit it wants no memory. Not made where `text` lacks room for the bytes of `S` or
+/// `sought` for those of `T`, and a growth was refused. The lists are empty before and after; their
+/// room is kept for the next call.
 pub fn search<M: Memory>(
     operands: &mut Operands,
     memory: &mut M,
@@ -205,6 +233,13 @@ pub fn search<M: Memory>(
     if !are_readable(wanted.access, part.access) {
         return Err(Failure::Error(ErrorName::InvalidAccess));
     }
+    if operands.len() + 2 > OPERAND_LIMIT {
+        if contains(memory, part, wanted) {
+            return Err(Failure::Error(ErrorName::StackOverflow));
+        }
+        operands.replace(1, plain::boolean(false));
+        return Ok(());
+    }
     let Ok(found) = find_part(memory, part, wanted, text, sought) else {
         return Err(Failure::NotMade(NotMade::Memory));
     };
@@ -212,9 +247,6 @@ pub fn search<M: Memory>(
         operands.replace(1, plain::boolean(false));
         return Ok(());
     };
-    if operands.len() + 2 > OPERAND_LIMIT {
-        return Err(Failure::Error(ErrorName::StackOverflow));
-    }
     push_found(operands, string, part, place as u16, wanted.length);
     Ok(())
 }

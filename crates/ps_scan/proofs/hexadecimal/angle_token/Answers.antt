@@ -1,24 +1,22 @@
--- Two angles, or a hexadecimal string that is unfinished, broken, too long, or a token.
-use Rattle.std.proofs.Common.{◌≡◌, ◌∙◌, sym, ap, subst, ◌+◌, ◌<◌, ◌∷◌, [], length, drop, filter, arith}
+-- Two angles, a hexadecimal string of no bytes, or one that is kept; or its fault.
+use Rattle.std.proofs.Common.{◌≡◌, ◌∙◌, sym, ap, ◌+◌, ◌<◌, ◌∷◌, [], length, drop, arith}
+use Rattle.std.proofs.lemmas.List.{nil_from_length}
 use Rattle.std.specs.List.{slice_range}
-use Rattle.ps_language.specs.Bytes.{is_hex}
-use Rattle.ps_language.specs.Token.{executable_name_token, string_token}
-use Rattle.ps_language.specs.Reading.{token_then, pairs}
+use Rattle.ps_language.specs.Token.{executable_name_token}
+use Rattle.ps_language.specs.Reading.{token_then}
+use Rattle.ps_language.specs.Scan.{after_hex_start}
 use Rattle.ps_language.proofs.Places.{byte_at}
 use Rattle.ps_scan.specs.Shown.{IsSomeString}
-use Rattle.ps_scan.proofs.TokenForms.{text_is, executable_name_is}
-use Rattle.ps_scan.proofs.ReadingForms.{two_bytes}
-use Rattle.ps_scan.proofs.StringForms.{sized_short, sized_long, empty_string, filled_string}
-use Rattle.ps_scan.proofs.HexForms.{angle_end, angle_angle, hex_string_at, hex_no_end, hex_bad_byte, hex_size}
+use Rattle.ps_scan.proofs.TokenForms.{executable_name_is}
+use Rattle.ps_scan.proofs.ReadingForms.{two_bytes, fault_more}
+use Rattle.ps_scan.proofs.StringForms.{sized_value, some_string, string_kept}
+use Rattle.ps_scan.proofs.HexForms.{angle_angle}
 use Rattle.ps_scan.proofs.hexadecimal.angle_token.Goals as goal
-
-pub returns-then-start-bytes : goal.returns-then-start-bytes
-returns-then-start-bytes c = angle_end c.args.bytes.now (c.args.at + 1) c.if-start-bytes.true
 
 pub returns-then-bytes-start-eq60 : goal.returns-then-bytes-start-eq60
 returns-then-bytes-start-eq60 c =
     let xs = c.args.bytes.now in
-    let inside : c.args.at + 1 < length xs = omega (arith, c.if-start-bytes.false) in
+    let inside : c.args.at + 1 < length xs = c.if-start-bytes.true in
     let two : c.args.at + 1 + 1 ≡ c.args.at + 2 = omega arith in
     let name : slice_range xs c.args.at (c.args.at + 2) ≡ 60 ∷ 60 ∷ [] = two_bytes xs c.args.at inside ∙ ap (λ b. b ∷ byte_at xs (c.args.at + 1) ∷ []) c.requires.angle ∙ ap (λ b. 60 ∷ b ∷ []) c.if-bytes-start-eq60.true in (
       angle_angle xs (c.args.at + 1) inside c.if-bytes-start-eq60.true ∙ ap (λ n. token_then (executable_name_token (60 ∷ 60 ∷ [])) (drop n xs)) two
@@ -27,53 +25,28 @@ returns-then-bytes-start-eq60 c =
       omega (arith, inside),
     )
 
-pub returns-then-digits-bytes : goal.returns-then-digits-bytes
-returns-then-digits-bytes c = hex_no_end c.args.bytes.now (c.args.at + 1) _ (omega (arith, c.if-start-bytes.false)) c.if-bytes-start-eq60.false c.hex_digits-digits.ensures.rest c.if-digits-bytes.true
-
-pub returns-then-bytes-digits-ne62 : goal.returns-then-bytes-digits-ne62
-returns-then-bytes-digits-ne62 c = hex_bad_byte c.args.bytes.now (c.args.at + 1) _ (omega (arith, c.if-start-bytes.false)) c.if-bytes-start-eq60.false c.hex_digits-digits.ensures.rest c.if-digits-bytes.false c.if-bytes-digits-ne62.true
-
-pub returns-then-length-gt-SEQUENCE_LIMIT : goal.returns-then-length-gt-SEQUENCE_LIMIT
-returns-then-length-gt-SEQUENCE_LIMIT c =
-    let xs = c.args.bytes.now in
-    let end = c.hex_digits-digits.result.end in
-    let digits = c.hex_digits-digits.ensures in
-    let value = pairs (filter is_hex (slice_range xs (c.args.at + 1) end)) in
-    hex_string_at xs (c.args.at + 1) end c.if-start-bytes.false c.if-bytes-start-eq60.false digits.rest digits.low c.if-digits-bytes.false c.if-bytes-digits-ne62.false
-    ∙ sized_long value (drop (end + 1) xs) (omega (arith, hex_size xs (c.args.at + 1) end c.hex_digits-digits.result.count digits.rest digits.low digits.high digits.count, c.if-length-gt-SEQUENCE_LIMIT.true))
-
-pub returns-then-length-eq0 : goal.returns-then-length-eq0
-returns-then-length-eq0 c =
-    let xs = c.args.bytes.now in
-    let end = c.hex_digits-digits.result.end in
-    let digits = c.hex_digits-digits.ensures in
-    let value = pairs (filter is_hex (slice_range xs (c.args.at + 1) end)) in (
-      hex_string_at xs (c.args.at + 1) end c.if-start-bytes.false c.if-bytes-start-eq60.false digits.rest digits.low c.if-digits-bytes.false c.if-bytes-digits-ne62.false
-          ∙ empty_string value (drop (end + 1) xs) (hex_size xs (c.args.at + 1) end c.hex_digits-digits.result.count digits.rest digits.low digits.high digits.count ∙ c.if-length-eq0.true)
-          ∙ ap (λ v. token_then (string_token v) (drop (end + 1) xs)) (sym c.new.ensures.items) ∙ ap (λ t. token_then t (drop (end + 1) xs)) (sym (text_is xs c.new.result)),
-      omega (arith, digits.low),
-      omega (arith, c.if-digits-bytes.false),
-    )
-
-pub returns-in-Ok : goal.returns-in-Ok
-returns-in-Ok c =
-    let xs = c.args.bytes.now in
-    let end = c.hex_digits-digits.result.end in
-    let digits = c.hex_digits-digits.ensures in
-    let value = pairs (filter is_hex (slice_range xs (c.args.at + 1) end)) in (
-      hex_string_at xs (c.args.at + 1) end c.if-start-bytes.false c.if-bytes-start-eq60.false digits.rest digits.low c.if-digits-bytes.false c.if-bytes-digits-ne62.false
-          ∙ sized_short value (drop (end + 1) xs) (omega (arith, hex_size xs (c.args.at + 1) end c.hex_digits-digits.result.count digits.rest digits.low digits.high digits.count, c.if-length-gt-SEQUENCE_LIMIT.false))
-          ∙ ap (λ v. token_then (string_token v) (drop (end + 1) xs)) (sym c.in-Ok.ensures) ∙ ap (λ t. token_then t (drop (end + 1) xs)) (sym (text_is xs c.in-Ok.string)),
-      omega (arith, digits.low),
-      omega (arith, c.if-digits-bytes.false),
-    )
-
 pub returns-in-Err : goal.returns-in-Err
 returns-in-Err c =
-    let xs = c.args.bytes.now in
-    let end = c.hex_digits-digits.result.end in
-    let digits = c.hex_digits-digits.ensures in
-    let value = pairs (filter is_hex (slice_range xs (c.args.at + 1) end)) in
-    let size = hex_size xs (c.args.at + 1) end c.hex_digits-digits.result.count digits.rest digits.low digits.high digits.count in
-    subst IsSomeString (sym (hex_string_at xs (c.args.at + 1) end c.if-start-bytes.false c.if-bytes-start-eq60.false digits.rest digits.low c.if-digits-bytes.false c.if-bytes-digits-ne62.false))
-    (filled_string value (drop (end + 1) xs) (omega (arith, size, c.if-length-gt-SEQUENCE_LIMIT.false)) (λ e. c.if-length-eq0.false (sym size ∙ e)))
+    let reading = after_hex_start (drop (c.args.at + 1) c.args.bytes.now) in
+    fault_more (IsSomeString reading) reading c.in-Err.fault c.in-Err.ensures.sized
+
+pub returns-then-extent-eq0 : goal.returns-then-extent-eq0
+returns-then-extent-eq0 c =
+    let sized = c.in-Ok.ensures.sized in (
+      string_kept c.args.bytes.now _ sized.0 _ c.new.result sized.1 (c.new.ensures.items ∙ sym (nil_from_length sized.0 (sized.2 ∙ c.if-extent-eq0.true))),
+      omega (arith, sized.4),
+      sized.5,
+    )
+
+pub returns-in-Ok-hex_bytes : goal.returns-in-Ok-hex_bytes
+returns-in-Ok-hex_bytes c =
+    let sized = c.in-Ok.ensures.sized in
+    let inner = c.in-Ok.ensures.inner in (
+      string_kept c.args.bytes.now _ sized.0 _ c.in-Ok-hex_bytes.string sized.1 (c.in-Ok-hex_bytes.ensures ∙ sized_value _ sized.0 _ _ (sym inner.1 ∙ sized.1)),
+      omega (arith, sized.4),
+      sized.5,
+    )
+
+pub returns-in-Err-hex_bytes : goal.returns-in-Err-hex_bytes
+returns-in-Err-hex_bytes c =
+    let sized = c.in-Ok.ensures.sized in some_string _ sized.0 _ sized.1 (λ none. c.if-extent-eq0.false (sym sized.2 ∙ none))

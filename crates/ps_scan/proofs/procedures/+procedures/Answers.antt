@@ -33,7 +33,7 @@ procedure_token-returns-then-bytes-here-eq125 t c =
 pub procedure_token-returns-in-Err : goal.procedure_token-returns-in-Err
 procedure_token-returns-in-Err t c =
     let front = c.loop-place.invariant.front in
-    faulty_answer c.args.room c.args.bytes.now c.loop-place.place c.blank_end-here.result _ front.0 _ c.in-Err.fault c.blank_end-here.ensures.rest (omega (arith, c.if-here-bytes.false)) c.if-bytes-here-eq125.false front.1 c.in-Err.ensures
+    faulty_answer c.args.room c.args.bytes.now c.loop-place.place c.blank_end-here.result _ _ front.0 _ c.in-Err.fault (λ _. tt) c.blank_end-here.ensures.rest (omega (arith, c.if-here-bytes.false)) c.if-bytes-here-eq125.false front.1 c.in-Err.ensures
 
 pub procedure_token-loop-place-preserved : goal.procedure_token-loop-place-preserved
 procedure_token-loop-place-preserved t c =

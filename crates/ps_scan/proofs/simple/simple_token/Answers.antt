@@ -1,13 +1,8 @@
--- The first byte says which token it is.
-use Rattle.std.proofs.Common.{◌∙◌, sym, ap, subst, inl, inr, ◌+◌, ◌∷◌, [], drop, arith}
-use Rattle.ps_language.specs.Token.{executable_name_token}
-use Rattle.ps_language.specs.Reading.{token_then}
+-- A string, or what takes no memory.
+use Rattle.std.proofs.Common.{refl, sym, subst, inl, inr}
 use Rattle.ps_scan.specs.Shown.{IsAtString, IsSomeString, simple_at}
-use Rattle.ps_scan.proofs.ReadingForms.{same_answer, regular_at, string_at, angle_at, closing_angle_at, slash_at, opening_bracket_at, closing_bracket_at, bracket_is, stray_at}
+use Rattle.ps_scan.proofs.ReadingForms.{same_answer, string_at, angle_at}
 use Rattle.ps_scan.proofs.simple.simple_token.Goals as goal
-
-pub returns-then-is_regular_byte : goal.returns-then-is_regular_byte
-returns-then-is_regular_byte c = same_answer ⊥ _ c.args.bytes.now c.args.at _ _ _ (λ no. absurd no) (regular_at c.args.bytes.now c.args.at (sym c.is_regular_byte.ensures ∙ c.if-is_regular_byte.true)) c.word_token.ensures
 
 pub returns-then-first-eq40 : goal.returns-then-first-eq40
 returns-then-first-eq40 c = same_answer _ (IsAtString c.args.bytes.now c.args.at (simple_at c.args.bytes.now c.args.at)) c.args.bytes.now c.args.at _ _ _ (λ h. (inl c.if-first-eq40.true, subst IsSomeString (sym (string_at c.args.bytes.now c.args.at c.if-first-eq40.true)) h)) (string_at c.args.bytes.now c.args.at c.if-first-eq40.true) c.string_token.ensures
@@ -15,29 +10,5 @@ returns-then-first-eq40 c = same_answer _ (IsAtString c.args.bytes.now c.args.at
 pub returns-then-first-eq60 : goal.returns-then-first-eq60
 returns-then-first-eq60 c = same_answer _ (IsAtString c.args.bytes.now c.args.at (simple_at c.args.bytes.now c.args.at)) c.args.bytes.now c.args.at _ _ _ (λ h. (inr c.if-first-eq60.true, subst IsSomeString (sym (angle_at c.args.bytes.now c.args.at c.if-first-eq60.true)) h)) (angle_at c.args.bytes.now c.args.at c.if-first-eq60.true) c.angle_token.ensures
 
-pub returns-then-first-eq62 : goal.returns-then-first-eq62
-returns-then-first-eq62 c = same_answer ⊥ _ c.args.bytes.now c.args.at _ _ _ (λ no. absurd no) (closing_angle_at c.args.bytes.now c.args.at c.if-first-eq62.true) c.closing_angles.ensures
-
-pub returns-then-first-eq47 : goal.returns-then-first-eq47
-returns-then-first-eq47 c = same_answer ⊥ _ c.args.bytes.now c.args.at _ _ _ (λ no. absurd no) (slash_at c.args.bytes.now c.args.at c.if-first-eq47.true) c.slash_token.ensures
-
-pub returns-then-first-eq91 : goal.returns-then-first-eq91
-returns-then-first-eq91 c =
-    let xs = c.args.bytes.now in (
-      opening_bracket_at xs c.args.at c.if-first-eq91.true ∙ ap (λ b. token_then (executable_name_token (b ∷ [])) (drop (c.args.at + 1) xs)) (sym c.if-first-eq91.true)
-          ∙ bracket_is xs c.args.at c.bracket.result.kind c.bracket.result.end c.requires c.bracket.ensures.kind c.bracket.ensures.end,
-      omega (arith, c.bracket.ensures.end),
-      omega (arith, c.bracket.ensures.end),
-    )
-
-pub returns-then-first-eq93 : goal.returns-then-first-eq93
-returns-then-first-eq93 c =
-    let xs = c.args.bytes.now in (
-      closing_bracket_at xs c.args.at c.if-first-eq93.true ∙ ap (λ b. token_then (executable_name_token (b ∷ [])) (drop (c.args.at + 1) xs)) (sym c.if-first-eq93.true)
-          ∙ bracket_is xs c.args.at c.bracket-then-first-eq93.result.kind c.bracket-then-first-eq93.result.end c.requires c.bracket-then-first-eq93.ensures.kind c.bracket-then-first-eq93.ensures.end,
-      omega (arith, c.bracket-then-first-eq93.ensures.end),
-      omega (arith, c.bracket-then-first-eq93.ensures.end),
-    )
-
 pub returns : goal.returns
-returns c = stray_at c.args.bytes.now c.args.at (sym c.is_regular_byte.ensures ∙ c.if-is_regular_byte.false) c.if-first-eq40.false c.if-first-eq60.false c.if-first-eq62.false c.if-first-eq91.false c.if-first-eq93.false c.if-first-eq47.false
+returns c = same_answer ⊥ _ c.args.bytes.now c.args.at _ _ _ (λ no. absurd no) refl c.bare_token.ensures

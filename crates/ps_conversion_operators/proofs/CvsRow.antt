@@ -1,0 +1,184 @@
+-- What cvs leaves or raises.
+use Rattle.std.proofs.Common.{◌≡◌, ℕ, ◌<◌, ◌≤◌, arith, List, [], ◌∷◌, drop, length, true, false, Some, None, Ok, Err, refl, sym, ap, subst, ◌∙◌, inr}
+use Rattle.std.specs.Prelude.{min, nat_le}
+use Rattle.std.proofs.lemmas.Bool.Decides.{nat_tests}
+use Rattle.ps_language.specs.declared.errors.ErrorName.TheVariants.{InvalidAccess, RangeCheck, TypeCheck}
+use Rattle.ps_language.specs.Value.{Part as PartValue, Value, Store}
+use Rattle.ps_language.specs.Access.{is_writable, with_part_bytes}
+use Rattle.ps_language.specs.Readers.{as_string, part_at, with_part}
+use Rattle.ps_language.specs.Effect.{makes, raises}
+use Rattle.ps_language.specs.Objects.{made_between}
+use Rattle.ps_language.specs.Rows.{changing_row}
+use Rattle.ps_language.specs.RowsTypes.{cvs_row}
+use Rattle.ps_language.specs.Texts.{plain_text}
+use Rattle.ps_stacks.specs.Tops.{first_two_of}
+use Rattle.ps_word.specs.declared.words.Word.{Word}
+use Rattle.ps_word.specs.declared.values.Part.{Part}
+use Rattle.ps_mem.specs.Heap.{Heap, Grants, birth_at}
+use Rattle.ps_mem.specs.Keeps.{Keeps}
+use Rattle.ps_mem.specs.Meaning.{value_of, part_of}
+use Rattle.ps_mem.specs.Shows.{IsSound, IsValue, IsWithin, Shows}
+use Rattle.ps_ops.specs.declared.failure.NotMade.{NotMade as Reason}
+use Rattle.ps_ops.specs.declared.failure.NotMade.TheVariants.{LogFull, LogClosed, NeedSpace, Memory}
+use Rattle.ps_ops.specs.Does.{values_in, KeepsLogsWithin, most_records}
+use Rattle.ps_ops.proofs.Operands.{first_two_split}
+use Rattle.ps_ops.proofs.Held.{first_of_two_held, rest_held}
+use Rattle.ps_acts.specs.declared.breaks.Break.TheVariants.{NotMade}
+use Rattle.ps_acts.specs.declared.lent.Trial.{Trial}
+use Rattle.ps_acts.specs.declared.lent.Scratch.{Scratch}
+use Rattle.ps_acts.specs.Lent.{Lent, rooms_of, IsEmpty, scene_of, IsShown, IsGood}
+use Rattle.ps_acts.specs.Acts.{Asked, IsAtLeast, effect_in, Acts}
+use Rattle.ps_acts.proofs.Meeting.{lacks_nothing, logs_more}
+use Rattle.ps_acts.proofs.Acting.{wanting_acts}
+use Rattle.ps_acts.proofs.Direct.{store_acts}
+use Rattle.ps_sequence_operators.specs.declared.pairs.Sequence.TheVariants.{Strings}
+use Rattle.ps_strings.specs.Copies.{IsCopyReason}
+use Rattle.ps_conversion_operators.specs.TextReads.{IsTextReason}
+use Rattle.ps_sequence_operators.specs.Asks.{asked_for, IsStoreReason}
+use Rattle.ps_conversion_operators.specs.Asks.{cvs_asks}
+use Rattle.ps_sequence_operators.proofs.Copying.{store_reason}
+use Rattle.ps_sequence_operators.proofs.StringPuts.{bytes_unasked, bytes_last, string_lies}
+
+module _ (l : Lent) (target word : Word) (tops : Some (target, word) ≡ first_two_of l.operands)
+  where
+    pub cvs_wrong : as_string (value_of (birth_at l.heap) l.names target) ≡ None → (store : Store)
+        → IsShown l store → effect_in (changing_row cvs_row) l store ≡ raises TypeCheck
+    cvs_wrong none store shown = rw (first_two_split l.operands target word tops, none) refl
+
+    pub cvs_hidden : (part : PartValue)
+        → as_string (value_of (birth_at l.heap) l.names target) ≡ Some part
+        → is_writable part.access ≡ false → (store : Store) → IsShown l store
+        → effect_in (changing_row cvs_row) l store ≡ raises InvalidAccess
+    cvs_hidden part part_is hidden store shown =
+        rw (first_two_split l.operands target word tops, part_is, hidden) refl
+
+-- why a text is not written
+pub text_reason : (reason : Reason) (count text_room words_room slot : ℕ) (asked left : Grants)
+    → IsTextReason reason count words_room slot asked left
+    → IsCopyReason reason text_room words_room count slot asked left
+text_reason LogFull count text_room words_room slot asked left why = why
+text_reason LogClosed count text_room words_room slot asked left why = why
+text_reason (NeedSpace words) count text_room words_room slot asked left why = absurd why
+text_reason Memory count text_room words_room slot asked left why = inr why
+
+module _ (l : Lent) (good : IsGood l) (trial : Trial) (target word : Word)
+    (tops : Some (target, word) ≡ first_two_of l.operands) (part : Part)
+    (part_is : as_string (value_of (birth_at l.heap) l.names target)
+    ≡ Some (part_of (birth_at l.heap) part)) (may : is_writable part.access ≡ true) where
+  abbrev value : Word → Value
+  value w = value_of (birth_at l.heap) l.names w
+
+  abbrev text : Store → List ℕ
+  text store = plain_text store (value word)
+
+  abbrev part_value : PartValue
+  part_value = part_of (birth_at l.heap) part
+
+  split : l.operands ≡ target ∷ word ∷ drop 2 l.operands
+  split = first_two_split l.operands target word tops
+
+  pub cvs_long : (store : Store) → IsShown l store → part.length < length (text store)
+      → effect_in (changing_row cvs_row) l store ≡ raises RangeCheck
+  cvs_long store shown long =
+      let test : nat_le (length (text store)) part.length ≡ false = grind (arith, nat_tests) in
+      rw (split, part_is, may, test) refl
+
+  -- the text of what a store shows fits
+  abbrev Fits : Store → Type 0
+  Fits store = length (text store) ≤ part.length
+
+  abbrev left : Store → List Value
+  left store = with_part (value target) (part_at part_value 0 (length (text store)))
+      ∷ values_in l.heap l.names (drop 2 l.operands)
+
+  abbrev later : Store → Store
+  later store = with_part_bytes store part_value 0 (text store)
+
+  cvs_is : (store : Store) → Fits store → effect_in (changing_row cvs_row) l store
+      ≡ makes (record (scene_of l store) { operands = left store; store = later store }) []
+  cvs_is store fits =
+      let test : nat_le (length (text store)) part.length ≡ true = grind (arith, nat_tests) in
+      rw (split, part_is, may, test) refl
+
+  asks_is : (store : Store) → cvs_asks (scene_of l store) ≡ asked_for Strings (length (text store))
+  asks_is store = rw split refl
+
+  unasked : (store : Store) → made_between store (later store) ≡ 0
+  unasked store = bytes_unasked store part_value.birth _
+
+  -- ---- it is not made
+
+  pub cvs_wants : ((store : Store) → IsShown l store → Fits store) → (grants : Grants)
+      (scratch : Scratch) → IsAtLeast (rooms_of l.scratch) (rooms_of scratch) → IsEmpty scratch
+      → KeepsLogsWithin 0 l.grants grants trial.slot → (reason : Reason)
+      → ((store : Store) → IsShown l store → IsStoreReason Strings (length (text store)) l.scratch
+      trial.slot l.grants grants reason)
+      → Acts cvs_asks (changing_row cvs_row) trial (Err (NotMade reason)) l
+      (record l { grants = grants; scratch = scratch })
+  cvs_wants fits grants scratch least empty logs reason why =
+      wanting_acts (changing_row cvs_row) trial cvs_asks l good grants l.room scratch (omega arith)
+      least empty logs reason λ store shown. record {
+        scene = record (scene_of l store) { operands = left store; store = later store };
+        output = [];
+        is = cvs_is store (fits store shown);
+        enough = lacks_nothing trial.refused store (later store) (unasked store);
+        why = store_reason l (record l { grants = grants; scratch = scratch }) trial.slot _ Strings
+            reason (length (text store))
+            (ap (λ (asked : Asked). asked.records) (asks_is store))
+            (ap (λ (asked : Asked). asked.scratch) (asks_is store)) (why store shown);
+      }
+
+  -- ---- it is made
+
+  pub cvs_acts : ((store : Store) → IsShown l store → Fits store) → (new : Heap) (grants : Grants)
+      (scratch : Scratch) → IsAtLeast (rooms_of l.scratch) (rooms_of scratch) → IsEmpty scratch
+      → Keeps l.heap new → IsSound new → (read : List ℕ)
+      → ((store : Store) → IsShown l store → read ≡ text store)
+      → KeepsLogsWithin (min 1 (length read)) l.grants grants trial.slot
+      → ((store : Store) → IsShown l store
+      → Shows new l.names (with_part_bytes store part_value 0 read))
+      → (front : Word) → IsValue l.heap front
+      → value front ≡ with_part (value target) (part_at part_value 0 (length read))
+      → ((store : Store) → IsWithin (birth_at l.heap) l.names store target
+      → IsWithin (birth_at l.heap) l.names store front)
+      → Acts cvs_asks (changing_row cvs_row) trial (Ok tt) l (record l {
+        heap = new;
+        grants = grants;
+        operands = front ∷ drop 2 l.operands;
+        scratch = scratch;
+      })
+  cvs_acts fits new grants scratch least empty keeps sound read is logs shows front held front_is
+      front_within =
+      store_acts (changing_row cvs_row) trial cvs_asks l (front ∷ drop 2 l.operands) good
+      (held, rest_held (IsValue l.heap) l.operands good.operands 2) new grants scratch keeps sound
+      least empty (logs_more _ most_records l.grants grants trial.slot (few (length read)) logs)
+      λ store shown.
+      let inside = first_of_two_held (IsWithin (birth_at l.heap) l.names store) l.operands
+      shown.operands target word tops in
+      let lies = string_lies l.heap l.names store shown.shows target
+      (first_of_two_held (IsValue l.heap) l.operands good.operands target word tops) inside
+      part_value part_is in
+      let text_is = is store shown in
+      let fitting = fits store shown in
+      record {
+        later = later store;
+        is = cvs_is store fitting ∙ ap (λ (v : Value). makes (record (scene_of l store) {
+          operands = v ∷ values_in l.heap l.names (drop 2 l.operands);
+          store = later store;
+        }) []) (ap (λ (t : List ℕ). with_part (value target) (part_at part_value 0 (length t)))
+            (sym text_is) ∙ sym front_is);
+        unasked = unasked store;
+        lasts = bytes_last store part_value lies 0 (text store) (omega (arith, fitting));
+        shows = subst (λ (t : List ℕ). Shows new l.names (with_part_bytes store part_value 0 t))
+            text_is (shows store shown);
+        within = (
+          front_within store inside,
+          rest_held (IsWithin (birth_at l.heap) l.names store) l.operands shown.operands 2,
+        );
+        logs = subst (λ (n : ℕ). KeepsLogsWithin n l.grants grants trial.slot)
+            (ap (λ (t : List ℕ). min 1 (length t)) text_is
+            ∙ sym (ap (λ (asked : Asked). asked.records) (asks_is store))) logs;
+      }
+    where
+      few : (n : ℕ) → min 1 n ≤ most_records
+      few n = grind (arith, nat_tests)

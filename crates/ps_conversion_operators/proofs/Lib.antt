@@ -1,0 +1,4 @@
+pub mod CvsRow
+pub mod NameRow
+pub mod NumberRow
+pub mod Taken
