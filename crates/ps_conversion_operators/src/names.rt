@@ -6,12 +6,12 @@ ghost use Rattle.ps_language.specs.Rows.{naming_row};
 ghost use Rattle.ps_language.specs.RowsTypes.{cvn_row};
 ghost use Rattle.ps_acts.specs.Acts.{Acts, nothing_asked};
 ghost use Rattle.ps_acts.specs.Lent.{lent, IsGood};
-ghost use Rattle.ps_dictionary_operators.specs.Keys.{word_in};
+ghost use Rattle.ps_keys.specs.Keys.{word_in};
 ghost use Rattle.ps_conversion_operators.specs.Formed.{IsFormedWord};
 
 use ps_acts::breaks::Break;
 use ps_acts::lent::{Context, Shared, Trial};
-use ps_dictionary_operators::keys::{Key, form_key, read_key};
+use ps_keys::keys::{Key, form_key, read_key};
 use ps_language::errors::ErrorName;
 use ps_mem::Memory;
 use ps_ops::arrays::is_readable;

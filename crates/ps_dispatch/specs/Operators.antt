@@ -1,17 +1,17 @@
 -- The row of each operator, and what it asks for that the language does not say.
 use Rattle.std.specs.Prelude.{Bool, true, false}
 use Rattle.ps_language.specs.declared.operators.Operator.{Operator}
-use Rattle.ps_language.specs.declared.operators.Operator.TheVariants.{Get, Put, Copy, Eq, Ne, Gt, Ge, Lt, Le, PutInterval, Astore, Search, Dict, EndDict, Def, Store as StoreKey, Undef, ErrorDict, NoAccess, ReadOnly, Cvi, Cvn, Cvs, CurrentContext, Fork, Join, Detach, Lock, Monitor, Condition, Wait, Notify, Yield, VmStatus, VmReclaim}
+use Rattle.ps_language.specs.declared.operators.Operator.TheVariants.{Put, Copy, PutInterval, Astore, Search, EndDict, Def, Store as StoreKey, Undef, ErrorDict, NoAccess, ReadOnly, Cvs, CurrentContext, Fork, Join, Detach, Lock, Monitor, Condition, Wait, Notify, Yield, VmStatus, VmReclaim}
 use Rattle.ps_language.specs.Effect.{Scene}
 use Rattle.ps_language.specs.Scan.{scan}
-use Rattle.ps_language.specs.Rows.{Row, reading_row, changing_row, row_of}
-use Rattle.ps_language.specs.ArrayRows.{array_get_row, array_put_row, one_stored, topmost_count}
-use Rattle.ps_sequence_operators.specs.Asks.{putinterval_asks, reduce_asks}
+use Rattle.ps_language.specs.Rows.{Row, changing_row, row_of}
+use Rattle.ps_language.specs.ArrayRows.{array_put_row, one_stored, topmost_count}
+use Rattle.ps_sequence_operators.specs.Asks.{putinterval_asks, reduce_asks, search_asks}
+use Rattle.ps_conversion_operators.specs.Asks.{cvs_asks}
 use Rattle.ps_acts.specs.Acts.{Asked, nothing_asked, stores}
 
--- get and put on arrays alone as yet
+-- put on arrays alone as yet
 abbrev pub row_now : Operator → Row
-row_now Get = reading_row array_get_row
 row_now Put = changing_row array_put_row
 row_now operator = row_of scan operator
 
@@ -21,27 +21,18 @@ asked_of PutInterval = putinterval_asks
 asked_of ReadOnly = reduce_asks
 asked_of NoAccess = reduce_asks
 asked_of Astore = stores topmost_count
+asked_of Search = search_asks
+asked_of Cvs = cvs_asks
 asked_of operator = nothing_asked
 
 -- those that are here
 abbrev pub is_done : Operator → Bool
 is_done Copy = false
-is_done Eq = false
-is_done Ne = false
-is_done Gt = false
-is_done Ge = false
-is_done Lt = false
-is_done Le = false
-is_done Search = false
-is_done Dict = false
 is_done EndDict = false
 is_done Def = false
 is_done StoreKey = false
 is_done Undef = false
 is_done ErrorDict = false
-is_done Cvi = false
-is_done Cvn = false
-is_done Cvs = false
 is_done CurrentContext = false
 is_done Fork = false
 is_done Join = false

@@ -6,10 +6,15 @@ ghost use Rattle.ps_acts.specs.Lent.{lent, IsGood};
 ghost use Rattle.ps_dispatch.specs.Operators.{asked_of, row_now, is_done};
 
 use crate::exits::exit;
+use crate::joins::get;
 use ps_acts::breaks::{Break, made, tried};
 use ps_acts::lent::{Context, Shared, Trial};
 use ps_control::control;
 use ps_control::frames::Cause;
+use ps_conversion_operators::names::cvn;
+use ps_conversion_operators::numbers::cvi;
+use ps_conversion_operators::texts::cvs;
+use ps_dictionary_operators::makes::dict;
 use ps_dictionary_operators::reads::maxlength;
 use ps_dictionary_operators::{finds, stack as dictionaries};
 use ps_language::operators::Operator;
@@ -18,19 +23,22 @@ use ps_operands::{arithmetic, logic, stack_operators};
 use ps_ops::{arrays, changes, makes};
 use ps_output_operators::lines as output;
 use ps_output_operators::strings::print;
+use ps_relation_operators::equality::equality;
+use ps_relation_operators::orders::{Relation, order};
 use ps_sequence_operators::copies::putinterval;
 use ps_sequence_operators::elements::astore;
 use ps_sequence_operators::intervals::getinterval;
 use ps_sequence_operators::lengths::length;
 use ps_sequence_operators::loops::forall;
 use ps_sequence_operators::reductions::{noaccess, readonly};
+use ps_sequence_operators::searches::search;
 use ps_strings::makes::string;
 use ps_strings::searches::anchorsearch;
 use ps_text::lines::Form;
 use ps_types::types::type_of;
 use ps_types::{access, attributes};
 
-/// Does what an operator does, each by its own function. `get` and `put` are on arrays alone.
+/// Does what an operator does, each by its own function. `put` is on arrays alone.
 ///
 /// `Raises`: the errors of its row, in their order. `NotMade`: for what it asks for, behind them.
 pub fn operate<M: Memory>(
@@ -72,7 +80,7 @@ pub fn operate<M: Memory>(
         Operator::Not => made(logic::not(&mut context.operands)),
         Operator::Bitshift => made(arithmetic::bitshift(&mut context.operands)),
         Operator::BeginArray => made(stack_operators::mark(&mut context.operands)),
-        Operator::Get => made(arrays::get(&mut context.operands, memory)),
+        Operator::Get => get(context, shared, memory),
         Operator::Aload => made(arrays::aload(&mut context.operands, memory)),
         Operator::BeginDict => made(stack_operators::mark(&mut context.operands)),
         Operator::Exec => made(control::exec(&mut context.operands, &mut context.frames)),
@@ -137,23 +145,23 @@ pub fn operate<M: Memory>(
         Operator::ReadOnly => readonly(context, shared, memory, trial),
         Operator::NoAccess => noaccess(context, shared, memory, trial),
         Operator::Astore => astore(context, shared, memory, trial),
+        Operator::Eq => equality(context, shared, memory, true),
+        Operator::Ne => equality(context, shared, memory, false),
+        Operator::Gt => order(context, shared, memory, Relation::Greater),
+        Operator::Ge => order(context, shared, memory, Relation::GreaterOrEqual),
+        Operator::Lt => order(context, shared, memory, Relation::Less),
+        Operator::Le => order(context, shared, memory, Relation::LessOrEqual),
+        Operator::Search => search(context, shared, memory),
+        Operator::Dict => dict(context, shared, memory, trial),
+        Operator::Cvi => cvi(context, shared, memory),
+        Operator::Cvn => cvn(context, shared, memory),
+        Operator::Cvs => cvs(context, shared, memory, trial),
         Operator::Copy
-        | Operator::Eq
-        | Operator::Ne
-        | Operator::Gt
-        | Operator::Ge
-        | Operator::Lt
-        | Operator::Le
-        | Operator::Search
-        | Operator::Dict
         | Operator::EndDict
         | Operator::Def
         | Operator::Store
         | Operator::Undef
         | Operator::ErrorDict
-        | Operator::Cvi
-        | Operator::Cvn
-        | Operator::Cvs
         | Operator::CurrentContext
         | Operator::Fork
         | Operator::Join

@@ -4,5 +4,6 @@
 
 pub mod dispatch;
 pub mod exits;
+pub mod joins;
 pub mod notes;
 pub mod turns;

@@ -101,9 +101,7 @@ returns-in-BeginArray g c = named c.in-BeginArray.is c.made-in-BeginArray.ensure
     c.mark-in-BeginArray.ensures.kept)
 
 pub returns-in-Get : goal.returns-in-Get
-returns-in-Get g c = named c.in-Get.is c.made-in-Get.ensures
-    (observes_acts _ c.requires.good _ _ _ _ _ _ c.get.ensures.heap c.get.ensures.grants
-    c.get.ensures.does c.get.ensures.ready)
+returns-in-Get g c = named c.in-Get.is refl (c.get.ensures.acts _)
 
 pub returns-in-Aload : goal.returns-in-Aload
 returns-in-Aload g c = named c.in-Aload.is c.made-in-Aload.ensures
@@ -285,3 +283,36 @@ returns-in-ReadOnly g c = named c.in-ReadOnly.is refl c.readonly.ensures
 
 pub returns-in-NoAccess : goal.returns-in-NoAccess
 returns-in-NoAccess g c = named c.in-NoAccess.is refl c.noaccess.ensures
+
+pub returns-in-Eq : goal.returns-in-Eq
+returns-in-Eq g c = named c.in-Eq.is refl (c.equality.ensures.acts _)
+
+pub returns-in-Ne : goal.returns-in-Ne
+returns-in-Ne g c = named c.in-Ne.is refl (c.equality-in-Ne.ensures.acts _)
+
+pub returns-in-Gt : goal.returns-in-Gt
+returns-in-Gt g c = named c.in-Gt.is refl (c.order.ensures.acts _)
+
+pub returns-in-Ge : goal.returns-in-Ge
+returns-in-Ge g c = named c.in-Ge.is refl (c.order-in-Ge.ensures.acts _)
+
+pub returns-in-Lt : goal.returns-in-Lt
+returns-in-Lt g c = named c.in-Lt.is refl (c.order-in-Lt.ensures.acts _)
+
+pub returns-in-Le : goal.returns-in-Le
+returns-in-Le g c = named c.in-Le.is refl (c.order-in-Le.ensures.acts _)
+
+pub returns-in-Search : goal.returns-in-Search
+returns-in-Search g c = named c.in-Search.is refl (c.search.ensures.acts _)
+
+pub returns-in-Dict : goal.returns-in-Dict
+returns-in-Dict g c = named c.in-Dict.is refl c.dict.ensures.acts
+
+pub returns-in-Cvi : goal.returns-in-Cvi
+returns-in-Cvi g c = named c.in-Cvi.is refl (c.cvi.ensures.acts _)
+
+pub returns-in-Cvn : goal.returns-in-Cvn
+returns-in-Cvn g c = named c.in-Cvn.is refl (c.cvn.ensures.acts _)
+
+pub returns-in-Cvs : goal.returns-in-Cvs
+returns-in-Cvs g c = named c.in-Cvs.is refl c.cvs.ensures

@@ -1,0 +1,36 @@
+//! Operators on composite objects of several types, joined by the type (PLRM2, 8 'Operators': get).
+
+ghost use Rattle.std.specs.Prelude.{◌≡◌};
+ghost use Rattle.ps_language.specs.Rows.{naming_row};
+ghost use Rattle.ps_language.specs.RowsDictionaries.{get_row};
+ghost use Rattle.ps_acts.specs.Acts.{Acts, nothing_asked};
+ghost use Rattle.ps_acts.specs.Lent.{lent, IsGood};
+
+use ps_acts::breaks::Break;
+use ps_acts::lent::{Context, Shared, Trial};
+use ps_dictionary_operators::finds::get_from_dictionary;
+use ps_mem::Memory;
+use ps_sequence_operators::elements::get_from_sequence;
+
+/// `X k get y`: the element of an array, the byte of a string, or the value of a key. Raises
+/// `stackunderflow`, `typecheck`, `invalidaccess`, `rangecheck`, and `undefined` where a dictionary
+/// doesn't have the key.
+pub fn get<M: Memory>(
+    context: &mut Context,
+    shared: &mut Shared,
+    memory: &mut M,
+) -> Result<(), Break>
+    requires good { IsGood
+        (lent (M.heap memory.old) (M.grants memory.old) context.old shared.old) }
+    ensures acts { (trial : Trial) → Acts nothing_asked (naming_row get_row) trial result
+        (lent (M.heap memory.old) (M.grants memory.old) context.old shared.old)
+        (lent (M.heap memory.new) (M.grants memory.new) context.new shared.new) }
+{
+    let Some((key, container)) = context.operands.top_two() else {
+        return get_from_sequence(context, shared, memory);
+    };
+    match container.as_dictionary() {
+        Some(address) => get_from_dictionary(context, shared, memory, key, container, address),
+        None => get_from_sequence(context, shared, memory),
+    }
+}
