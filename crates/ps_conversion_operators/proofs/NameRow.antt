@@ -31,11 +31,11 @@ use Rattle.ps_acts.specs.Lent.{Lent, scene_of, IsShown, IsGood}
 use Rattle.ps_acts.specs.Acts.{nothing_asked, effect_in, Acts}
 use Rattle.ps_acts.proofs.Forming.{formed_acts, formed_good, formed_left}
 use Rattle.ps_acts.proofs.Stacked.{stacked_acts}
-use Rattle.ps_dictionary_operators.specs.declared.keys.Key.{Key}
-use Rattle.ps_dictionary_operators.specs.declared.keys.Key.TheVariants.{Met, Unmet, TooLong}
-use Rattle.ps_dictionary_operators.specs.Keys.{IsNameOf, IsKeyOf, IsForming, names_with}
-use Rattle.ps_dictionary_operators.proofs.Keying.{string_key, named_value, named_within}
-use Rattle.ps_dictionary_operators.proofs.Formed.{formed_is, name_of, names_more}
+use Rattle.ps_keys.specs.declared.keys.Key.{Key}
+use Rattle.ps_keys.specs.declared.keys.Key.TheVariants.{Met, Unmet, TooLong}
+use Rattle.ps_keys.specs.Keys.{IsNameOf, IsKeyOf, IsForming, names_with}
+use Rattle.ps_keys.proofs.Keying.{string_key, named_value, named_within}
+use Rattle.ps_keys.proofs.Formed.{formed_is, name_of, names_more}
 use Rattle.ps_conversion_operators.specs.Formed.{IsFormedWord}
 
 module _ (l : Lent) (x : Word) (top : Some x ≡ first_of l.operands) where

@@ -3,8 +3,8 @@ use Rattle.std.specs.Prelude.{◌≡◌, ℕ, false}
 use Rattle.ps_word.specs.declared.words.Word.{Word}
 use Rattle.ps_word.specs.declared.values.Content.TheVariants.{Name}
 use Rattle.ps_word.specs.Format.{value_in, IsWord}
-use Rattle.ps_dictionary_operators.specs.declared.keys.Key.{Key}
-use Rattle.ps_dictionary_operators.specs.declared.keys.Key.TheVariants.{Met, Unmet, TooLong}
+use Rattle.ps_keys.specs.declared.keys.Key.{Key}
+use Rattle.ps_keys.specs.declared.keys.Key.TheVariants.{Met, Unmet, TooLong}
 
 -- the word is the literal name of a number
 abbrev pub IsNumbered : (number : ℕ) → Word → Type 0

@@ -3,7 +3,7 @@ use Rattle.std.proofs.Common.{◌∙◌, refl, sym, []}
 use Rattle.ps_mem.specs.Heap.{birth_at}
 use Rattle.ps_mem.specs.Shows.{IsWithin}
 use Rattle.ps_ops.proofs.Held.{first_held}
-use Rattle.ps_dictionary_operators.proofs.Formed.{fault_acts}
+use Rattle.ps_keys.proofs.Formed.{fault_acts}
 use Rattle.ps_conversion_operators.proofs.NameRow.{cvn_tail, cvn_acts}
 use Rattle.ps_conversion_operators.proofs.names.cvn.Goals as goal
 
