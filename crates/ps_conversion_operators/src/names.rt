@@ -11,12 +11,11 @@ ghost use Rattle.ps_conversion_operators.specs.Formed.{IsFormedWord};
 
 use ps_acts::breaks::Break;
 use ps_acts::lent::{Context, Shared, Trial};
-use ps_keys::keys::{Key, form_key, read_key};
+use ps_keys::keys::{Key, form_key, name_word, read_key};
 use ps_language::errors::ErrorName;
 use ps_mem::Memory;
 use ps_ops::arrays::is_readable;
 use ps_strings::readers::string_of;
-use ps_word::values::Content;
 use ps_word::words::Word;
 
 /// The literal name of a key that was formed where so many names had been met.
@@ -27,7 +26,7 @@ fn formed_word(key: &Key, count: usize) -> Word
 {
     match key {
         Key::Met(word) => *word,
-        Key::Unmet(_) | Key::TooLong => Word::literal(Content::Name(count as u16)),
+        Key::Unmet(_) | Key::TooLong => name_word(count),
     }
 }
 
