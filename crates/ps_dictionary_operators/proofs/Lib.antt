@@ -4,4 +4,6 @@ pub mod Finding
 pub mod Growths
 pub mod Putting
 pub mod Keyed
+pub mod Unmet
+pub mod Defining
 pub mod Making

@@ -1,1 +1,3 @@
+pub mod Asks
+pub mod Places
 pub mod Puts

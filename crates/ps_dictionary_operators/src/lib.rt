@@ -1,6 +1,7 @@
 //! The operators on dictionaries and on the dictionary stack (PLRM2, 8 'Operators': Dictionary).
 #![tactic(auto)]
 
+pub mod definitions;
 pub mod finds;
 pub mod makes;
 pub mod puts;
