@@ -6,4 +6,5 @@ pub mod Putting
 pub mod Keyed
 pub mod Unmet
 pub mod Defining
+pub mod Removing
 pub mod Making

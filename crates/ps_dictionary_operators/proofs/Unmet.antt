@@ -146,6 +146,26 @@ cut_names names more after count is =
     ∙ (take-append-le count names (more ++ after) (omega (arith, is))
     ∙ take_all count names (omega (arith, is)))
 
+-- a key that was not met has no place
+module _ (l : Lent) (good : IsGood l) (a : ℕ) (k : Word)
+    (known : StandsAs l.heap DictionaryKind a 4) (key : Key)
+    (are : IsKeyOf l.heap l.names k key) (unmet : word_in key ≡ None) (store : Store)
+    (shown : IsShown l store) (inside : IsWithin (birth_at l.heap) l.names store k) where
+  named_by : (other : Key) → word_in other ≡ None
+      → IsKeyIn (birth_at l.heap) l.names store (value_of (birth_at l.heap) l.names k) other
+      → (text : List ℕ) × IsNamed l.names store (value_of (birth_at l.heap) l.names k) text
+  named_by (Met w) none it = absurd (cc)
+  named_by (Unmet text) none it = (text.items, it.0)
+  named_by TooLong none it = (it.0, it.1)
+
+  pub unmet_absent : first_place (dictionary_at store (birth_at l.heap a)).pairs
+      (key_of store (value_of (birth_at l.heap) l.names k)) ≡ None
+  unmet_absent =
+      let named = named_by key unmet (are.shown store shown.shows inside) in
+      none_place (dictionary_at store (birth_at l.heap a)).pairs _
+      (ap (find (dictionary_at store (birth_at l.heap a)).pairs) named.1.is
+      ∙ unmet_missing l.heap a known good.sound l.names store shown.shows named.0 named.1.unmet)
+
 -- ---- a put
 
 module _ (l : Lent) (good : IsGood l) (a : ℕ) (k x : Word) (count : ℕ)
@@ -173,18 +193,8 @@ module _ (l : Lent) (good : IsGood l) (a : ℕ) (k x : Word) (count : ℕ)
       key_in : IsKeyIn births l.names store k_value key
       key_in = are.shown store shown.shows (inside store shown).0
 
-      named_by : (other : Key) → word_in other ≡ None → IsKeyIn births l.names store k_value other
-          → (text : List ℕ) × IsNamed l.names store k_value text
-      named_by (Met w) none it = absurd (cc)
-      named_by (Unmet text) none it = (text.items, it.0)
-      named_by TooLong none it = (it.0, it.1)
-
       absent : first_place before.pairs (key_of store k_value) ≡ None
-      absent =
-          let named = named_by key unmet key_in in
-          none_place before.pairs (key_of store k_value)
-          (ap (find before.pairs) named.1.is
-          ∙ unmet_missing l.heap a known good.sound l.names store shown.shows named.0 named.1.unmet)
+      absent = unmet_absent l good a k known key are unmet store shown (inside store shown).0
 
       plan_is : planned before (key_of store k_value)
           ≡ plan_from None (length before.pairs) before.capacity

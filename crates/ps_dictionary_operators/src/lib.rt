@@ -6,4 +6,5 @@ pub mod finds;
 pub mod makes;
 pub mod puts;
 pub mod reads;
+pub mod removals;
 pub mod stack;

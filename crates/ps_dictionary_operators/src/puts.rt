@@ -43,7 +43,12 @@ pub(crate) struct Entry {
 }
 
 /// Asks for so many records and words of a body.
-fn asked<M: Memory>(memory: &mut M, slot: u32, records: u32, words: u32) -> Result<(), NotMade>
+pub(crate) fn asked<M: Memory>(
+    memory: &mut M,
+    slot: u32,
+    records: u32,
+    words: u32,
+) -> Result<(), NotMade>
     requires slot { slot < SLOTS }
     ensures heap { M.heap memory.new ≡ M.heap memory.old }
     ensures logs { KeepsLogsWithin 0 (M.grants memory.old) (M.grants memory.new) slot }
