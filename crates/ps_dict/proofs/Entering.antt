@@ -269,7 +269,7 @@ entered-value h a known sound (Some i) v below held =
 
 -- ---- what it shows
 
-with-same : (s : Store) (b : ℕ) (d : DictionaryValue) → slice_get s b ≡ Some (dictionary_object d)
+pub with-same : (s : Store) (b : ℕ) (d : DictionaryValue) → slice_get s b ≡ Some (dictionary_object d)
     → with_dictionary s b d ≡ s
 unfolding with_dictionary
 with-same s b d at = same s b at

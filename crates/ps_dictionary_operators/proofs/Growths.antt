@@ -13,7 +13,7 @@ use Rattle.ps_dict.specs.Places.{first_place}
 use Rattle.ps_dict.proofs.Planning.{holding-is, grown-same, grown-limits}
 use Rattle.ps_dict.proofs.WordRuns.{put-present, put-absent, length-with_value}
 
-same_number : (n : ℕ) → (n == n) ≡ true
+pub same_number : (n : ℕ) → (n == n) ≡ true
 same_number n = grind (arith, nat_tests)
 
 module _ (d new : Dictionary) (key value : Value) (few : length d.pairs ≤ d.capacity)

@@ -4,4 +4,7 @@ pub mod Finding
 pub mod Growths
 pub mod Putting
 pub mod Keyed
+pub mod Unmet
+pub mod Defining
+pub mod Removing
 pub mod Making

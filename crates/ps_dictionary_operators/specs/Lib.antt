@@ -1,1 +1,4 @@
+pub mod Asks
+pub mod Places
 pub mod Puts
+pub mod Removals

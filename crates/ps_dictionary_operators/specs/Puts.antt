@@ -1,41 +1,24 @@
--- What putting a pair into a dictionary asks for and does.
-use Rattle.std.specs.Prelude.{◌≡◌, ◌<◌, ◌≤◌, ℕ, false, IsTrue, Option, Some, None, List, ◌∷◌, drop}
-use Rattle.ps_language.specs.declared.errors.ErrorName.TheVariants.{LimitCheck}
-use Rattle.ps_language.specs.Access.{dictionary_at, with_dictionary}
+-- What putting a pair into a dictionary does, and what it may lack.
+use Rattle.std.specs.Prelude.{◌≡◌, ◌<◌, ◌≤◌, ℕ, false, IsTrue, Some, List, drop, take}
+use Rattle.ps_language.specs.declared.errors.ErrorName.TheVariants.{InvalidAccess, LimitCheck, VmError}
+use Rattle.ps_language.specs.Access.{dictionary_at, is_writable, with_dictionary}
 use Rattle.ps_language.specs.Dictionaries.{holding, put_pair}
 use Rattle.ps_language.specs.Effect.{Scene}
-use Rattle.ps_language.specs.Equality.{key_of}
 use Rattle.ps_language.specs.Objects.{changing}
-use Rattle.ps_language.specs.Outcome.{given, unnamed}
-use Rattle.ps_language.specs.Readers.{as_dictionary}
+use Rattle.ps_language.specs.Outcome.{given, given_that, unnamed}
 use Rattle.ps_language.specs.Rows.{Row, naming_row}
 use Rattle.ps_language.specs.RowsDictionaries.{put_into}
-use Rattle.ps_language.specs.Value.{Value}
 use Rattle.ps_word.specs.declared.words.Word.{Word}
 use Rattle.ps_mem.specs.Heap.{Heap, Grants, has_room}
 use Rattle.ps_mem.specs.Meaning.{value_of}
 use Rattle.ps_dict.specs.Puts.{planned, records_of}
+use Rattle.ps_ops.specs.Does.{most_records}
 use Rattle.ps_ops.specs.declared.failure.NotMade.{NotMade as Reason}
 use Rattle.ps_ops.specs.declared.failure.NotMade.TheVariants.{LogFull, LogClosed, NeedSpace, Memory}
-use Rattle.ps_acts.specs.Acts.{Asked, no_rooms, nothing_asked}
-
--- ---- records
-
--- those of a put of this key into the dictionary of this birth number
-abbrev pub put_asked : Scene → Option ℕ → Value → Asked
-put_asked scene (Some birth) k = record {
-  records = records_of (planned (dictionary_at scene.store birth) (key_of scene.store k));
-  scratch = no_rooms;
-}
-put_asked scene None k = nothing_asked scene
-
--- of def, by operands and dictionary stack
-abbrev pub def_asked : Scene → (operands dictionaries : List Value) → Asked
-def_asked scene (x ∷ k ∷ rest) (d ∷ deeper) = put_asked scene (as_dictionary d) k
-def_asked scene operands dictionaries = nothing_asked scene
-
-abbrev pub def_asks : Scene → Asked
-def_asks scene = def_asked scene scene.operands scene.dictionaries
+use Rattle.ps_acts.specs.declared.breaks.Break.{Break}
+use Rattle.ps_acts.specs.declared.breaks.Break.TheVariants.{Unwinds, Raises, NotMade}
+use Rattle.ps_acts.specs.Acts.{Asked, no_rooms}
+use Rattle.ps_dictionary_operators.specs.Asks.{put_asked}
 
 -- ---- a pair of words
 
@@ -62,6 +45,14 @@ putting_key births address key value count = naming_row λ names store operands.
     put_into names store (births address) (value_of births names key) (value_of births names value)
     (drop count operands)
 
+-- the same, where the dictionary may be written
+abbrev pub putting_where_writable : (births : ℕ → ℕ) → (address : ℕ) → (key value : Word)
+    → (count : ℕ) → Row
+putting_where_writable births address key value count = naming_row λ names store operands.
+    given_that (is_writable (dictionary_at store (births address)).access) InvalidAccess
+    (put_into names store (births address) (value_of births names key) (value_of births names value)
+    (drop count operands))
+
 abbrev pub putting_key_asks : (births : ℕ → ℕ) → (address : ℕ) → (key : Word) → Scene → Asked
 putting_key_asks births address key scene =
     put_asked scene (Some (births address)) (value_of births scene.names key)
@@ -76,3 +67,14 @@ IsLack records words slot h old new LogClosed = (1 ≤ records) × IsTrue (old.c
 IsLack records words slot h old new (NeedSpace asked) =
     (asked ≡ words) × (1 ≤ words) × (has_room h words 0 ≡ false)
 IsLack records words slot h old new Memory = (1 ≤ words) × IsTrue h.space.grows
+
+-- A refused step that formed a name may be noted; or it is not made, for want of the records of its
+-- note, and the names are cut to so many
+abbrev pub IsRefusal : (slot : ℕ) → Heap → (old new : List (List ℕ)) → (count : ℕ)
+    → (asked left : Grants) → Break → Type 0
+IsRefusal slot h old new count asked left (Raises error) =
+    (error ≡ VmError) × (new ≡ old) × (most_records ≤ left.records slot)
+    × (left.closed slot ≡ false)
+IsRefusal slot h old new count asked left (NotMade reason) =
+    (new ≡ take count old) × IsLack most_records 0 slot h asked left reason
+IsRefusal slot h old new count asked left (Unwinds cause) = ⊥

@@ -1,8 +1,10 @@
 //! The operators on dictionaries and on the dictionary stack (PLRM2, 8 'Operators': Dictionary).
 #![tactic(auto)]
 
+pub mod definitions;
 pub mod finds;
 pub mod makes;
 pub mod puts;
 pub mod reads;
+pub mod removals;
 pub mod stack;

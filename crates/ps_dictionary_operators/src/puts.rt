@@ -1,41 +1,54 @@
 //! The operators that put a key with its value into a dictionary (PLRM2, 8 'Operators':
 //! Dictionary).
 
-ghost use Rattle.std.specs.Prelude.{◌≡◌, ◌≢◌, ◌<◌, ◌≤◌, ℕ, IsTrue, length, OnOk, IfErr, true, false};
+ghost use Rattle.std.specs.Prelude.{◌≡◌, ◌≢◌, ◌<◌, ◌≤◌, ℕ, IsTrue, List, None, length, OnOk, IfErr, true, false};
 ghost use Rattle.ps_language.specs.Value.{Store};
 ghost use Rattle.ps_mem.specs.Heap.{birth_at};
 ghost use Rattle.ps_mem.specs.References.{StandsAs};
-ghost use Rattle.ps_mem.specs.Shows.{IsValue, IsWithin};
+ghost use Rattle.ps_mem.specs.Shows.{AreWithin, IsValue, IsWithin};
 ghost use Rattle.ps_dict.specs.Puts as puts;
 ghost use Rattle.ps_dict.specs.Puts.{plan_at};
 ghost use Rattle.ps_ops.specs.Does.{KeepsLogsWithin};
 ghost use Rattle.ps_acts.specs.Acts.{Acts};
 ghost use Rattle.ps_acts.specs.Lent.{lent, IsGood, IsShown};
-ghost use Rattle.ps_dictionary_operators.specs.Puts.{IsLack, putting, putting_asks};
+ghost use Rattle.ps_keys.specs.Keys.{IsKeyOf, word_in};
+ghost use Rattle.ps_dictionary_operators.specs.Puts.{IsLack, IsRefusal, putting, putting_asks, putting_key, putting_key_asks, putting_where_writable};
 
 use ps_acts::breaks::Break;
 use ps_acts::lent::{Context, Shared, Trial};
 use ps_dict::changes::put;
-use ps_dict::plans::{PutPlan, plan_put};
+use ps_dict::dictionaries::{access, length};
+use ps_dict::plans::{CAPACITY_LIMIT, PutPlan, plan_put};
+use ps_keys::keys::{Key, form_key, name_word};
 use ps_language::errors::ErrorName;
 use ps_language::kinds::Kind;
 use ps_mem::{Memory, SLOTS};
+use ps_names::Names;
+use ps_ops::arrays::is_writable;
 use ps_ops::changes::permitted;
 use ps_ops::failure::NotMade;
 use ps_ops::makes::granted;
 use ps_word::words::Word;
 
+/// The records that the note of an error asks for at most.
+const NOTE_RECORDS: u32 = 5;
+
 /// A pair that is put into the dictionary at an address, and how many operands go.
 #[derive(Clone, Copy)]
-struct Entry {
-    address: u32,
-    key: Word,
-    value: Word,
-    operands: usize,
+pub(crate) struct Entry {
+    pub address: u32,
+    pub key: Word,
+    pub value: Word,
+    pub operands: usize,
 }
 
 /// Asks for so many records and words of a body.
-fn asked<M: Memory>(memory: &mut M, slot: u32, records: u32, words: u32) -> Result<(), NotMade>
+pub(crate) fn asked<M: Memory>(
+    memory: &mut M,
+    slot: u32,
+    records: u32,
+    words: u32,
+) -> Result<(), NotMade>
     requires slot { slot < SLOTS }
     ensures heap { M.heap memory.new ≡ M.heap memory.old }
     ensures logs { KeepsLogsWithin 0 (M.grants memory.old) (M.grants memory.new) slot }
@@ -140,4 +153,111 @@ fn put_met<M: Memory>(
         return Err(Break::Raises(ErrorName::VmError));
     }
     put_planned(context, shared, memory, trial.slot, plan, entry)
+}
+
+/// Raises `VMerror` in a refused step that formed a name, once its note has its records; else the
+/// names are cut to so many, and the step is not made.
+fn refuse<M: Memory>(names: &mut Names, memory: &mut M, slot: u32, count: usize) -> Break
+    requires slot { slot < SLOTS }
+    ensures heap { M.heap memory.new ≡ M.heap memory.old }
+    ensures logs { KeepsLogsWithin 0 (M.grants memory.old) (M.grants memory.new) slot }
+    ensures refused { IsRefusal slot (M.heap memory.old) names.old names.new count
+        (M.grants memory.old) (M.grants memory.new) result }
+{
+    match asked(memory, slot, NOTE_RECORDS, 0) {
+        Ok(()) => Break::Raises(ErrorName::VmError),
+        Err(reason) => {
+            names.truncate(count);
+            Break::NotMade(reason)
+        }
+    }
+}
+
+/// Puts a pair whose key is a string of which no name was met; its name is formed.
+///
+/// Raises `limitcheck`, and `VMerror` as `put_met`. Not made as `put_planned`, or for want of memory
+/// for the name; it is not formed then.
+fn put_unmet<M: Memory>(
+    context: &mut Context,
+    shared: &mut Shared,
+    memory: &mut M,
+    trial: Trial,
+    entry: Entry,
+    read: &Key,
+) -> Result<(), Break>
+    requires slot { trial.slot < SLOTS }
+    requires good { IsGood
+        (lent (M.heap memory.old) (M.grants memory.old) context.old shared.old) }
+    requires known { StandsAs (M.heap memory.old) Kind.Dictionary entry.address 4 }
+    requires key { IsKeyOf (M.heap memory.old) shared.old.names entry.key read.now }
+    requires unmet { word_in read.now ≡ None }
+    requires value { IsValue (M.heap memory.old) entry.value }
+    requires operands { entry.operands ≤ length context.old.operands }
+    requires inside { (names : List (List ℕ)) (store : Store)
+        → AreWithin (M.heap memory.old) names store context.old.operands
+        → IsWithin (birth_at (M.heap memory.old)) names store entry.key
+        × IsWithin (birth_at (M.heap memory.old)) names store entry.value }
+    ensures acts { Acts (putting_key_asks (birth_at (M.heap memory.old)) entry.address entry.key)
+        (putting_key (birth_at (M.heap memory.old)) entry.address entry.key entry.value
+        entry.operands) trial result
+        (lent (M.heap memory.old) (M.grants memory.old) context.old shared.old)
+        (lent (M.heap memory.new) (M.grants memory.new) context.new shared.new) }
+{
+    if length(memory, entry.address) >= CAPACITY_LIMIT {
+        return Err(Break::Raises(ErrorName::LimitCheck));
+    }
+    let count = shared.names.len();
+    form_key(&mut shared.names, read)?;
+    let key = name_word(count);
+    let named = Entry { key, ..entry };
+    let plan = plan_put(memory, entry.address, key);
+    if is_refused(trial, plan) {
+        return Err(refuse(&mut shared.names, memory, trial.slot, count));
+    }
+    match put_planned(context, shared, memory, trial.slot, plan, named) {
+        Ok(()) => Ok(()),
+        Err(fault) => {
+            shared.names.truncate(count);
+            Err(fault)
+        }
+    }
+}
+
+/// Puts a pair whose key was read.
+///
+/// Raises `invalidaccess` where the dictionary may not be written, `limitcheck` of a name and where
+/// the pairs would be too many, and `VMerror` in a refused step that would make a new body. Not made
+/// for want of memory for a name, of records, or of room for a new body.
+pub(crate) fn put_key<M: Memory>(
+    context: &mut Context,
+    shared: &mut Shared,
+    memory: &mut M,
+    trial: Trial,
+    entry: Entry,
+    read: &Key,
+) -> Result<(), Break>
+    requires slot { trial.slot < SLOTS }
+    requires good { IsGood
+        (lent (M.heap memory.old) (M.grants memory.old) context.old shared.old) }
+    requires known { StandsAs (M.heap memory.old) Kind.Dictionary entry.address 4 }
+    requires key { IsKeyOf (M.heap memory.old) shared.old.names entry.key read.now }
+    requires value { IsValue (M.heap memory.old) entry.value }
+    requires operands { entry.operands ≤ length context.old.operands }
+    requires inside { (names : List (List ℕ)) (store : Store)
+        → AreWithin (M.heap memory.old) names store context.old.operands
+        → IsWithin (birth_at (M.heap memory.old)) names store entry.key
+        × IsWithin (birth_at (M.heap memory.old)) names store entry.value }
+    ensures acts { Acts (putting_key_asks (birth_at (M.heap memory.old)) entry.address entry.key)
+        (putting_where_writable (birth_at (M.heap memory.old)) entry.address entry.key entry.value
+        entry.operands) trial result
+        (lent (M.heap memory.old) (M.grants memory.old) context.old shared.old)
+        (lent (M.heap memory.new) (M.grants memory.new) context.new shared.new) }
+{
+    if !is_writable(access(memory, entry.address)) {
+        return Err(Break::Raises(ErrorName::InvalidAccess));
+    }
+    match read.word() {
+        Some(key) => put_met(context, shared, memory, trial, Entry { key, ..entry }),
+        None => put_unmet(context, shared, memory, trial, entry, read),
+    }
 }

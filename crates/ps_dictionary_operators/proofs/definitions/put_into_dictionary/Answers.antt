@@ -1,0 +1,53 @@
+-- The pair is put into the dictionary, or one of the errors.
+use Rattle.std.proofs.Common.{◌∙◌}
+use Rattle.ps_language.specs.declared.errors.ErrorName.TheVariants.{TypeCheck, InvalidAccess}
+use Rattle.ps_mem.specs.Shows.{IsValue}
+use Rattle.ps_ops.proofs.Held.{third_held}
+use Rattle.ps_control.proofs.Rows.{second_of_three_held}
+use Rattle.ps_types.proofs.Accesses.{dictionary_stands}
+use Rattle.ps_acts.proofs.Acting.{raised_acts}
+use Rattle.ps_acts.proofs.Alike.{effect_acts, asked_acts}
+use Rattle.ps_dictionary_operators.proofs.Defining.{put_null, put_unreadable, put_puts, put_asked_is}
+use Rattle.ps_dictionary_operators.proofs.definitions.put_into_dictionary.Goals as goal
+
+pub returns-then-is_null : goal.returns-then-is_null
+returns-then-is_null g c =
+    let held = second_of_three_held (IsValue (g.M.Memory.heap c.args.memory.now)) _
+    c.requires.good.operands _ _ _ c.requires.operands in
+    record {
+      acts = raised_acts _ _ _ _ c.requires.good TypeCheck
+          (put_null _ _ _ _ _ c.requires.operands c.requires.address
+          (c.is_null.ensures _ _ held ∙ c.if-is_null.true));
+    }
+
+pub returns-then-not-is_readable_key : goal.returns-then-not-is_readable_key
+returns-then-not-is_readable_key g c =
+    let held = second_of_three_held (IsValue (g.M.Memory.heap c.args.memory.now)) _
+    c.requires.good.operands _ _ _ c.requires.operands in
+    record {
+      acts = raised_acts _ _ _ _ c.requires.good InvalidAccess
+          (put_unreadable _ _ _ _ _ c.requires.operands c.requires.address
+          (c.is_null.ensures _ _ held ∙ c.if-is_null.false)
+          (c.is_readable_key.ensures _ _ ∙ c.if-not-is_readable_key.true));
+    }
+
+pub put_key-requires-clause-known : goal.put_key-requires-clause-known
+put_key-requires-clause-known g c = rw c.read_key-read.ensures.heap
+    (dictionary_stands (g.M.Memory.heap c.args.memory.now) _
+    (third_held (IsValue (g.M.Memory.heap c.args.memory.now)) _ c.requires.good.operands _ _ _
+    c.requires.operands) _ c.requires.address)
+
+pub returns : goal.returns
+returns g c =
+    let held = second_of_three_held (IsValue (g.M.Memory.heap c.args.memory.now)) _
+    c.requires.good.operands _ _ _ c.requires.operands in
+    let acts = rw (c.read_key-read.ensures.heap, c.read_key-read.ensures.grants)
+    at c.put_key.ensures in
+    record {
+      acts = effect_acts _ _ _ _ _ _ _
+          (put_puts _ _ _ _ _ c.requires.operands c.requires.address
+          (c.is_null.ensures _ _ held ∙ c.if-is_null.false)
+          (c.is_readable_key.ensures _ _ ∙ c.if-not-is_readable_key.false))
+          (asked_acts _ _ _ _ _ _ _
+          (put_asked_is _ _ _ _ _ c.requires.operands c.requires.address) acts.acts);
+    }
