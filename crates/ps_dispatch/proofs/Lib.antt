@@ -1,4 +1,5 @@
 pub mod Exiting
+pub mod Joining
 pub mod Named
 pub mod Noting
 pub mod Turning

@@ -1,3 +1,4 @@
 pub mod Exits
+pub mod Joins
 pub mod Operators
 pub mod Turns

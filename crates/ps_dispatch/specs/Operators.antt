@@ -4,19 +4,22 @@ use Rattle.ps_language.specs.declared.operators.Operator.{Operator}
 use Rattle.ps_language.specs.declared.operators.Operator.TheVariants.{Put, Copy, PutInterval, Astore, Search, EndDict, Def, Store as StoreKey, Undef, ErrorDict, NoAccess, ReadOnly, Cvs, CurrentContext, Fork, Join, Detach, Lock, Monitor, Condition, Wait, Notify, Yield, VmStatus, VmReclaim}
 use Rattle.ps_language.specs.Effect.{Scene}
 use Rattle.ps_language.specs.Scan.{scan}
-use Rattle.ps_language.specs.Rows.{Row, changing_row, row_of}
-use Rattle.ps_language.specs.ArrayRows.{array_put_row, one_stored, topmost_count}
+use Rattle.ps_language.specs.Rows.{Row, row_of}
+use Rattle.ps_language.specs.ArrayRows.{topmost_count}
 use Rattle.ps_sequence_operators.specs.Asks.{putinterval_asks, reduce_asks, search_asks}
 use Rattle.ps_conversion_operators.specs.Asks.{cvs_asks}
+use Rattle.ps_dictionary_operators.specs.Asks.{def_asks, store_asks, undef_asks}
+use Rattle.ps_dispatch.specs.Joins.{put_asks}
 use Rattle.ps_acts.specs.Acts.{Asked, nothing_asked, stores}
 
--- put on arrays alone as yet
 abbrev pub row_now : Operator → Row
-row_now Put = changing_row array_put_row
 row_now operator = row_of scan operator
 
 abbrev pub asked_of : Operator → Scene → Asked
-asked_of Put = stores one_stored
+asked_of Put = put_asks
+asked_of Def = def_asks
+asked_of StoreKey = store_asks
+asked_of Undef = undef_asks
 asked_of PutInterval = putinterval_asks
 asked_of ReadOnly = reduce_asks
 asked_of NoAccess = reduce_asks
@@ -29,9 +32,6 @@ asked_of operator = nothing_asked
 abbrev pub is_done : Operator → Bool
 is_done Copy = false
 is_done EndDict = false
-is_done Def = false
-is_done StoreKey = false
-is_done Undef = false
 is_done ErrorDict = false
 is_done CurrentContext = false
 is_done Fork = false

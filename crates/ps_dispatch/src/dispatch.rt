@@ -6,7 +6,7 @@ ghost use Rattle.ps_acts.specs.Lent.{lent, IsGood};
 ghost use Rattle.ps_dispatch.specs.Operators.{asked_of, row_now, is_done};
 
 use crate::exits::exit;
-use crate::joins::get;
+use crate::joins::{get, put};
 use ps_acts::breaks::{Break, made, tried};
 use ps_acts::lent::{Context, Shared, Trial};
 use ps_control::control;
@@ -16,11 +16,12 @@ use ps_conversion_operators::numbers::cvi;
 use ps_conversion_operators::texts::cvs;
 use ps_dictionary_operators::makes::dict;
 use ps_dictionary_operators::reads::maxlength;
-use ps_dictionary_operators::{finds, stack as dictionaries};
+use ps_dictionary_operators::removals::undef;
+use ps_dictionary_operators::{definitions, finds, stack as dictionaries};
 use ps_language::operators::Operator;
 use ps_mem::{Memory, SLOTS};
 use ps_operands::{arithmetic, logic, stack_operators};
-use ps_ops::{arrays, changes, makes};
+use ps_ops::{arrays, makes};
 use ps_output_operators::lines as output;
 use ps_output_operators::strings::print;
 use ps_relation_operators::equality::equality;
@@ -38,7 +39,7 @@ use ps_text::lines::Form;
 use ps_types::types::type_of;
 use ps_types::{access, attributes};
 
-/// Does what an operator does, each by its own function. `put` is on arrays alone.
+/// Does what an operator does, each by its own function.
 ///
 /// `Raises`: the errors of its row, in their order. `NotMade`: for what it asks for, behind them.
 pub fn operate<M: Memory>(
@@ -123,7 +124,7 @@ pub fn operate<M: Memory>(
             trial.slot,
             trial.refused,
         )),
-        Operator::Put => tried(changes::put(&mut context.operands, memory, trial.slot)),
+        Operator::Put => put(context, shared, memory, trial),
         Operator::Equals => output::equals(context, shared, memory),
         Operator::EqualsEquals => output::equals_equals(context, shared, memory),
         Operator::Stack => output::show_stack(context, shared, memory, Form::Plain),
@@ -156,11 +157,11 @@ pub fn operate<M: Memory>(
         Operator::Cvi => cvi(context, shared, memory),
         Operator::Cvn => cvn(context, shared, memory),
         Operator::Cvs => cvs(context, shared, memory, trial),
+        Operator::Def => definitions::def(context, shared, memory, trial),
+        Operator::Store => definitions::store(context, shared, memory, trial),
+        Operator::Undef => undef(context, shared, memory, trial),
         Operator::Copy
         | Operator::EndDict
-        | Operator::Def
-        | Operator::Store
-        | Operator::Undef
         | Operator::ErrorDict
         | Operator::CurrentContext
         | Operator::Fork

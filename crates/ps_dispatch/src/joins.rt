@@ -1,16 +1,18 @@
-//! Operators on composite objects of several types, joined by the type (PLRM2, 8 'Operators': get).
+//! Operators on composite objects of several types, joined by the type (PLRM2, 8 'Operators': get, put).
 
-ghost use Rattle.std.specs.Prelude.{◌≡◌};
+ghost use Rattle.std.specs.Prelude.{◌≡◌, ◌<◌};
 ghost use Rattle.ps_language.specs.Rows.{naming_row};
-ghost use Rattle.ps_language.specs.RowsDictionaries.{get_row};
+ghost use Rattle.ps_language.specs.RowsDictionaries.{get_row, put_row};
 ghost use Rattle.ps_acts.specs.Acts.{Acts, nothing_asked};
 ghost use Rattle.ps_acts.specs.Lent.{lent, IsGood};
+ghost use Rattle.ps_dispatch.specs.Joins.{put_asks};
 
 use ps_acts::breaks::Break;
 use ps_acts::lent::{Context, Shared, Trial};
+use ps_dictionary_operators::definitions::put_into_dictionary;
 use ps_dictionary_operators::finds::get_from_dictionary;
-use ps_mem::Memory;
-use ps_sequence_operators::elements::get_from_sequence;
+use ps_mem::{Memory, SLOTS};
+use ps_sequence_operators::elements::{get_from_sequence, put_into_sequence};
 
 /// `X k get y`: the element of an array, the byte of a string, or the value of a key. Raises
 /// `stackunderflow`, `typecheck`, `invalidaccess`, `rangecheck`, and `undefined` where a dictionary
@@ -32,5 +34,30 @@ pub fn get<M: Memory>(
     match container.as_dictionary() {
         Some(address) => get_from_dictionary(context, shared, memory, key, container, address),
         None => get_from_sequence(context, shared, memory),
+    }
+}
+
+/// `X k y put`: an element of an array, a byte of a string, or the value of a key, whose name is
+/// formed. Raises `stackunderflow`, `typecheck`, `invalidaccess`, `rangecheck`, and `limitcheck` and
+/// `VMerror` of a dictionary. Not made where the log takes no record, or for want of room or memory.
+pub fn put<M: Memory>(
+    context: &mut Context,
+    shared: &mut Shared,
+    memory: &mut M,
+    trial: Trial,
+) -> Result<(), Break>
+    requires slot { trial.slot < SLOTS }
+    requires good { IsGood
+        (lent (M.heap memory.old) (M.grants memory.old) context.old shared.old) }
+    ensures { Acts put_asks (naming_row put_row) trial result
+        (lent (M.heap memory.old) (M.grants memory.old) context.old shared.old)
+        (lent (M.heap memory.new) (M.grants memory.new) context.new shared.new) }
+{
+    let Some(operands) = context.operands.top_three() else {
+        return put_into_sequence(context, shared, memory, trial);
+    };
+    match operands.2.as_dictionary() {
+        Some(address) => put_into_dictionary(context, shared, memory, trial, operands, address),
+        None => put_into_sequence(context, shared, memory, trial),
     }
 }

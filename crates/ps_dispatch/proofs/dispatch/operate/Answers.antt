@@ -1,8 +1,8 @@
 -- Each operator by its name and by what its own contract says.
 use Rattle.std.proofs.Common.{refl}
-use Rattle.ps_operators.proofs.Asking.{array_made, end_array_made, string_made, put_unasked}
+use Rattle.ps_operators.proofs.Asking.{array_made, end_array_made, string_made}
 use Rattle.ps_acts.proofs.Lifts.{does_acts, operands_acts, observes_acts, controls_acts, ready, held, under_first}
-use Rattle.ps_acts.proofs.Changing.{makes_acts, changes_acts, put_lasts}
+use Rattle.ps_acts.proofs.Changing.{makes_acts}
 use Rattle.ps_dispatch.proofs.Exiting.{exit_acts}
 use Rattle.ps_dispatch.proofs.Named.{named}
 use Rattle.ps_dispatch.proofs.dispatch.operate.Goals as goal
@@ -212,10 +212,7 @@ returns-in-EndArray g c = named c.in-EndArray.is c.tried-in-EndArray.ensures
     c.end_array.ensures.does c.end_array.ensures.ready c.end_array.ensures.spends)
 
 pub returns-in-Put : goal.returns-in-Put
-returns-in-Put g c = named c.in-Put.is c.tried-in-Put.ensures
-    (changes_acts _ c.requires.good _ _ _ _ c.put.ensures.keeps _ _ _ put_unasked
-    (λ store shown. put_lasts _ _ store shown.shows _ c.requires.good.operands) c.put.ensures.does
-    c.put.ensures.ready (λ values. c.put.ensures.spends))
+returns-in-Put g c = named c.in-Put.is refl c.put.ensures
 
 pub returns-in-Exit : goal.returns-in-Exit
 returns-in-Exit g c = named c.in-Exit.is refl
@@ -316,3 +313,12 @@ returns-in-Cvn g c = named c.in-Cvn.is refl (c.cvn.ensures.acts _)
 
 pub returns-in-Cvs : goal.returns-in-Cvs
 returns-in-Cvs g c = named c.in-Cvs.is refl c.cvs.ensures
+
+pub returns-in-Def : goal.returns-in-Def
+returns-in-Def g c = named c.in-Def.is refl c.def.ensures.acts
+
+pub returns-in-Store : goal.returns-in-Store
+returns-in-Store g c = named c.in-Store.is refl c.store.ensures.acts
+
+pub returns-in-Undef : goal.returns-in-Undef
+returns-in-Undef g c = named c.in-Undef.is refl c.undef.ensures.acts

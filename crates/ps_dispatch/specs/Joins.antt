@@ -1,0 +1,19 @@
+-- What operators on composite objects of several types ask for, by the type.
+use Rattle.std.specs.Prelude.{Bool, false, is_some, List, ◌∷◌, if◌then◌else◌}
+use Rattle.ps_language.specs.ArrayRows.{one_stored}
+use Rattle.ps_language.specs.Effect.{Scene}
+use Rattle.ps_language.specs.Readers.{as_dictionary}
+use Rattle.ps_language.specs.Value.{Value}
+use Rattle.ps_acts.specs.Acts.{Asked, stores}
+use Rattle.ps_dictionary_operators.specs.Asks.{put_asks as dictionary_put_asks}
+
+-- whether the third operand is a dictionary
+abbrev pub is_third_dictionary : (operands : List Value) → Bool
+is_third_dictionary (x ∷ k ∷ d ∷ rest) = is_some (as_dictionary d)
+is_third_dictionary operands = false
+
+-- put, into a dictionary or into an array or a string
+abbrev pub put_asks : Scene → Asked
+put_asks scene =
+    if is_third_dictionary scene.operands then dictionary_put_asks scene else
+    stores one_stored scene
