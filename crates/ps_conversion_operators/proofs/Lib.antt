@@ -1,4 +1,3 @@
 pub mod CvsRow
 pub mod NameRow
 pub mod NumberRow
-pub mod Taken

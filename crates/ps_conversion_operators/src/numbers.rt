@@ -21,10 +21,11 @@ use ps_language::kinds::Kind;
 use ps_mem::Memory;
 use ps_operands::plain;
 use ps_ops::arrays::is_readable;
+use ps_ops::makes::SEQUENCE_LIMIT;
 use ps_ops::readers::integer_of;
-use ps_scan::{NumberFault, SEQUENCE_LIMIT, first_number};
-use ps_seq::strings::byte;
+use ps_scan::{NumberFault, first_number};
 use ps_strings::readers::string_of;
+use ps_strings::reads::read_bytes;
 use ps_word::values::Part;
 
 /// How many bytes the strings have for which little room is taken.
@@ -43,9 +44,7 @@ fn number_within<M: Memory>(memory: &mut M, part: Part, text: &mut [u8]) -> Resu
         → part.offset + part.length ≤ length (bytes s (birth_at (M.heap memory.old) part.address))
         → result ≡ number_of (scan (part_bytes s (part_of (birth_at (M.heap memory.old)) part)) 0) }
 {
-    for index in 0..part.length {
-        text[index as usize] = byte(memory, part, index);
-    }
+    read_bytes(memory, part, text);
     first_number(&text[..part.length as usize])
 }
 

@@ -4,67 +4,34 @@ ghost use Rattle.std.specs.Prelude.{◌≡◌, ℕ, ◌+◌, ◌<◌, ◌≤◌,
 ghost use Rattle.ps_language.specs.Access.{bytes, with_part_bytes};
 ghost use Rattle.ps_language.specs.Rows.{changing_row};
 ghost use Rattle.ps_language.specs.RowsTypes.{cvs_row};
-ghost use Rattle.ps_language.specs.Texts.{plain_text, plain_text_in};
+ghost use Rattle.ps_language.specs.Texts.{plain_text};
 ghost use Rattle.ps_language.specs.Value.{Store};
 ghost use Rattle.ps_mem.specs.Heap.{birth_at};
 ghost use Rattle.ps_mem.specs.Keeps.{Keeps};
 ghost use Rattle.ps_mem.specs.References.{StandsAs, words_for};
-ghost use Rattle.ps_mem.specs.Meaning.{part_of, value_of, what_of};
-ghost use Rattle.ps_mem.specs.Shows.{IsSound, IsValue, IsWithin, IsWithinContent, Shows};
+ghost use Rattle.ps_mem.specs.Meaning.{part_of, value_of};
+ghost use Rattle.ps_mem.specs.Shows.{IsSound, IsValue, IsWithin, Shows};
 ghost use Rattle.ps_ops.specs.Does.{KeepsLogsWithin, spent};
 ghost use Rattle.ps_acts.specs.Acts.{Acts, IsAtLeast};
 ghost use Rattle.ps_acts.specs.Lent.{lent, rooms_of, IsEmpty, IsGood};
 ghost use Rattle.ps_conversion_operators.specs.Asks.{cvs_asks};
 ghost use Rattle.ps_conversion_operators.specs.TextReads.{IsTextReason, ReadsText};
 
-use itoa::Buffer;
 use ps_acts::breaks::Break;
 use ps_acts::lent::{Context, Scratch, Shared, Trial};
 use ps_language::errors::ErrorName;
 use ps_language::kinds::Kind;
 use ps_mem::{Memory, SLOTS};
-use ps_names::texts::operator_name;
-use ps_names::{NameId, Names};
-use ps_ops::arrays::{is_readable, is_writable};
+use ps_names::Names;
+use ps_ops::arrays::is_writable;
 use ps_ops::changes::{permitted, records_for};
 use ps_ops::failure::NotMade;
 use ps_seq::strings::set_bytes;
 use ps_strings::readers::{string_interval, string_of};
-use ps_text::plain::{NO_TEXT, append_plain};
-use ps_word::values::{Content, Part};
+use ps_text::plain::{append_plain, plain_length};
+use ps_word::values::Part;
 use ps_word::words::Word;
 use std::alloc::AllocError;
-
-/// How many bytes the text of a content has, as `=` shows it. It takes no memory.
-fn plain_length(names: &Names, content: Content) -> usize
-    ensures { (births : ℕ → ℕ) (s : Store) → IsWithinContent births names.now s content
-        → result ≡ length (plain_text_in s (what_of births names.now content)) }
-{
-    match content {
-        Content::Integer(number) => {
-            let mut buffer = Buffer::new();
-            buffer.format(number).len()
-        }
-        Content::Boolean(true) => b"true".len(),
-        Content::Boolean(false) => b"false".len(),
-        Content::Name(number) => names.text(NameId(number)).len(),
-        Content::Operator(operator) => operator_name(operator).len(),
-        Content::Text(part) => {
-            if is_readable(part.access) {
-                part.length as usize
-            } else {
-                NO_TEXT.len()
-            }
-        }
-        Content::Null => NO_TEXT.len(),
-        Content::Mark => NO_TEXT.len(),
-        Content::Array(_) => NO_TEXT.len(),
-        Content::Dictionary(_) => NO_TEXT.len(),
-        Content::Lock(_) => NO_TEXT.len(),
-        Content::Condition(_) => NO_TEXT.len(),
-        Content::Body(_) => NO_TEXT.len(),
-    }
-}
 
 /// Why a text was not read.
 #[derive(Clone, Copy, Debug, PartialEq, Eq)]
@@ -100,7 +67,7 @@ fn read_text<M: Memory>(
     ensures room { vec_capacity text.old ≤ vec_capacity text.new }
 {
     let Ok(()) = append_plain(memory, names, word, &[], text) else {
-        if plain_length(names, word.content()) > most as usize {
+        if plain_length(names, word) > most as usize {
             return Err(TextFault::TooLong);
         }
         return Err(TextFault::Memory);

@@ -1,5 +1,5 @@
-//! The operators on arrays and strings, and those on access and conversions, over operands of every
-//! type (PLRM2, 8 'Operators': Array, String; Type, Attribute and Conversion).
+//! The operators on arrays and strings, and those on access, over operands of every type (PLRM2, 8
+//! 'Operators': Array, String; Type, Attribute and Conversion).
 #![tactic(auto)]
 
 pub mod copies;

@@ -9,4 +9,4 @@ pub mod Places
 pub mod Reading
 pub mod Searched
 pub mod StringReads
-pub mod Contained
+pub mod Taken

@@ -5,5 +5,6 @@ pub mod changes;
 pub mod copies;
 pub mod makes;
 pub mod readers;
+pub mod reads;
 pub mod searches;
 pub mod strings;

@@ -16,6 +16,7 @@ ghost use Rattle.ps_ops.specs.Does.{Observes};
 ghost use Rattle.ps_strings.specs.Searches.{Searches, IsFound};
 
 use crate::readers::{string_interval, string_of};
+use crate::reads::read_bytes;
 use memchr::memmem;
 use ps_language::access::Access;
 use ps_language::errors::ErrorName;
@@ -24,6 +25,7 @@ use ps_mem::Memory;
 use ps_operands::{Operands, plain};
 use ps_ops::arrays::{is_readable, push_within};
 use ps_ops::failure::{Failure, NotMade};
+use ps_ops::makes::SEQUENCE_LIMIT;
 use ps_seq::arrays::interval;
 use ps_seq::strings::{append_bytes, compare_bytes};
 use ps_stacks::OPERAND_LIMIT;
@@ -169,15 +171,14 @@ fn find_part<M: Memory>(
     found
 }
 
-/// Whether a part of a string has the bytes of another at some place. It takes no memory: it is
-/// looked for in place, at each place in turn. The memory stays as it is.
+/// Whether a part of a string has the bytes of another at some place. No memory is taken: both are
+/// read onto the stack. The memory stays as it is.
 fn contains<M: Memory>(memory: &mut M, part: Part, wanted: Part) -> bool
     requires sound { IsSound (M.heap memory.old) }
     requires part { StandsAs (M.heap memory.old) Kind.Text part.address (words_for
         (part.offset + part.length)) }
     requires wanted { StandsAs (M.heap memory.old) Kind.Text wanted.address (words_for
         (wanted.offset + wanted.length)) }
-    requires end { part.offset + part.length < 2 ^ 16 }
     ensures heap { M.heap memory.new ≡ M.heap memory.old }
     ensures grants { M.grants memory.new ≡ M.grants memory.old }
     ensures value { (names : List (List ℕ)) (s : Store) → Shows (M.heap memory.old) names s
@@ -187,13 +188,12 @@ fn contains<M: Memory>(memory: &mut M, part: Part, wanted: Part) -> bool
         (part_bytes s (part_of (birth_at (M.heap memory.old)) wanted)) (part_bytes s (part_of
         (birth_at (M.heap memory.old)) part))) }
 {
-    for place in 0..part.length as u32 + 1 {
-        let rest = interval(part, place as u16, part.length - place as u16);
-        if begins_with(memory, rest, wanted) {
-            return true;
-        }
-    }
-    false
+    let mut text = [0u8; SEQUENCE_LIMIT];
+    let mut sought = [0u8; SEQUENCE_LIMIT];
+    read_bytes(memory, part, &mut text);
+    read_bytes(memory, wanted, &mut sought);
+    let needle = &sought[..wanted.length as usize];
+    memmem::find(&text[..part.length as usize], needle).is_some()
 }
 
 /// `S T search behind match before true` at the first place where `S` has the bytes of `T`, else `S

@@ -191,3 +191,41 @@ pub fn append_plain<M: Memory>(
 {
     append_content(memory, names, word.content(), ending, output)
 }
+
+/// How many bytes the text of a content has, as `=` shows it.
+fn content_length(names: &Names, content: Content) -> usize
+    ensures { (births : ℕ → ℕ) (s : Store) → IsWithinContent births names.now s content
+        → result ≡ length (plain_text_in s (what_of births names.now content)) }
+{
+    match content {
+        Content::Integer(number) => {
+            let mut buffer = Buffer::new();
+            buffer.format(number).len()
+        }
+        Content::Boolean(truth) => boolean_text(truth).len(),
+        Content::Name(number) => names.text(NameId(number)).len(),
+        Content::Operator(operator) => operator_name(operator).len(),
+        Content::Text(part) => {
+            if is_readable(part.access) {
+                part.length as usize
+            } else {
+                NO_TEXT.len()
+            }
+        }
+        Content::Null
+        | Content::Mark
+        | Content::Array(_)
+        | Content::Dictionary(_)
+        | Content::Lock(_)
+        | Content::Condition(_)
+        | Content::Body(_) => NO_TEXT.len(),
+    }
+}
+
+/// How many bytes the text of a value has, as `=` shows it. It takes no memory.
+pub fn plain_length(names: &Names, word: Word) -> usize
+    ensures { (births : ℕ → ℕ) (s : Store) → IsWithin births names.now s word
+        → result ≡ length (plain_text s (value_of births names.now word)) }
+{
+    content_length(names, word.content())
+}

@@ -4,7 +4,7 @@ use Rattle.ps_language.specs.Access.{bytes}
 use Rattle.ps_language.specs.Value.{Store}
 use Rattle.ps_mem.specs.Heap.{birth_at}
 use Rattle.ps_mem.specs.Shows.{Shows}
-use Rattle.ps_conversion_operators.proofs.numbers.number_within.Given as goal
+use Rattle.ps_strings.proofs.reads.read_bytes.Given as goal
 
 -- the first bytes were read
 abbrev pub invariant-loop-index : goal.invariant-loop-index
