@@ -1,5 +1,5 @@
 -- What put asks for, by its third operand.
-use Rattle.std.proofs.Common.{◌≡◌, ℕ, Bool, true, false, List, [], ◌∷◌, Some, None, refl, sym, ap, ◌∙◌}
+use Rattle.std.proofs.Common.{◌≡◌, ℕ, Bool, true, false, List, [], ◌∷◌, Some, None, refl, sym, ap, true≢false}
 use Rattle.std.specs.Prelude.{Option, is_some, option_map, if◌then◌else◌}
 use Rattle.ps_language.specs.ArrayRows.{one_stored}
 use Rattle.ps_language.specs.Value.{Store}
@@ -10,7 +10,7 @@ use Rattle.ps_word.specs.Readers as readers
 use Rattle.ps_mem.specs.Heap.{birth_at}
 use Rattle.ps_ops.specs.Does.{values_in}
 use Rattle.ps_ops.proofs.Operands.{first_three_split}
-use Rattle.ps_types.proofs.Accesses.{dictionary_is}
+use Rattle.ps_keys.proofs.Looking.{dictionary_is}
 use Rattle.ps_acts.specs.Lent.{Lent, scene_of, IsShown}
 use Rattle.ps_acts.specs.Acts.{Asked, stores}
 use Rattle.ps_dictionary_operators.specs.Asks.{put_asks as dictionary_put_asks}
@@ -30,7 +30,7 @@ module _ (l : Lent) where
   none_third [] none = refl
   none_third (x ∷ []) none = refl
   none_third (x ∷ k ∷ []) none = refl
-  none_third (x ∷ k ∷ d ∷ rest) none = absurd (ap is_some none)
+  none_third (x ∷ k ∷ d ∷ rest) none = absurd (true≢false (sym (ap is_some none)))
 
   pub short_asks : None ≡ first_three_of l.operands → (store : Store) → IsShown l store
       → put_asks (scene_of l store) ≡ stores one_stored (scene_of l store)
