@@ -158,8 +158,12 @@ impl StandingObject {
 impl StandingObject {
     /// A new object, whose fields are zero.
     pub fn new(alloc: Global, address: u64, header: u64) -> Result<StandingObject, AllocError>
-        ensures { IfOk result (λ o. o ≡ record
-            { address = address; header = header; fields = replicate (headers.fields_in header) 0 }) }
+        ensures { IfOk result (λ o. o ≡ record {
+          address = address;
+          header = header;
+          fields =
+              replicate (headers.fields_in header) 0;
+        }) }
     {
         Ok(StandingObject {
             address,

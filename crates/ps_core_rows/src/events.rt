@@ -18,7 +18,8 @@ fn place_of(address: u64, first: u64, count: u64) -> Record {
     }
 }
 
-/// The roots that a row names in its numbers from a place on, but for the last one, where its answer stands.
+/// The roots that a row names in its numbers from a place on, but for the last one, where its
+/// answer stands.
 fn roots_of(alloc: Global, numbers: &[u64], from: usize) -> Result<Roots, AllocError> {
     let mut words = Vec::new(alloc);
     for (place, number) in numbers.iter().enumerate() {

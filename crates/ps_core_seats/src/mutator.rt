@@ -363,7 +363,8 @@ impl Mutator {
 
     /// After a load.
     pub fn load(&mut self, place: u64, word: u64)
-        ensures { self.new ≡ record self.old { heads = steps.heads_after self.old.heads place word } }
+        ensures { self.new
+            ≡ record self.old { heads = steps.heads_after self.old.heads place word } }
     {
         if 2 <= place && place < 34 {
             store(&mut self.heads, place - 2, word);

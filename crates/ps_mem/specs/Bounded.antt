@@ -5,7 +5,8 @@ use Rattle.ps_mem.specs.Heap.{Space, Grants, birth_limit}
 abbrev pub bounded_space : ℕ → Space
 bounded_space size = record { size = size; grows = false }
 
--- the logs of the slots: whether a cycle is open, how many records each has places for, how many it has put, and which are closed
+-- the logs of the slots: whether a cycle is open, how many records each has places for, how many it
+-- has put, and which are closed
 pub record Logs : Type 0 where
   pub cycle_open : Bool
   pub places : List ℕ
@@ -22,7 +23,8 @@ records_of logs slot = if logs.cycle_open then
 abbrev pub is_closed : Logs → ℕ → Bool
 is_closed logs slot = logs.cycle_open && slice_index_or logs.closed slot false
 
--- where the space has so many words, of which so many stand, this is the next birth number, and what stands from an address on may be filled
+-- where the space has so many words, of which so many stand, this is the next birth number, and
+-- what stands from an address on may be filled
 abbrev pub bounded_grants : ℕ → ℕ → ℕ → ℕ → Logs → Grants
 bounded_grants size used next fresh_from logs = record {
   fresh = λ address. nat_le fresh_from address;
@@ -34,7 +36,8 @@ bounded_grants size used next fresh_from logs = record {
   closed = is_closed logs;
 }
 
--- outside a cycle, and at its opening: there are 256 places in the log of each of 32 slots, and no record was put
+-- outside a cycle, and at its opening: there are 256 places in the log of each of 32 slots, and no
+-- record was put
 abbrev pub no_logs : Logs
 no_logs = record {
   cycle_open = false;

@@ -1,4 +1,5 @@
--- What a memory holds: the objects that stand, the next birth number, and the room that they lie in; and what it has granted.
+-- What a memory holds: the objects that stand, the next birth number, and the room that they lie
+-- in; and what it has granted.
 use Rattle.std.specs.Prelude.{ℕ, zero, suc, length, Bool, ◌≡◌, ◌≢◌, ◌≤◌, List, [], ◌+◌, ◌^◌, ◌==◌, ◌&&◌, ◌||◌, not, replicate, nat_le, Option, Some, None, IsTrue, if◌then◌else◌}
 use Rattle.ps_language.specs.declared.kinds.Kind.{Kind}
 use Rattle.ps_language.specs.declared.kinds.Kind.TheVariants.{Body}
@@ -18,7 +19,8 @@ pub record Space : Type 0 where
   pub size : ℕ
   pub grows : Bool
 
--- at: the object that stands at an address; used: the words of all that stands, two for each object and its fields
+-- at: the object that stands at an address; used: the words of all that stands, two for each object
+-- and its fields
 pub record Heap : Type 0 where
   pub at : ℕ → Option Standing
   pub next : ℕ
@@ -119,8 +121,9 @@ has_room h words births =
 
 -- ---- what a memory has granted
 
--- fresh: the objects that may still be filled; words, births: what new objects may take; cycle_open: whether stores are logged;
--- records: how many a slot may put; put: how many it has put; closed: the slots whose logs are closed
+-- fresh: the objects that may still be filled; words, births: what new objects may take;
+-- cycle_open: whether stores are logged; records: how many a slot may put; put: how many it has
+-- put; closed: the slots whose logs are closed
 pub record Grants : Type 0 where
   pub fresh : ℕ → Bool
   pub words : ℕ
@@ -154,12 +157,13 @@ pub record AfterNew (old new : Grants) (address size numbers : ℕ) : Type 0 whe
   pub put : new.put ≡ old.put
   pub closed : new.closed ≡ old.closed
 
--- the records that a store to an object puts: one in an open cycle, unless the object may still be filled
+-- the records that a store to an object puts: one in an open cycle, unless the object may still be
+-- filled
 abbrev pub records_put : Grants → ℕ → ℕ
 records_put grants address = if grants.cycle_open && not (grants.fresh address) then 1 else 0
 
--- a store leaves no object of which it is known that it may be filled; it puts at most one record, into the log of its slot, and uses
--- up what it puts
+-- a store leaves no object of which it is known that it may be filled; it puts at most one record,
+-- into the log of its slot, and uses up what it puts
 pub record AfterStore (old new : Grants) (slot : ℕ) : Type 0 where
   pub words : new.words ≡ old.words
   pub births : new.births ≡ old.births

@@ -1,4 +1,5 @@
--- The index of a dictionary: in which of the last words of its body the position of each pair stands. It follows from the capacity and the keys in order.
+-- The index of a dictionary: in which of the last words of its body the position of each pair
+-- stands. It follows from the capacity and the keys in order.
 use Rattle.std.specs.Prelude.{ℕ, pos, suc, ◌+◌, ◌%◌, Bool, true, false, List, [], ◌∷◌, ◌++◌, map, take, drop, length, replicate, Option, Some, None, if◌then◌else◌}
 use Rattle.std.specs.Int.{w32, cast_unsigned}
 use Rattle.ps_word.specs.declared.words.Word.{Word}
@@ -10,8 +11,9 @@ use Rattle.ps_mem.specs.Heap.{zero_word}
 
 -- ---- hash numbers
 
--- an integer's 32 bits without sign, a name's and an operator's number, an array's birth number, offset and length, and of any other object its birth
--- number: no address, so that an object that moves keeps its hash number
+-- an integer's 32 bits without sign, a name's and an operator's number, an array's birth number,
+-- offset and length, and of any other object its birth number: no address, so that an object that
+-- moves keeps its hash number
 abbrev pub hash_of_content : (births : ℕ → ℕ) → Content → ℕ
 hash_of_content births Null = 0
 hash_of_content births (Integer number) = cast_unsigned w32 number

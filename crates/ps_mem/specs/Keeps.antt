@@ -11,12 +11,15 @@ pub record StandsStill (h : Heap) (address : ℕ) (o : Standing) : Type 0 where
   pub count : length now.fields ≡ length o.fields
 
 pub record Keeps (old new : Heap) : Type 0 where
-  pub stays : (address : ℕ) (o : Standing) → object_at old address ≡ Some o → StandsStill new address o
+  pub stays : (address : ℕ) (o : Standing) → object_at old address ≡ Some o
+      → StandsStill new address o
 
 -- nothing of this birth number has changed
 pub record KeepsBirth (old new : Heap) (birth : ℕ) : Type 0 where
-  pub same : (address : ℕ) (o : Standing) → object_at old address ≡ Some o → o.birth ≡ birth → object_at new address ≡ Some o
+  pub same : (address : ℕ) (o : Standing) → object_at old address ≡ Some o → o.birth ≡ birth
+      → object_at new address ≡ Some o
 
 -- everything that stood stands as it was
 pub record Extends (old new : Heap) : Type 0 where
-  pub same : (address : ℕ) (o : Standing) → object_at old address ≡ Some o → object_at new address ≡ Some o
+  pub same : (address : ℕ) (o : Standing) → object_at old address ≡ Some o → object_at new address
+      ≡ Some o

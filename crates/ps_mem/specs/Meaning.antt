@@ -1,4 +1,5 @@
--- What a word stands for: by the birth numbers at the addresses, and the texts of the names by their numbers.
+-- What a word stands for: by the birth numbers at the addresses, and the texts of the names by
+-- their numbers.
 use Rattle.std.specs.Prelude.{ℕ, List, [], unwrap_or, slice_get}
 use Rattle.ps_language.specs.Value.{Part as PartValue, What, null_value, mark_value, integer_value, boolean_value, name_value, operator_value, array_value, string_value, dictionary_value, lock_value, condition_value, Value}
 use Rattle.ps_word.specs.declared.words.Word.{Word}
@@ -12,7 +13,8 @@ abbrev pub text_of_name : List (List ℕ) → ℕ → List ℕ
 text_of_name names number = unwrap_or (slice_get names number) []
 
 abbrev pub part_of : (births : ℕ → ℕ) → Part → PartValue
-part_of births p = record { birth = births p.address; offset = p.offset; count = p.length; access = p.access }
+part_of births p =
+    record { birth = births p.address; offset = p.offset; count = p.length; access = p.access }
 
 -- a body is no value; it reads as null
 abbrev pub what_of : (births : ℕ → ℕ) → (names : List (List ℕ)) → Content → What
@@ -30,4 +32,5 @@ what_of births names (Condition address) = condition_value (births address)
 what_of births names (Body address) = null_value
 
 unfoldable pub value_of : (births : ℕ → ℕ) → (names : List (List ℕ)) → Word → Value
-value_of births names w = record { what = what_of births names (content_in w.0); executable = executable_in w.0 }
+value_of births names w =
+    record { what = what_of births names (content_in w.0); executable = executable_in w.0 }

@@ -1,4 +1,5 @@
--- A list of words in which objects stand one after another, each two words of header and then its fields: what stands there.
+-- A list of words in which objects stand one after another, each two words of header and then its
+-- fields: what stands there.
 use Rattle.std.specs.Prelude.{ℕ, zero, suc, ◌==◌, List, [], ◌∷◌, map, take, drop, Bool, true, ◌&&◌, nat_le, Option, Some, None, if◌then◌else◌}
 use Rattle.ps_language.specs.declared.kinds.Kind.{Kind}
 use Rattle.ps_language.specs.declared.kinds.Kind.TheVariants.{Array, Text, Dictionary, Lock, Condition, Body}
@@ -19,9 +20,16 @@ kind_of_number n =
 abbrev pub word_of : ℕ → Word
 word_of n = record { 0 = n }
 
--- the object of which this is the first word and these are the words behind it, the first of them its second header
+-- the object of which this is the first word and these are the words behind it, the first of them
+-- its second header
 unfoldable pub standing_of : ℕ → List ℕ → Standing
-standing_of w behind = record { kind = kind_of_number (kind_in w); birth = birth_in w; fields = map word_of (take (fields_in w) (drop 1 behind)) }
+standing_of w behind =
+    record {
+      kind = kind_of_number (kind_in w);
+      birth = birth_in w;
+      fields =
+          map word_of (take (fields_in w) (drop 1 behind));
+    }
 
 -- the object at a place of the words, of which so many still belong to the object before
 unfoldable pub object_in : List ℕ → ℕ → ℕ → Option Standing
@@ -49,4 +57,5 @@ all_headers (w ∷ ws) (suc skip) = all_headers ws skip
 
 -- what stands in the first words, where these are the next birth number and the space
 unfoldable pub heap_in : List ℕ → ℕ → ℕ → Space → Heap
-heap_in words used next space = record { at = object_in (take used words) 0; next = next; used = used; space = space }
+heap_in words used next space =
+    record { at = object_in (take used words) 0; next = next; used = used; space = space }

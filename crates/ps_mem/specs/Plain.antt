@@ -6,7 +6,8 @@ use Rattle.ps_mem.specs.Heap.{Space, Grants, birth_limit}
 abbrev pub plain_space : Space
 plain_space = record { size = 16777215; grows = true }
 
--- where there are so many words, of which so many stand, and this is the next birth number: no object ceases to be fresh, and no log is kept
+-- where there are so many words, of which so many stand, and this is the next birth number: no
+-- object ceases to be fresh, and no log is kept
 abbrev pub plain_grants : ℕ → ℕ → ℕ → Grants
 plain_grants size used next = record {
   fresh = λ address. true;

@@ -1,4 +1,5 @@
--- When what stands in a memory is sound, and when it shows a store of the language under the names met.
+-- When what stands in a memory is sound, and when it shows a store of the language under the names
+-- met.
 use Rattle.std.specs.Prelude.{ℕ, pos, ◌+◌, ◌-◌, ◌*◌, ◌≤◌, ◌<◌, ◌≡◌, ◌≢◌, false, List, [], ◌∷◌, ◌++◌, map, length, take, drop, replicate, Option, Some, None, slice_get}
 use Rattle.std.specs.List.{AllByRecursion}
 use Rattle.ps_language.specs.declared.kinds.Kind.{Kind}
@@ -31,8 +32,8 @@ AreValues h words = AllByRecursion (IsValue h) words
 abbrev pub IsNatural : Word → ℕ → Type 0
 IsNatural w n = value_in w.0 ≡ record { content = Integer (pos n); executable = false }
 
--- the fields of a dictionary: number of pairs, capacity, access, and its body, which has its birth number, room for the pairs, and their index in the
--- words behind them
+-- the fields of a dictionary: number of pairs, capacity, access, and its body, which has its birth
+-- number, room for the pairs, and their index in the words behind them
 pub record DictionaryFields (h : Heap) (birth : ℕ) (fields : List Word) : Type 0 where
   pub count_word : Word
   pub capacity_word : Word
@@ -69,7 +70,8 @@ pub data AreFields (h : Heap) : Kind → ℕ → List Word → Type 0 where
   body_fields : {birth : ℕ} {fields : List Word} → AreValues h fields
       → AreFields h BodyKind birth fields
 
--- but for bodies no two objects have one birth number, each is below the next, and all fields are as their kinds want them
+-- but for bodies no two objects have one birth number, each is below the next, and all fields are
+-- as their kinds want them
 pub record IsSound (h : Heap) : Type 0 where
   pub single : (a b : ℕ) (o p : Standing) → object_at h a ≡ Some o → object_at h b ≡ Some p
       → o.kind ≢ BodyKind → p.kind ≢ BodyKind → o.birth ≡ p.birth → a ≡ b
@@ -132,7 +134,8 @@ abbrev pub IsOwner : Word → Option ℕ → Type 0
 IsOwner w None = IsNatural w 0
 IsOwner w (Some identifier) = (0 < identifier) × IsNatural w identifier
 
--- that the fields of an object of this kind and birth number are this object of the language; the words of a string follow from its bytes
+-- that the fields of an object of this kind and birth number are this object of the language; the
+-- words of a string follow from its bytes
 pub data IsShown (h : Heap) (names : List (List ℕ)) : Kind → ℕ → List Word → Object → Type 0 where
   shown_array : {birth : ℕ} {fields : List Word} {elements : List Value}
       → elements ≡ map (value_of (birth_at h) names) fields
@@ -154,7 +157,8 @@ pub record IsObject (h : Heap) (names : List (List ℕ)) (store : Store) (kind :
   pub there : slice_get store birth ≡ Some object
   pub shown : IsShown h names kind birth fields object
 
--- what stands, bodies aside, is the store's objects of its birth numbers; the store may hold more, which was collected
+-- what stands, bodies aside, is the store's objects of its birth numbers; the store may hold more,
+-- which was collected
 pub record Shows (h : Heap) (names : List (List ℕ)) (store : Store) : Type 0 where
   pub next : h.next ≡ length store
   pub objects : (a : ℕ) (o : Standing) → object_at h a ≡ Some o → o.kind ≢ BodyKind

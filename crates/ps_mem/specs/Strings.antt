@@ -14,7 +14,8 @@ number_of_bytes (byte ∷ bytes) = byte + 256 * number_of_bytes bytes
 
 unfoldable pub words_from : ℕ → List ℕ → List Word
 words_from zero bytes = []
-words_from (suc n) bytes = record { 0 = number_of_bytes (take 8 bytes) } ∷ words_from n (drop 8 bytes)
+words_from (suc n) bytes = record { 0 = number_of_bytes (take 8 bytes) }
+    ∷ words_from n (drop 8 bytes)
 
 abbrev pub words_of : List ℕ → List Word
 words_of bytes = words_from (words_for (length bytes)) bytes

@@ -238,7 +238,8 @@ impl Memory for BoundedMemory {
         requires slot { slot < SLOTS }
         ensures heap { ⟦<BoundedMemory as Memory>⟧.heap self.new ≡ ⟦<BoundedMemory as Memory>⟧.heap
             self.old }
-        ensures grants { ⟦<BoundedMemory as Memory>⟧.grants self.new ≡ ⟦<BoundedMemory as Memory>⟧.grants self.old }
+        ensures grants { ⟦<BoundedMemory as Memory>⟧.grants self.new
+            ≡ ⟦<BoundedMemory as Memory>⟧.grants self.old }
         ensures others { (s : ℕ) → s ≢ slot
             → (⟦<BoundedMemory as Memory>⟧.grants self.new).records s ≡
             (⟦<BoundedMemory as Memory>⟧.grants self.old).records s }

@@ -14,14 +14,15 @@ use std::alloc::{AllocError, Global};
 /// The words of the first growth, if no more are asked for.
 const FIRST_SIZE: u32 = 1024;
 
-/// A memory that grows up to 16,777,215 words and is never collected. No cycle is ever open, so each `permit` answers `Yes`; `room` is
-/// always true.
+/// A memory that grows up to 16,777,215 words and is never collected. No cycle is ever open, so
+/// each `permit` answers `Yes`; `room` is always true.
 #[derive(Drop)]
 pub struct PlainMemory {
     region: Region,
 }
 
-/// The words of a memory that has so many and is to have `wanted`: at least double, as far as the limit lets it.
+/// The words of a memory that has so many and is to have `wanted`: at least double, as far as the
+/// limit lets it.
 fn grown(size: u32, wanted: u32) -> u32
     requires size { size ≤ 16777215 }
     requires wanted { wanted ≤ 16777215 }

@@ -39,7 +39,8 @@ pub enum NamesFault {
     Memory,
 }
 
-/// The names that a run has met, each once, seen as the list of their texts in the order of meeting.
+/// The names that a run has met, each once, seen as the list of their texts in the order of
+/// meeting.
 ///
 /// There are at most `NAMES_LIMIT`, of at most `NAME_LIMIT` bytes each.
 #[derive(Drop)]
@@ -102,7 +103,8 @@ impl Names {
         Some(NameId(place as u16))
     }
 
-    /// The text of a number; no bytes, where no name has it, which is what a value of such a number means. It takes no memory.
+    /// The text of a number; no bytes, where no name has it, which is what a value of such a number
+    /// means. It takes no memory.
     pub fn text(&self, id: NameId) -> &[u8]
         ensures bytes { result.now ≡ unwrap_or (slice_get self.now id.0) [] }
         ensures found { id.0 < length self.now → place_of result.now self.now ≡ Some id.0 }
@@ -115,10 +117,12 @@ impl Names {
 
     /// The number of a text, which goes behind the others where it is new.
     ///
-    /// `TooLong` comes exactly where it has more than `NAME_LIMIT` bytes, and `Full` exactly where it is new, no longer than that, and
-    /// `NAMES_LIMIT` names stand. `Memory` comes only where it is to be added.
+    /// `TooLong` comes exactly where it has more than `NAME_LIMIT` bytes, and `Full` exactly where
+    /// it is new, no longer than that, and `NAMES_LIMIT` names stand. `Memory` comes only where it
+    /// is to be added.
     pub fn intern(&mut self, text: &[u8]) -> Result<NameId, NamesFault>
-        // A text that stands keeps its number and the names stay; a new one goes last and has the next.
+        // A text that stands keeps its number and the names stay; a new one goes last and has the
+        // next.
         ensures number { IfOk result (λ id. id.0 ≡ position_or_len (bytes_eq text.now) self.old) }
         ensures names { OnOk result (self.new ≡ meet self.old text.now) }
         ensures stands { IfOk result (λ id. slice_get self.new id.0 ≡ Some text.now) }
@@ -126,13 +130,17 @@ impl Names {
         ensures below { IfOk result (λ id. id.0 < names_limit) }
 
         // Every number keeps its text.
-        ensures kept { (number : ℕ) → number < length self.old → slice_get self.new number ≡ slice_get self.old number }
+        ensures kept { (number : ℕ) → number < length self.old → slice_get self.new number
+            ≡ slice_get self.old number }
 
         // A text that stands is not refused, and after a fault nothing has changed.
         ensures known { IsSome (place_of text.now self.old) → IsOk result }
         ensures too_long { IsErrOf result NamesFault.TooLong ↔ (name_limit < length text.now) }
-        ensures full { IsErrOf result NamesFault.Full ↔ ((place_of text.now self.old ≡ None) × (length text.now ≤ name_limit) × (length self.old ≡ names_limit)) }
-        ensures memory { IsErrOf result NamesFault.Memory → (place_of text.now self.old ≡ None) × (length text.now ≤ name_limit) × (length self.old < names_limit) }
+        ensures full { IsErrOf result NamesFault.Full
+            ↔ ((place_of text.now self.old ≡ None) × (length text.now ≤ name_limit)
+            × (length self.old ≡ names_limit)) }
+        ensures memory { IsErrOf result NamesFault.Memory → (place_of text.now self.old ≡ None)
+            × (length text.now ≤ name_limit) × (length self.old < names_limit) }
         ensures fault { OnErr result (self.new ≡ self.old) }
     {
         let place = self.len();

@@ -19,23 +19,30 @@ outcome_of (Ok left) = leaves left
 outcome_of (Err error) = fails error
 
 -- the operands that the row leaves, or its error with the operands as they were
-abbrev pub Agrees : Result Unit ErrorName → Outcome (List Value) → (births : ℕ → ℕ) → (names : List (List ℕ)) → (old new : List Word) → Type 0
+abbrev pub Agrees : Result Unit ErrorName → Outcome (List Value) → (births : ℕ → ℕ)
+    → (names : List (List ℕ)) → (old new : List Word) → Type 0
 Agrees (Ok _) (leaves left) births names old new = values_of births names new ≡ left
 Agrees (Err error) (fails raised) births names old new = (error ≡ raised) × (new ≡ old)
 Agrees (Ok _) (fails raised) births names old new = ⊥
 Agrees (Err error) (leaves left) births names old new = ⊥
 
 -- an operator that came to this result did what its row says, whatever the memory
-pub record Does (row : List Value → Outcome (List Value)) (result : Result Unit ErrorName) (old new : List Word) : Type 0 where
-  pub agrees : (births : ℕ → ℕ) (names : List (List ℕ)) → Agrees result (row (values_of births names old)) births names old new
+pub record Does (row : List Value
+    → Outcome (List Value)) (result : Result Unit ErrorName) (old new : List Word) : Type 0 where
+  pub agrees : (births : ℕ → ℕ) (names : List (List ℕ))
+      → Agrees result (row (values_of births names old)) births names old new
 
 -- an operator that pushes a word came to this result
 pub record Pushes (w : Word) (result : Result Unit ErrorName) (old new : List Word) : Type 0 where
-  pub agrees : (births : ℕ → ℕ) (names : List (List ℕ)) → Agrees result (push (value_of births names w) (values_of births names old)) births names old new
+  pub agrees : (births : ℕ → ℕ) (names : List (List ℕ))
+      → Agrees result (push (value_of births names w) (values_of births names old)) births names old
+      new
 
 -- what was read is what the row reads, whatever the memory
-pub record Reads {A : Type 0} (row : List Value → Outcome A) (result : Result A ErrorName) (words : List Word) : Type 0 where
-  pub agrees : (births : ℕ → ℕ) (names : List (List ℕ)) → row (values_of births names words) ≡ outcome_of result
+pub record Reads {A : Type 0} (row : List Value
+    → Outcome A) (result : Result A ErrorName) (words : List Word) : Type 0 where
+  pub agrees : (births : ℕ → ℕ) (names : List (List ℕ)) → row (values_of births names words)
+      ≡ outcome_of result
 
 -- x1 .. xn n copy x1 .. xn x1 .. xn
 abbrev pub copy_number_row : List Value → Outcome (List Value)
@@ -57,4 +64,5 @@ one_integer _ = fails StackUnderflow
 
 -- an integer, if it is defined, in the place of the topmost operands
 abbrev pub number_put : ℕ → Option ℤ → List Value → Outcome (List Value)
-number_put count number values = given number UndefinedResult λ k. leaves (integer k ∷ drop count values)
+number_put count number values =
+    given number UndefinedResult λ k. leaves (integer k ∷ drop count values)

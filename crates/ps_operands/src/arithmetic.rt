@@ -12,7 +12,8 @@ use crate::integers::{
 use crate::{Operands, plain};
 use ps_language::errors::ErrorName;
 
-/// The two topmost operands as integers, the topmost second. Raises `stackunderflow` and `typecheck`.
+/// The two topmost operands as integers, the topmost second. Raises `stackunderflow` and
+/// `typecheck`.
 #[inline]
 #[tactic(auto, using(crate::proofs::Meanings::readers))]
 pub fn two_integers(operands: &Operands) -> Result<(i32, i32), ErrorName>
@@ -47,7 +48,8 @@ fn one_integer(operands: &Operands) -> Result<i32, ErrorName>
     Ok(i)
 }
 
-/// Puts an integer in the place of the topmost operands. Raises `undefinedresult` where there is none.
+/// Puts an integer in the place of the topmost operands. Raises `undefinedresult` where there is
+/// none.
 #[inline]
 #[tactic(auto, using(crate::proofs::Sources::sources))]
 fn put_number(operands: &mut Operands, count: usize, number: Option<i32>) -> Result<(), ErrorName>
@@ -63,7 +65,8 @@ fn put_number(operands: &mut Operands, count: usize, number: Option<i32>) -> Res
     Ok(())
 }
 
-/// `i j add k`. Raises `stackunderflow`, `typecheck`, and `undefinedresult` where the sum doesn't fit 32 bits.
+/// `i j add k`. Raises `stackunderflow`, `typecheck`, and `undefinedresult` where the sum doesn't
+/// fit 32 bits.
 #[inline]
 #[tactic(auto, using(crate::proofs::Sources::sources, crate::proofs::NumberRows::two_lemmas))]
 pub fn add(operands: &mut Operands) -> Result<(), ErrorName>
@@ -74,7 +77,8 @@ pub fn add(operands: &mut Operands) -> Result<(), ErrorName>
     put_number(operands, 2, sum_of(i, j))
 }
 
-/// `i j sub k`. Raises `stackunderflow`, `typecheck`, and `undefinedresult` where the difference doesn't fit 32 bits.
+/// `i j sub k`. Raises `stackunderflow`, `typecheck`, and `undefinedresult` where the difference
+/// doesn't fit 32 bits.
 #[inline]
 #[tactic(auto, using(crate::proofs::Sources::sources, crate::proofs::NumberRows::two_lemmas))]
 pub fn sub(operands: &mut Operands) -> Result<(), ErrorName>
@@ -85,7 +89,8 @@ pub fn sub(operands: &mut Operands) -> Result<(), ErrorName>
     put_number(operands, 2, difference_of(i, j))
 }
 
-/// `i j mul k`. Raises `stackunderflow`, `typecheck`, and `undefinedresult` where the product doesn't fit 32 bits.
+/// `i j mul k`. Raises `stackunderflow`, `typecheck`, and `undefinedresult` where the product
+/// doesn't fit 32 bits.
 #[inline]
 #[tactic(auto, using(crate::proofs::Sources::sources, crate::proofs::NumberRows::two_lemmas))]
 pub fn mul(operands: &mut Operands) -> Result<(), ErrorName>
@@ -96,7 +101,8 @@ pub fn mul(operands: &mut Operands) -> Result<(), ErrorName>
     put_number(operands, 2, product_of(i, j))
 }
 
-/// `i j idiv k`. Toward zero. Raises `stackunderflow`, `typecheck`, and `undefinedresult` where `j` is zero or the quotient doesn't fit 32 bits.
+/// `i j idiv k`. Toward zero. Raises `stackunderflow`, `typecheck`, and `undefinedresult` where `j`
+/// is zero or the quotient doesn't fit 32 bits.
 #[tactic(auto, using(crate::proofs::Sources::sources, crate::proofs::NumberRows::two_lemmas))]
 pub fn idiv(operands: &mut Operands) -> Result<(), ErrorName>
     ensures row { Does rows.idiv_row result operands.old operands.new }
@@ -106,7 +112,8 @@ pub fn idiv(operands: &mut Operands) -> Result<(), ErrorName>
     put_number(operands, 2, quotient_of(i, j))
 }
 
-/// `i j mod k`. With the sign of `i`. Raises `stackunderflow`, `typecheck`, and `undefinedresult` where `j` is zero.
+/// `i j mod k`. With the sign of `i`. Raises `stackunderflow`, `typecheck`, and `undefinedresult`
+/// where `j` is zero.
 #[tactic(auto, using(crate::proofs::Sources::sources, crate::proofs::NumberRows::two_lemmas))]
 pub fn modulo(operands: &mut Operands) -> Result<(), ErrorName>
     ensures row { Does rows.mod_row result operands.old operands.new }
@@ -116,7 +123,8 @@ pub fn modulo(operands: &mut Operands) -> Result<(), ErrorName>
     put_number(operands, 2, remainder_of(i, j))
 }
 
-/// `i neg k`. Raises `stackunderflow`, `typecheck`, and `undefinedresult` where the result doesn't fit 32 bits.
+/// `i neg k`. Raises `stackunderflow`, `typecheck`, and `undefinedresult` where the result doesn't
+/// fit 32 bits.
 #[tactic(auto, using(crate::proofs::Sources::sources, crate::proofs::NumberRows::one_lemmas))]
 pub fn neg(operands: &mut Operands) -> Result<(), ErrorName>
     ensures row { Does rows.neg_row result operands.old operands.new }
@@ -126,7 +134,8 @@ pub fn neg(operands: &mut Operands) -> Result<(), ErrorName>
     put_number(operands, 1, negative_of(i))
 }
 
-/// `i abs k`. Raises `stackunderflow`, `typecheck`, and `undefinedresult` where the result doesn't fit 32 bits.
+/// `i abs k`. Raises `stackunderflow`, `typecheck`, and `undefinedresult` where the result doesn't
+/// fit 32 bits.
 #[tactic(auto, using(crate::proofs::Sources::sources, crate::proofs::NumberRows::one_lemmas))]
 pub fn abs(operands: &mut Operands) -> Result<(), ErrorName>
     ensures row { Does rows.abs_row result operands.old operands.new }
@@ -136,7 +145,8 @@ pub fn abs(operands: &mut Operands) -> Result<(), ErrorName>
     put_number(operands, 1, magnitude_of(i))
 }
 
-/// `i j bitshift k`: left where `j` is positive, right where it is negative; zeros come in. Raises `stackunderflow` and `typecheck`.
+/// `i j bitshift k`: left where `j` is positive, right where it is negative; zeros come in. Raises
+/// `stackunderflow` and `typecheck`.
 #[tactic(auto, using(crate::proofs::Sources::sources, crate::proofs::NumberRows::two_lemmas))]
 pub fn bitshift(operands: &mut Operands) -> Result<(), ErrorName>
     ensures row { Does rows.bitshift_row result operands.old operands.new }

@@ -75,7 +75,8 @@ pub fn magnitude_of(i: i32) -> Option<i32>
     i.checked_abs()
 }
 
-/// The bits of `i` moved by `j` places, to the left where `j` is positive; those shifted out are lost, and zeros come in.
+/// The bits of `i` moved by `j` places, to the left where `j` is positive; those shifted out are
+/// lost, and zeros come in.
 pub fn shifted(i: i32, j: i32) -> i32
     ensures { result ≡ integers.shifted i j }
 {

@@ -1,4 +1,5 @@
-//! The operators that need the operands alone: on the operand stack, on integers and on booleans (PLRM2, 8).
+//! The operators that need the operands alone: on the operand stack, on integers and on booleans
+//! (PLRM2, 8).
 #![tactic(auto)]
 
 pub mod arithmetic;

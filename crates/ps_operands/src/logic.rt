@@ -1,4 +1,5 @@
-//! The operators on booleans, or on integers bit by bit (PLRM2, 8 'Operators': Relational, Boolean and Bitwise).
+//! The operators on booleans, or on integers bit by bit (PLRM2, 8 'Operators': Relational, Boolean
+//! and Bitwise).
 
 ghost use Rattle.std.specs.Prelude.{◌&&◌, ◌||◌, not, IfSome};
 ghost use Rattle.std.specs.Int.{w32, int_bit_and, int_bit_or, int_bit_xor};

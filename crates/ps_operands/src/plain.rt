@@ -1,4 +1,5 @@
-//! Plain words: nulls, marks, integers and booleans, which stand for the same values in every memory (PLRM2, 3.3.1).
+//! Plain words: nulls, marks, integers and booleans, which stand for the same values in every
+//! memory (PLRM2, 3.3.1).
 
 ghost use Rattle.std.specs.Prelude.{◌≡◌, ℕ, List};
 ghost use Rattle.ps_language.specs.Readers as readers;
@@ -11,7 +12,8 @@ use ps_word::words::Word;
 /// The word of a literal integer.
 #[inline]
 pub fn integer(number: i32) -> Word
-    ensures value { (births : ℕ → ℕ) (names : List (List ℕ)) → value_of births names result ≡ readers.integer number }
+    ensures value { (births : ℕ → ℕ) (names : List (List ℕ)) → value_of births names result
+        ≡ readers.integer number }
     ensures plain { IsPlain result }
 {
     Word::integer(number)
@@ -20,7 +22,8 @@ pub fn integer(number: i32) -> Word
 /// The word of a literal boolean.
 #[inline]
 pub fn boolean(truth: bool) -> Word
-    ensures value { (births : ℕ → ℕ) (names : List (List ℕ)) → value_of births names result ≡ readers.boolean truth }
+    ensures value { (births : ℕ → ℕ) (names : List (List ℕ)) → value_of births names result
+        ≡ readers.boolean truth }
     ensures plain { IsPlain result }
 {
     Word::boolean(truth)
@@ -29,7 +32,8 @@ pub fn boolean(truth: bool) -> Word
 /// The word of a literal mark.
 #[inline]
 pub fn mark() -> Word
-    ensures value { (births : ℕ → ℕ) (names : List (List ℕ)) → value_of births names result ≡ readers.literal mark_value }
+    ensures value { (births : ℕ → ℕ) (names : List (List ℕ)) → value_of births names result
+        ≡ readers.literal mark_value }
     ensures plain { IsPlain result }
 {
     Word::mark()
@@ -38,7 +42,8 @@ pub fn mark() -> Word
 /// The word of a literal null.
 #[inline]
 pub fn null() -> Word
-    ensures value { (births : ℕ → ℕ) (names : List (List ℕ)) → value_of births names result ≡ readers.null }
+    ensures value { (births : ℕ → ℕ) (names : List (List ℕ)) → value_of births names result
+        ≡ readers.null }
     ensures plain { IsPlain result }
 {
     Word::null()

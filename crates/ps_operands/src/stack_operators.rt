@@ -64,8 +64,8 @@ pub fn dup(operands: &mut Operands) -> Result<(), ErrorName>
     push(operands, top)
 }
 
-/// `x1 .. xn n copy x1 .. xn x1 .. xn`. Raises `stackunderflow`, `typecheck` where `n` is no integer, `rangecheck` where it is negative, and
-/// `stackoverflow`.
+/// `x1 .. xn n copy x1 .. xn x1 .. xn`. Raises `stackunderflow`, `typecheck` where `n` is no
+/// integer, `rangecheck` where it is negative, and `stackoverflow`.
 #[tactic(auto, using(crate::proofs::Sources::sources, crate::proofs::Meanings::readers))]
 pub fn copy_count(operands: &mut Operands) -> Result<(), ErrorName>
     ensures row { Does copy_number_row result operands.old operands.new }
@@ -114,7 +114,8 @@ pub fn index(operands: &mut Operands) -> Result<(), ErrorName>
     Ok(())
 }
 
-/// `x1 .. xn n j roll`: `j` upward moves toward the top. Raises `stackunderflow`, `typecheck` and `rangecheck`.
+/// `x1 .. xn n j roll`: `j` upward moves toward the top. Raises `stackunderflow`, `typecheck` and
+/// `rangecheck`.
 #[tactic(auto, using(crate::proofs::Sources::sources, crate::proofs::Meanings::readers))]
 pub fn roll(operands: &mut Operands) -> Result<(), ErrorName>
     ensures row { Does rows.roll_row result operands.old operands.new }

@@ -46,7 +46,8 @@ pub record IsLeft (change : Change) (names : List (List ℕ)) (h : Heap) (words 
     pub store : Shows h names change.store
     pub within : AreWithin h names change.store words
 
--- where the row fails, its error; where a step is not made, a reason for it; after either all is as it was
+-- where the row fails, its error; where a step is not made, a reason for it; after either all is as
+-- it was
 abbrev pub Agrees : (IsReason : NotMade → Change → Type 0) → Result Unit Failure → Outcome Change
     → List (List ℕ) → (old new : Heap) → (before after : List Word) → Type 0
 Agrees IsReason (Ok _) (leaves change) names old new before after = IsLeft change names new after
@@ -84,7 +85,8 @@ spent (Err _) most = 0
 
 -- ---- those that store elements
 
--- why a step that stores so many elements is not made: it puts a record, for which the log is closed, or is not and has no free place
+-- why a step that stores so many elements is not made: it puts a record, for which the log is
+-- closed, or is not and has no free place
 abbrev pub IsRecordReason : NotMade → (count slot : ℕ) → (asked left : Grants) → Type 0
 IsRecordReason LogFull count slot asked left = (asked.closed slot ≡ false)
     × (left.records slot < min 1 count)
@@ -92,8 +94,8 @@ IsRecordReason LogClosed count slot asked left = (1 ≤ count) × IsTrue (asked.
 IsRecordReason (NeedSpace words) count slot asked left = ⊥
 IsRecordReason Memory count slot asked left = ⊥
 
--- for every store that the memory shows, the operator did what its row says; stores: how many elements the row stores; asked, left: what was
--- granted before and what is after
+-- for every store that the memory shows, the operator did what its row says; stores: how many
+-- elements the row stores; asked, left: what was granted before and what is after
 pub record Changes (row : Store → List Value → Outcome Change) (stores : List Value → ℕ)
     (result : Result Unit Failure) (slot : ℕ) (asked left : Grants) (old new : Heap)
     (before after : List Word) : Type 0 where

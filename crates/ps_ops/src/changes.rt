@@ -24,16 +24,19 @@ use ps_mem::{Memory, Permit, SLOTS};
 use ps_seq::arrays::{copy_elements, interval, set_element};
 use ps_word::values::Part;
 
-/// Asks for so many records in the log of a slot; nothing that was granted is lost. `LogFull`: fewer can be put. `LogClosed`: one at
-/// least is asked for, and the log is closed.
+/// Asks for so many records in the log of a slot; nothing that was granted is lost. `LogFull`:
+/// fewer can be put. `LogClosed`: one at least is asked for, and the log is closed.
 pub fn permitted<M: Memory>(memory: &mut M, slot: u32, count: u32) -> Result<(), NotMade>
     requires slot { slot < SLOTS }
     ensures heap { M.heap memory.new ≡ M.heap memory.old }
-    ensures kept { M.grants memory.new ≡ record (M.grants memory.old) { records = (M.grants memory.new).records } }
-    ensures others { (s : ℕ) → s ≢ slot → (M.grants memory.new).records s ≡ (M.grants memory.old).records s }
+    ensures kept { M.grants memory.new
+        ≡ record (M.grants memory.old) { records = (M.grants memory.new).records } }
+    ensures others { (s : ℕ) → s ≢ slot → (M.grants memory.new).records s
+        ≡ (M.grants memory.old).records s }
     ensures more { (M.grants memory.old).records slot ≤ (M.grants memory.new).records slot }
     ensures granted { OnOk result (count ≤ (M.grants memory.new).records slot) }
-    ensures closed { (result ≡ Err NotMade.LogClosed) ↔ ((1 ≤ count) × IsTrue ((M.grants memory.old).closed slot)) }
+    ensures closed { (result ≡ Err NotMade.LogClosed)
+        ↔ ((1 ≤ count) × IsTrue ((M.grants memory.old).closed slot)) }
     ensures full { result ≡ Err NotMade.LogFull → (M.grants memory.new).records slot < count }
     ensures reason { IfErr result (λ reason. (reason ≡ NotMade.LogFull) ⊎ (reason ≡ NotMade.LogClosed)) }
 {
@@ -44,12 +47,13 @@ pub fn permitted<M: Memory>(memory: &mut M, slot: u32, count: u32) -> Result<(),
     }
 }
 
-/// `A i x put`. Raises `stackunderflow`, `typecheck` where `A` is no array or `i` no integer, `invalidaccess` and `rangecheck`. Not made
-/// where the log of the slot takes no record.
+/// `A i x put`. Raises `stackunderflow`, `typecheck` where `A` is no array or `i` no integer,
+/// `invalidaccess` and `rangecheck`. Not made where the log of the slot takes no record.
 pub fn put<M: Memory>(operands: &mut Operands, memory: &mut M, slot: u32) -> Result<(), Failure>
     requires slot { slot < SLOTS }
     requires ready { IsReady (M.heap memory.old) operands.old }
-    ensures does { Changes rows.array_put_row rows.one_stored result slot (M.grants memory.old) (M.grants memory.new) (M.heap memory.old) (M.heap memory.new) operands.old operands.new }
+    ensures does { Changes rows.array_put_row rows.one_stored result slot (M.grants memory.old)
+        (M.grants memory.new) (M.heap memory.old) (M.heap memory.new) operands.old operands.new }
     ensures spends { KeepsLogsWithin (spent result 1) (M.grants memory.old) (M.grants memory.new)
         slot }
     ensures ready { IsReady (M.heap memory.new) operands.new }
@@ -87,8 +91,9 @@ pub fn may_copy(from: Access, to: Access) -> bool
     is_readable(from) && is_writable(to)
 }
 
-/// `A i B putinterval`: the elements of `B` into `A` from `i` on, as if all were read first. Raises `stackunderflow`, `typecheck`,
-/// `invalidaccess` and `rangecheck`. Not made where the log of the slot takes no record.
+/// `A i B putinterval`: the elements of `B` into `A` from `i` on, as if all were read first. Raises
+/// `stackunderflow`, `typecheck`, `invalidaccess` and `rangecheck`. Not made where the log of the
+/// slot takes no record.
 pub fn putinterval<M: Memory>(
     operands: &mut Operands,
     memory: &mut M,
@@ -96,7 +101,8 @@ pub fn putinterval<M: Memory>(
 ) -> Result<(), Failure>
     requires slot { slot < SLOTS }
     requires ready { IsReady (M.heap memory.old) operands.old }
-    ensures does { Changes rows.array_putinterval_row rows.topmost_count result slot (M.grants memory.old) (M.grants memory.new) (M.heap memory.old) (M.heap memory.new) operands.old operands.new }
+    ensures does { Changes rows.array_putinterval_row rows.topmost_count result slot (M.grants memory.old)
+        (M.grants memory.new) (M.heap memory.old) (M.heap memory.new) operands.old operands.new }
     ensures ready { IsReady (M.heap memory.new) operands.new }
     ensures keeps { Keeps (M.heap memory.old) (M.heap memory.new) }
     ensures logs { KeepsLogs (M.grants memory.old) (M.grants memory.new) slot }
@@ -135,12 +141,14 @@ pub fn records_for(words: u16) -> u32
     if words == 0 { 0 } else { 1 }
 }
 
-/// `A B copy C`: the elements of `A` into the front of `B`, and that part of `B`. Raises `stackunderflow`, `typecheck`, `invalidaccess` and
-/// `rangecheck`. Not made where the log of the slot takes no record.
+/// `A B copy C`: the elements of `A` into the front of `B`, and that part of `B`. Raises
+/// `stackunderflow`, `typecheck`, `invalidaccess` and `rangecheck`. Not made where the log of the
+/// slot takes no record.
 pub fn copy<M: Memory>(operands: &mut Operands, memory: &mut M, slot: u32) -> Result<(), Failure>
     requires slot { slot < SLOTS }
     requires ready { IsReady (M.heap memory.old) operands.old }
-    ensures does { Changes rows.array_copy_row rows.second_count result slot (M.grants memory.old) (M.grants memory.new) (M.heap memory.old) (M.heap memory.new) operands.old operands.new }
+    ensures does { Changes rows.array_copy_row rows.second_count result slot (M.grants memory.old)
+        (M.grants memory.new) (M.heap memory.old) (M.heap memory.new) operands.old operands.new }
     ensures ready { IsReady (M.heap memory.new) operands.new }
     ensures keeps { Keeps (M.heap memory.old) (M.heap memory.new) }
     ensures logs { KeepsLogs (M.grants memory.old) (M.grants memory.new) slot }
@@ -180,7 +188,11 @@ fn store_elements<M: Memory>(operands: &Operands, memory: &mut M, slot: u32, par
     ensures births { birth_at (M.heap memory.new) ≡ birth_at (M.heap memory.old) }
     ensures grants { AfterStore (M.grants memory.old) (M.grants memory.new) slot }
     ensures nothing { part.length ≡ 0 → M.grants memory.new ≡ M.grants memory.old }
-    ensures shows { (names : List (List ℕ)) (s : Store) → Shows (M.heap memory.old) names s → AreWithin (M.heap memory.old) names s operands.now → Shows (M.heap memory.new) names (with_part_elements s (part_of (birth_at (M.heap memory.old)) part) 0 (reverse (take part.length (values_in (M.heap memory.old) names operands.now)))) }
+    ensures shows { (names : List (List ℕ)) (s : Store) → Shows (M.heap memory.old) names s
+        → AreWithin (M.heap memory.old) names s operands.now
+        → Shows (M.heap memory.new) names
+        (with_part_elements s (part_of (birth_at (M.heap memory.old)) part) 0
+        (reverse (take part.length (values_in (M.heap memory.old) names operands.now)))) }
 {
     if part.length != 0 {
         memory.store(
@@ -192,12 +204,13 @@ fn store_elements<M: Memory>(operands: &Operands, memory: &mut M, slot: u32, par
     }
 }
 
-/// `x1 .. xn A astore A`. Raises `stackunderflow`, `typecheck` where `A` is no array, and `invalidaccess`. Not made where the log of the
-/// slot takes no record.
+/// `x1 .. xn A astore A`. Raises `stackunderflow`, `typecheck` where `A` is no array, and
+/// `invalidaccess`. Not made where the log of the slot takes no record.
 pub fn astore<M: Memory>(operands: &mut Operands, memory: &mut M, slot: u32) -> Result<(), Failure>
     requires slot { slot < SLOTS }
     requires ready { IsReady (M.heap memory.old) operands.old }
-    ensures does { Changes sequences.astore_row rows.topmost_count result slot (M.grants memory.old) (M.grants memory.new) (M.heap memory.old) (M.heap memory.new) operands.old operands.new }
+    ensures does { Changes sequences.astore_row rows.topmost_count result slot (M.grants memory.old)
+        (M.grants memory.new) (M.heap memory.old) (M.heap memory.new) operands.old operands.new }
     ensures spends { (names : List (List ℕ)) → KeepsLogsWithin (spent result (min 1
         (rows.topmost_count (values_in (M.heap memory.old) names operands.old))))
         (M.grants memory.old) (M.grants memory.new) slot }

@@ -19,11 +19,18 @@ use ps_seq::arrays::{make_array, new_array};
 /// The most elements of an array.
 pub const SEQUENCE_LIMIT: usize = 65_535;
 
-/// Asks for room for new objects. `NeedSpace`, of the words asked: they don't fit. `Memory`: a growth was refused.
+/// Asks for room for new objects. `NeedSpace`, of the words asked: they don't fit. `Memory`: a
+/// growth was refused.
 pub fn granted<M: Memory>(memory: &mut M, words: u32, births: u32) -> Result<(), NotMade>
     ensures heap { M.heap memory.new ≡ M.heap memory.old }
-    ensures kept { M.grants memory.new ≡ record (M.grants memory.old) { words = (M.grants memory.new).words; births = (M.grants memory.new).births } }
-    ensures granted { OnOk result ((words ≤ (M.grants memory.new).words) × (births ≤ (M.grants memory.new).births)) }
+    ensures kept { M.grants memory.new
+        ≡ record (M.grants memory.old) {
+          words = (M.grants memory.new).words;
+          births =
+              (M.grants memory.new).births;
+        } }
+    ensures granted { OnOk result ((words ≤ (M.grants memory.new).words)
+        × (births ≤ (M.grants memory.new).births)) }
     ensures reason { IfErr result (λ reason. IsRoomReason reason (M.heap memory.old) words births) }
 {
     match memory.need(words, births) {
@@ -33,8 +40,9 @@ pub fn granted<M: Memory>(memory: &mut M, words: u32, births: u32) -> Result<(),
     }
 }
 
-/// `n array A`, of nulls. Raises `stackunderflow`, `typecheck`, `rangecheck` where `n` is negative, `limitcheck` over `SEQUENCE_LIMIT`, and
-/// `VMerror` in a refused step. Not made where there is no room.
+/// `n array A`, of nulls. Raises `stackunderflow`, `typecheck`, `rangecheck` where `n` is negative,
+/// `limitcheck` over `SEQUENCE_LIMIT`, and `VMerror` in a refused step. Not made where there is no
+/// room.
 pub fn array<M: Memory>(
     operands: &mut Operands,
     memory: &mut M,
@@ -42,7 +50,8 @@ pub fn array<M: Memory>(
     refused: bool,
 ) -> Result<(), Failure>
     requires ready { IsReady (M.heap memory.old) operands.old }
-    ensures does { Makes sequences.array_row refused result (M.heap memory.old) (M.heap memory.new) operands.old operands.new }
+    ensures does { Makes sequences.array_row refused result (M.heap memory.old) (M.heap memory.new)
+        operands.old operands.new }
     ensures spends { KeepsLogsWithin 0 (M.grants memory.old) (M.grants memory.new) slot }
     ensures ready { IsReady (M.heap memory.new) operands.new }
     ensures keeps { Keeps (M.heap memory.old) (M.heap memory.new) }
@@ -71,8 +80,8 @@ pub fn array<M: Memory>(
     Ok(())
 }
 
-/// `mark x1 .. xn ]`: an array of what stands above the mark. Raises `unmatchedmark`, and `VMerror` in a refused step. Not made where there
-/// is no room.
+/// `mark x1 .. xn ]`: an array of what stands above the mark. Raises `unmatchedmark`, and `VMerror`
+/// in a refused step. Not made where there is no room.
 pub fn end_array<M: Memory>(
     operands: &mut Operands,
     memory: &mut M,
@@ -80,7 +89,8 @@ pub fn end_array<M: Memory>(
     refused: bool,
 ) -> Result<(), Failure>
     requires ready { IsReady (M.heap memory.old) operands.old }
-    ensures does { Makes sequences.end_array_row refused result (M.heap memory.old) (M.heap memory.new) operands.old operands.new }
+    ensures does { Makes sequences.end_array_row refused result (M.heap memory.old) (M.heap memory.new)
+        operands.old operands.new }
     ensures spends { KeepsLogsWithin 0 (M.grants memory.old) (M.grants memory.new) slot }
     ensures ready { IsReady (M.heap memory.new) operands.new }
     ensures keeps { Keeps (M.heap memory.old) (M.heap memory.new) }

@@ -10,8 +10,9 @@ mod pointers;
 
 use pointers::{move_down, move_up, read_at, write_at};
 
-/// A run of 64-bit words on the heap, freed at its end. A contract sees it as the list of its words.
-/// An index counts words from 0; that it lies within the run is the caller's condition, and no test is made.
+/// A run of 64-bit words on the heap, freed at its end. A contract sees it as the list of its
+/// words. An index counts words from 0; that it lies within the run is the caller's condition, and
+/// no test is made.
 #[derive(Drop)]
 pub struct RawWords {
     words: Vec<u64>,
@@ -74,12 +75,13 @@ impl RawWords {
         write_at(&mut self.words, index, word);
     }
 
-    /// Copies `count` words from `from` on to the places from `to` on, as if all were read before any was written:
-    /// the two runs may overlap.
+    /// Copies `count` words from `from` on to the places from `to` on, as if all were read before
+    /// any was written: the two runs may overlap.
     pub fn copy_within(&mut self, from: usize, to: usize, count: usize)
         requires source { from + count ≤ length self.old }
         requires target { to + count ≤ length self.old }
-        ensures { self.new ≡ take to self.old ++ (slice_range self.old from (from + count) ++ drop (to + count) self.old) }
+        ensures { self.new ≡ take to self.old
+            ++ (slice_range self.old from (from + count) ++ drop (to + count) self.old) }
     {
         if to <= from {
             move_down(&mut self.words, from, to, count);
@@ -88,8 +90,8 @@ impl RawWords {
         }
     }
 
-    /// Grows the run to `count` words: the old ones stay, and new ones are 0. `AllocError`: the allocator refused,
-    /// and all is as it was.
+    /// Grows the run to `count` words: the old ones stay, and new ones are 0. `AllocError`: the
+    /// allocator refused, and all is as it was.
     pub fn grow(&mut self, count: usize) -> Result<(), AllocError>
         requires { length self.old ≤ count }
         ensures ok { OnOk result (self.new ≡ self.old ++ replicate (count - length self.old) 0) }

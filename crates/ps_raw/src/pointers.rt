@@ -1,4 +1,5 @@
-// Raw pointers that stay inside one small function each: signatures and clauses name slices and numbers alone.
+// Raw pointers that stay inside one small function each: signatures and clauses name slices and
+// numbers alone.
 ghost use Rattle.std.specs.Prelude.{◌≡◌, ◌+◌, ◌<◌, ◌≤◌, ◌++◌, length, slice_index, slice_set, slice_range, take, drop};
 
 /// The word at an index.
@@ -24,11 +25,13 @@ pub(crate) fn write_at(words: &mut [u64], index: usize, word: u64)
     }
 }
 
-/// Moves `count` words from `from` on to the places from `to` on, which begin no later, the first word first.
+/// Moves `count` words from `from` on to the places from `to` on, which begin no later, the first
+/// word first.
 pub(crate) fn move_down(words: &mut [u64], from: usize, to: usize, count: usize)
     requires lower { to ≤ from }
     requires source { from + count ≤ length words.old }
-    ensures { words.new ≡ take to words.old ++ (slice_range words.old from (from + count) ++ drop (to + count) words.old) }
+    ensures { words.new ≡ take to words.old
+        ++ (slice_range words.old from (from + count) ++ drop (to + count) words.old) }
 {
     for i in 0..count {
         let word = read_at(words, from + i);
@@ -36,11 +39,13 @@ pub(crate) fn move_down(words: &mut [u64], from: usize, to: usize, count: usize)
     }
 }
 
-/// Moves `count` words from `from` on to the places from `to` on, which begin no earlier, the last word first.
+/// Moves `count` words from `from` on to the places from `to` on, which begin no earlier, the last
+/// word first.
 pub(crate) fn move_up(words: &mut [u64], from: usize, to: usize, count: usize)
     requires higher { from ≤ to }
     requires target { to + count ≤ length words.old }
-    ensures { words.new ≡ take to words.old ++ (slice_range words.old from (from + count) ++ drop (to + count) words.old) }
+    ensures { words.new ≡ take to words.old
+        ++ (slice_range words.old from (from + count) ++ drop (to + count) words.old) }
 {
     for i in (0..count).rev() {
         let word = read_at(words, from + i);

@@ -42,7 +42,9 @@ name_reading name text (Some span) = token_then (name (part_of text span)) (drop
 
 -- the run of regular bytes from a place on makes a name of any kind so
 abbrev pub ReadsName : (text : List ℕ) (start : ℕ) → Option Span → Type 0
-ReadsName text start span = (name : List ℕ → language.Token) → named name (leading is_regular (drop start text)) (beyond is_regular (drop start text)) ≡ name_reading name text span
+ReadsName text start span = (name : List ℕ → language.Token)
+    → named name (leading is_regular (drop start text)) (beyond is_regular (drop start text))
+    ≡ name_reading name text span
 
 -- what a token or the end of the text shows
 abbrev pub scan_of : (text : List ℕ) → Option Token → Scan
@@ -54,7 +56,8 @@ abbrev pub token_at : (room : ℕ) (text : List ℕ) (at : ℕ) → Reading
 token_at room text at = token_here room (slice_index text at) (drop (at + 1) text)
 
 abbrev pub simple_at : (text : List ℕ) (at : ℕ) → Reading
-simple_at text at = simple_by (start_of (slice_index text at)) (slice_index text at) (drop (at + 1) text)
+simple_at text at =
+    simple_by (start_of (slice_index text at)) (slice_index text at) (drop (at + 1) text)
 
 -- the reading is that fault; where memory ran out, what is known is given
 abbrev pub IsStuckBy : (starved : Type 0) → Reading → ScanFault → Type 0
@@ -63,8 +66,11 @@ IsStuckBy starved reading Limit = reading ≡ stuck limit_fault
 IsStuckBy starved reading Memory = starved
 
 -- the token was read there, with its end, or the reading is that fault
-abbrev pub IsAnswer : (starved : Type 0) (text : List ℕ) (at : ℕ) → Result Token ScanFault → Reading → Type 0
-IsAnswer starved text at (Ok token) reading = (reading ≡ token_then (token_of text token.kind) (drop token.end text)) × (at < token.end) × (token.end ≤ length text)
+abbrev pub IsAnswer : (starved : Type 0) (text : List ℕ) (at : ℕ) → Result Token ScanFault → Reading
+    → Type 0
+IsAnswer starved text at (Ok token) reading =
+    (reading ≡ token_then (token_of text token.kind) (drop token.end text)) × (at < token.end)
+    × (token.end ≤ length text)
 IsAnswer starved text at (Err fault) reading = IsStuckBy starved reading fault
 
 -- a string with a byte
@@ -74,7 +80,8 @@ IsSomeString reading = ⊥
 
 -- a string in parentheses (40) or angles (60) that has a byte
 abbrev pub IsAtString : (text : List ℕ) (at : ℕ) (reading : Reading) → Type 0
-IsAtString text at reading = ((slice_index text at ≡ 40) ⊎ (slice_index text at ≡ 60)) × IsSomeString reading
+IsAtString text at reading = ((slice_index text at ≡ 40) ⊎ (slice_index text at ≡ 60))
+    × IsSomeString reading
 
 -- where memory may run out: at a procedure's brace (123), and at a string with a byte
 abbrev pub MayStarve : (room : ℕ) (text : List ℕ) (at : ℕ) → Type 0
@@ -92,8 +99,10 @@ abbrev pub BeginsComposite : (text : List ℕ) → Type 0
 BeginsComposite [] = ⊥
 BeginsComposite (b ∷ bs) = (b ≡ 123) ⊎ ((b ≡ 40) ⊎ (b ≡ 60))
 
--- the fault is the grammar's; memory runs out only at a string with a byte, at a procedure, or in a procedure with a fault
+-- the fault is the grammar's; memory runs out only at a string with a byte, at a procedure, or in a
+-- procedure with a fault
 abbrev pub IsFaultBy : (text : List ℕ) (at : ℕ) → ScanFault → Type 0
 IsFaultBy text at Syntax = scan text at ≡ faulty syntax_fault
 IsFaultBy text at Limit = scan text at ≡ faulty limit_fault
-IsFaultBy text at Memory = TakesMemory (scan text at) × BeginsComposite (behind_blank false (drop at text))
+IsFaultBy text at Memory = TakesMemory (scan text at)
+    × BeginsComposite (behind_blank false (drop at text))

@@ -21,7 +21,9 @@ IsSized text at (Ok extent) reading =
     × (extent.end ≤ length text)
 IsSized text at (Err fault) reading = IsStuckBy ⊥ reading fault
 
--- how a string goes on at any depth: with the byte of a part and what follows it, or to the end of the text
+-- how a string goes on at any depth: with the byte of a part and what follows it, or to the end of
+-- the text
 abbrev pub PartReads : (text : List ℕ) → Option Part → (reading : ℕ → Ending) → Type 0
-PartReads text (Some part) reading = (depth : ℕ) → reading depth ≡ with_front (option_to_list part.byte) (string_from depth (drop part.next text))
+PartReads text (Some part) reading = (depth : ℕ) → reading depth
+    ≡ with_front (option_to_list part.byte) (string_from depth (drop part.next text))
 PartReads text None reading = (depth : ℕ) → reading depth ≡ unfinished

@@ -20,7 +20,8 @@ struct Digits {
 /// The hexadecimal digits and white space from a place on.
 fn hex_digits(bytes: &[u8], at: usize) -> Digits
     requires { at ≤ length bytes.now }
-    ensures count { result.count ≡ length (filter is_hex (leading is_hex_or_white (drop at bytes.now))) }
+    ensures count { result.count
+        ≡ length (filter is_hex (leading is_hex_or_white (drop at bytes.now))) }
     ensures rest { drop result.end bytes.now ≡ beyond is_hex_or_white (drop at bytes.now) }
     ensures low { at ≤ result.end }
     ensures high { result.end ≤ length bytes.now }
@@ -40,7 +41,8 @@ fn hex_digits(bytes: &[u8], at: usize) -> Digits
     }
 }
 
-/// The bytes that hexadecimal digits write, two digits each; white space is passed over, and behind an odd last digit stands a 0.
+/// The bytes that hexadecimal digits write, two digits each; white space is passed over, and behind
+/// an odd last digit stands a 0.
 fn hex_bytes(alloc: Global, inner: &[u8], capacity: usize) -> Result<Vec<u8>, AllocError>
     ensures { IfOk result (λ string. string.items ≡ pairs (filter is_hex inner.now)) }
 {

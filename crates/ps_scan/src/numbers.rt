@@ -62,7 +62,8 @@ fn fitted(number: i64) -> Number
 
 /// The integer that decimal digits write.
 fn integer(is_negative: bool, digits: &[u8]) -> Number
-    ensures { result ≡ number_in (integer_word (signed_value is_negative (value_in 10 0 digits.now))) }
+    ensures { result
+        ≡ number_in (integer_word (signed_value is_negative (value_in 10 0 digits.now))) }
 {
     match value_of(digits, 10) {
         Some(n) if is_negative => fitted(-(n as i64)),
@@ -95,7 +96,9 @@ fn are_digits_of(base: u32, digits: &[u8]) -> bool
 /// The radix number of these digits, where the first ones write its base.
 fn radix_number(base_digits: &[u8], digits: &[u8]) -> Number
     ensures { let base = value_in 10 0 base_digits.now in
-        result ≡ number_in (if are_radix_digits base digits.now then radix_word (value_in base 0 digits.now) else name_word) }
+        result ≡ number_in
+        (if are_radix_digits base digits.now then radix_word (value_in base 0 digits.now) else
+        name_word) }
 {
     match value_of(base_digits, 10) {
         Some(base) if are_digits_of(base, digits) => match value_of(digits, base as u8) {

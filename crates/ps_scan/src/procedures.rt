@@ -30,7 +30,9 @@ pub(crate) fn token_from(
 
 /// Adds an element, if there is room for one more.
 fn keep_element(elements: &mut Vec<TokenKind>, token: Token) -> Result<(), AllocError>
-    ensures { OnOk result (elements.new.items ≡ (if nat_lt (length elements.old.items) 65535 then elements.old.items ++ token.kind ∷ [] else elements.old.items)) }
+    ensures { OnOk result (elements.new.items
+        ≡ (if nat_lt (length elements.old.items) 65535 then elements.old.items ++ token.kind
+        ∷ [] else elements.old.items)) }
 {
     if elements.len() < SEQUENCE_LIMIT {
         elements.push(token.kind)?;
@@ -42,7 +44,8 @@ fn keep_element(elements: &mut Vec<TokenKind>, token: Token) -> Result<(), Alloc
 #[cycle(procedures)]
 fn procedure_token(alloc: Global, bytes: &[u8], at: usize, room: u8) -> Result<Token, ScanFault>
     requires { at < length bytes.now }
-    ensures { IsAnswer ⊤ bytes.now at result (enclosed (elements_from (token_here room) (drop (at + 1) bytes.now))) }
+    ensures { IsAnswer ⊤ bytes.now at result
+        (enclosed (elements_from (token_here room) (drop (at + 1) bytes.now))) }
 {
     let mut elements = Vec::new(alloc);
     let mut count: usize = 0;

@@ -8,15 +8,18 @@ use crate::tokens::{NESTING_LIMIT, ScanFault, Token};
 use std::alloc::Global;
 
 /// The first token of the bytes from a place on, with the place right behind it (PLRM2, 3.2).
-/// `None`: nothing is left but white space and comments. `ScanFault::Syntax`: the text breaks the grammar there;
-/// `ScanFault::Limit`: a number, a name, a string, a procedure or the nesting of procedures is past its limit.
-/// `ScanFault::Memory`: a growth was refused, which no clause can say; only a string that isn't empty and a procedure take memory.
+/// `None`: nothing is left but white space and comments. `ScanFault::Syntax`: the text breaks the
+/// grammar there; `ScanFault::Limit`: a number, a name, a string, a procedure or the nesting of
+/// procedures is past its limit. `ScanFault::Memory`: a growth was refused, which no clause can
+/// say; only a string that isn't empty and a procedure take memory.
 pub fn next_token(alloc: Global, bytes: &[u8], at: usize) -> Result<Option<Token>, ScanFault>
     requires { at ≤ length bytes.now }
-    // a token exactly where the grammar has one, and nothing exactly where only white space and comments are left
+    // a token exactly where the grammar has one, and nothing exactly where only white space and
+    // comments are left
     ensures answer { IfOk result (λ token. scan bytes.now at ≡ scan_of bytes.now token) }
     ensures place { IfOk result (λ token. IfSome token (λ t. (at < t.end) × (t.end ≤ length bytes.now))) }
-    // a fault exactly where the grammar has it; memory for nothing but strings that aren't empty and procedures
+    // a fault exactly where the grammar has it; memory for nothing but strings that aren't empty
+    // and procedures
     ensures fault { IfErr result (IsFaultBy bytes.now at) }
 {
     let here = blank_end(bytes, at);

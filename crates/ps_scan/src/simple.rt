@@ -70,7 +70,8 @@ pub(crate) fn bare_token(bytes: &[u8], at: usize) -> Result<Token, ScanFault>
 /// The token that begins at a place, procedures apart.
 pub(crate) fn simple_token(alloc: Global, bytes: &[u8], at: usize) -> Result<Token, ScanFault>
     requires { at < length bytes.now }
-    ensures { IsAnswer (IsAtString bytes.now at (simple_at bytes.now at)) bytes.now at result (simple_at bytes.now at) }
+    ensures { IsAnswer (IsAtString bytes.now at (simple_at bytes.now at)) bytes.now at result
+        (simple_at bytes.now at) }
 {
     let first = bytes[at];
     if first == b'(' {

@@ -40,7 +40,9 @@ fn return_end(bytes: &[u8], at: usize) -> usize
 
 /// The octal digit at a place, if there is one.
 fn octal_digit(bytes: &[u8], at: usize) -> Option<u8>
-    ensures some { IfSome result (λ digit. (at < length bytes.now) × (is_octal (slice_index bytes.now at) ≡ true) × (digit ≡ digit_of (slice_index bytes.now at)) × (digit < 8)) }
+    ensures some { IfSome result (λ digit. (at < length bytes.now)
+        × (is_octal (slice_index bytes.now at) ≡ true)
+        × (digit ≡ digit_of (slice_index bytes.now at)) × (digit < 8)) }
     ensures none { IfNone result (at < length bytes.now → is_octal (slice_index bytes.now at) ≡ false) }
 {
     if at >= bytes.len() {
@@ -50,7 +52,8 @@ fn octal_digit(bytes: &[u8], at: usize) -> Option<u8>
     if digit < 8 { Some(digit) } else { None }
 }
 
-/// One to three octal digits, of which the first one is there: a byte, past 255 without its high bit.
+/// One to three octal digits, of which the first one is there: a byte, past 255 without its high
+/// bit.
 fn octal_part(bytes: &[u8], at: usize) -> Part
     requires inside { at < length bytes.now }
     requires digit { is_octal (slice_index bytes.now at) ≡ true }
@@ -132,7 +135,8 @@ fn escape_part(bytes: &[u8], at: usize) -> Option<Part>
     })
 }
 
-/// What stands at a place of a string, parentheses apart; nothing where the text ends behind a backslash.
+/// What stands at a place of a string, parentheses apart; nothing where the text ends behind a
+/// backslash.
 fn string_part(bytes: &[u8], at: usize) -> Option<Part>
     requires inside { at < length bytes.now }
     requires opening { slice_index bytes.now at ≢ 40 }
@@ -156,11 +160,13 @@ fn string_part(bytes: &[u8], at: usize) -> Option<Part>
     })
 }
 
-/// How many bytes the string has that begins at a place, and where it ends; nothing where it doesn't end.
+/// How many bytes the string has that begins at a place, and where it ends; nothing where it
+/// doesn't end.
 fn string_extent(bytes: &[u8], at: usize) -> Option<Extent>
     requires { at ≤ length bytes.now }
     ensures none { IfNone result (string_from 0 (drop at bytes.now) ≡ unfinished) }
-    ensures some { IfSome result (λ extent. extent_of 0 (string_from 0 (drop at bytes.now)) ≡ Some (extent.length, drop extent.end bytes.now)) }
+    ensures some { IfSome result (λ extent. extent_of 0 (string_from 0 (drop at bytes.now))
+        ≡ Some (extent.length, drop extent.end bytes.now)) }
     ensures place { IfSome result (λ extent. (at < extent.end) × (extent.end ≤ length bytes.now)) }
 {
     let mut here = at;
@@ -201,7 +207,8 @@ fn string_bytes(
     capacity: usize,
 ) -> Result<Vec<u8>, AllocError>
     requires { at ≤ length bytes.now }
-    ensures { IfOk result (λ string. (value rest : List ℕ) → string_from 0 (drop at bytes.now) ≡ string_end value rest → string.items ≡ value) }
+    ensures { IfOk result (λ string. (value rest : List ℕ) → string_from 0 (drop at bytes.now)
+        ≡ string_end value rest → string.items ≡ value) }
 {
     let mut string = Vec::with_capacity(alloc, capacity)?;
     let mut here = at;

@@ -11,7 +11,8 @@ use crate::tokens::{NAME_LIMIT, ScanFault, Span, Token, TokenKind};
 pub(crate) fn word_token(bytes: &[u8], at: usize) -> Result<Token, ScanFault>
     requires inside { at < length bytes.now }
     requires regular { is_regular (slice_index bytes.now at) ≡ true }
-    ensures { IsAnswer ⊥ bytes.now at result (simple_by regular_start (slice_index bytes.now at) (drop (at + 1) bytes.now)) }
+    ensures { IsAnswer ⊥ bytes.now at result
+        (simple_by regular_start (slice_index bytes.now at) (drop (at + 1) bytes.now)) }
 {
     let end = run_end(bytes, at + 1);
     match number_of(&bytes[at..end]) {

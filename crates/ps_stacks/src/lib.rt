@@ -8,7 +8,8 @@ pub use stack::{Stack, StackFull};
 /// How many operands there may be (PLRM2, appendix B).
 pub const OPERAND_LIMIT: usize = 500;
 
-/// How many dictionaries may be on the dictionary stack, the two lowest included (PLRM2, appendix B).
+/// How many dictionaries may be on the dictionary stack, the two lowest included (PLRM2, appendix
+/// B).
 pub const DICTIONARY_LIMIT: usize = 20;
 
 /// How many frames may be on the execution stack (PLRM2, appendix B).

@@ -1,4 +1,5 @@
--- The layout of this run time's words: which number stands for a value. Bit 0 is the lowest; bits that no case sets are zero.
+-- The layout of this run time's words: which number stands for a value. Bit 0 is the lowest; bits
+-- that no case sets are zero.
 use Rattle.std.specs.Prelude.{◌≡◌, ℕ, ℤ, ◌+◌, ◌*◌, ◌/◌, ◌%◌, ◌^◌, ◌<◌, ◌==◌, ◌&&◌, Bool, true, false, if◌then◌else◌, FitsSigned, slice_index_or}
 use Rattle.std.specs.Int.{w32, cast_signed, cast_unsigned}
 use Rattle.ps_language.specs.declared.access.Access.{Access}
@@ -44,7 +45,8 @@ bit_of false = 0
 abbrev pub part_bits : Part → ℕ
 part_bits p = access_number p.access * 2 ^ 57 + p.address * 2 ^ 32 + p.offset * 2 ^ 16 + p.length
 
--- what stands below bit 59: an integer in two's complement of 32 bits, a reference's address from bit 32 on
+-- what stands below bit 59: an integer in two's complement of 32 bits, a reference's address from
+-- bit 32 on
 abbrev pub content_bits : Content → ℕ
 content_bits Null = 0
 content_bits (Integer i) = cast_unsigned w32 i
@@ -104,7 +106,9 @@ abbrev pub type_in : ℕ → ℕ
 type_in w = w / 2 ^ 60
 
 abbrev pub access_of : ℕ → Access
-access_of n = if n == 0 then Unlimited else (if n == 1 then ReadOnly else (if n == 2 then ExecuteOnly else NoAccess))
+access_of n =
+    if n == 0 then Unlimited else
+    (if n == 1 then ReadOnly else (if n == 2 then ExecuteOnly else NoAccess))
 
 abbrev pub access_in : ℕ → Access
 access_in w = access_of ((w / 2 ^ 57) % 4)
@@ -116,7 +120,14 @@ abbrev pub address_in : ℕ → ℕ
 address_in w = (w / 2 ^ 32) % 2 ^ 24
 
 abbrev pub part_in : ℕ → Part
-part_in w = record { address = address_in w; offset = (w / 2 ^ 16) % 2 ^ 16; length = w % 2 ^ 16; access = access_in w }
+part_in w =
+    record {
+      address = address_in w;
+      offset = (w / 2 ^ 16) % 2 ^ 16;
+      length = w % 2 ^ 16;
+      access =
+          access_in w;
+    }
 
 -- by the type; a number of no type says null, and an operator's number that none has says pop
 abbrev pub content_of : ℕ → ℕ → Content

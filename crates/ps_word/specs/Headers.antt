@@ -1,4 +1,5 @@
--- The two words in front of each object's fields: the layout of this run time. Bits that no case names are zero.
+-- The two words in front of each object's fields: the layout of this run time. Bits that no case
+-- names are zero.
 use Rattle.std.specs.Prelude.{ℕ, ◌+◌, ◌*◌, ◌/◌, ◌%◌, ◌^◌, ◌<◌}
 use Rattle.ps_language.specs.declared.kinds.Kind.{Kind}
 use Rattle.ps_language.specs.declared.kinds.Kind.TheVariants.{Array, Text, Dictionary, Lock, Condition, Body}

@@ -13,7 +13,8 @@ const FIELDS: u64 = 1 << 40;
 
 const CYCLE: u64 = 1 << 24;
 
-/// The first word of an object: what it is, how many words its fields take (below 2^20), and its birth number (below 2^40).
+/// The first word of an object: what it is, how many words its fields take (below 2^20), and its
+/// birth number (below 2^40).
 #[derive(Clone, Copy, Debug, PartialEq, Eq)]
 pub struct Header {
     pub kind: Kind,
@@ -21,8 +22,9 @@ pub struct Header {
     pub birth: u64,
 }
 
-/// The second word of an object, its forwarding word (Nettles and O'Toole, PLDI 1993, 2): in which cycle it got a replica, and at which address (below
-/// 2^24) that is. A new object has cycle 0, which is none.
+/// The second word of an object, its forwarding word (Nettles and O'Toole, PLDI 1993, 2): in which
+/// cycle it got a replica, and at which address (below 2^24) that is. A new object has cycle 0,
+/// which is none.
 #[derive(Clone, Copy, Debug, PartialEq, Eq)]
 pub struct Forward {
     pub cycle: u32,
@@ -71,7 +73,8 @@ impl Header {
     /// The header whose word this is, and none where it is no header's.
     #[inline]
     pub fn unpack(word: Word) -> Option<Header>
-        ensures { (header : Header) → (result ≡ Some header) ↔ (layout.IsHeader header × (layout.header_packed header ≡ word.0)) }
+        ensures { (header : Header) → (result ≡ Some header)
+            ↔ (layout.IsHeader header × (layout.header_packed header ≡ word.0)) }
     {
         match kind_of(word.0 / KIND) {
             Some(kind) => Some(Header {
@@ -97,7 +100,8 @@ impl Forward {
     /// The forwarding word whose number this is, and none where it is no forwarding word's.
     #[inline]
     pub fn unpack(word: Word) -> Option<Forward>
-        ensures { (forward : Forward) → (result ≡ Some forward) ↔ (layout.IsForward forward × (layout.forward_packed forward ≡ word.0)) }
+        ensures { (forward : Forward) → (result ≡ Some forward)
+            ↔ (layout.IsForward forward × (layout.forward_packed forward ≡ word.0)) }
     {
         let cycle = word.0 / CYCLE;
         if cycle >= 1 << 32 {

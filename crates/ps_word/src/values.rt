@@ -4,8 +4,9 @@
 use ps_language::access::Access;
 use ps_language::operators::Operator;
 
-/// A part of an array or of a string, which shares its object (PLRM2, 3.3.1 and 3.6): the address of the object, where the part begins in it and how
-/// many elements or bytes it has, and what may be done with it.
+/// A part of an array or of a string, which shares its object (PLRM2, 3.3.1 and 3.6): the address
+/// of the object, where the part begins in it and how many elements or bytes it has, and what may
+/// be done with it.
 #[derive(Clone, Copy, Debug, PartialEq, Eq)]
 pub struct Part {
     /// Below 2^24.

@@ -98,8 +98,9 @@ fn content_bits(content: Content) -> u64
 }
 
 impl Value {
-    /// Whether the layout has a word for the value: a reference's address is below 2^24, a part ends at or below 65,535, a name's number is at most
-    /// 65,534, and a dictionary's body isn't executable.
+    /// Whether the layout has a word for the value: a reference's address is below 2^24, a part
+    /// ends at or below 65,535, a name's number is at most 65,534, and a dictionary's body isn't
+    /// executable.
     #[inline]
     pub fn is_in_format(self) -> bool
         ensures { IsTrue result ↔ IsInFormat self }
@@ -180,7 +181,8 @@ impl Word {
     /// The word of a literal integer.
     #[inline]
     pub fn integer(value: i32) -> Word
-        ensures value { value_in result.0 ≡ record { content = Content.Integer value; executable = false } }
+        ensures value { value_in result.0
+            ≡ record { content = Content.Integer value; executable = false } }
         ensures word { IsWord result.0 }
     {
         Word::literal(Content::Integer(value))
@@ -189,13 +191,15 @@ impl Word {
     /// The word of a literal boolean.
     #[inline]
     pub fn boolean(value: bool) -> Word
-        ensures value { value_in result.0 ≡ record { content = Content.Boolean value; executable = false } }
+        ensures value { value_in result.0
+            ≡ record { content = Content.Boolean value; executable = false } }
         ensures word { IsWord result.0 }
     {
         Word::literal(Content::Boolean(value))
     }
 
-    /// What the bits say: for a word of the layout its value. Bits that the layout leaves zero aren't looked at; `unpack` does.
+    /// What the bits say: for a word of the layout its value. Bits that the layout leaves zero
+    /// aren't looked at; `unpack` does.
     #[inline]
     pub fn value(self) -> Value
         ensures { result ≡ value_in self.0 }
@@ -209,7 +213,8 @@ impl Word {
     /// The value whose word this is, and none where it is no value's.
     #[inline]
     pub fn unpack(self) -> Option<Value>
-        ensures exact { (value : Value) → (result ≡ Some value) ↔ (IsInFormat value × (layout.packed value ≡ self.0)) }
+        ensures exact { (value : Value) → (result ≡ Some value)
+            ↔ (IsInFormat value × (layout.packed value ≡ self.0)) }
         ensures value { IfSome result (λ value. value ≡ value_in self.0) }
         ensures word { IsSome result ↔ IsWord self.0 }
     {
@@ -466,7 +471,8 @@ impl Word {
     #[inline]
     pub fn with_executable(self, executable: bool) -> Word
         ensures value { value_in result.0 ≡ record (value_in self.0) { executable = executable } }
-        ensures word { IsWord self.0 → layout.is_body (content_in self.0) && executable ≡ false → IsWord result.0 }
+        ensures word { IsWord self.0 → layout.is_body (content_in self.0) && executable ≡ false
+            → IsWord result.0 }
     {
         Word((self.0 / TYPE) * TYPE + executable as u64 * EXECUTABLE + self.0 % EXECUTABLE)
     }
@@ -476,7 +482,11 @@ impl Word {
     pub fn with_access(self, access: Access) -> Word
         requires word { IsWord self.0 }
         requires part { IsSome (readers.as_part (content_in self.0)) }
-        ensures value { value_in result.0 ≡ record (value_in self.0) { content = readers.with_access (content_in self.0) access } }
+        ensures value { value_in result.0
+            ≡ record (value_in self.0) {
+              content =
+                  readers.with_access (content_in self.0) access;
+            } }
         ensures word { IsWord result.0 }
     {
         Word((self.0 / EXECUTABLE) * EXECUTABLE + access_number(access) * ACCESS + self.0 % ACCESS)
@@ -489,7 +499,11 @@ impl Word {
         requires reference { readers.is_reference self.0 ≡ true }
         requires address { address < 2 ^ 24 }
         ensures number { result.0 ≡ readers.readdressed self.0 address }
-        ensures value { value_in result.0 ≡ record (value_in self.0) { content = readers.with_address (content_in self.0) address } }
+        ensures value { value_in result.0
+            ≡ record (value_in self.0) {
+              content =
+                  readers.with_address (content_in self.0) address;
+            } }
         ensures word { IsWord result.0 }
     {
         Word((self.0 / REFERENCE) * REFERENCE + address as u64 * ADDRESS + self.0 % ADDRESS)
