@@ -1,5 +1,6 @@
 -- An operator acts: by an error, by a reason, or by what it leaves.
 use Rattle.std.proofs.Common.{◌≡◌, ℕ, zero, suc, ◌≤◌, List, ◌++◌, arith, Bool, true, false, inl, inr, Result, Ok, Err, refl, sym, subst}
+use Rattle.std.specs.Prelude.{OnErr}
 use Rattle.ps_language.specs.declared.errors.ErrorName.{ErrorName}
 use Rattle.ps_language.specs.Value.{Store}
 use Rattle.ps_language.specs.Effect.{Scene, makes, raises}
@@ -15,7 +16,7 @@ use Rattle.ps_acts.specs.declared.breaks.Break.TheVariants.{Raises, NotMade}
 use Rattle.ps_acts.specs.declared.lent.Trial.{Trial}
 use Rattle.ps_acts.specs.declared.lent.Scratch.{Scratch}
 use Rattle.ps_acts.specs.Lent.{Lent, Rooms, rooms_of, IsEmpty, scene_of, IsShown, IsGood}
-use Rattle.ps_acts.specs.Acts.{Asked, IsAtLeast, names_formed, needs_as, needs_between, needs_of_refused, IsReason, Lasts, Stays, OnNotMade, Meets, effect_in, Acts}
+use Rattle.ps_acts.specs.Acts.{Asked, IsAtLeast, names_formed, needs_as, needs_between, needs_of_refused, IsReason, Lasts, Stays, Meets, effect_in, Acts}
 use Rattle.ps_acts.proofs.Meeting.{keeps-same, logs-same, stays_as, at_least-same, made_meets, unmade_meets, wanting_meets, raised_meets, meets_by}
 
 module _ (row : Row) (trial : Trial) (asks : Scene → Asked) (l : Lent) where
@@ -69,7 +70,7 @@ module _ (row : Row) (trial : Trial) (asks : Scene → Asked) (l : Lent) where
 
       module _ (more : l.room ≤ room) (least : IsAtLeast (rooms_of l.scratch) (rooms_of scratch))
           (empty : IsEmpty scratch) (logs : KeepsLogsWithin 0 l.grants grants trial.slot) where
-        same_acts : (result : Result Unit Break) → OnNotMade result (l.frames ≡ l.frames)
+        same_acts : (result : Result Unit Break) → OnErr result (l.frames ≡ l.frames)
             → spent result most_records ≡ 0
             → ((store : Store) → IsShown l store
             → Meets asks (effect_in row l store) trial result (scene_of l store) l but)
@@ -95,7 +96,7 @@ module _ (row : Row) (trial : Trial) (asks : Scene → Asked) (l : Lent) where
         pub raising_acts : (error : ErrorName)
             → ((store : Store) → IsShown l store → effect_in row l store ≡ raises error)
             → Acts asks row trial (Err (Raises error)) l but
-        raising_acts error is = same_acts (Err (Raises error)) tt refl λ store shown.
+        raising_acts error is = same_acts (Err (Raises error)) refl refl λ store shown.
             meets_by asks trial (scene_of l store) l but (Err (Raises error)) _ _ (is store shown)
             (raised_meets asks trial (scene_of l store) l but error refl logs)
 

@@ -1,7 +1,7 @@
 -- Operators that change objects or make them.
 use Rattle.std.proofs.Common.{◌≡◌, ℕ, ◌-◌, ◌<◌, ◌≤◌, arith, Bool, true, false, List, [], ◌∷◌, length, Option, Some, None, Result, Ok, Err, refl, sym, ap, subst, ◌∙◌, append-nil, inl, inr}
 use Rattle.std.proofs.lemmas.Bool.Decides.{eqb_tells, nat_tests}
-use Rattle.std.specs.Prelude.{min, nat_le, slice_get, if◌then◌else◌}
+use Rattle.std.specs.Prelude.{OnErr, min, nat_le, slice_get, if◌then◌else◌}
 use Rattle.ps_language.specs.declared.errors.ErrorName.{ErrorName}
 use Rattle.ps_language.specs.declared.errors.ErrorName.TheVariants.{VmError, InvalidAccess, RangeCheck, StackUnderflow}
 use Rattle.ps_language.specs.Value.{Part as PartValue, Value, Store, Object, array_object, string_object, dictionary_object, lock_object, condition_object}
@@ -38,7 +38,7 @@ use Rattle.ps_control.specs.declared.frames.Frame.{Frame}
 use Rattle.ps_acts.specs.declared.lent.Trial.{Trial}
 use Rattle.ps_acts.specs.Breaks.{tried}
 use Rattle.ps_acts.specs.Lent.{Lent, scene_of, IsShown, IsGood}
-use Rattle.ps_acts.specs.Acts.{Asked, Needs, needs_as, nothing_asked, stores, IsReason, Lasts, IsLeft, ActsAs, OnNotMade, Meets, Acts, over}
+use Rattle.ps_acts.specs.Acts.{Asked, Needs, needs_as, nothing_asked, stores, IsReason, Lasts, IsLeft, ActsAs, Meets, Acts, over}
 use Rattle.ps_acts.proofs.Meeting.{lasts-same, logs_more, stays_as, at_least-same, lacks_nothing, made_meets, wanting_meets}
 use Rattle.ps_acts.proofs.Lifts.{changed_good, changed_left}
 
@@ -145,9 +145,9 @@ size_positive condition_object = omega arith
 -- ---- operators that store elements
 
 pub tried_framed : (frames : List Frame) (result : Result Unit Failure)
-    → OnNotMade (tried result) (frames ≡ frames)
+    → OnErr (tried result) (frames ≡ frames)
 tried_framed frames (Ok _) = tt
-tried_framed frames (Err (Error error)) = tt
+tried_framed frames (Err (Error error)) = refl
 tried_framed frames (Err (NotMade reason)) = refl
 
 tried_spent : (result : Result Unit Failure) (most : ℕ)

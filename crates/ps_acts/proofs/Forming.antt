@@ -1,6 +1,6 @@
 -- What is lent once a name is formed, and without it again.
 use Rattle.std.proofs.Common.{◌≡◌, ◌≢◌, ℕ, zero, suc, ◌≤◌, ◌++◌, arith, Bool, true, false, List, [], length, take, Ok, Err, refl, sym, ap, subst, ◌∙◌, append-nil, inl, inr, AllPairs, length-append, append_assoc, ◌-◌}
-use Rattle.std.proofs.lemmas.List.{take-append-le, length-take}
+use Rattle.std.proofs.lemmas.List.{take-append-le, take_all, length-take}
 use Rattle.ps_language.specs.declared.errors.ErrorName.TheVariants.{VmError}
 use Rattle.ps_language.specs.Value.{Store}
 use Rattle.ps_language.specs.Effect.{Scene, Effect, makes, unwinds, raises, calls}
@@ -16,7 +16,7 @@ use Rattle.ps_acts.specs.declared.lent.Trial.{Trial}
 use Rattle.ps_acts.specs.Lent.{Lent, Rooms, scene_of, IsShown, IsGood}
 use Rattle.ps_acts.specs.Acts.{Asked, needs_as, needs_of_refused, IsLeft, names_formed, lacks, IsReason, IsRefused, MayNote, ActsAs, effect_in, Acts}
 use Rattle.ps_acts.proofs.Naming.{named_left}
-use Rattle.ps_acts.proofs.Meeting.{keeps-same, stays_as, at_least-same, meets_by, refused_meets}
+use Rattle.ps_acts.proofs.Meeting.{keeps-same, stays_as, at_least-same, AreNeedsWithin, needs_within-same, reason_more, meets_by, refused_meets}
 
 begins_more : (first names more : List (List ℕ)) → take (length first) names ≡ first
     → take (length first) (names ++ more) ≡ first
@@ -26,28 +26,41 @@ begins_more first names more begins =
     let within : length first ≤ length names = omega (arith, size, same) in
     take-append-le (length first) names more within ∙ begins
 
+-- the names that were cut to those before
+pub cut_names : (names more after : List (List ℕ)) (count : ℕ) → count ≡ length names
+    → take count ((names ++ more) ++ after) ≡ names
+cut_names names more after count is =
+    ap (take count) (append_assoc names more after)
+    ∙ (take-append-le count names (more ++ after) (omega (arith, is))
+    ∙ take_all count names (omega (arith, is)))
+
 -- a refused step that forms more names lacks no less
+refused_within : (scratch : Rooms) (few many : ℕ) → few ≤ many
+    → AreNeedsWithin (needs_of_refused scratch few) (needs_of_refused scratch many)
+refused_within scratch zero zero more = needs_within-same _
+refused_within scratch zero (suc many) more = record {
+  bytes = omega arith;
+  names = omega arith;
+  records = omega arith;
+  words = refl;
+  births = refl;
+  scratch = at_least-same scratch;
+}
+refused_within scratch (suc few) zero more = absurd (omega (arith, more))
+refused_within scratch (suc few) (suc many) more = record {
+  bytes = omega arith;
+  names = omega (arith, more);
+  records = omega arith;
+  words = refl;
+  births = refl;
+  scratch = at_least-same scratch;
+}
+
 refused_more : (scratch : Rooms) (slot few many : ℕ) (old new : Lent) (reason : Reason)
     → few ≤ many → IsReason (needs_of_refused scratch few) slot old new reason
     → IsReason (needs_of_refused scratch many) slot old new reason
-refused_more scratch slot zero zero old new reason more why = why
-refused_more scratch slot zero (suc many) old new LogFull more why =
-    let less = why.1 in absurd (omega (arith, less))
-refused_more scratch slot zero (suc many) old new LogClosed more why =
-    let some = why.0 in absurd (omega (arith, some))
-refused_more scratch slot zero (suc many) old new (NeedSpace words) more why = why
-refused_more scratch slot zero (suc many) old new Memory more (inl less) = inl less
-refused_more scratch slot zero (suc many) old new Memory more (inr (inl some)) =
-    absurd (omega (arith, some))
-refused_more scratch slot zero (suc many) old new Memory more (inr (inr rest)) = inr (inr rest)
-refused_more scratch slot (suc few) zero old new reason more why = absurd (omega (arith, more))
-refused_more scratch slot (suc few) (suc many) old new LogFull more why = why
-refused_more scratch slot (suc few) (suc many) old new LogClosed more why = why
-refused_more scratch slot (suc few) (suc many) old new (NeedSpace words) more why = why
-refused_more scratch slot (suc few) (suc many) old new Memory more (inl less) = inl less
-refused_more scratch slot (suc few) (suc many) old new Memory more (inr (inl some)) =
-    inr (inl (omega arith))
-refused_more scratch slot (suc few) (suc many) old new Memory more (inr (inr rest)) = inr (inr rest)
+refused_more scratch slot few many old new reason more =
+    reason_more _ _ (refused_within scratch few many more) slot old new reason
 
 module _ (l : Lent) (more names : List (List ℕ)) (are : names ≡ l.names ++ more) where
   abbrev formed : Lent
@@ -133,7 +146,7 @@ module _ (l : Lent) (more names : List (List ℕ)) (are : names ≡ l.names ++ m
         scratch = at_least-same _;
       };
       logs = logs;
-      framed = tt;
+      framed = refl;
     }
 
     -- it is not made, for want of the records of its note

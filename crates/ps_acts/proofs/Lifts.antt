@@ -1,5 +1,6 @@
 -- What narrower relations say is what the one relation says.
 use Rattle.std.proofs.Common.{◌≡◌, ℕ, arith, List, [], length, Result, Ok, Err, refl, sym, ap, subst, append-nil}
+use Rattle.std.specs.Prelude.{OnErr}
 use Rattle.ps_language.specs.declared.errors.ErrorName.{ErrorName}
 use Rattle.ps_language.specs.Value.{Value, Store}
 use Rattle.ps_language.specs.Outcome.{Outcome, leaves, fails}
@@ -26,19 +27,33 @@ use Rattle.ps_control.specs.Controls.{Controls, ControlsAs}
 use Rattle.ps_acts.specs.declared.breaks.Break.TheVariants.{Unwinds}
 use Rattle.ps_acts.specs.declared.lent.Trial.{Trial}
 use Rattle.ps_acts.specs.Breaks.{made}
-use Rattle.ps_acts.specs.Lent.{Lent, scene_of, IsShown, IsGood}
-use Rattle.ps_acts.specs.Acts.{nothing_asked, Lasts, IsLeft, OnNotMade, Meets, Acts, over}
+use Rattle.ps_acts.specs.Lent.{Lent, scene_of, IsShown, IsErrorDictionary, IsGood}
+use Rattle.ps_acts.specs.Acts.{nothing_asked, Lasts, IsLeft, Meets, Acts, over}
 use Rattle.ps_acts.proofs.Kept.{frames-good, frames-same, frames-within}
 use Rattle.ps_acts.proofs.Meeting.{keeps-same, lasts-same, logs-same, stays_as, at_least-same, lacks_for_same, made_meets, unwound_meets, meets_by}
 
 -- what is always made
-made_framed : (P : Type 0) (result : Result Unit ErrorName) → OnNotMade (made result) P
-made_framed P (Ok _) = tt
-made_framed P (Err _) = tt
+made_framed : (P : Type 0) (result : Result Unit ErrorName) → OnErr result P
+    → OnErr (made result) P
+made_framed P (Ok _) framed = tt
+made_framed P (Err _) framed = framed
+
+-- one that leaves the frames
+unframed : (P : Type 0) → P → (result : Result Unit ErrorName) → OnErr result P
+unframed P p (Ok _) = tt
+unframed P p (Err _) = p
 
 -- the operands of what is good
 pub held : {l : Lent} → IsGood l → IsReady l.heap l.operands
 held good = record { sound = good.sound; values = good.operands }
+
+-- $error stands on
+pub error-kept : (old new : Heap) → Keeps old new → (address : ℕ)
+    → IsErrorDictionary old address → IsErrorDictionary new address
+error-kept old new keeps address good = record {
+  stands = stands-kept old new keeps _ address _ good.stands;
+  below = good.below;
+}
 
 -- ---- other operands over a memory that keeps what stood
 
@@ -50,7 +65,7 @@ module _ (l : Lent) (good : IsGood l) (new : Heap) (left : Grants) (after : List
     operands = ready.values;
     dictionaries = AreValues-kept l.heap new keeps l.dictionaries good.dictionaries;
     frames = frames-good l.heap new keeps (length l.program) l.frames good.frames;
-    error_stands = stands-kept l.heap new keeps _ l.error_dictionary _ good.error_stands;
+    error_stands = error-kept l.heap new keeps l.error_dictionary good.error_stands;
     names = good.names;
     first = good.first;
     empty = good.empty;
@@ -146,7 +161,7 @@ module _ (l : Lent) (good : IsGood l) (trial : Trial) (after : List Word) where
     keeps = keeps-same l.heap;
     stays = stays_as l _ refl refl refl (omega arith) (at_least-same _);
     logs = logs-same _ l.grants trial.slot;
-    framed = made_framed _ result;
+    framed = made_framed _ result (unframed _ refl result);
   }
 
 -- an operator that reads acts
@@ -232,9 +247,9 @@ module _ (l : Lent) (good : IsGood l) (operands : List Word) (frames : List Fram
 
   pub controls_acts : (row : List Value → Scene → Outcome Scene) (result : Result Unit ErrorName)
       → Controls row result l.heap (length l.program) (controls.stacks l.operands l.frames)
-      (controls.stacks operands frames)
+      (controls.stacks operands frames) → OnErr result (frames ≡ l.frames)
       → Acts nothing_asked (scene_row (scene_effect row)) trial (made result) l with_stacks
-  controls_acts row result did = record {
+  controls_acts row result did framed = record {
     meets = λ store shown.
         controlled_as result (row (scene_of l store).operands (scene_of l store)) store shown
         (did.meets l.names store (values_in l.heap l.names l.dictionaries) shown.shows
@@ -252,7 +267,7 @@ module _ (l : Lent) (good : IsGood l) (operands : List Word) (frames : List Fram
     keeps = keeps-same l.heap;
     stays = stays_as l _ refl refl refl (omega arith) (at_least-same _);
     logs = logs-same _ l.grants trial.slot;
-    framed = made_framed _ result;
+    framed = made_framed _ result framed;
   }
 
 -- ---- operators that begin an unwinding
@@ -270,7 +285,7 @@ unwinds_acts l good trial effect cause is = record {
   keeps = keeps-same l.heap;
   stays = stays_as l l refl refl refl (omega arith) (at_least-same _);
   logs = logs-same _ l.grants trial.slot;
-  framed = tt;
+  framed = refl;
 }
 
 -- operands and frames of what is good

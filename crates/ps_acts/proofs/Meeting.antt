@@ -1,5 +1,5 @@
 -- What came about for a store, by its effect; and what stays of what is lent.
-use Rattle.std.proofs.Common.{◌≡◌, ℕ, ◌+◌, ◌≤◌, ◌++◌, arith, Bool, true, false, List, [], length, Result, Ok, Err, refl, sym, subst, append-nil}
+use Rattle.std.proofs.Common.{◌≡◌, ℕ, ◌+◌, ◌≤◌, ◌++◌, arith, Bool, true, false, List, [], length, Result, Ok, Err, refl, sym, ap, subst, ◌∙◌, inl, inr, append-nil, append_assoc}
 use Rattle.std.specs.Prelude.{◌==◌, ◌&&◌, not}
 use Rattle.ps_language.specs.declared.errors.ErrorName.{ErrorName}
 use Rattle.ps_language.specs.declared.errors.ErrorName.TheVariants.{VmError}
@@ -7,10 +7,11 @@ use Rattle.ps_language.specs.Value.{Store}
 use Rattle.ps_language.specs.Effect.{Scene, Effect, makes, unwinds, raises}
 use Rattle.ps_language.specs.Objects.{made_between, lacks_room}
 use Rattle.ps_language.proofs.AskedLemmas.{made-same}
-use Rattle.ps_mem.specs.Heap.{Heap, Grants}
+use Rattle.ps_mem.specs.Heap.{Heap, Grants, has_room}
 use Rattle.ps_mem.specs.Keeps.{Keeps}
 use Rattle.ps_mem.proofs.KeepsLemmas.{Keeps-Extends, Extends-same}
 use Rattle.ps_ops.specs.declared.failure.NotMade.{NotMade as Reason}
+use Rattle.ps_ops.specs.declared.failure.NotMade.TheVariants.{LogFull, LogClosed, NeedSpace, Memory}
 use Rattle.ps_ops.specs.Does.{KeepsLogsWithin}
 use Rattle.ps_control.specs.declared.frames.Cause.{Cause}
 use Rattle.ps_control.specs.Turns.{cause_of}
@@ -18,7 +19,7 @@ use Rattle.ps_acts.specs.declared.breaks.Break.{Break}
 use Rattle.ps_acts.specs.declared.breaks.Break.TheVariants.{Unwinds, Raises, NotMade}
 use Rattle.ps_acts.specs.declared.lent.Trial.{Trial}
 use Rattle.ps_acts.specs.Lent.{Lent, Rooms, rooms_of}
-use Rattle.ps_acts.specs.Acts.{needs_as, needs_between, IsReason, Lasts, IsLeft, IsSame, IsRefused, ActsAs, IsAtLeast, Stays, Meets, Asked}
+use Rattle.ps_acts.specs.Acts.{Needs, needs_as, needs_between, LacksRooms, IsReason, Lasts, IsLeft, IsSame, IsRefused, ActsAs, IsAtLeast, Stays, Meets, Asked}
 
 -- ---- what stays
 
@@ -71,6 +72,114 @@ stays_as old new program address names capacity scratch = record {
   capacity = capacity;
   scratch = scratch;
 }
+
+-- ---- one after another
+
+pub at_least_then : (few some many : Rooms) → IsAtLeast few some → IsAtLeast some many
+    → IsAtLeast few many
+at_least_then few some many one other =
+    let text = one.text in
+    let sought = one.sought in
+    let words = one.words in
+    let more_text = other.text in
+    let more_sought = other.sought in
+    let more_words = other.words in
+    record {
+      text = omega (arith, text, more_text);
+      sought = omega (arith, sought, more_sought);
+      words = omega (arith, words, more_words);
+    }
+
+pub stays_then : (old mid new : Lent) → Stays old mid → Stays mid new → Stays old new
+stays_then old mid new one other =
+    let capacity = one.capacity in
+    let more = other.capacity in
+    record {
+      program = other.program ∙ one.program;
+      error_dictionary = other.error_dictionary ∙ one.error_dictionary;
+      formed = one.formed ++ other.formed;
+      names = other.names ∙ (ap (λ (ns : List (List ℕ)). ns ++ other.formed) one.names
+          ∙ append_assoc old.names one.formed other.formed);
+      capacity = omega (arith, capacity, more);
+      scratch = at_least_then _ _ _ one.scratch other.scratch;
+    }
+
+pub logs_then : (first most all : ℕ) (old mid new : Grants) (slot : ℕ) → first + most ≤ all
+    → KeepsLogsWithin first old mid slot → KeepsLogsWithin most mid new slot
+    → KeepsLogsWithin all old new slot
+logs_then first most all old mid new slot within one other =
+    let used = one.used in
+    let put = one.put in
+    let kept = one.kept in
+    let used_then = other.used in
+    let put_then = other.put in
+    let kept_then = other.kept in
+    record {
+      cycle_open = other.cycle_open ∙ one.cycle_open;
+      closed = other.closed ∙ one.closed;
+      others = λ s apart. other.others s apart ∙ one.others s apart;
+      used = omega (arith, used, used_then, within);
+      kept = omega (arith, kept, kept_then);
+      put = omega (arith, put, put_then, within);
+      put_no_other = λ s apart. other.put_no_other s apart ∙ one.put_no_other s apart;
+    }
+
+-- ---- what is needed
+
+-- less is needed
+pub record AreNeedsWithin (few many : Needs) : Type 0 where
+  pub bytes : few.bytes ≤ many.bytes
+  pub names : few.names ≤ many.names
+  pub records : few.records ≤ many.records
+  pub words : few.words ≡ many.words
+  pub births : few.births ≡ many.births
+  pub scratch : IsAtLeast few.scratch many.scratch
+
+pub needs_within-same : (needs : Needs) → AreNeedsWithin needs needs
+needs_within-same needs = record {
+  bytes = omega arith;
+  names = omega arith;
+  records = omega arith;
+  words = refl;
+  births = refl;
+  scratch = at_least-same needs.scratch;
+}
+
+lacks_more : (has few many : Rooms) → IsAtLeast few many → LacksRooms has few
+    → LacksRooms has many
+lacks_more has few many more (inl less) =
+    let text = more.text in inl (omega (arith, text, less))
+lacks_more has few many more (inr (inl less)) =
+    let sought = more.sought in inr (inl (omega (arith, sought, less)))
+lacks_more has few many more (inr (inr less)) =
+    let words = more.words in inr (inr (omega (arith, words, less)))
+
+-- and so a reason why a step is not made is one where more is needed
+pub reason_more : (few many : Needs) → AreNeedsWithin few many → (slot : ℕ) (old new : Lent)
+    (reason : Reason) → IsReason few slot old new reason → IsReason many slot old new reason
+reason_more few many more slot old new LogFull why =
+    let records = more.records in
+    let less = why.1 in
+    (why.0, omega (arith, records, less))
+reason_more few many more slot old new LogClosed why =
+    let records = more.records in
+    let some = why.0 in
+    (omega (arith, records, some), why.1)
+reason_more few many more slot old new (NeedSpace words) why = (
+  why.0 ∙ more.words,
+  why.1,
+  (λ i. has_room old.heap (sym more.words i) (sym more.births i)) ∙ why.2,
+)
+reason_more few many more slot old new Memory (inl less) =
+    let bytes = more.bytes in inl (omega (arith, bytes, less))
+reason_more few many more slot old new Memory (inr (inl some)) =
+    let names = more.names in inr (inl (omega (arith, names, some)))
+reason_more few many more slot old new Memory (inr (inr (inl grown))) =
+    let words = more.words in
+    let some = grown.0 in
+    inr (inr (inl (omega (arith, words, some), grown.1)))
+reason_more few many more slot old new Memory (inr (inr (inr lists))) =
+    inr (inr (inr (lacks_more (rooms_of old.scratch) few.scratch many.scratch more.scratch lists)))
 
 -- ---- room for what is made
 
@@ -136,9 +245,9 @@ module _ (asks : Scene → Asked) (trial : Trial) (before : Scene) (old new : Le
   raised_meets error same logs = record { did = (refl, same); logs = logs }
 
   pub unwound_meets : (cause : Cause) (scene : Scene) → IsLeft before.store new scene
-      → new.printed ≡ old.printed → Logs 0
+      → IsSame old new → Logs 0
       → Meets asks (unwinds (cause_of cause) scene) trial (Err (Unwinds cause)) before old new
-  unwound_meets cause scene left printed logs = record { did = (refl, left, printed); logs = logs }
+  unwound_meets cause scene left same logs = record { did = (refl, left, same); logs = logs }
 
   pub meets_by : (result : Result Unit Break) (effect other : Effect) → effect ≡ other
       → Meets asks other trial result before old new

@@ -1,5 +1,5 @@
 -- When what an operator did is the effect of its row.
-use Rattle.std.specs.Prelude.{◌≡◌, ◌⊎◌, ℕ, zero, suc, ◌+◌, ◌-◌, ◌<◌, ◌≤◌, ◌++◌, min, Bool, true, false, IsTrue, List, length, Result, Ok, Err}
+use Rattle.std.specs.Prelude.{◌≡◌, ◌⊎◌, ℕ, zero, suc, ◌+◌, ◌-◌, ◌<◌, ◌≤◌, ◌++◌, min, Bool, true, false, IsTrue, List, length, Result, Ok, Err, OnErr}
 use Rattle.ps_language.specs.declared.errors.ErrorName.TheVariants.{VmError}
 use Rattle.ps_language.specs.Value.{Value, Store}
 use Rattle.ps_language.specs.Access.{bytes}
@@ -140,7 +140,7 @@ pub record IsRefused (slot : ℕ) (before : Scene) (old new : Lent) (names : Lis
     pub left : IsLeft before.store new (record before { names = names })
     pub may_note : MayNote slot old new names
 
--- What the effect makes is left and printed, or its unwinding begins. Or its error is raised, and
+-- What the effect makes is left and printed. Or its unwinding begins, or its error is raised, and
 -- nothing has changed. Or it lacks room, VMerror is raised, and only its names are formed. Or it is
 -- not made, nothing has changed, and there is a reason
 abbrev pub ActsAs : Needs → (slot : ℕ) → (before : Scene) → Result Unit Break → Effect
@@ -148,7 +148,7 @@ abbrev pub ActsAs : Needs → (slot : ℕ) → (before : Scene) → Result Unit 
 ActsAs needs slot before (Ok _) (makes scene output) false old new =
     IsLeft before.store new scene × (new.printed ≡ old.printed ++ output)
 ActsAs needs slot before (Err (Unwinds cause)) (unwinds for scene) lacking old new =
-    (cause_of cause ≡ for) × IsLeft before.store new scene × (new.printed ≡ old.printed)
+    (cause_of cause ≡ for) × IsLeft before.store new scene × IsSame old new
 ActsAs needs slot before (Err (Raises error)) (raises raised) lacking old new =
     (error ≡ raised) × IsSame old new
 ActsAs needs slot before (Err (Raises error)) (makes scene output) true old new =
@@ -175,11 +175,6 @@ pub record Stays (old new : Lent) : Type 0 where
   pub capacity : length old.printed + old.room ≤ length new.printed + new.room
   pub scratch : IsAtLeast (rooms_of old.scratch) (rooms_of new.scratch)
 
--- of a step that is not made
-abbrev pub OnNotMade : Result Unit Break → Type 0 → Type 0
-OnNotMade (Err (NotMade reason)) P = P
-OnNotMade result P = Unit {0}
-
 -- of a store that is shown: the effect came about, and by no more records than it asks for
 pub record Meets (asks : Scene → Asked) (effect : Effect) (trial : Trial)
     (result : Result Unit Break) (before : Scene) (old new : Lent) : Type 0 where
@@ -202,7 +197,7 @@ pub record Acts (asks : Scene → Asked) (row : Row) (trial : Trial) (result : R
   pub stays : Stays old new
   pub logs : KeepsLogsWithin (spent result most_records) old.grants new.grants trial.slot
   -- an element that was taken can be put back
-  pub framed : OnNotMade result (new.frames ≡ old.frames)
+  pub framed : OnErr result (new.frames ≡ old.frames)
 
 -- ---- narrower operators: the same, whatever else is lent
 

@@ -1,5 +1,5 @@
 -- What is lent to an operator, as words, and the scene that it shows (PLRM2, 3.4).
-use Rattle.std.specs.Prelude.{◌≡◌, ◌≢◌, ℕ, ◌-◌, List, [], length, AllPairs, vec_capacity}
+use Rattle.std.specs.Prelude.{◌≡◌, ◌≢◌, ℕ, ◌-◌, ◌<◌, ◌^◌, List, [], length, AllPairs, vec_capacity}
 use Rattle.ps_language.specs.declared.kinds.Kind.TheVariants.{Dictionary}
 use Rattle.ps_language.specs.Value.{Store}
 use Rattle.ps_language.specs.Effect.{Around, Scene}
@@ -89,6 +89,11 @@ pub record IsShown (l : Lent) (store : Store) : Type 0 where
 
 -- ---- what holds of it in every memory
 
+-- a dictionary stands there, and a reference to it fits a word
+pub record IsErrorDictionary (h : Heap) (address : ℕ) : Type 0 where
+  pub stands : StandsAs h Dictionary address 4
+  pub below : address < 2 ^ 24
+
 -- What is held refers to what stands in a sound memory, $error stands, no name is met twice, the
 -- names begin with the first ones, among which those of $error are, and nothing is left of what an
 -- operator read
@@ -97,7 +102,7 @@ pub record IsGood (l : Lent) : Type 0 where
   pub operands : AreValues l.heap l.operands
   pub dictionaries : AreValues l.heap l.dictionaries
   pub frames : AreFrames l.heap (length l.program) l.frames
-  pub error_stands : StandsAs l.heap Dictionary l.error_dictionary 4
+  pub error_stands : IsErrorDictionary l.heap l.error_dictionary
   pub names : AllPairs (λ one later. one ≢ later) l.names
   pub first : BeginWithFirst l.names
   pub empty : IsEmpty l.scratch

@@ -1,6 +1,6 @@
 //! The operators that push frames (PLRM2, 8 'Operators': Control).
 
-ghost use Rattle.std.specs.Prelude.{◌≡◌, ◌&&◌, ℕ, ◌≤◌, List, length};
+ghost use Rattle.std.specs.Prelude.{◌≡◌, ◌&&◌, ℕ, ◌≤◌, List, length, OnErr};
 ghost use Rattle.ps_language.specs.Access as language;
 ghost use Rattle.ps_language.specs.Control as rows;
 ghost use Rattle.ps_language.specs.Effect.{Scene};
@@ -55,6 +55,7 @@ fn begin(
         → IsFrameHeld h operands.old frames.old frame → Begins row h operands.old count frame
         → Controls row result h size (stacks operands.old frames.old)
         (stacks operands.new frames.new) }
+    ensures framed { OnErr result (frames.new ≡ frames.old) }
 {
     if frames.is_full() {
         return Err(ErrorName::ExecStackOverflow);
@@ -79,6 +80,7 @@ fn enter_with(
         → Enters row h operands.old count body
         → Controls row result h size (stacks operands.old frames.old)
         (stacks operands.new frames.new) }
+    ensures framed { OnErr result (frames.new ≡ frames.old) }
 {
     if body.length == 0 {
         operands.discard(count);
@@ -92,6 +94,7 @@ pub fn exec(operands: &mut Operands, frames: &mut Frames) -> Result<(), ErrorNam
     ensures controls { (h : Heap) (size : ℕ) → IsReadyFor h size (stacks operands.old frames.old)
         → Controls rows.exec_row result h size (stacks operands.old frames.old)
         (stacks operands.new frames.new) }
+    ensures framed { OnErr result (frames.new ≡ frames.old) }
 {
     let Some(word) = operands.top() else {
         return Err(ErrorName::StackUnderflow);
@@ -106,6 +109,7 @@ pub fn if_then(operands: &mut Operands, frames: &mut Frames) -> Result<(), Error
     ensures controls { (h : Heap) (size : ℕ) → IsReadyFor h size (stacks operands.old frames.old)
         → Controls rows.if_row result h size (stacks operands.old frames.old)
         (stacks operands.new frames.new) }
+    ensures framed { OnErr result (frames.new ≡ frames.old) }
 {
     let Some((procedure, condition)) = operands.top_two() else {
         return Err(ErrorName::StackUnderflow);
@@ -133,6 +137,7 @@ pub fn if_then_else(operands: &mut Operands, frames: &mut Frames) -> Result<(), 
     ensures controls { (h : Heap) (size : ℕ) → IsReadyFor h size (stacks operands.old frames.old)
         → Controls rows.ifelse_row result h size (stacks operands.old frames.old)
         (stacks operands.new frames.new) }
+    ensures framed { OnErr result (frames.new ≡ frames.old) }
 {
     let Some((second, first, condition)) = operands.top_three() else {
         return Err(ErrorName::StackUnderflow);
@@ -161,6 +166,7 @@ pub fn begin_for(operands: &mut Operands, frames: &mut Frames) -> Result<(), Err
     ensures controls { (h : Heap) (size : ℕ) → IsReadyFor h size (stacks operands.old frames.old)
         → Controls rows.for_row result h size (stacks operands.old frames.old)
         (stacks operands.new frames.new) }
+    ensures framed { OnErr result (frames.new ≡ frames.old) }
 {
     let Some(start) = operands.peek(3) else {
         return Err(ErrorName::StackUnderflow);
@@ -198,6 +204,7 @@ pub fn begin_repeat(operands: &mut Operands, frames: &mut Frames) -> Result<(), 
     ensures controls { (h : Heap) (size : ℕ) → IsReadyFor h size (stacks operands.old frames.old)
         → Controls rows.repeat_row result h size (stacks operands.old frames.old)
         (stacks operands.new frames.new) }
+    ensures framed { OnErr result (frames.new ≡ frames.old) }
 {
     let Some((procedure, number)) = operands.top_two() else {
         return Err(ErrorName::StackUnderflow);
@@ -222,6 +229,7 @@ pub fn begin_loop(operands: &mut Operands, frames: &mut Frames) -> Result<(), Er
     ensures controls { (h : Heap) (size : ℕ) → IsReadyFor h size (stacks operands.old frames.old)
         → Controls rows.loop_row result h size (stacks operands.old frames.old)
         (stacks operands.new frames.new) }
+    ensures framed { OnErr result (frames.new ≡ frames.old) }
 {
     let Some(procedure) = operands.top() else {
         return Err(ErrorName::StackUnderflow);
@@ -247,6 +255,7 @@ pub fn begin_forall(
         → IsSecondAccess h operands.old access
         → Controls rows.forall_row result h size (stacks operands.old frames.old)
         (stacks operands.new frames.new) }
+    ensures framed { OnErr result (frames.new ≡ frames.old) }
 {
     let Some((procedure, over)) = operands.top_two() else {
         return Err(ErrorName::StackUnderflow);
@@ -274,6 +283,7 @@ pub fn begin_stopped(operands: &mut Operands, frames: &mut Frames) -> Result<(),
     ensures controls { (h : Heap) (size : ℕ) → IsReadyFor h size (stacks operands.old frames.old)
         → Controls rows.stopped_row result h size (stacks operands.old frames.old)
         (stacks operands.new frames.new) }
+    ensures framed { OnErr result (frames.new ≡ frames.old) }
 {
     let Some(word) = operands.top() else {
         return Err(ErrorName::StackUnderflow);
@@ -293,6 +303,7 @@ pub fn begin_bind(operands: &mut Operands, frames: &mut Frames) -> Result<(), Er
     ensures controls { (h : Heap) (size : ℕ) → IsReadyFor h size (stacks operands.old frames.old)
         → Controls rows.bind_row result h size (stacks operands.old frames.old)
         (stacks operands.new frames.new) }
+    ensures framed { OnErr result (frames.new ≡ frames.old) }
 {
     let Some(procedure) = operands.top() else {
         return Err(ErrorName::StackUnderflow);

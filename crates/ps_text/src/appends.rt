@@ -73,14 +73,16 @@ pub fn append_ended(bytes: &[u8], ending: &[u8], output: &mut Vec<u8>) -> Result
     Ok(())
 }
 
-/// Appends as many of the bytes as fit before the end, a length of the output. Where the growth is refused nothing changes.
+/// Appends as many of the bytes as fit before the end, a length of the output. Where the growth is
+/// refused nothing changes.
 #[inline]
 pub fn append_cut(bytes: &[u8], end: usize, output: &mut Vec<u8>) -> Result<(), AllocError>
     requires { length output.old.items ≤ end }
     ensures goes_on { GoesOn end output.old.items output.new.items }
     ensures capacity { vec_capacity output.old ≤ vec_capacity output.new }
     ensures ok { OnOk result (output.new.items ≡ take end (output.old.items ++ bytes.now)) }
-    ensures full { OnErr result (vec_capacity output.old < length (take end (output.old.items ++ bytes.now))) }
+    ensures full { OnErr result (vec_capacity output.old < length (take end (output.old.items
+        ++ bytes.now))) }
 {
     let room = end - output.len();
     let count = bytes.len().min(room);
@@ -92,8 +94,10 @@ pub fn append_integer(number: i32, end: usize, output: &mut Vec<u8>) -> Result<(
     requires { length output.old.items ≤ end }
     ensures goes_on { GoesOn end output.old.items output.new.items }
     ensures capacity { vec_capacity output.old ≤ vec_capacity output.new }
-    ensures ok { OnOk result (output.new.items ≡ take end (output.old.items ++ signed_decimal number)) }
-    ensures full { OnErr result (vec_capacity output.old < length (take end (output.old.items ++ signed_decimal number))) }
+    ensures ok { OnOk result (output.new.items ≡ take end (output.old.items ++ signed_decimal
+        number)) }
+    ensures full { OnErr result (vec_capacity output.old < length (take end (output.old.items
+        ++ signed_decimal number))) }
 {
     let mut buffer = Buffer::new();
     append_cut(buffer.format(number).as_bytes(), end, output)
@@ -110,8 +114,11 @@ pub fn append_name(
     requires { length output.old.items ≤ end }
     ensures goes_on { GoesOn end output.old.items output.new.items }
     ensures capacity { vec_capacity output.old ≤ vec_capacity output.new }
-    ensures ok { OnOk result (output.new.items ≡ take end (output.old.items ++ (if executable then text_of_name names.now number else codes "/" ++ text_of_name names.now number))) }
-    ensures full { OnErr result (vec_capacity output.old < length (take end (output.old.items ++ (if executable then text_of_name names.now number else codes "/" ++ text_of_name names.now number)))) }
+    ensures ok { OnOk result (output.new.items ≡ take end (output.old.items ++ (if executable then
+        text_of_name names.now number else codes "/" ++ text_of_name names.now number))) }
+    ensures full { OnErr result (vec_capacity output.old < length (take end (output.old.items ++ (if
+        executable then text_of_name names.now number else codes "/" ++ text_of_name names.now
+        number)))) }
 {
     if !executable {
         append_cut(b"/", end, output)?;
@@ -128,8 +135,10 @@ pub fn append_operator(
     requires { length output.old.items ≤ end }
     ensures goes_on { GoesOn end output.old.items output.new.items }
     ensures capacity { vec_capacity output.old ≤ vec_capacity output.new }
-    ensures ok { OnOk result (output.new.items ≡ take end (output.old.items ++ (codes "--" ++ operators.operator_name operator ++ codes "--"))) }
-    ensures full { OnErr result (vec_capacity output.old < length (take end (output.old.items ++ (codes "--" ++ operators.operator_name operator ++ codes "--")))) }
+    ensures ok { OnOk result (output.new.items ≡ take end (output.old.items ++ (codes "--"
+        ++ operators.operator_name operator ++ codes "--"))) }
+    ensures full { OnErr result (vec_capacity output.old < length (take end (output.old.items
+        ++ (codes "--" ++ operators.operator_name operator ++ codes "--")))) }
 {
     append_cut(b"--", end, output)?;
     append_cut(operator_name(operator), end, output)?;
@@ -143,7 +152,8 @@ pub fn append_separator(index: u16, end: usize, output: &mut Vec<u8>) -> Result<
     ensures goes_on { GoesOn end output.old.items output.new.items }
     ensures capacity { vec_capacity output.old ≤ vec_capacity output.new }
     ensures ok { OnOk result (output.new.items ≡ take end (output.old.items ++ separator index)) }
-    ensures full { OnErr result (vec_capacity output.old < length (take end (output.old.items ++ separator index))) }
+    ensures full { OnErr result (vec_capacity output.old < length (take end (output.old.items
+        ++ separator index))) }
 {
     if index == 0 {
         return Ok(());

@@ -35,7 +35,8 @@ fn append_escape(byte: u8, end: usize, output: &mut Vec<u8>) -> Result<(), Alloc
     ensures goes_on { GoesOn end output.old.items output.new.items }
     ensures capacity { vec_capacity output.old ≤ vec_capacity output.new }
     ensures ok { OnOk result (output.new.items ≡ take end (output.old.items ++ texts.escaped byte)) }
-    ensures full { OnErr result (vec_capacity output.old < length (take end (output.old.items ++ texts.escaped byte))) }
+    ensures full { OnErr result (vec_capacity output.old < length (take end (output.old.items
+        ++ texts.escaped byte))) }
 {
     match byte {
         b'(' => append_cut(b"\\(", end, output),
@@ -51,7 +52,8 @@ fn append_escape(byte: u8, end: usize, output: &mut Vec<u8>) -> Result<(), Alloc
     }
 }
 
-/// Appends the bytes of a part of a string with their escapes, as far as they fit. Once the text is full no more is read.
+/// Appends the bytes of a part of a string with their escapes, as far as they fit. Once the text is
+/// full no more is read.
 fn append_escaped<M: Memory>(
     memory: &mut M,
     part: Part,
@@ -59,14 +61,21 @@ fn append_escaped<M: Memory>(
     output: &mut Vec<u8>,
 ) -> Result<(), AllocError>
     requires sound { IsSound (M.heap memory.old) }
-    requires known { StandsAs (M.heap memory.old) Kind.Text part.address (words_for (part.offset + part.length)) }
+    requires known { StandsAs (M.heap memory.old) Kind.Text part.address (words_for (part.offset +
+        part.length)) }
     requires short { length output.old.items ≤ end }
     ensures heap { M.heap memory.new ≡ M.heap memory.old }
     ensures grants { M.grants memory.new ≡ M.grants memory.old }
     ensures goes_on { GoesOn end output.old.items output.new.items }
     ensures capacity { vec_capacity output.old ≤ vec_capacity output.new }
-    ensures ok { (names : List (List ℕ)) (s : Store) → Shows (M.heap memory.old) names s → part.offset + part.length ≤ length (bytes s (birth_at (M.heap memory.old) part.address)) → OnOk result (output.new.items ≡ take end (output.old.items ++ flat_map texts.escaped (part_bytes s (part_of (birth_at (M.heap memory.old)) part)))) }
-    ensures full { (names : List (List ℕ)) (s : Store) → Shows (M.heap memory.old) names s → part.offset + part.length ≤ length (bytes s (birth_at (M.heap memory.old) part.address)) → OnErr result (vec_capacity output.old < length (take end (output.old.items ++ flat_map texts.escaped (part_bytes s (part_of (birth_at (M.heap memory.old)) part))))) }
+    ensures ok { (names : List (List ℕ)) (s : Store) → Shows (M.heap memory.old) names s
+        → part.offset + part.length ≤ length (bytes s (birth_at (M.heap memory.old) part.address))
+        → OnOk result (output.new.items ≡ take end (output.old.items ++ flat_map texts.escaped
+        (part_bytes s (part_of (birth_at (M.heap memory.old)) part)))) }
+    ensures full { (names : List (List ℕ)) (s : Store) → Shows (M.heap memory.old) names s
+        → part.offset + part.length ≤ length (bytes s (birth_at (M.heap memory.old) part.address))
+        → OnErr result (vec_capacity output.old < length (take end (output.old.items ++ flat_map
+        texts.escaped (part_bytes s (part_of (birth_at (M.heap memory.old)) part))))) }
 {
     for index in 0..part.length {
         if output.len() >= end {
@@ -86,14 +95,21 @@ pub fn append_string<M: Memory>(
     output: &mut Vec<u8>,
 ) -> Result<(), AllocError>
     requires sound { IsSound (M.heap memory.old) }
-    requires known { StandsAs (M.heap memory.old) Kind.Text part.address (words_for (part.offset + part.length)) }
+    requires known { StandsAs (M.heap memory.old) Kind.Text part.address (words_for (part.offset +
+        part.length)) }
     requires short { length output.old.items ≤ end }
     ensures heap { M.heap memory.new ≡ M.heap memory.old }
     ensures grants { M.grants memory.new ≡ M.grants memory.old }
     ensures goes_on { GoesOn end output.old.items output.new.items }
     ensures capacity { vec_capacity output.old ≤ vec_capacity output.new }
-    ensures ok { (names : List (List ℕ)) (s : Store) → Shows (M.heap memory.old) names s → part.offset + part.length ≤ length (bytes s (birth_at (M.heap memory.old) part.address)) → OnOk result (output.new.items ≡ take end (output.old.items ++ texts.string_text s (part_of (birth_at (M.heap memory.old)) part))) }
-    ensures full { (names : List (List ℕ)) (s : Store) → Shows (M.heap memory.old) names s → part.offset + part.length ≤ length (bytes s (birth_at (M.heap memory.old) part.address)) → OnErr result (vec_capacity output.old < length (take end (output.old.items ++ texts.string_text s (part_of (birth_at (M.heap memory.old)) part)))) }
+    ensures ok { (names : List (List ℕ)) (s : Store) → Shows (M.heap memory.old) names s
+        → part.offset + part.length ≤ length (bytes s (birth_at (M.heap memory.old) part.address))
+        → OnOk result (output.new.items ≡ take end (output.old.items ++ texts.string_text s (part_of
+        (birth_at (M.heap memory.old)) part))) }
+    ensures full { (names : List (List ℕ)) (s : Store) → Shows (M.heap memory.old) names s
+        → part.offset + part.length ≤ length (bytes s (birth_at (M.heap memory.old) part.address))
+        → OnErr result (vec_capacity output.old < length (take end (output.old.items
+        ++ texts.string_text s (part_of (birth_at (M.heap memory.old)) part)))) }
 {
     if !is_readable(part.access) {
         return append_cut(b"-string-", end, output);

@@ -60,8 +60,14 @@ fn append_simple<M: Memory>(
     ensures grants { M.grants memory.new ≡ M.grants memory.old }
     ensures goes_on { GoesOn end output.old.items output.new.items }
     ensures capacity { vec_capacity output.old ≤ vec_capacity output.new }
-    ensures ok { (s : Store) → Shows (M.heap memory.old) names.now s → IsWithinContent (birth_at (M.heap memory.old)) names.now s content → OnOk result (output.new.items ≡ take end (output.old.items ++ simple_text s executable (what_of (birth_at (M.heap memory.old)) names.now content))) }
-    ensures full { (s : Store) → Shows (M.heap memory.old) names.now s → IsWithinContent (birth_at (M.heap memory.old)) names.now s content → OnErr result (vec_capacity output.old < length (take end (output.old.items ++ simple_text s executable (what_of (birth_at (M.heap memory.old)) names.now content)))) }
+    ensures ok { (s : Store) → Shows (M.heap memory.old) names.now s → IsWithinContent (birth_at
+        (M.heap memory.old)) names.now s content → OnOk result (output.new.items ≡ take end
+        (output.old.items ++ simple_text s executable (what_of (birth_at (M.heap memory.old))
+        names.now content))) }
+    ensures full { (s : Store) → Shows (M.heap memory.old) names.now s → IsWithinContent (birth_at
+        (M.heap memory.old)) names.now s content → OnErr result (vec_capacity output.old < length
+        (take end (output.old.items ++ simple_text s executable (what_of (birth_at (M.heap
+        memory.old)) names.now content)))) }
 {
     match content {
         Content::Null | Content::Body(_) => append_cut(b"null", end, output),
@@ -95,8 +101,13 @@ fn append_value<M: Memory>(
     ensures grants { M.grants memory.new ≡ M.grants memory.old }
     ensures goes_on { GoesOn end output.old.items output.new.items }
     ensures capacity { vec_capacity output.old ≤ vec_capacity output.new }
-    ensures ok { (s : Store) → Shows (M.heap memory.old) names.now s → IsWithin (birth_at (M.heap memory.old)) names.now s word → OnOk result (output.new.items ≡ take end (output.old.items ++ text_to depth s (value_of (birth_at (M.heap memory.old)) names.now word))) }
-    ensures full { (s : Store) → Shows (M.heap memory.old) names.now s → IsWithin (birth_at (M.heap memory.old)) names.now s word → OnErr result (vec_capacity output.old < length (take end (output.old.items ++ text_to depth s (value_of (birth_at (M.heap memory.old)) names.now word)))) }
+    ensures ok { (s : Store) → Shows (M.heap memory.old) names.now s → IsWithin (birth_at (M.heap
+        memory.old)) names.now s word → OnOk result (output.new.items ≡ take end (output.old.items
+        ++ text_to depth s (value_of (birth_at (M.heap memory.old)) names.now word))) }
+    ensures full { (s : Store) → Shows (M.heap memory.old) names.now s → IsWithin (birth_at (M.heap
+        memory.old)) names.now s word → OnErr result (vec_capacity output.old < length (take end
+        (output.old.items ++ text_to depth s (value_of (birth_at (M.heap memory.old)) names.now
+        word)))) }
 {
     let content = word.content();
     let executable = word.is_executable();
@@ -111,7 +122,8 @@ fn append_value<M: Memory>(
     append_cut(closing(executable), end, output)
 }
 
-/// Appends the texts of the elements of a part of an array with a space between, as far as they fit. Once the text is full no more is read.
+/// Appends the texts of the elements of a part of an array with a space between, as far as they
+/// fit. Once the text is full no more is read.
 #[cycle(values)]
 fn append_elements<M: Memory>(
     memory: &mut M,
@@ -122,14 +134,19 @@ fn append_elements<M: Memory>(
     output: &mut Vec<u8>,
 ) -> Result<(), AllocError>
     requires sound { IsSound (M.heap memory.old) }
-    requires known { StandsAs (M.heap memory.old) Kind.Array part.address (part.offset + part.length) }
+    requires known { StandsAs (M.heap memory.old) Kind.Array part.address (part.offset +
+        part.length) }
     requires short { length output.old.items ≤ end }
     ensures heap { M.heap memory.new ≡ M.heap memory.old }
     ensures grants { M.grants memory.new ≡ M.grants memory.old }
     ensures goes_on { GoesOn end output.old.items output.new.items }
     ensures capacity { vec_capacity output.old ≤ vec_capacity output.new }
-    ensures ok { (s : Store) → Shows (M.heap memory.old) names.now s → OnOk result (output.new.items ≡ take end (output.old.items ++ join_with_byte 32 (map (text_to depth s) (part_elements s (part_of (birth_at (M.heap memory.old)) part))))) }
-    ensures full { (s : Store) → Shows (M.heap memory.old) names.now s → OnErr result (vec_capacity output.old < length (take end (output.old.items ++ join_with_byte 32 (map (text_to depth s) (part_elements s (part_of (birth_at (M.heap memory.old)) part)))))) }
+    ensures ok { (s : Store) → Shows (M.heap memory.old) names.now s → OnOk result (output.new.items
+        ≡ take end (output.old.items ++ join_with_byte 32 (map (text_to depth s) (part_elements s
+        (part_of (birth_at (M.heap memory.old)) part))))) }
+    ensures full { (s : Store) → Shows (M.heap memory.old) names.now s → OnErr result (vec_capacity
+        output.old < length (take end (output.old.items ++ join_with_byte 32 (map (text_to depth s)
+        (part_elements s (part_of (birth_at (M.heap memory.old)) part)))))) }
 {
     for index in 0..part.length {
         if output.len() >= end {
@@ -142,8 +159,10 @@ fn append_elements<M: Memory>(
     Ok(())
 }
 
-/// Appends the text of a value as `==` shows it: its first `SHOWN_LIMIT` bytes, with arrays gone into `NESTING_LIMIT` deep. The memory is
-/// only read. Once the text is full nothing more is gone into, so an array that holds itself takes no longer than another.
+/// Appends the text of a value as `==` shows it: its first `SHOWN_LIMIT` bytes, with arrays gone
+/// into `NESTING_LIMIT` deep. The memory is
+/// only read. Once the text is full nothing more is gone into, so an array that holds itself takes
+/// no longer than another.
 ///
 /// `AllocError`: the output has no room for the text, and its growth was refused; it is as it was.
 pub fn append_full<M: Memory>(
@@ -157,8 +176,12 @@ pub fn append_full<M: Memory>(
     ensures heap { M.heap memory.new ≡ M.heap memory.old }
     ensures grants { M.grants memory.new ≡ M.grants memory.old }
     ensures capacity { vec_capacity output.old ≤ vec_capacity output.new }
-    ensures ok { (s : Store) → Shows (M.heap memory.old) names.now s → IsWithin (birth_at (M.heap memory.old)) names.now s word → OnOk result (output.new.items ≡ output.old.items ++ full_text s (value_of (birth_at (M.heap memory.old)) names.now word)) }
-    ensures full { (s : Store) → Shows (M.heap memory.old) names.now s → IsWithin (birth_at (M.heap memory.old)) names.now s word → OnErr result (vec_capacity output.old < length (output.old.items ++ full_text s (value_of (birth_at (M.heap memory.old)) names.now word))) }
+    ensures ok { (s : Store) → Shows (M.heap memory.old) names.now s → IsWithin (birth_at (M.heap
+        memory.old)) names.now s word → OnOk result (output.new.items ≡ output.old.items
+        ++ full_text s (value_of (birth_at (M.heap memory.old)) names.now word)) }
+    ensures full { (s : Store) → Shows (M.heap memory.old) names.now s → IsWithin (birth_at (M.heap
+        memory.old)) names.now s word → OnErr result (vec_capacity output.old < length
+        (output.old.items ++ full_text s (value_of (birth_at (M.heap memory.old)) names.now word))) }
     ensures front { take (length output.old.items) output.new.items ≡ output.old.items }
     ensures err { OnErr result (output.new.items ≡ output.old.items) }
 {

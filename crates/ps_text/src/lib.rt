@@ -2,6 +2,7 @@
 #![tactic(auto)]
 
 mod appends;
+pub mod errors;
 mod escapes;
 pub mod full;
 pub mod lines;

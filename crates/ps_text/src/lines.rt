@@ -27,7 +27,8 @@ pub enum Form {
     Full,
 }
 
-/// Appends the end of a line that begins at `start`; where the growth is refused, the line is taken away.
+/// Appends the end of a line that begins at `start`; where the growth is refused, the line is taken
+/// away.
 fn end_line(start: usize, output: &mut Vec<u8>) -> Result<(), AllocError>
     ensures capacity { vec_capacity output.old ≤ vec_capacity output.new }
     ensures ok { OnOk result (output.new.items ≡ output.old.items ++ 10 ∷ []) }
@@ -56,8 +57,13 @@ pub fn append_plain_line<M: Memory>(
     ensures heap { M.heap memory.new ≡ M.heap memory.old }
     ensures grants { M.grants memory.new ≡ M.grants memory.old }
     ensures capacity { vec_capacity output.old ≤ vec_capacity output.new }
-    ensures ok { (s : Store) → Shows (M.heap memory.old) names.now s → IsWithin (birth_at (M.heap memory.old)) names.now s word → OnOk result (output.new.items ≡ output.old.items ++ line plain_text s (value_of (birth_at (M.heap memory.old)) names.now word)) }
-    ensures full { (s : Store) → Shows (M.heap memory.old) names.now s → IsWithin (birth_at (M.heap memory.old)) names.now s word → OnErr result (vec_capacity output.old < length (output.old.items ++ line plain_text s (value_of (birth_at (M.heap memory.old)) names.now word))) }
+    ensures ok { (s : Store) → Shows (M.heap memory.old) names.now s → IsWithin (birth_at (M.heap
+        memory.old)) names.now s word → OnOk result (output.new.items ≡ output.old.items ++ line
+        plain_text s (value_of (birth_at (M.heap memory.old)) names.now word)) }
+    ensures full { (s : Store) → Shows (M.heap memory.old) names.now s → IsWithin (birth_at (M.heap
+        memory.old)) names.now s word → OnErr result (vec_capacity output.old < length
+        (output.old.items ++ line plain_text s (value_of (birth_at (M.heap memory.old)) names.now
+        word))) }
     ensures front { take (length output.old.items) output.new.items ≡ output.old.items }
     ensures err { OnErr result (output.new.items ≡ output.old.items) }
     ensures stays { OnErr result (vec_capacity output.new ≡ vec_capacity output.old) }
@@ -79,8 +85,13 @@ pub fn append_full_line<M: Memory>(
     ensures heap { M.heap memory.new ≡ M.heap memory.old }
     ensures grants { M.grants memory.new ≡ M.grants memory.old }
     ensures capacity { vec_capacity output.old ≤ vec_capacity output.new }
-    ensures ok { (s : Store) → Shows (M.heap memory.old) names.now s → IsWithin (birth_at (M.heap memory.old)) names.now s word → OnOk result (output.new.items ≡ output.old.items ++ line full_text s (value_of (birth_at (M.heap memory.old)) names.now word)) }
-    ensures full { (s : Store) → Shows (M.heap memory.old) names.now s → IsWithin (birth_at (M.heap memory.old)) names.now s word → OnErr result (vec_capacity output.old < length (output.old.items ++ line full_text s (value_of (birth_at (M.heap memory.old)) names.now word))) }
+    ensures ok { (s : Store) → Shows (M.heap memory.old) names.now s → IsWithin (birth_at (M.heap
+        memory.old)) names.now s word → OnOk result (output.new.items ≡ output.old.items ++ line
+        full_text s (value_of (birth_at (M.heap memory.old)) names.now word)) }
+    ensures full { (s : Store) → Shows (M.heap memory.old) names.now s → IsWithin (birth_at (M.heap
+        memory.old)) names.now s word → OnErr result (vec_capacity output.old < length
+        (output.old.items ++ line full_text s (value_of (birth_at (M.heap memory.old)) names.now
+        word))) }
     ensures front { take (length output.old.items) output.new.items ≡ output.old.items }
     ensures err { OnErr result (output.new.items ≡ output.old.items) }
 {
@@ -102,8 +113,13 @@ fn append_line<M: Memory>(
     ensures heap { M.heap memory.new ≡ M.heap memory.old }
     ensures grants { M.grants memory.new ≡ M.grants memory.old }
     ensures capacity { vec_capacity output.old ≤ vec_capacity output.new }
-    ensures ok { (s : Store) → Shows (M.heap memory.old) names.now s → IsWithin (birth_at (M.heap memory.old)) names.now s word → OnOk result (output.new.items ≡ output.old.items ++ line (text_as form) s (value_of (birth_at (M.heap memory.old)) names.now word)) }
-    ensures full { (s : Store) → Shows (M.heap memory.old) names.now s → IsWithin (birth_at (M.heap memory.old)) names.now s word → OnErr result (vec_capacity output.old < length (output.old.items ++ line (text_as form) s (value_of (birth_at (M.heap memory.old)) names.now word))) }
+    ensures ok { (s : Store) → Shows (M.heap memory.old) names.now s → IsWithin (birth_at (M.heap
+        memory.old)) names.now s word → OnOk result (output.new.items ≡ output.old.items ++ line
+        (text_as form) s (value_of (birth_at (M.heap memory.old)) names.now word)) }
+    ensures full { (s : Store) → Shows (M.heap memory.old) names.now s → IsWithin (birth_at (M.heap
+        memory.old)) names.now s word → OnErr result (vec_capacity output.old < length
+        (output.old.items ++ line (text_as form) s (value_of (birth_at (M.heap memory.old))
+        names.now word))) }
     ensures front { take (length output.old.items) output.new.items ≡ output.old.items }
     ensures err { OnErr result (output.new.items ≡ output.old.items) }
 {
@@ -113,7 +129,8 @@ fn append_line<M: Memory>(
     }
 }
 
-/// Appends a line for each value from the last, the topmost of an operand stack, down to the first, as `stack` (`Form::Plain`) and `pstack`
+/// Appends a line for each value from the last, the topmost of an operand stack, down to the first,
+/// as `stack` (`Form::Plain`) and `pstack`
 /// (`Form::Full`) show them. The memory is only read.
 ///
 /// `AllocError`: the output has no room for the lines, and a growth was refused; it is as it was.
@@ -129,8 +146,14 @@ pub fn append_stack<M: Memory>(
     ensures heap { M.heap memory.new ≡ M.heap memory.old }
     ensures grants { M.grants memory.new ≡ M.grants memory.old }
     ensures capacity { vec_capacity output.old ≤ vec_capacity output.new }
-    ensures ok { (s : Store) → Shows (M.heap memory.old) names.now s → AreWithin (M.heap memory.old) names.now s words.now → OnOk result (output.new.items ≡ output.old.items ++ flat_map (line (text_as form) s) (map (value_of (birth_at (M.heap memory.old)) names.now) (reverse words.now))) }
-    ensures full { (s : Store) → Shows (M.heap memory.old) names.now s → AreWithin (M.heap memory.old) names.now s words.now → OnErr result (vec_capacity output.old < length (output.old.items ++ flat_map (line (text_as form) s) (map (value_of (birth_at (M.heap memory.old)) names.now) (reverse words.now)))) }
+    ensures ok { (s : Store) → Shows (M.heap memory.old) names.now s → AreWithin (M.heap memory.old)
+        names.now s words.now → OnOk result (output.new.items ≡ output.old.items ++ flat_map (line
+        (text_as form) s) (map (value_of (birth_at (M.heap memory.old)) names.now) (reverse
+        words.now))) }
+    ensures full { (s : Store) → Shows (M.heap memory.old) names.now s → AreWithin (M.heap
+        memory.old) names.now s words.now → OnErr result (vec_capacity output.old < length
+        (output.old.items ++ flat_map (line (text_as form) s) (map (value_of (birth_at (M.heap
+        memory.old)) names.now) (reverse words.now)))) }
     ensures front { take (length output.old.items) output.new.items ≡ output.old.items }
     ensures err { OnErr result (output.new.items ≡ output.old.items) }
 {

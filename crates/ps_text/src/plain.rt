@@ -84,7 +84,8 @@ fn append_part<M: Memory>(
     Ok(())
 }
 
-/// Appends the bytes of a part of a string, or `NO_TEXT` for what can't be read, and what ends them.
+/// Appends the bytes of a part of a string, or `NO_TEXT` for what can't be read, and what ends
+/// them.
 /// Where the growth is refused nothing changes.
 fn append_text<M: Memory>(
     memory: &mut M,

@@ -9,7 +9,8 @@ use ps_word::words::Word;
 
 /// The name of the type of a content.
 fn type_of(content: Content) -> &'static [u8]
-    ensures { (births : ℕ → ℕ) (names : List (List ℕ)) → result.now ≡ rows.type_name (what_of births names content) }
+    ensures { (births : ℕ → ℕ) (names : List (List ℕ)) → result.now ≡ rows.type_name (what_of births
+        names content) }
 {
     match content {
         Content::Null | Content::Body(_) => b"nulltype",
@@ -28,7 +29,8 @@ fn type_of(content: Content) -> &'static [u8]
 
 /// The name of the type of a value, as `type` gives it.
 pub fn type_name(word: Word) -> &'static [u8]
-    ensures { (births : ℕ → ℕ) (names : List (List ℕ)) → result.now ≡ rows.type_name (value_of births names word).what }
+    ensures { (births : ℕ → ℕ) (names : List (List ℕ)) → result.now ≡ rows.type_name (value_of
+        births names word).what }
 {
     type_of(word.content())
 }

@@ -16,8 +16,10 @@ abbrev pub BeginWithFirst : List (List ℕ) → Type 0
 BeginWithFirst names = take (length first_names) names ≡ first_names
 
 -- for every store that the memory shows under such names, the operator did what its row says
-pub record ObservesMet (row : Store → List Value → Outcome (List Value)) (result : Result Unit ErrorName) (h : Heap) (before after : List Word) : Type 0 where
-  pub meets : (names : List (List ℕ)) (store : Store) → BeginWithFirst names → Shows h names store → AreWithin h names store before →
+pub record ObservesMet (row : Store → List Value → Outcome (List Value)) (result : Result Unit
+    ErrorName) (h : Heap) (before after : List Word) : Type 0 where
+  pub meets : (names : List (List ℕ)) (store : Store) → BeginWithFirst names → Shows h names store
+      → AreWithin h names store before →
       ObservesAs result (row store (values_in h names before)) names store h before after
 
 -- the places of the types among the types

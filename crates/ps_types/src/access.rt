@@ -17,13 +17,15 @@ use ps_operands::{Operands, plain};
 use ps_ops::arrays::{is_readable, is_writable};
 use ps_word::words::Word;
 
-/// The access of an array, of a string, or of a dictionary's object, which all references to it share; nothing else has one.
+/// The access of an array, of a string, or of a dictionary's object, which all references to it
+/// share; nothing else has one.
 pub fn access_of<M: Memory>(memory: &mut M, word: Word) -> Option<Access>
     requires sound { IsSound (M.heap memory.old) }
     requires held { IsValue (M.heap memory.old) word }
     ensures heap { M.heap memory.new ≡ M.heap memory.old }
     ensures grants { M.grants memory.new ≡ M.grants memory.old }
-    ensures access { (names : List (List ℕ)) (s : Store) → Shows (M.heap memory.old) names s → language.access_of s (value_of (birth_at (M.heap memory.old)) names word) ≡ result }
+    ensures access { (names : List (List ℕ)) (s : Store) → Shows (M.heap memory.old) names s
+        → language.access_of s (value_of (birth_at (M.heap memory.old)) names word) ≡ result }
 {
     if let Some(part) = word.as_part() {
         return Some(part.access);
@@ -34,7 +36,8 @@ pub fn access_of<M: Memory>(memory: &mut M, word: Word) -> Option<Access>
     Some(access(memory, address))
 }
 
-/// `X rcheck t`: whether an array, a string or a dictionary can be read. Raises `stackunderflow` and `typecheck`.
+/// `X rcheck t`: whether an array, a string or a dictionary can be read. Raises `stackunderflow`
+/// and `typecheck`.
 pub fn rcheck<M: Memory>(operands: &mut Operands, memory: &mut M) -> Result<(), ErrorName>
     requires ready { IsReady (M.heap memory.old) operands.old }
     ensures heap { M.heap memory.new ≡ M.heap memory.old }
@@ -52,7 +55,8 @@ pub fn rcheck<M: Memory>(operands: &mut Operands, memory: &mut M) -> Result<(), 
     Ok(())
 }
 
-/// `X wcheck t`: whether an array, a string or a dictionary can be written. Raises `stackunderflow` and `typecheck`.
+/// `X wcheck t`: whether an array, a string or a dictionary can be written. Raises `stackunderflow`
+/// and `typecheck`.
 pub fn wcheck<M: Memory>(operands: &mut Operands, memory: &mut M) -> Result<(), ErrorName>
     requires ready { IsReady (M.heap memory.old) operands.old }
     ensures heap { M.heap memory.new ≡ M.heap memory.old }

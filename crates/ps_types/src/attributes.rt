@@ -14,7 +14,8 @@ use ps_operands::{Operands, plain};
 
 /// `x cvlit x`: literal. Raises `stackunderflow`.
 pub fn cvlit(operands: &mut Operands) -> Result<(), ErrorName>
-    ensures row { (h : Heap) → IsReady h operands.old → Observes (λ store. rows.cvlit_row) result h operands.old operands.new }
+    ensures row { (h : Heap) → IsReady h operands.old → Observes (λ store. rows.cvlit_row) result h
+        operands.old operands.new }
     ensures ready { (h : Heap) → IsReady h operands.old → IsReady h operands.new }
 {
     let Some(word) = operands.top() else {
@@ -26,7 +27,8 @@ pub fn cvlit(operands: &mut Operands) -> Result<(), ErrorName>
 
 /// `x cvx x`: executable. Raises `stackunderflow`.
 pub fn cvx(operands: &mut Operands) -> Result<(), ErrorName>
-    ensures row { (h : Heap) → IsReady h operands.old → Observes (λ store. rows.cvx_row) result h operands.old operands.new }
+    ensures row { (h : Heap) → IsReady h operands.old → Observes (λ store. rows.cvx_row) result h
+        operands.old operands.new }
     ensures ready { (h : Heap) → IsReady h operands.old → IsReady h operands.new }
 {
     let Some(word) = operands.top() else {
@@ -38,7 +40,8 @@ pub fn cvx(operands: &mut Operands) -> Result<(), ErrorName>
 
 /// `x xcheck t`: whether it is executable. Raises `stackunderflow`.
 pub fn xcheck(operands: &mut Operands) -> Result<(), ErrorName>
-    ensures row { (h : Heap) → IsReady h operands.old → Observes (λ store. rows.xcheck_row) result h operands.old operands.new }
+    ensures row { (h : Heap) → IsReady h operands.old → Observes (λ store. rows.xcheck_row) result h
+        operands.old operands.new }
     ensures ready { (h : Heap) → IsReady h operands.old → IsReady h operands.new }
 {
     let Some(word) = operands.top() else {
@@ -69,10 +72,12 @@ pub fn reduces_to(access: Access, reduced: Access) -> bool
     reduction_of(access) <= reduction_of(reduced)
 }
 
-/// `X executeonly X`: an array or a string that can only be executed. Raises `stackunderflow`, `typecheck`, and `invalidaccess` where less is permitted.
+/// `X executeonly X`: an array or a string that can only be executed. Raises `stackunderflow`,
+/// `typecheck`, and `invalidaccess` where less is permitted.
 pub fn executeonly<M: Memory>(operands: &mut Operands, memory: &M) -> Result<(), ErrorName>
     requires ready { IsReady (M.heap memory.now) operands.old }
-    ensures row { Observes (λ store. rows.executeonly_row) result (M.heap memory.now) operands.old operands.new }
+    ensures row { Observes (λ store. rows.executeonly_row) result (M.heap memory.now) operands.old
+        operands.new }
     ensures ready { IsReady (M.heap memory.now) operands.new }
 {
     let Some(word) = operands.top() else {

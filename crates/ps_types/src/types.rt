@@ -11,7 +11,8 @@ use ps_language::errors::ErrorName;
 use ps_operands::Operands;
 use ps_word::values::{Content, Value};
 
-/// The number of `integertype` among the names that every run has met at its start; the other types follow it.
+/// The number of `integertype` among the names that every run has met at its start; the other types
+/// follow it.
 const FIRST_TYPE: u16 = 120;
 
 /// The place of a type among the types.
@@ -34,9 +35,11 @@ fn type_place(content: Content) -> u16
     }
 }
 
-/// `x type N`: the name of its type, executable. The names that the run has met begin with those of its start. Raises `stackunderflow`.
+/// `x type N`: the name of its type, executable. The names that the run has met begin with those of
+/// its start. Raises `stackunderflow`.
 pub fn type_of(operands: &mut Operands) -> Result<(), ErrorName>
-    ensures row { (h : Heap) → IsReady h operands.old → ObservesMet (λ store. rows.type_row) result h operands.old operands.new }
+    ensures row { (h : Heap) → IsReady h operands.old → ObservesMet (λ store. rows.type_row) result
+        h operands.old operands.new }
     ensures ready { (h : Heap) → IsReady h operands.old → IsReady h operands.new }
 {
     let Some(word) = operands.top() else {

@@ -13,4 +13,5 @@ returns-then-is_unlimited c = record {
       (c.in-Some-procedure_of.ensures.held h (first_held (IsValue h) _ ready.operands.values _ c.in-Some.ensures), omega (arith), omega (arith), omega (arith))
       (record { within = λ names store both. tt })
       (bind_begins h _ _ _ c.in-Some.ensures c.in-Some-procedure_of.ensures.part (sym c.is_unlimited.ensures ∙ c.if-is_unlimited.true));
+  framed = c.begin.ensures.framed;
 }

@@ -12,4 +12,5 @@ returns c = record {
       c.begin.ensures.controls exec_row h size ready (first_held (IsValue h) _ ready.operands.values _ c.in-Some.ensures)
       (record { within = λ names store both. first_held (IsWithin (birth_at h) names store) _ both.operands _ c.in-Some.ensures })
       (exec_begins h _ _ c.in-Some.ensures);
+  framed = c.begin.ensures.framed;
 }
