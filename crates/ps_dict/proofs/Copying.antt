@@ -1,6 +1,6 @@
 -- The pairs of one dictionary put into another: the plan, what is put together, and what holds it.
 use Rattle.std.proofs.Common.{◌≡◌, ◌≢◌, ℕ, zero, suc, ◌+◌, ◌*◌, ◌<◌, ◌≤◌, Bool, true, false, List, [], ◌∷◌, length, map, take, Option, Some, None, refl, sym, ap, ◌∙◌, arith, subst, length-append}
-use Rattle.std.specs.Prelude.{◌↔◌, nat_le, if◌then◌else◌}
+use Rattle.std.specs.Prelude.{◌↔◌, max, nat_le, if◌then◌else◌}
 use Rattle.std.specs.List.{AllByRecursion, AllPairs}
 use Rattle.std.proofs.lemmas.Bool.Decides.{nat_tests}
 use Rattle.std.proofs.lemmas.List.{length-map}
@@ -17,7 +17,7 @@ use Rattle.ps_mem.specs.Shows.{IsValue, AreValues, IsSound, IsWithin, AreWithin,
 use Rattle.ps_dict.specs.declared.copies.MergePlan.{MergePlan}
 use Rattle.ps_dict.specs.declared.copies.MergePlan.TheVariants.{Keep, Rewrite, Grow, Full}
 use Rattle.ps_dict.specs.Bodies.{whole_body}
-use Rattle.ps_dict.specs.Merges.{put_at, put_words, merged, merged_at, body_plan, merge_plan, merge_plan_at, merge_planned, merge_room}
+use Rattle.ps_dict.specs.Merges.{put_at, put_words, merged, merged_at, body_plan, merge_plan, merge_plan_at, merge_planned, merge_room, merge_room_of}
 use Rattle.ps_dict.specs.Places.{count_at, capacity_at, pairs_at, place_of}
 use Rattle.ps_dict.proofs.Merging.{AreHeld, all-merged, merged-shown, length-merged}
 use Rattle.ps_dict.proofs.Pairs.{all_words}
@@ -88,6 +88,17 @@ module _ (count capacity : ℕ) where
       × (n ≡ count) × (count ≤ capacity)
   plan-rewrite zero n e = cc
   plan-rewrite (suc more) n e = let says = rewrite-says n e in (omega arith, says.0, says.1)
+
+  pub plan-few : (more : ℕ) → count ≤ 21845 → merge_plan more count capacity ≢ Full
+  plan-few zero few = λ e. cc
+  plan-few (suc more) few =
+      let fits : nat_le count capacity_limit ≡ true = grind (arith, nat_tests) in
+      rw fits (by (nat_le count capacity))
+    where
+      by : (b : Bool)
+          → (if b then Rewrite count else Grow count (grown_capacity capacity count)) ≢ Full
+      by true = λ e. cc
+      by false = λ e. cc
 
   pub plan-grow : (more n c : ℕ) → merge_plan more count capacity ≡ Grow n c → (n ≡ count)
       × (c ≡ grown_capacity capacity count) × (capacity < count) × (count ≤ 21845)
@@ -361,6 +372,16 @@ module _ (h : Heap) (sound : IsSound h) (to from : ℕ) (target : StandsAs h Dic
       full-of (dictionary_at s (birth_at h to)) (dictionary_at s (birth_at h from)).pairs
       (omega (arith, n, k, fits)) (omega (arith, k, few))
 
+  -- where those of both have room in one
+  pub planned-few : count_at h to + count_at h from ≤ 21845 → merge_plan_at h to from ≢ Full
+  unfolding merge_plan_at
+  planned-few few =
+      let most = length-merged (pairs_at h to) (pairs_at h from) in
+      let one = length-pairs h to target sound in
+      let two = length-pairs h from source sound in
+      plan-few (length both) (capacity_at h to) (count_at h from)
+      (omega (arith, few, most, one, two))
+
   -- ---- the room in which they are put together
 
   pub room-both : 2 * (count_at h to + count_at h from) ≤ merge_room h to from
@@ -370,3 +391,23 @@ module _ (h : Heap) (sound : IsSound h) (to from : ℕ) (target : StandsAs h Dic
   pub room-body : 3 * grown_capacity (capacity_at h to) (length both) ≤ merge_room h to from
   unfolding merge_room
   room-body = omega arith
+
+  pub room-shown : (names : List (List ℕ)) (s : Store) → Shows h names s
+      → AllPairs (λ first later. first ≢ later) names → merge_room h to from ≡ merge_room_of
+      (dictionary_at s (birth_at h to)) (dictionary_at s (birth_at h from))
+  unfolding merge_room
+  room-shown names s shows distinct =
+      ap (λ n. max (2 * (n + count_at h from))
+      (3 * grown_capacity (capacity_at h to) (length both)))
+      (count-shown h to target sound names s shows)
+      ∙ (ap (λ n. max (2 * (length (dictionary_at s (birth_at h to)).pairs + n))
+      (3 * grown_capacity (capacity_at h to) (length both)))
+      (count-shown h from source sound names s shows)
+      ∙ (ap (λ n. max (2 * (length (dictionary_at s (birth_at h to)).pairs
+      + length (dictionary_at s (birth_at h from)).pairs))
+      (3 * grown_capacity n (length both)))
+      (capacity-shown h to target sound names s shows)
+      ∙ ap (λ n. max (2 * (length (dictionary_at s (birth_at h to)).pairs
+      + length (dictionary_at s (birth_at h from)).pairs))
+      (3 * grown_capacity (dictionary_at s (birth_at h to)).capacity n))
+      (sym (put-long names s shows distinct))))

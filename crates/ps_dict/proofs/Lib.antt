@@ -30,3 +30,4 @@ pub mod WholeBodies
 pub mod Overwriting
 pub mod NewBodies
 pub mod Copying
+pub mod Counting

@@ -82,3 +82,9 @@ unfoldable pub merge_room : Heap → (to from : ℕ) → ℕ
 merge_room h to from =
     max (2 * (count_at h to + count_at h from))
     (3 * grown_capacity (capacity_at h to) (length (merged_at h to from)))
+
+-- the same of two dictionaries
+abbrev pub merge_room_of : (to from : Dictionary) → ℕ
+merge_room_of to from =
+    max (2 * (length to.pairs + length from.pairs))
+    (3 * grown_capacity to.capacity (length (put_pairs to.pairs from.pairs)))

@@ -46,7 +46,8 @@ pairs_at h address = take (count_at h address) (pairs_of_words (fields_at h (bod
 
 -- ---- places
 
--- the place of an index, given by its words, in which a position goes that is looked for from a start on
+-- the place of an index, given by its words, in which a position goes that is looked for from a
+-- start on
 abbrev pub IsPlaceFor : List Word → (capacity start place : ℕ) → Type 0
 IsPlaceFor words capacity start place =
     (places : List (Option ℕ)) → words ≡ map index_word places → length places ≡ capacity

@@ -9,7 +9,8 @@ use Rattle.ps_dict.specs.declared.plans.PutPlan.{PutPlan}
 use Rattle.ps_dict.specs.declared.plans.PutPlan.TheVariants.{Replace, Append, Grow, Full}
 use Rattle.ps_dict.specs.Places.{count_at, capacity_at, pairs_at, place_of, first_place}
 
--- where the key is there, its value is replaced; else a pair goes last, in a greater body where the capacity is used up
+-- where the key is there, its value is replaced; else a pair goes last, in a greater body where the
+-- capacity is used up
 abbrev pub plan_from : Option ℕ → ℕ → ℕ → PutPlan
 plan_from (Some place) count capacity = Replace place
 plan_from None count capacity =
@@ -46,7 +47,8 @@ words_of Append = 0
 words_of (Grow capacity) = body_words capacity
 words_of Full = 0
 
--- stores and new bodies put and use up at most so many records of the slot and so many words, and nothing of what was granted else
+-- stores and new bodies put and use up at most so many records of the slot and so many words, and
+-- nothing of what was granted else
 pub record AfterChange (old new : Grants) (slot stores room : ℕ) : Type 0 where
   pub words : old.words ≤ new.words + room
   pub births : old.births ≤ new.births

@@ -20,7 +20,8 @@ moved_down [] place = []
 moved_down (x ∷ xs) zero = shifted x xs
 moved_down (x ∷ xs) (suc place) = x ∷ moved_down xs place
 
--- of so many pairs, the one at this place: the pairs behind it, nulls, the number of pairs, and the index
+-- of so many pairs, the one at this place: the pairs behind it, nulls, the number of pairs, and the
+-- index
 abbrev pub removal_records : ℕ → ℕ → ℕ
 removal_records count place = if place + 1 == count then 3 else 4
 

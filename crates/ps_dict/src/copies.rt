@@ -17,7 +17,7 @@ ghost use Rattle.ps_dict.specs.Puts.{AfterChange};
 
 use crate::bodies::{complete_body, write_new, write_over};
 use crate::dictionaries::{capacity, length};
-use crate::merges::merge_words;
+use crate::merges::{merge_words, merged_count};
 use crate::plans::{CAPACITY_LIMIT, next_capacity};
 use ps_language::kinds::Kind;
 use ps_mem::Memory;
@@ -62,6 +62,25 @@ impl MergePlan {
     }
 }
 
+/// What so many pairs, one at least, do to a dictionary of a capacity.
+fn plan_of(count: u32, capacity: u32) -> MergePlan
+    requires { capacity ≤ 21845 }
+    ensures plan { result ≡ body_plan count capacity }
+    ensures limit { (pairs grown : ℕ) → result ≡ MergePlan.Grow pairs grown → grown ≤ 21845 }
+{
+    if count <= capacity {
+        MergePlan::Rewrite { count }
+    } else if count <= CAPACITY_LIMIT {
+        let grown = next_capacity(capacity, count);
+        MergePlan::Grow {
+            count,
+            capacity: grown,
+        }
+    } else {
+        MergePlan::Full
+    }
+}
+
 /// What the pairs put together, given by their words, do to a dictionary of a capacity; the list
 /// becomes the words of the whole body. `AllocError`: the list lacks room for those, and its growth
 /// was refused; it is empty then.
@@ -86,20 +105,16 @@ fn plan_body<M: Memory>(
     ensures room { vec_capacity scratch.old ≤ vec_capacity scratch.new }
 {
     let count = (scratch.len() / 2) as u32;
-    if count <= capacity {
-        complete_body(memory, capacity, scratch)?;
-        Ok(MergePlan::Rewrite { count })
-    } else if count <= CAPACITY_LIMIT {
-        let grown = next_capacity(capacity, count);
-        complete_body(memory, grown, scratch)?;
-        Ok(MergePlan::Grow {
-            count,
+    let plan = plan_of(count, capacity);
+    match plan {
+        MergePlan::Rewrite { .. } => complete_body(memory, capacity, scratch)?,
+        MergePlan::Grow {
             capacity: grown,
-        })
-    } else {
-        scratch.clear();
-        Ok(MergePlan::Full)
+            ..
+        } => complete_body(memory, grown, scratch)?,
+        MergePlan::Keep | MergePlan::Full => scratch.clear(),
     }
+    Ok(plan)
 }
 
 /// What putting the pairs of `from` into `to` in order will do; the words of the whole body are put
@@ -145,6 +160,30 @@ pub fn plan_merge<M: Memory>(
     let capacity = capacity(memory, to);
     merge_words(memory, to, from, scratch)?;
     plan_body(memory, capacity, scratch)
+}
+
+/// The plan of `plan_merge` by a count of the pairs, which takes no list.
+pub fn count_merge<M: Memory>(memory: &mut M, to: u32, from: u32) -> MergePlan
+    requires sound { IsSound (M.heap memory.old) }
+    requires target { StandsAs (M.heap memory.old) Kind.Dictionary to 4 }
+    requires source { StandsAs (M.heap memory.old) Kind.Dictionary from 4 }
+    ensures heap { M.heap memory.new ≡ M.heap memory.old }
+    ensures grants { M.grants memory.new ≡ M.grants memory.old }
+    ensures plan { result ≡ merge_plan_at (M.heap memory.old) to from }
+    ensures limit { (count capacity : ℕ) → result ≡ MergePlan.Grow count capacity
+        → capacity ≤ 21845 }
+    ensures value { (names : List (List ℕ)) (s : Store) → Shows (M.heap memory.old) names s
+        → AllPairs (λ first later. first ≢ later) names
+        → result ≡ merge_planned (dictionary_at s (birth_at (M.heap memory.old) to))
+        (dictionary_at s (birth_at (M.heap memory.old) from)) }
+{
+    let more = length(memory, from);
+    if more == 0 {
+        return MergePlan::Keep;
+    }
+    let capacity = capacity(memory, to);
+    let count = merged_count(memory, to, from);
+    plan_of(count, capacity)
 }
 
 /// Puts the pairs of `from` into `to` in order, as `plan_merge` planned it in this memory, by the

@@ -13,8 +13,9 @@ const STRING: u64 = 7;
 /// Bits 57 and 58 are the access and bit 59 the attribute: what lies below them is the content.
 const CONTENT: u64 = 1 << 57;
 
-/// Whether two words are the same key (PLRM2, 3.3.9 and 8 'eq'): values of one type, names by their numbers, arrays by object, place and
-/// length. Attribute and access don't matter, and a string is the same as nothing. The words are values': neither is a body.
+/// Whether two words are the same key (PLRM2, 3.3.9 and 8 'eq'): values of one type, names by their
+/// numbers, arrays by object, place and length. Attribute and access don't matter, and a string is
+/// the same as nothing. The words are values': neither is a body.
 #[inline]
 pub fn is_same_key(left: Word, right: Word) -> bool
     requires left { IsWord left.0 }

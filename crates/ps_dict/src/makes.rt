@@ -43,7 +43,8 @@ pub fn new_dictionary<M: Memory>(memory: &mut M, capacity: u16) -> u32
         (6 + body_words capacity) 1 }
     ensures body_fresh { IsTrue ((M.grants memory.new).fresh (body_at (M.heap memory.new) result)) }
     ensures shows { (names : List (List ℕ)) (s : Store) → Shows (M.heap memory.old) names s
-        → Shows (M.heap memory.new) names (s ++ dictionary_object (empty_dictionary capacity) ∷ []) }
+        → Shows (M.heap memory.new) names (s ++ dictionary_object (empty_dictionary capacity)
+        ∷ []) }
 {
     let address = memory.alloc(Kind::Dictionary, 4);
     let body = memory.alloc_body(address, 3 * capacity as u32);
@@ -103,7 +104,8 @@ fn fill_last<M: Memory>(memory: &mut M, address: u32, key: Word, value: Word)
     ensures capacity { capacity_at (M.heap memory.new) address ≡ capacity_at (M.heap memory.old)
         address }
     ensures grants { M.grants memory.new ≡ M.grants memory.old }
-    ensures count { count_at (M.heap memory.new) address ≡ count_at (M.heap memory.old) address + 1 }
+    ensures count { count_at (M.heap memory.new) address
+        ≡ count_at (M.heap memory.old) address + 1 }
     ensures shows { (names : List (List ℕ)) (s : Store) → Shows (M.heap memory.old) names s
         → IsWithin (birth_at (M.heap memory.old)) names s key
         → IsWithin (birth_at (M.heap memory.old)) names s value → let d =
@@ -149,7 +151,8 @@ fn fill_pair<M: Memory>(memory: &mut M, address: u32, key: Word, value: Word)
     ensures capacity { capacity_at (M.heap memory.new) address ≡ capacity_at (M.heap memory.old)
         address }
     ensures grants { M.grants memory.new ≡ M.grants memory.old }
-    ensures count { count_at (M.heap memory.new) address ≤ count_at (M.heap memory.old) address + 1 }
+    ensures count { count_at (M.heap memory.new) address
+        ≤ count_at (M.heap memory.old) address + 1 }
     ensures shows { (names : List (List ℕ)) (s : Store) → Shows (M.heap memory.old) names s
         → AllPairs (λ first later. first ≢ later) names
         → IsWithin (birth_at (M.heap memory.old)) names s key

@@ -1,6 +1,6 @@
 //! The pairs of one dictionary put into another, in a list of words (PLRM2, 8 'copy').
 
-ghost use Rattle.std.specs.Prelude.{◌≡◌, ℕ, ◌+◌, ◌*◌, ◌<◌, ◌≤◌, ◌^◌, List, [], Some, OnOk, OnErr, length, take, map, slice_get, vec_capacity};
+ghost use Rattle.std.specs.Prelude.{◌≡◌, ℕ, ◌+◌, ◌*◌, ◌<◌, ◌≤◌, ◌^◌, List, [], Some, OnOk, OnErr, length, take, map, slice_get, vec_capacity, if◌then◌else◌};
 ghost use Rattle.std.specs.List.{AllByRecursion, AllPairs};
 ghost use Rattle.ps_language.specs.Value.{Store};
 ghost use Rattle.ps_language.specs.Access.{dictionary_at};
@@ -10,7 +10,7 @@ ghost use Rattle.ps_mem.specs.Index.{pairs_of_words};
 ghost use Rattle.ps_mem.specs.References.{StandsAs};
 ghost use Rattle.ps_mem.specs.Shows.{IsValue, AreValues, IsSound, Shows, pair_of, words_of_pairs};
 ghost use Rattle.ps_dict.specs.Keys.{IsKey};
-ghost use Rattle.ps_dict.specs.Merges.{merged};
+ghost use Rattle.ps_dict.specs.Merges.{merged, merged_at};
 ghost use Rattle.ps_dict.specs.Places.{count_at, pairs_at, place_of};
 
 use crate::dictionaries::{body, length, pair, position};
@@ -160,4 +160,50 @@ pub(crate) fn merge_words<M: Memory>(
         merge_pair(memory, to, from, place, scratch)?;
     }
     Ok(())
+}
+
+/// Whether the pair at a place of the source is one more among those that were put together before
+/// it. Both indexes answer.
+fn is_added<M: Memory>(memory: &mut M, to: u32, from: u32, place: u32) -> bool
+    requires sound { IsSound (M.heap memory.old) }
+    requires target { StandsAs (M.heap memory.old) Kind.Dictionary to 4 }
+    requires source { StandsAs (M.heap memory.old) Kind.Dictionary from 4 }
+    requires place { place < count_at (M.heap memory.old) from }
+    ensures heap { M.heap memory.new ≡ M.heap memory.old }
+    ensures grants { M.grants memory.new ≡ M.grants memory.old }
+    ensures answer { length (merged (pairs_at (M.heap memory.old) to)
+        (take (place + 1) (pairs_at (M.heap memory.old) from)))
+        ≡ length (merged (pairs_at (M.heap memory.old) to)
+        (take place (pairs_at (M.heap memory.old) from))) + (if result then 1 else 0) }
+{
+    let Some((key, _)) = pair(memory, from, place) else {
+        return false;
+    };
+    match position(memory, to, key) {
+        Some(_) => false,
+        None => match position(memory, from, key) {
+            Some(first) => first >= place,
+            None => true,
+        },
+    }
+}
+
+/// How many pairs there are once those of one dictionary are put into another in order, counted
+/// without a list.
+pub(crate) fn merged_count<M: Memory>(memory: &mut M, to: u32, from: u32) -> u32
+    requires sound { IsSound (M.heap memory.old) }
+    requires target { StandsAs (M.heap memory.old) Kind.Dictionary to 4 }
+    requires source { StandsAs (M.heap memory.old) Kind.Dictionary from 4 }
+    ensures heap { M.heap memory.new ≡ M.heap memory.old }
+    ensures grants { M.grants memory.new ≡ M.grants memory.old }
+    ensures count { result ≡ length (merged_at (M.heap memory.old) to from) }
+{
+    let pairs = length(memory, from);
+    let mut count = length(memory, to);
+    for place in 0..pairs {
+        if is_added(memory, to, from, place) {
+            count += 1;
+        }
+    }
+    count
 }

@@ -30,7 +30,8 @@ pub fn removal_records<M: Memory>(memory: &mut M, address: u32, place: u32) -> u
     requires known { StandsAs (M.heap memory.old) Kind.Dictionary address 4 }
     ensures heap { M.heap memory.new ≡ M.heap memory.old }
     ensures grants { M.grants memory.new ≡ M.grants memory.old }
-    ensures answer { result ≡ removals.removal_records (count_at (M.heap memory.old) address) place }
+    ensures answer { result
+        ≡ removals.removal_records (count_at (M.heap memory.old) address) place }
 {
     let count = length(memory, address);
     if place + 1 == count { 3 } else { 4 }

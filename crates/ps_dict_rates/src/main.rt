@@ -13,7 +13,7 @@ fn main(rt: HostRuntime) -> Result<()> {
         .filter_map(|word| word.as_str().parse::<u16>().ok())
         .next()
         .unwrap_or(0);
-    for size in [100, 1000, 20000] {
+    for size in [28, 100, 124, 1000, 1020, 20000] {
         rates::measure(&rt, "consecutive", size, 1, rounds)?;
         rates::measure(&rt, "spread", size, rates::SPREAD, rounds)?;
     }

@@ -8,3 +8,4 @@ pub mod Unmet
 pub mod Defining
 pub mod Removing
 pub mod Making
+pub mod Copying

@@ -82,12 +82,12 @@ more_records few most old new slot more logs =
       put_no_other = logs.put_no_other;
     }
 
-enough_room : (refused : Bool) (words : ℕ) → (IsTrue refused → words ≡ 0)
+pub enough_room : (refused : Bool) (words : ℕ) → (IsTrue refused → words ≡ 0)
     → refused && not (words == 0) ≡ false
 enough_room true words none = rw (none refl) refl
 enough_room false words none = refl
 
-lacks_some : (refused : Bool) (words : ℕ) → refused ≡ true → 0 < words
+pub lacks_some : (refused : Bool) (words : ℕ) → refused ≡ true → 0 < words
     → refused && not (words == 0) ≡ true
 lacks_some true words is some =
     let asks : (words == 0) ≡ false = grind (arith, nat_tests, some) in rw asks refl

@@ -1,6 +1,5 @@
 -- What taking a key out of a dictionary leaves, and what it lacks.
-use Rattle.std.proofs.Common.{◌≡◌, ℕ, ◌+◌, ◌≤◌, ◌<◌, arith, true, false, List, [], ◌∷◌, drop, length, Option, Some, None, Ok, Err, Result, refl, sym, ap, subst, ◌∙◌, inr, append-nil, AllPairs}
-use Rattle.std.proofs.lemmas.Bool.Decides.{nat_tests}
+use Rattle.std.proofs.Common.{◌≡◌, ℕ, ◌+◌, ◌≤◌, ◌<◌, arith, true, false, List, [], drop, Option, Some, None, Ok, Err, refl, sym, ap, subst, ◌∙◌, inr}
 use Rattle.std.proofs.lemmas.List.{drop-map}
 use Rattle.std.specs.Prelude.{◌==◌, Bool, if◌then◌else◌, slice_get, vec_capacity}
 use Rattle.ps_language.specs.declared.access.Access.{Access}

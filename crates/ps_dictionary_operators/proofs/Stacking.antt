@@ -1,16 +1,16 @@
 -- What the operators on the dictionary stack leave.
-use Rattle.std.proofs.Common.{◌≡◌, ℕ, ◌<◌, ◌-◌, ◌≤◌, arith, true, false, List, [], ◌∷◌, drop, length, None, Some, refl, sym}
+use Rattle.std.proofs.Common.{◌≡◌, ℕ, ◌<◌, ◌-◌, ◌≤◌, arith, true, false, List, [], ◌∷◌, drop, length, None, Some, refl, sym, ap}
 use Rattle.std.specs.Prelude.{nat_lt, map}
 use Rattle.std.proofs.lemmas.Bool.Decides.{nat_tests}
 use Rattle.std.proofs.lemmas.List.{length-map, drop-map}
 use Rattle.ps_language.specs.declared.access.Access.{Access}
 use Rattle.ps_language.specs.declared.errors.ErrorName.TheVariants.{StackUnderflow, TypeCheck, InvalidAccess, DictStackOverflow, DictStackUnderflow}
-use Rattle.ps_language.specs.Value.{Store}
+use Rattle.ps_language.specs.Value.{dictionary_value, Value, Store}
 use Rattle.ps_language.specs.Access.{is_readable, dictionary_at}
-use Rattle.ps_language.specs.Readers.{natural, push}
+use Rattle.ps_language.specs.Readers.{literal, natural, push}
 use Rattle.ps_language.specs.Effect.{raises}
-use Rattle.ps_language.specs.Rows.{stacking_row}
-use Rattle.ps_language.specs.RowsDictionaries.{begin_row, end_row, cleardictstack_row, currentdict_row, countdictstack_row}
+use Rattle.ps_language.specs.Rows.{around_row, stacking_row}
+use Rattle.ps_language.specs.RowsDictionaries.{begin_row, end_row, cleardictstack_row, currentdict_row, countdictstack_row, error_row}
 use Rattle.ps_stacks.specs.Tops.{first_of}
 use Rattle.ps_word.specs.declared.words.Word.{Word}
 use Rattle.ps_word.specs.Format.{content_in}
@@ -171,3 +171,16 @@ module _ (l : Lent) where
     ) (same_stack_is (scene_of l store) _);
     within = plain_within (birth_at l.heap) l.names store w plain;
   }
+
+-- $error
+pub error_pushes : (l : Lent) (w : Word)
+    → ((births : ℕ → ℕ) (names : List (List ℕ)) → value_of births names w
+    ≡ literal (dictionary_value (births l.error_dictionary)))
+    → ((births : ℕ → ℕ) (names : List (List ℕ)) (store : Store) → IsWithin births names store w)
+    → (store : Store) → IsShown l store
+    → PushesIn (around_row (λ around. error_row around.error_dictionary)) l w store
+error_pushes l w means within store shown = record {
+  is = ap (λ (v : Value). operands_effect (scene_of l store)
+      (push v (values_in l.heap l.names l.operands))) (sym (means (birth_at l.heap) l.names));
+  within = within (birth_at l.heap) l.names store;
+}

@@ -1,8 +1,7 @@
 -- A put of a key that is a string of which no name was met.
-use Rattle.std.proofs.Common.{◌≡◌, ◌≢◌, ℕ, ◌+◌, ◌-◌, ◌≤◌, ◌<◌, ◌++◌, arith, Bool, true, false, List, [], ◌∷◌, drop, take, length, Option, Some, None, Ok, Err, refl, sym, ap, subst, ◌∙◌, inr, AllPairs, append-nil, length-append, append_assoc}
+use Rattle.std.proofs.Common.{◌≡◌, ◌≢◌, ℕ, ◌+◌, ◌-◌, ◌≤◌, ◌<◌, ◌++◌, arith, Bool, true, false, List, [], ◌∷◌, drop, take, length, Option, Some, None, Ok, Err, refl, sym, ap, subst, ◌∙◌, inr, AllPairs, append-nil, length-append}
 use Rattle.std.specs.Prelude.{nat_lt, if◌then◌else◌}
 use Rattle.std.proofs.lemmas.Bool.Decides.{nat_tests}
-use Rattle.std.proofs.lemmas.List.{take-append-le, take_all}
 use Rattle.arrayvec.specs.ArrayVec.{ArrayVec}
 use Rattle.ps_language.specs.declared.errors.ErrorName.{ErrorName}
 use Rattle.ps_language.specs.declared.errors.ErrorName.TheVariants.{LimitCheck, VmError}
@@ -42,7 +41,7 @@ use Rattle.ps_acts.specs.declared.lent.Trial.{Trial}
 use Rattle.ps_acts.specs.Lent.{Lent, scene_of, IsShown, IsGood}
 use Rattle.ps_acts.specs.Acts.{Asked, no_rooms, needs_of_refused, IsReason, effect_in, Acts}
 use Rattle.ps_acts.proofs.Acting.{FormsName, naming_acts, raised_acts}
-use Rattle.ps_acts.proofs.Forming.{formed_acts, formed_good, formed_left, unmade_acts, Lacks, refused_acts, unnoted_acts}
+use Rattle.ps_acts.proofs.Forming.{formed_acts, formed_good, formed_left, unmade_acts, Lacks, refused_acts, unnoted_acts, cut_names}
 use Rattle.ps_acts.proofs.Meeting.{at_least-same, logs-same}
 use Rattle.ps_keys.specs.declared.keys.Key.{Key}
 use Rattle.ps_keys.specs.declared.keys.Key.TheVariants.{Met, Unmet, TooLong}
@@ -137,14 +136,6 @@ formed_as h old names (Unmet text) held are none done new w number number_is is 
       (last_named old text.items held are done w
       (is ∙ ap (λ (n : ℕ). record { content = Name n; executable = false }) number_is) word);
 }
-
--- the names that were cut to those before
-pub cut_names : (names more after : List (List ℕ)) (count : ℕ) → count ≡ length names
-    → take count ((names ++ more) ++ after) ≡ names
-cut_names names more after count is =
-    ap (take count) (append_assoc names more after)
-    ∙ (take-append-le count names (more ++ after) (omega (arith, is))
-    ∙ take_all count names (omega (arith, is)))
 
 -- a key that was not met has no place
 module _ (l : Lent) (good : IsGood l) (a : ℕ) (k : Word)

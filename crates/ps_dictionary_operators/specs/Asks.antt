@@ -8,6 +8,8 @@ use Rattle.ps_language.specs.Outcome.{Outcome, leaves, fails}
 use Rattle.ps_language.specs.Readers.{as_dictionary}
 use Rattle.ps_language.specs.RowsDictionaries.{storing_place}
 use Rattle.ps_language.specs.Value.{Value, Dictionary}
+use Rattle.ps_dict.specs.Merges as merges
+use Rattle.ps_dict.specs.Merges.{merge_planned, merge_room_of}
 use Rattle.ps_dict.specs.Places.{first_place}
 use Rattle.ps_dict.specs.Puts.{planned, records_of}
 use Rattle.ps_dict.specs.Removals.{removal_records}
@@ -80,3 +82,25 @@ undef_asked_by scene operands = nothing_asked scene
 
 abbrev pub undef_asks : Scene → Asked
 undef_asks scene = undef_asked_by scene scene.operands
+
+-- ---- copies
+
+-- of the pairs of one dictionary into another; they are put together outside
+abbrev pub merge_asked : (to from : Dictionary) → Asked
+merge_asked to from = record {
+  records = merges.records_of (merge_planned to from);
+  scratch = record no_rooms { words = merge_room_of to from };
+}
+
+-- of the dictionaries of these birth numbers
+abbrev pub copy_asked : Scene → (to from : Option ℕ) → Asked
+copy_asked scene (Some to) (Some from) =
+    merge_asked (dictionary_at scene.store to) (dictionary_at scene.store from)
+copy_asked scene to from = nothing_asked scene
+
+abbrev pub copy_asked_by : Scene → (operands : List Value) → Asked
+copy_asked_by scene (y ∷ x ∷ rest) = copy_asked scene (as_dictionary y) (as_dictionary x)
+copy_asked_by scene operands = nothing_asked scene
+
+abbrev pub copy_asks : Scene → Asked
+copy_asks scene = copy_asked_by scene scene.operands

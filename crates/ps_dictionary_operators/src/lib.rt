@@ -1,7 +1,9 @@
 //! The operators on dictionaries and on the dictionary stack (PLRM2, 8 'Operators': Dictionary).
 #![tactic(auto)]
 
+pub mod copies;
 pub mod definitions;
+pub mod errors;
 pub mod finds;
 pub mod makes;
 pub mod puts;

@@ -31,7 +31,7 @@ use ps_word::words::Word;
 
 /// The literal reference to a dictionary.
 #[inline]
-fn dictionary_word(address: u32) -> Word
+pub(crate) fn dictionary_word(address: u32) -> Word
     requires { address < 2 ^ 24 }
     ensures value { (births : ℕ → ℕ) (names : List (List ℕ)) → value_of births names result
         ≡ readers.literal (dictionary_value (births address)) }

@@ -1,5 +1,5 @@
 -- The key is taken out, or its name formed where it was not met; or one of the errors.
-use Rattle.std.proofs.Common.{◌∙◌, ap, refl, sym, [], ◌∷◌, drop}
+use Rattle.std.proofs.Common.{◌∙◌, refl, sym, [], drop}
 use Rattle.std.proofs.lemmas.Result.{err_from_is_err_and}
 use Rattle.ps_language.specs.declared.errors.ErrorName.TheVariants.{TypeCheck, InvalidAccess}
 use Rattle.ps_mem.specs.Heap.{birth_at}
