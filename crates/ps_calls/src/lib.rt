@@ -11,8 +11,6 @@ mod dictionaries;
 #[cfg(test)]
 mod names;
 #[cfg(test)]
-mod operators;
-#[cfg(test)]
 mod records;
 #[cfg(test)]
 mod searches;

@@ -12,7 +12,7 @@ use Rattle.ps_ops.specs.Does.{values_in}
 use Rattle.ps_ops.proofs.Operands.{first_three_split}
 use Rattle.ps_keys.proofs.Looking.{dictionary_is}
 use Rattle.ps_acts.specs.Lent.{Lent, scene_of, IsShown}
-use Rattle.ps_acts.specs.Acts.{Asked, stores}
+use Rattle.ps_acts.specs.Acts.{stores}
 use Rattle.ps_dictionary_operators.specs.Asks.{put_asks as dictionary_put_asks}
 use Rattle.ps_dispatch.specs.Joins.{is_third_dictionary, put_asks}
 

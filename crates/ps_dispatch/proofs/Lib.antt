@@ -1,5 +1,6 @@
+pub mod Copied
 pub mod Exiting
 pub mod Joining
 pub mod Named
-pub mod Noting
+pub mod Stepping
 pub mod Turning

@@ -5,7 +5,8 @@ use Rattle.ps_language.specs.Effect.{Scene}
 use Rattle.ps_language.specs.Readers.{as_dictionary}
 use Rattle.ps_language.specs.Value.{Value}
 use Rattle.ps_acts.specs.Acts.{Asked, stores}
-use Rattle.ps_dictionary_operators.specs.Asks.{put_asks as dictionary_put_asks}
+use Rattle.ps_dictionary_operators.specs.Asks.{copy_asks as dictionary_copy_asks, put_asks as dictionary_put_asks}
+use Rattle.ps_sequence_operators.specs.Asks.{copy_asks as sequence_copy_asks}
 
 -- whether the third operand is a dictionary
 abbrev pub is_third_dictionary : (operands : List Value) → Bool
@@ -17,3 +18,14 @@ abbrev pub put_asks : Scene → Asked
 put_asks scene =
     if is_third_dictionary scene.operands then dictionary_put_asks scene else
     stores one_stored scene
+
+-- whether the topmost operand is a dictionary
+abbrev pub is_first_dictionary : (operands : List Value) → Bool
+is_first_dictionary (y ∷ rest) = is_some (as_dictionary y)
+is_first_dictionary operands = false
+
+-- copy, onto a dictionary or onto anything else
+abbrev pub copy_asks : Scene → Asked
+copy_asks scene =
+    if is_first_dictionary scene.operands then dictionary_copy_asks scene else
+    sequence_copy_asks scene

@@ -1,7 +1,7 @@
 -- The row of each operator, and what it asks for that the language does not say.
 use Rattle.std.specs.Prelude.{Bool, true, false}
 use Rattle.ps_language.specs.declared.operators.Operator.{Operator}
-use Rattle.ps_language.specs.declared.operators.Operator.TheVariants.{Put, Copy, PutInterval, Astore, Search, EndDict, Def, Store as StoreKey, Undef, ErrorDict, NoAccess, ReadOnly, Cvs, CurrentContext, Fork, Join, Detach, Lock, Monitor, Condition, Wait, Notify, Yield, VmStatus, VmReclaim}
+use Rattle.ps_language.specs.declared.operators.Operator.TheVariants.{Put, Copy, PutInterval, Astore, Search, EndDict, Def, Store as StoreKey, Undef, NoAccess, ReadOnly, Cvs, CurrentContext, Fork, Join, Detach, Lock, Monitor, Condition, Wait, Notify, Yield, VmStatus, VmReclaim}
 use Rattle.ps_language.specs.Effect.{Scene}
 use Rattle.ps_language.specs.Scan.{scan}
 use Rattle.ps_language.specs.Rows.{Row, row_of}
@@ -9,7 +9,7 @@ use Rattle.ps_language.specs.ArrayRows.{topmost_count}
 use Rattle.ps_sequence_operators.specs.Asks.{putinterval_asks, reduce_asks, search_asks}
 use Rattle.ps_conversion_operators.specs.Asks.{cvs_asks}
 use Rattle.ps_dictionary_operators.specs.Asks.{def_asks, store_asks, undef_asks}
-use Rattle.ps_dispatch.specs.Joins.{put_asks}
+use Rattle.ps_dispatch.specs.Joins.{copy_asks, put_asks}
 use Rattle.ps_acts.specs.Acts.{Asked, nothing_asked, stores}
 
 abbrev pub row_now : Operator → Row
@@ -17,6 +17,7 @@ row_now operator = row_of scan operator
 
 abbrev pub asked_of : Operator → Scene → Asked
 asked_of Put = put_asks
+asked_of Copy = copy_asks
 asked_of Def = def_asks
 asked_of StoreKey = store_asks
 asked_of Undef = undef_asks
@@ -30,9 +31,7 @@ asked_of operator = nothing_asked
 
 -- those that are here
 abbrev pub is_done : Operator → Bool
-is_done Copy = false
 is_done EndDict = false
-is_done ErrorDict = false
 is_done CurrentContext = false
 is_done Fork = false
 is_done Join = false

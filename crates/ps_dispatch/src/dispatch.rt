@@ -6,7 +6,7 @@ ghost use Rattle.ps_acts.specs.Lent.{lent, IsGood};
 ghost use Rattle.ps_dispatch.specs.Operators.{asked_of, row_now, is_done};
 
 use crate::exits::exit;
-use crate::joins::{get, put};
+use crate::joins::{copy, get, put};
 use ps_acts::breaks::{Break, made, tried};
 use ps_acts::lent::{Context, Shared, Trial};
 use ps_control::control;
@@ -14,6 +14,7 @@ use ps_control::frames::Cause;
 use ps_conversion_operators::names::cvn;
 use ps_conversion_operators::numbers::cvi;
 use ps_conversion_operators::texts::cvs;
+use ps_dictionary_operators::errors::error_dictionary;
 use ps_dictionary_operators::makes::dict;
 use ps_dictionary_operators::reads::maxlength;
 use ps_dictionary_operators::removals::undef;
@@ -125,6 +126,7 @@ pub fn operate<M: Memory>(
             trial.refused,
         )),
         Operator::Put => put(context, shared, memory, trial),
+        Operator::Copy => copy(context, shared, memory, trial),
         Operator::Equals => output::equals(context, shared, memory),
         Operator::EqualsEquals => output::equals_equals(context, shared, memory),
         Operator::Stack => output::show_stack(context, shared, memory, Form::Plain),
@@ -160,10 +162,8 @@ pub fn operate<M: Memory>(
         Operator::Def => definitions::def(context, shared, memory, trial),
         Operator::Store => definitions::store(context, shared, memory, trial),
         Operator::Undef => undef(context, shared, memory, trial),
-        Operator::Copy
-        | Operator::EndDict
-        | Operator::ErrorDict
-        | Operator::CurrentContext
+        Operator::ErrorDict => error_dictionary(context, shared, memory),
+        Operator::CurrentContext
         | Operator::Fork
         | Operator::Join
         | Operator::Detach
@@ -174,6 +174,7 @@ pub fn operate<M: Memory>(
         | Operator::Notify
         | Operator::Yield
         | Operator::VmStatus
-        | Operator::VmReclaim => unreachable!(),
+        | Operator::VmReclaim
+        | Operator::EndDict => unreachable!(),
     }
 }

@@ -1,17 +1,22 @@
-//! Operators on composite objects of several types, joined by the type (PLRM2, 8 'Operators': get, put).
+//! Operators on composite objects of several types, joined by the type (PLRM2, 8 'Operators': get,
+//! put, copy).
 
 ghost use Rattle.std.specs.Prelude.{◌≡◌, ◌<◌};
-ghost use Rattle.ps_language.specs.Rows.{naming_row};
+ghost use Rattle.ps_language.specs.Rows.{changing_row, naming_row};
 ghost use Rattle.ps_language.specs.RowsDictionaries.{get_row, put_row};
+ghost use Rattle.ps_language.specs.RowsSequences.{copy_row};
 ghost use Rattle.ps_acts.specs.Acts.{Acts, nothing_asked};
 ghost use Rattle.ps_acts.specs.Lent.{lent, IsGood};
-ghost use Rattle.ps_dispatch.specs.Joins.{put_asks};
+ghost use Rattle.ps_dispatch.specs.Joins.{copy_asks, put_asks};
 
 use ps_acts::breaks::Break;
 use ps_acts::lent::{Context, Shared, Trial};
+use ps_dictionary_operators::copies::copy_dictionary;
 use ps_dictionary_operators::definitions::put_into_dictionary;
 use ps_dictionary_operators::finds::get_from_dictionary;
+use ps_language::errors::ErrorName;
 use ps_mem::{Memory, SLOTS};
+use ps_sequence_operators::copies::copy_sequence;
 use ps_sequence_operators::elements::{get_from_sequence, put_into_sequence};
 
 /// `X k get y`: the element of an array, the byte of a string, or the value of a key. Raises
@@ -60,4 +65,36 @@ pub fn put<M: Memory>(
         Some(address) => put_into_dictionary(context, shared, memory, trial, operands, address),
         None => put_into_sequence(context, shared, memory, trial),
     }
+}
+
+/// `x1 .. xn n copy x1 .. xn x1 .. xn`, or `X Y copy Z`: what `X` holds into the front of `Y`, two
+/// arrays, strings or dictionaries, and that part of `Y`. Raises `stackunderflow`, `typecheck`,
+/// `invalidaccess`, `rangecheck`, `limitcheck`, `stackoverflow`, and `VMerror` of a dictionary. Not
+/// made where the log takes too few records, or for want of room or memory.
+pub fn copy<M: Memory>(
+    context: &mut Context,
+    shared: &mut Shared,
+    memory: &mut M,
+    trial: Trial,
+) -> Result<(), Break>
+    requires slot { trial.slot < SLOTS }
+    requires good { IsGood
+        (lent (M.heap memory.old) (M.grants memory.old) context.old shared.old) }
+    ensures { Acts copy_asks (changing_row copy_row) trial result
+        (lent (M.heap memory.old) (M.grants memory.old) context.old shared.old)
+        (lent (M.heap memory.new) (M.grants memory.new) context.new shared.new) }
+{
+    let Some(target) = context.operands.top() else {
+        return copy_sequence(context, shared, memory, trial);
+    };
+    let Some(to) = target.as_dictionary() else {
+        return copy_sequence(context, shared, memory, trial);
+    };
+    let Some(source) = context.operands.peek(1) else {
+        return Err(Break::Raises(ErrorName::StackUnderflow));
+    };
+    let Some(from) = source.as_dictionary() else {
+        return Err(Break::Raises(ErrorName::TypeCheck));
+    };
+    copy_dictionary(context, shared, memory, trial, (target, source), to, from)
 }

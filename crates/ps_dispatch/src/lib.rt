@@ -5,5 +5,4 @@
 pub mod dispatch;
 pub mod exits;
 pub mod joins;
-pub mod notes;
 pub mod turns;

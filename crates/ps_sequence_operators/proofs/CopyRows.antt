@@ -124,13 +124,13 @@ two_tops (x ∷ y ∷ rest) a b one two =
     let second : b ≡ y = cc in
     λ i. Some (first i, second i)
 
-one_alone : {A : Type 0} (xs : List A) (a : A) → Some a ≡ first_of xs → None ≡ slice_get xs 1
+pub one_alone : {A : Type 0} (xs : List A) (a : A) → Some a ≡ first_of xs → None ≡ slice_get xs 1
     → xs ≡ a ∷ []
 one_alone [] a one two = cc
 one_alone (x ∷ []) a one two = let first : a ≡ x = cc in ap (λ z. z ∷ []) (sym first)
 one_alone (x ∷ y ∷ rest) a one two = cc
 
-top_kind : (xs : List Word) (w : Word) → Some w ≡ first_of xs
+pub top_kind : (xs : List Word) (w : Word) → Some w ≡ first_of xs
     → is_dictionary_at xs 0 ≡ is_some (words.as_dictionary (content_in w.0))
 top_kind [] w one = cc
 top_kind (x ∷ rest) w one =

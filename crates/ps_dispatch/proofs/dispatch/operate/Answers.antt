@@ -116,42 +116,42 @@ returns-in-BeginDict g c = named c.in-BeginDict.is c.made-in-BeginDict.ensures
 pub returns-in-Exec : goal.returns-in-Exec
 returns-in-Exec g c = named c.in-Exec.is c.made-in-Exec.ensures
     (controls_acts _ c.requires.good _ _ _ _ _
-    (c.exec.ensures.controls _ _ (ready c.requires.good)))
+    (c.exec.ensures.controls _ _ (ready c.requires.good)) c.exec.ensures.framed)
 
 pub returns-in-If : goal.returns-in-If
 returns-in-If g c = named c.in-If.is c.made-in-If.ensures
     (controls_acts _ c.requires.good _ _ _ _ _
-    (c.if_then.ensures.controls _ _ (ready c.requires.good)))
+    (c.if_then.ensures.controls _ _ (ready c.requires.good)) c.if_then.ensures.framed)
 
 pub returns-in-IfElse : goal.returns-in-IfElse
 returns-in-IfElse g c = named c.in-IfElse.is c.made-in-IfElse.ensures
     (controls_acts _ c.requires.good _ _ _ _ _
-    (c.if_then_else.ensures.controls _ _ (ready c.requires.good)))
+    (c.if_then_else.ensures.controls _ _ (ready c.requires.good)) c.if_then_else.ensures.framed)
 
 pub returns-in-For : goal.returns-in-For
 returns-in-For g c = named c.in-For.is c.made-in-For.ensures
     (controls_acts _ c.requires.good _ _ _ _ _
-    (c.begin_for.ensures.controls _ _ (ready c.requires.good)))
+    (c.begin_for.ensures.controls _ _ (ready c.requires.good)) c.begin_for.ensures.framed)
 
 pub returns-in-Repeat : goal.returns-in-Repeat
 returns-in-Repeat g c = named c.in-Repeat.is c.made-in-Repeat.ensures
     (controls_acts _ c.requires.good _ _ _ _ _
-    (c.begin_repeat.ensures.controls _ _ (ready c.requires.good)))
+    (c.begin_repeat.ensures.controls _ _ (ready c.requires.good)) c.begin_repeat.ensures.framed)
 
 pub returns-in-Loop : goal.returns-in-Loop
 returns-in-Loop g c = named c.in-Loop.is c.made-in-Loop.ensures
     (controls_acts _ c.requires.good _ _ _ _ _
-    (c.begin_loop.ensures.controls _ _ (ready c.requires.good)))
+    (c.begin_loop.ensures.controls _ _ (ready c.requires.good)) c.begin_loop.ensures.framed)
 
 pub returns-in-Stopped : goal.returns-in-Stopped
 returns-in-Stopped g c = named c.in-Stopped.is c.made-in-Stopped.ensures
     (controls_acts _ c.requires.good _ _ _ _ _
-    (c.begin_stopped.ensures.controls _ _ (ready c.requires.good)))
+    (c.begin_stopped.ensures.controls _ _ (ready c.requires.good)) c.begin_stopped.ensures.framed)
 
 pub returns-in-Bind : goal.returns-in-Bind
 returns-in-Bind g c = named c.in-Bind.is c.made-in-Bind.ensures
     (controls_acts _ c.requires.good _ _ _ _ _
-    (c.begin_bind.ensures.controls _ _ (ready c.requires.good)))
+    (c.begin_bind.ensures.controls _ _ (ready c.requires.good)) c.begin_bind.ensures.framed)
 
 pub returns-in-Rcheck : goal.returns-in-Rcheck
 returns-in-Rcheck g c = named c.in-Rcheck.is c.made-in-Rcheck.ensures
@@ -322,3 +322,7 @@ returns-in-Store g c = named c.in-Store.is refl c.store.ensures.acts
 
 pub returns-in-Undef : goal.returns-in-Undef
 returns-in-Undef g c = named c.in-Undef.is refl c.undef.ensures.acts
+
+pub returns-in-ErrorDict : goal.returns-in-ErrorDict
+returns-in-ErrorDict g c =
+    named c.in-ErrorDict.is refl (c.error_dictionary.ensures.acts c.args.trial)

@@ -9,5 +9,5 @@ returns g c = rw (c.second_access-access.ensures.heap, c.second_access-access.en
       acts = λ trial. came_acts trial _ _ _ _ _ _ c.made.ensures
           (controls_acts _ c.requires.good _ _ trial _ _
           (c.begin_forall.ensures.controls _ _ (ready c.requires.good)
-          c.second_access-access.ensures.access));
+          c.second_access-access.ensures.access) c.begin_forall.ensures.framed);
     })

@@ -1,0 +1,126 @@
+-- Unwindings, by the frame that goes.
+use Rattle.std.proofs.Common.{◌≡◌, ℕ, Bool, true, false, List, drop, length, Some, Ok, refl, sym, subst, ◌∙◌}
+use Rattle.std.specs.Prelude.{Result}
+use Rattle.ps_language.specs.Value.{Value, Store}
+use Rattle.ps_language.specs.World as world
+use Rattle.ps_language.specs.Effect.{Scene}
+use Rattle.ps_language.specs.StepValues.{Turn, goes, tries, breaks, errs, asks as leaves_to, leads}
+use Rattle.ps_language.specs.StepFrames.{unwound_turn, stopped_turn}
+use Rattle.ps_stacks.specs.Tops.{first_of}
+use Rattle.ps_mem.specs.Heap.{Heap, birth_at}
+use Rattle.ps_ops.specs.declared.failure.NotMade.{NotMade as Reason}
+use Rattle.ps_ops.specs.Does.{values_in}
+use Rattle.ps_ops.proofs.Operands.{first_split}
+use Rattle.ps_control.specs.declared.frames.Frame.{Frame}
+use Rattle.ps_control.specs.declared.frames.Frame.TheVariants.{Stopped}
+use Rattle.ps_control.specs.declared.frames.Cause.{Cause}
+use Rattle.ps_control.specs.declared.frames.Cause.TheVariants.{Stop}
+use Rattle.ps_control.specs.Frames.{frame_of, frames_in}
+use Rattle.ps_control.specs.Controls as controls
+use Rattle.ps_control.specs.Turns.{cause_of, ends_at_loop, ends_at_stopped, is_monitor, UnwindsAs}
+use Rattle.ps_control.proofs.FramesLeft.{unwinds_ended, unwinds_left}
+use Rattle.ps_acts.specs.declared.lent.Trial.{Trial}
+use Rattle.ps_acts.specs.Lent.{Lent, scene_of, around_of, IsShown, IsGood}
+use Rattle.ps_acts.proofs.Lifts.{ready}
+use Rattle.ps_turns.specs.declared.turned.Turned.{Turned}
+use Rattle.ps_turns.specs.declared.turned.Turned.TheVariants.{Goes}
+use Rattle.ps_turns.specs.Turns.{Turns, break_turn, nothing_more}
+use Rattle.ps_frames.specs.Steps.{unwinding_turn, gone_turn, truth_turn, with_frames}
+use Rattle.ps_frames.proofs.Framing.{goes_here}
+
+-- ---- by what operands and frames came to
+
+module _ (cause : Cause) (h : Heap) (names : List (List ℕ)) (store : Store)
+    (dictionaries : List Value) (after : controls.Stacks) where
+  ended_as : (turn : Turn) → UnwindsAs cause (Ok true) turn h names store dictionaries after
+      → leads (controls.scene_of h names store dictionaries after) ≡ turn
+  ended_as (goes scene output) did = λ i. goes (did.0 i) (sym did.1 i)
+  ended_as (tries command kept scene output) did = absurd did
+  ended_as (breaks on scene) did = absurd did
+  ended_as (errs error command kept) did = absurd did
+  ended_as (leaves_to calling kept) did = absurd did
+
+  left_as : (turn : Turn) → UnwindsAs cause (Ok false) turn h names store dictionaries after
+      → breaks (cause_of cause) (controls.scene_of h names store dictionaries after) ≡ turn
+  left_as (breaks on scene) did = λ i. breaks (sym did.0 i) (did.1 i)
+  left_as (goes scene output) did = absurd did
+  left_as (tries command kept scene output) did = absurd did
+  left_as (errs error command kept) did = absurd did
+  left_as (leaves_to calling kept) did = absurd did
+
+-- the frame of stopped ends one for stop
+stopped_ended : (births : ℕ → ℕ) (names : List (List ℕ)) (below : List world.Frame) (scene : Scene)
+    (cause : Cause) (frame : Frame) → ends_at_stopped cause frame ≡ true
+    → stopped_turn true below scene
+    ≡ unwound_turn (cause_of cause) (frame_of births names frame) below scene
+unfolding unwound_turn
+stopped_ended births names below scene Stop Stopped is = refl
+stopped_ended births names below scene cause frame is = cc
+
+module _ (l : Lent) (good : IsGood l) (cause : Cause) (top : Frame)
+    (is : Some top ≡ first_of l.frames) where
+  unwound_is : (s : Store) → unwound_turn (cause_of cause) (frame_of (birth_at l.heap) l.names top)
+      (frames_in l.heap l.names (drop 1 l.frames)) (scene_of l s) ≡ unwinding_turn cause l s
+  unwound_is s = sym (rw (first_split l.frames top is) refl)
+
+  -- over the frames below
+  pub gone_is : is_monitor top ≡ false → (s : Store) → IsShown l s
+      → gone_turn (ends_at_loop cause top) (ends_at_stopped cause top) cause
+      (with_frames (drop 1 l.frames) l) s ≡ unwinding_turn cause l s
+  gone_is free s shown = by (ends_at_loop cause top) (ends_at_stopped cause top) refl refl
+    where
+      by : (loop stopped : Bool) → ends_at_loop cause top ≡ loop
+          → ends_at_stopped cause top ≡ stopped
+          → gone_turn loop stopped cause (with_frames (drop 1 l.frames) l) s
+          ≡ unwinding_turn cause l s
+      by true stopped loop_is stopped_is =
+          ended_as cause l.heap l.names s (values_in l.heap l.names l.dictionaries)
+          (controls.stacks l.operands (drop 1 l.frames)) (unwinding_turn cause l s)
+          ((unwinds_ended l.heap (length l.program) l.operands l.frames (ready good) cause top is
+          loop_is).meets (around_of l) l.names s (values_in l.heap l.names l.dictionaries)
+          shown.shows (record { operands = shown.operands; frames = shown.frames }))
+      by false true loop_is stopped_is =
+          stopped_ended (birth_at l.heap) l.names (frames_in l.heap l.names (drop 1 l.frames))
+          (scene_of l s) cause top stopped_is ∙ unwound_is s
+      by false false loop_is stopped_is =
+          left_as cause l.heap l.names s (values_in l.heap l.names l.dictionaries)
+          (controls.stacks l.operands (drop 1 l.frames)) (unwinding_turn cause l s)
+          ((unwinds_left l.heap (length l.program) l.operands l.frames (ready good) cause top is
+          free loop_is stopped_is).meets (around_of l) l.names s
+          (values_in l.heap l.names l.dictionaries) shown.shows
+          (record { operands = shown.operands; frames = shown.frames }))
+
+-- ---- once the frame has gone
+
+module _ (l : Lent) (trial : Trial) (cause : Cause) (frame : Frame) where
+  abbrev gone : Lent → Store → Turn
+  gone = gone_turn (ends_at_loop cause frame) (ends_at_stopped cause frame) cause
+
+  pub gone_ended : IsGood l → ends_at_loop cause frame ≡ true
+      → Turns nothing_more gone trial (Ok Goes) l l
+  gone_ended good loop =
+      subst (λ (b : Bool). Turns nothing_more
+      (gone_turn b (ends_at_stopped cause frame) cause) trial (Ok Goes) l l) (sym loop)
+      (goes_here l good (gone_turn true (ends_at_stopped cause frame) cause) trial
+      (λ s shown. refl))
+
+  module _ (loop : ends_at_loop cause frame ≡ false) (result : Result Turned Reason) (new : Lent)
+    where
+      gone_on : (stopped : Bool) → ends_at_stopped cause frame ≡ stopped
+          → Turns nothing_more (gone_turn false stopped cause) trial result l new
+          → Turns nothing_more gone trial result l new
+      gone_on stopped is turns =
+          subst (λ (b : Bool). Turns nothing_more
+          (gone_turn b (ends_at_stopped cause frame) cause) trial result l new) (sym loop)
+          (subst (λ (b : Bool). Turns nothing_more (gone_turn false b cause) trial result l new)
+          (sym is) turns)
+
+      pub gone_stopped : ends_at_stopped cause frame ≡ true
+          → Turns nothing_more (truth_turn true) trial result l new
+          → Turns nothing_more gone trial result l new
+      gone_stopped is turns = gone_on true is turns
+
+      pub gone_left : ends_at_stopped cause frame ≡ false
+          → Turns nothing_more (break_turn (cause_of cause)) trial result l new
+          → Turns nothing_more gone trial result l new
+      gone_left is turns = gone_on false is turns

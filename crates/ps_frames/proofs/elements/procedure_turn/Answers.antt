@@ -1,0 +1,66 @@
+-- The element is done over the frames that are left, which are put back where it is not made.
+use Rattle.std.proofs.Common.{◌≡◌, ◌∷◌, drop, sym, ◌∙◌}
+use Rattle.ps_ops.proofs.Operands.{first_split}
+use Rattle.ps_control.specs.declared.frames.Frame.TheVariants.{Procedure}
+use Rattle.ps_acts.specs.Lent.{Lent, lent}
+use Rattle.ps_turns.proofs.Composing.{restacked_good, composes}
+use Rattle.ps_values.specs.Values.{done_turn, executed_asks}
+use Rattle.ps_frames.specs.Steps.{running_turn, rest_frames, frame_asks}
+use Rattle.ps_frames.proofs.Framing.{unmade_over}
+use Rattle.ps_frames.proofs.Taking.{rest_good, procedure_is, procedure_asks}
+use Rattle.ps_frames.proofs.elements.procedure_turn.Goals as goal
+
+pub do_element-requires-clause-good : goal.do_element-requires-clause-good
+do_element-requires-clause-good g c =
+    let l : Lent = lent (g.M.Memory.heap c.args.memory.now) (g.M.Memory.grants c.args.memory.now)
+    c.args.context.now c.args.shared.now in
+    let top : l.frames ≡ Procedure c.args.rest ∷ drop 1 l.frames =
+    first_split _ _ (sym c.requires.top) in
+    rw (c.element-word.ensures.heap, c.element-word.ensures.grants, c.advance.ensures.frames)
+    (restacked_good l l.operands (rest_frames c.args.rest (drop 1 l.frames))
+    (rest_good l c.args.rest (drop 1 l.frames) top c.requires.good) c.requires.good)
+
+pub returns-in-Ok : goal.returns-in-Ok
+returns-in-Ok g c =
+    let l : Lent = lent (g.M.Memory.heap c.args.memory.now) (g.M.Memory.grants c.args.memory.now)
+    c.args.context.now c.args.shared.now in
+    let top : l.frames ≡ Procedure c.args.rest ∷ drop 1 l.frames =
+    first_split _ _ (sym c.requires.top) in
+    composes l l.operands (rest_frames c.args.rest (drop 1 l.frames))
+    (frame_asks g.O.Operate.asks) (executed_asks g.O.Operate.asks c.element-word.result)
+    running_turn (done_turn c.element-word.result c.element-word.result) c.args.trial
+    (rest_good l c.args.rest (drop 1 l.frames) top c.requires.good)
+    (procedure_is l c.args.rest (drop 1 l.frames) top c.element-word.result
+    (λ s shown. c.element-word.ensures.value l.names s shown.shows))
+    (procedure_asks l c.args.rest (drop 1 l.frames) top c.element-word.result
+    (λ s shown. c.element-word.ensures.value l.names s shown.shows) g.O.Operate.asks)
+    c.in-Ok.turned _
+    (rw (
+      c.element-word.ensures.heap,
+      c.element-word.ensures.grants,
+      c.advance.ensures.frames,
+      c.in-Ok.is,
+    ) at c.do_element.ensures)
+
+pub returns-in-Err : goal.returns-in-Err
+returns-in-Err g c =
+    let l : Lent = lent (g.M.Memory.heap c.args.memory.now) (g.M.Memory.grants c.args.memory.now)
+    c.args.context.now c.args.shared.now in
+    let top : l.frames ≡ Procedure c.args.rest ∷ drop 1 l.frames =
+    first_split _ _ (sym c.requires.top) in
+    let turns = rw (
+      c.element-word.ensures.heap,
+      c.element-word.ensures.grants,
+      c.advance.ensures.frames,
+      c.in-Err.is,
+    ) at c.do_element.ensures in
+    rw (c.put_back.ensures (drop 1 l.frames) turns.framed ∙ sym top)
+    (unmade_over l (rest_frames c.args.rest (drop 1 l.frames))
+    (frame_asks g.O.Operate.asks) (executed_asks g.O.Operate.asks c.element-word.result)
+    running_turn (done_turn c.element-word.result c.element-word.result) c.args.trial
+    (rest_good l c.args.rest (drop 1 l.frames) top c.requires.good)
+    (procedure_is l c.args.rest (drop 1 l.frames) top c.element-word.result
+    (λ s shown. c.element-word.ensures.value l.names s shown.shows))
+    (procedure_asks l c.args.rest (drop 1 l.frames) top c.element-word.result
+    (λ s shown. c.element-word.ensures.value l.names s shown.shows) g.O.Operate.asks)
+    c.requires.good c.in-Err.reason _ turns)

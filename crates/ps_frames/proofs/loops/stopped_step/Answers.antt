@@ -1,0 +1,40 @@
+-- The boolean is pushed over the frames below, and the frame is put back where it is not made.
+use Rattle.std.proofs.Common.{◌≡◌, List, ◌∷◌, drop, refl, sym, ap, ◌∙◌}
+use Rattle.ps_ops.proofs.Operands.{first_split}
+use Rattle.ps_control.specs.declared.frames.Frame.{Frame}
+use Rattle.ps_control.specs.declared.frames.Frame.TheVariants.{Stopped}
+use Rattle.ps_acts.specs.Lent.{Lent, lent}
+use Rattle.ps_turns.specs.Turns.{nothing_more}
+use Rattle.ps_turns.proofs.Composing.{restacked_good, composes}
+use Rattle.ps_frames.specs.Steps.{running_turn, truth_turn}
+use Rattle.ps_frames.proofs.Framing.{below_good, unmade_over}
+use Rattle.ps_frames.proofs.Settling.{stopped_is}
+use Rattle.ps_frames.proofs.loops.stopped_step.Goals as goal
+use Rattle.std.proofs.Common.{false}
+
+pub push_truth-requires-clause-good : goal.push_truth-requires-clause-good
+push_truth-requires-clause-good g c =
+    let l : Lent = lent (g.M.Memory.heap c.args.memory.now) (g.M.Memory.grants c.args.memory.now)
+    c.args.context.now c.args.shared.now in
+    rw c.drop_top.ensures.frames
+    (restacked_good l l.operands (drop 1 l.frames) (below_good l c.requires.good) c.requires.good)
+
+pub returns-in-Ok : goal.returns-in-Ok
+returns-in-Ok g c =
+    let l : Lent = lent (g.M.Memory.heap c.args.memory.now) (g.M.Memory.grants c.args.memory.now)
+    c.args.context.now c.args.shared.now in
+    composes l l.operands (drop 1 l.frames) nothing_more nothing_more running_turn
+    (truth_turn false) c.args.trial (below_good l c.requires.good)
+    (stopped_is l (drop 1 l.frames) (first_split _ _ (sym c.requires.top))) (λ s shown. refl)
+    c.in-Ok.turned _ (rw (c.drop_top.ensures.frames, c.in-Ok.is) at c.push_truth.ensures)
+
+pub returns-in-Err : goal.returns-in-Err
+returns-in-Err g c =
+    let l : Lent = lent (g.M.Memory.heap c.args.memory.now) (g.M.Memory.grants c.args.memory.now)
+    c.args.context.now c.args.shared.now in
+    let top : l.frames ≡ Stopped ∷ drop 1 l.frames = first_split _ _ (sym c.requires.top) in
+    let turns = rw (c.drop_top.ensures.frames, c.in-Err.is) at c.push_truth.ensures in
+    rw (c.push_frame.ensures ∙ (ap (λ (fs : List Frame). Stopped ∷ fs) turns.framed ∙ sym top))
+    (unmade_over l (drop 1 l.frames) nothing_more nothing_more running_turn (truth_turn false)
+    c.args.trial (below_good l c.requires.good) (stopped_is l (drop 1 l.frames) top)
+    (λ s shown. refl) c.requires.good c.in-Err.reason _ turns)

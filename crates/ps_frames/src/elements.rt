@@ -1,0 +1,49 @@
+//! Steps by the elements of a procedure (PLRM2, 3.5).
+
+ghost use Rattle.std.specs.Prelude.{◌≡◌, ◌<◌, Some};
+ghost use Rattle.ps_acts.specs.Lent.{lent, IsGood};
+ghost use Rattle.ps_stacks.specs.Tops.{first_of};
+ghost use Rattle.ps_turns.specs.Turns.{Turns};
+ghost use Rattle.ps_frames.specs.Steps.{frame_asks, running_turn};
+
+use crate::frames::{advance, put_back};
+use ps_acts::lent::{Context, Shared, Trial};
+use ps_control::frames::Frame;
+use ps_mem::{Memory, SLOTS};
+use ps_ops::failure::NotMade;
+use ps_seq::arrays::element;
+use ps_turns::turned::Turned;
+use ps_values::operates::Operate;
+use ps_values::values::do_element;
+use ps_word::values::Part;
+
+/// The first element that is left of a procedure is done, as it stands now; the frame goes with the
+/// last. Raises what the element raises, with the element as the command.
+///
+/// Not made, with nothing changed: as the element.
+pub fn procedure_turn<O: Operate, M: Memory>(
+    rest: Part,
+    operators: &O,
+    context: &mut Context,
+    shared: &mut Shared,
+    memory: &mut M,
+    trial: Trial,
+) -> Result<Turned, NotMade>
+    requires slot { trial.slot < SLOTS }
+    requires good { IsGood
+        (lent (M.heap memory.old) (M.grants memory.old) context.old shared.old) }
+    requires top { first_of context.old.frames ≡ Some (Frame.Procedure rest) }
+    ensures { Turns (frame_asks O.asks) running_turn trial result
+        (lent (M.heap memory.old) (M.grants memory.old) context.old shared.old)
+        (lent (M.heap memory.new) (M.grants memory.new) context.new shared.new) }
+{
+    let word = element(memory, rest, 0);
+    advance(&mut context.frames, rest);
+    match do_element(word, word, operators, context, shared, memory, trial) {
+        Ok(turned) => Ok(turned),
+        Err(reason) => {
+            put_back(&mut context.frames, rest);
+            Err(reason)
+        }
+    }
+}

@@ -1,0 +1,65 @@
+//! The topmost frame goes, goes on, or is put back (PLRM2, 3.4).
+
+ghost use Rattle.std.specs.Prelude.{◌≡◌, ◌∷◌, ◌+◌, ◌-◌, ◌<◌, ◌≤◌, ◌^◌, List, Some, drop, length};
+ghost use Rattle.ps_control.specs.declared.frames.Frame.{Frame as TheFrame};
+ghost use Rattle.ps_stacks.specs.Tops.{first_of};
+ghost use Rattle.ps_frames.specs.Steps.{rest_frames};
+
+use ps_control::frames::{Frame, Frames};
+use ps_word::values::Part;
+
+/// Takes the topmost frame off, if there is one; then there is room for another.
+#[inline]
+pub fn drop_top(frames: &mut Frames)
+    ensures frames { frames.new ≡ drop 1 frames.old }
+    ensures room { length frames.new < 250 }
+{
+    if frames.len() > 0 {
+        frames.discard(1);
+    }
+}
+
+/// Goes one element further in the topmost frame, a procedure that has more, in place.
+#[inline]
+fn go_further(frames: &mut Frames, rest: Part)
+    requires top { first_of frames.old ≡ Some (Frame.Procedure rest) }
+    requires more { 1 < rest.length }
+    requires end { rest.offset + rest.length < 2 ^ 16 }
+    ensures { frames.new ≡ Frame.Procedure
+        (record rest { offset = rest.offset + 1; length = rest.length - 1 }) ∷ drop 1 frames.old }
+{
+    if let Frame::Procedure { rest } = frames.top_mut() {
+        rest.offset += 1;
+        rest.length -= 1;
+    }
+}
+
+/// Takes the first element of the topmost frame, a procedure: the frame goes with the last.
+#[inline]
+pub fn advance(frames: &mut Frames, rest: Part)
+    requires top { first_of frames.old ≡ Some (Frame.Procedure rest) }
+    requires end { rest.offset + rest.length < 2 ^ 16 }
+    ensures frames { frames.new ≡ rest_frames rest (drop 1 frames.old) }
+    ensures room { rest.length ≤ 1 → length frames.new < 250 }
+{
+    if rest.length > 1 {
+        go_further(frames, rest);
+    } else {
+        drop_top(frames);
+    }
+}
+
+/// Puts the first element back that was taken.
+pub fn put_back(frames: &mut Frames, rest: Part)
+    requires some { 1 < rest.length → 1 ≤ length frames.old }
+    requires room { rest.length ≤ 1 → length frames.old < 250 }
+    ensures { (below : List TheFrame) → frames.old ≡ rest_frames rest below
+        → frames.new ≡ Frame.Procedure rest ∷ below }
+{
+    let frame = Frame::Procedure { rest };
+    if rest.length > 1 {
+        frames.set_top(frame);
+    } else {
+        frames.push_reserved(frame);
+    }
+}

@@ -1,0 +1,10 @@
+//! A step by the topmost frame, and one frame of an unwinding (PLRM2, 3.4, 3.5, 3.10).
+#![tactic(auto)]
+
+pub mod binds;
+pub mod elements;
+pub mod frames;
+pub mod loops;
+pub mod places;
+pub mod steps;
+pub mod unwindings;

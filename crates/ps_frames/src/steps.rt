@@ -1,0 +1,62 @@
+//! A step of a running context by its topmost frame (PLRM2, 3.4, 3.5).
+
+ghost use Rattle.std.specs.Prelude.{◌≡◌, ◌<◌, IsTrue, Some};
+ghost use Rattle.ps_acts.specs.Lent.{lent, IsGood};
+ghost use Rattle.ps_stacks.specs.Tops.{first_of};
+ghost use Rattle.ps_turns.specs.Turns.{Turns};
+ghost use Rattle.ps_frames.specs.Steps.{frame_asks, is_stepped, running_turn};
+
+use crate::elements::procedure_turn;
+use crate::loops::{for_step, forall_step, loop_step, repeat_step, stopped_step};
+use ps_acts::lent::{Context, Shared, Trial};
+use ps_control::frames::Frame;
+use ps_mem::{Memory, SLOTS};
+use ps_ops::failure::NotMade;
+use ps_turns::turned::Turned;
+use ps_values::operates::Operate;
+
+/// A step by the topmost frame: an element of a procedure is done, a loop turns or ends, or the
+/// frame of `stopped` goes. Raises what an element raises, and `stackoverflow` and
+/// `execstackoverflow` of a loop.
+///
+/// Not made, with nothing changed: as an element, or the note of an error.
+#[inline]
+pub fn frame_turn<O: Operate, M: Memory>(
+    top: Frame,
+    operators: &O,
+    context: &mut Context,
+    shared: &mut Shared,
+    memory: &mut M,
+    trial: Trial,
+) -> Result<Turned, NotMade>
+    requires slot { trial.slot < SLOTS }
+    requires good { IsGood
+        (lent (M.heap memory.old) (M.grants memory.old) context.old shared.old) }
+    requires top { first_of context.old.frames ≡ Some top }
+    requires here { IsTrue (is_stepped top) }
+    ensures { Turns (frame_asks O.asks) running_turn trial result
+        (lent (M.heap memory.old) (M.grants memory.old) context.old shared.old)
+        (lent (M.heap memory.new) (M.grants memory.new) context.new shared.new) }
+{
+    match top {
+        Frame::Procedure { rest } => {
+            procedure_turn(rest, operators, context, shared, memory, trial)
+        }
+        Frame::Repeat { count, body } => repeat_step(count, body, context, shared, memory, trial),
+        Frame::Loop { body } => loop_step(body, context, shared, memory, trial),
+        Frame::For {
+            control,
+            increment,
+            limit,
+            body,
+        } => for_step(
+            control, increment, limit, body, context, shared, memory, trial,
+        ),
+        Frame::Forall { over, at, body } => {
+            forall_step(over, at, body, context, shared, memory, trial)
+        }
+        Frame::Stopped => stopped_step(context, shared, memory, trial),
+        Frame::Text { .. } | Frame::Pending { .. } | Frame::Monitor { .. } | Frame::Bind { .. } =>
+            unreachable!(),
+    }
+}

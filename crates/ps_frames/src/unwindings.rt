@@ -1,0 +1,107 @@
+//! One frame of an unwinding for `stop`, `exit` or `quit` (PLRM2, 3.10, 8 'Operators': Control).
+
+ghost use Rattle.std.specs.Prelude.{◌≡◌, ◌<◌, Some, false};
+ghost use Rattle.ps_acts.specs.Lent.{lent, IsGood};
+ghost use Rattle.ps_control.specs.Turns as control;
+ghost use Rattle.ps_stacks.specs.Tops.{first_of};
+ghost use Rattle.ps_turns.specs.Turns.{Turns, nothing_more};
+ghost use Rattle.ps_frames.specs.Steps.{gone_turn, unwinding_turn};
+
+use crate::frames::drop_top;
+use crate::loops::push_truth;
+use ps_acts::lent::{Context, Shared, Trial};
+use ps_control::frames::{Cause, Frame, push_frame};
+use ps_mem::{Memory, SLOTS};
+use ps_ops::failure::NotMade;
+use ps_turns::breaks::break_off;
+use ps_turns::turned::Turned;
+
+/// Whether an unwinding ends at a loop.
+fn ends_at_loop(cause: Cause, frame: Frame) -> bool
+    ensures { result ≡ control.ends_at_loop cause frame }
+{
+    match frame {
+        Frame::Repeat { .. } | Frame::Loop { .. } | Frame::For { .. } | Frame::Forall { .. } =>
+            match cause {
+                Cause::Exit => true,
+                Cause::Stop | Cause::Quit => false,
+            },
+        _ => false,
+    }
+}
+
+/// Whether an unwinding ends at the frame of `stopped`.
+fn ends_at_stopped(cause: Cause, frame: Frame) -> bool
+    ensures { result ≡ control.ends_at_stopped cause frame }
+{
+    match frame {
+        Frame::Stopped => match cause {
+            Cause::Stop => true,
+            Cause::Exit | Cause::Quit => false,
+        },
+        _ => false,
+    }
+}
+
+/// An unwinding once its topmost frame has gone: the context runs, a boolean is pushed, or it goes
+/// on, and where no frame is left the context ends. Raises `stackoverflow` with `stopped` as the
+/// command.
+///
+/// Not made, with nothing changed: as the note of an error, or the end of a context.
+fn after_frame<M: Memory>(
+    cause: Cause,
+    frame: Frame,
+    context: &mut Context,
+    shared: &mut Shared,
+    memory: &mut M,
+    trial: Trial,
+) -> Result<Turned, NotMade>
+    requires slot { trial.slot < SLOTS }
+    requires good { IsGood
+        (lent (M.heap memory.old) (M.grants memory.old) context.old shared.old) }
+    ensures { Turns nothing_more (gone_turn (control.ends_at_loop cause frame)
+        (control.ends_at_stopped cause frame) cause) trial result
+        (lent (M.heap memory.old) (M.grants memory.old) context.old shared.old)
+        (lent (M.heap memory.new) (M.grants memory.new) context.new shared.new) }
+{
+    if ends_at_loop(cause, frame) {
+        return Ok(Turned::Goes);
+    }
+    if ends_at_stopped(cause, frame) {
+        return push_truth(true, context, shared, memory, trial);
+    }
+    break_off(cause, context, shared, memory, trial)
+}
+
+/// One frame of an unwinding goes, which holds no lock. The unwinding ends at the frame of
+/// `stopped` for stop, where true is pushed, and at a loop for exit; else it goes on, and the
+/// context ends with the last frame. Raises `stackoverflow` with `stopped` as the command; the frame goes then
+/// too.
+///
+/// Not made, with nothing changed: as the note of an error, or the end of a context.
+pub fn unwind_turn<M: Memory>(
+    cause: Cause,
+    top: Frame,
+    context: &mut Context,
+    shared: &mut Shared,
+    memory: &mut M,
+    trial: Trial,
+) -> Result<Turned, NotMade>
+    requires slot { trial.slot < SLOTS }
+    requires good { IsGood
+        (lent (M.heap memory.old) (M.grants memory.old) context.old shared.old) }
+    requires top { first_of context.old.frames ≡ Some top }
+    requires free { control.is_monitor top ≡ false }
+    ensures { Turns nothing_more (unwinding_turn cause) trial result
+        (lent (M.heap memory.old) (M.grants memory.old) context.old shared.old)
+        (lent (M.heap memory.new) (M.grants memory.new) context.new shared.new) }
+{
+    drop_top(&mut context.frames);
+    match after_frame(cause, top, context, shared, memory, trial) {
+        Ok(turned) => Ok(turned),
+        Err(reason) => {
+            push_frame(&mut context.frames, top);
+            Err(reason)
+        }
+    }
+}

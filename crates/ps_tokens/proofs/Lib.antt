@@ -1,0 +1,13 @@
+pub mod Alike
+pub mod Doing
+pub mod Elements
+pub mod Formed
+pub mod Makes
+pub mod MissingTurns
+pub mod Naming
+pub mod Plain
+pub mod RoomLemmas
+pub mod ShortLaw
+pub mod StringTurns
+pub mod Unmet
+pub mod Walking

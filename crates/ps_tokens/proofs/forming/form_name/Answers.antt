@@ -1,0 +1,11 @@
+-- There would be too many.
+use Rattle.std.proofs.Common.{◌≡◌, Err, ap, ◌∙◌}
+use Rattle.ps_names.specs.declared.names.NamesFault.TheVariants.{Full}
+use Rattle.ps_tokens.proofs.Naming.{over_full}
+use Rattle.ps_tokens.proofs.forming.form_name.Goals as goal
+
+pub returns-in-Err-clause-full : goal.returns-in-Err-clause-full
+returns-in-Err-clause-full c = λ is.
+    let same : c.in-Err.fault ≡ Full = cc in
+    let full = c.intern.ensures.full.0 (c.in-Err.is ∙ ap Err same) in
+    over_full c.args.names.now c.args.text.now full.0 full.2

@@ -1,0 +1,5 @@
+pub mod Missing
+pub mod Names
+pub mod Procedures
+pub mod Short
+pub mod Tokens

@@ -1,0 +1,220 @@
+-- What steps are composed of: a turn that is said otherwise, stacks that are changed, and a turn
+-- over changed stacks.
+use Rattle.std.proofs.Common.{◌≡◌, ℕ, arith, Bool, List, length, Ok, Err, refl, sym, ap, subst, ◌∙◌, append-nil}
+use Rattle.std.specs.Prelude.{Result}
+use Rattle.ps_language.specs.Value.{Store}
+use Rattle.ps_language.specs.World.{running}
+use Rattle.ps_language.specs.StepValues.{Turn, goes, tries, breaks, errs, asks as leaves_to, leads}
+use Rattle.ps_language.specs.Machines.{with_scene, settled, reaches}
+use Rattle.ps_word.specs.declared.words.Word.{Word}
+use Rattle.ps_mem.specs.Heap.{birth_at}
+use Rattle.ps_mem.specs.Shows.{AreValues, AreWithin}
+use Rattle.ps_mem.proofs.KeepsLemmas.{AreValues-kept}
+use Rattle.ps_ops.specs.declared.failure.NotMade.{NotMade as Reason}
+use Rattle.ps_ops.specs.declared.failure.NotMade.TheVariants.{LogFull, LogClosed, NeedSpace, Memory}
+use Rattle.ps_ops.specs.Does.{KeepsLogsWithin}
+use Rattle.ps_control.specs.declared.frames.Frame.{Frame}
+use Rattle.ps_control.specs.Frames.{AreFrames, AreFramesWithin}
+use Rattle.ps_acts.specs.declared.lent.Trial.{Trial}
+use Rattle.ps_acts.specs.Lent.{Lent, scene_of, IsShown, IsGood}
+use Rattle.ps_acts.specs.Acts.{Asked, Needs, IsReason, Stays}
+use Rattle.ps_acts.proofs.Kept.{frames-good}
+use Rattle.ps_acts.proofs.Meeting.{keeps-same, lasts-same, logs-same, stays_as, at_least-same}
+use Rattle.ps_turns.specs.declared.turned.Turned.{Turned}
+use Rattle.ps_turns.specs.declared.turned.Turned.TheVariants.{Goes}
+use Rattle.ps_turns.specs.Turns.{IsTurned, TurnsBy, Turns, turn_needs, needs_in}
+
+-- ---- the same turn, said otherwise
+
+pub turns_as : (asks other_asks : Lent → Store → Asked) (turn other : Lent → Store → Turn)
+    (trial : Trial) (result : Result Turned Reason) (old new : Lent)
+    → ((s : Store) → IsShown old s → turn old s ≡ other old s)
+    → ((s : Store) → IsShown old s → asks old s ≡ other_asks old s)
+    → Turns asks turn trial result old new → Turns other_asks other trial result old new
+turns_as asks other_asks turn other trial result old new same asked turns = record {
+  meets = λ s shown. subst (λ (t : Turn). TurnsBy
+      (turn_needs trial.refused (other_asks old s) (birth_at old.heap old.error_dictionary)
+      (scene_of old s) t) trial result t s old new) (same s shown)
+      (subst (λ (a : Asked). TurnsBy
+      (turn_needs trial.refused a (birth_at old.heap old.error_dictionary) (scene_of old s)
+      (turn old s)) trial result (turn old s) s old new) (asked s shown) (turns.meets s shown));
+  good = turns.good;
+  keeps = turns.keeps;
+  stays = turns.stays;
+  logs = turns.logs;
+  framed = turns.framed;
+  under_way = turns.under_way;
+}
+
+-- ---- other stacks
+
+module _ (l : Lent) (operands : List Word) (frames : List Frame) where
+  abbrev pub restacked : Lent
+  restacked = record l { operands = operands; frames = frames }
+
+  -- they are good, and within each store that is shown
+  pub record AreGood : Type 0 where
+    pub operands_held : AreValues l.heap operands
+    pub frames_held : AreFrames l.heap (length l.program) frames
+    pub operands_within : (s : Store) → IsShown l s → AreWithin l.heap l.names s operands
+    pub frames_within : (s : Store) → IsShown l s → AreFramesWithin l.heap l.names s frames
+
+  pub restacked_good : AreGood → IsGood l → IsGood restacked
+  restacked_good are good = record {
+    sound = good.sound;
+    operands = are.operands_held;
+    dictionaries = good.dictionaries;
+    frames = are.frames_held;
+    error_stands = good.error_stands;
+    names = good.names;
+    first = good.first;
+    empty = good.empty;
+  }
+
+  pub restacked_shown : AreGood → (s : Store) → IsShown l s → IsShown restacked s
+  restacked_shown are s shown = record {
+    shows = shown.shows;
+    operands = are.operands_within s shown;
+    dictionaries = shown.dictionaries;
+    frames = are.frames_within s shown;
+  }
+
+  -- ---- a turn that leaves them
+
+  module _ (asks : Lent → Store → Asked) (turn : Lent → Store → Turn) (trial : Trial)
+      (are : AreGood)
+      (leaves : (s : Store) → IsShown l s → turn l s ≡ leads (scene_of restacked s)) where
+    led : (s : Store) → IsShown l s → IsTurned trial.refused (leads (scene_of restacked s)) Goes s l
+        restacked
+    led s shown = record {
+      after = s;
+      shown = restacked_shown are s shown;
+      lasts = lasts-same s;
+      is = λ machine was address.
+          (λ i. reaches (settled (record (with_scene (scene_of restacked s) running machine)
+          { printed = (append-nil machine.printed ∙ was) i })));
+    }
+
+    pub goes_on : IsGood l → Turns asks turn trial (Ok Goes) l restacked
+    goes_on good = record {
+      meets = λ s shown. record {
+        did = subst (λ (t : Turn). IsTurned trial.refused t Goes s l restacked)
+            (sym (leaves s shown)) (led s shown);
+        logs = logs-same _ l.grants trial.slot;
+      };
+      good = restacked_good are good;
+      keeps = keeps-same l.heap;
+      stays = stays_as l restacked refl refl refl (omega arith) (at_least-same _);
+      logs = logs-same _ l.grants trial.slot;
+      framed = tt;
+      under_way = tt;
+    }
+
+  -- ---- a turn over them
+
+  needs_same : (refused : Bool) (asked : Asked) (birth : ℕ) (s : Store) (turn : Turn)
+      → turn_needs refused asked birth (scene_of restacked s) turn
+      ≡ turn_needs refused asked birth (scene_of l s) turn
+  needs_same refused asked birth s (goes scene output) = refl
+  needs_same refused asked birth s (tries command kept scene output) = refl
+  needs_same refused asked birth s (breaks cause scene) = refl
+  needs_same refused asked birth s (errs error command kept) = refl
+  needs_same refused asked birth s (leaves_to calling kept) = refl
+
+  reason_same : (needs : Needs) (slot : ℕ) (new : Lent) (reason : Reason)
+      → IsReason needs slot restacked new reason
+      → IsReason needs slot l (record new { operands = l.operands; frames = l.frames }) reason
+  reason_same needs slot new LogFull why = why
+  reason_same needs slot new LogClosed why = why
+  reason_same needs slot new (NeedSpace words) why = why
+  reason_same needs slot new Memory why = why
+
+  module _ (asks over_asks : Lent → Store → Asked) (turn over : Lent → Store → Turn)
+      (trial : Trial) (are : AreGood)
+      (same : (s : Store) → IsShown l s → over restacked s ≡ turn l s)
+      (asked : (s : Store) → IsShown l s → over_asks restacked s ≡ asks l s) where
+    same_needs : (s : Store) → IsShown l s
+        → needs_in trial over_asks over restacked s ≡ needs_in trial asks turn l s
+    same_needs s shown =
+        needs_same trial.refused (over_asks restacked s) (birth_at l.heap l.error_dictionary) s
+        (over restacked s)
+        ∙ (λ i. turn_needs trial.refused (asked s shown i) (birth_at l.heap l.error_dictionary)
+        (scene_of l s) (same s shown i))
+
+    stays_over : (new : Lent) → Stays restacked new → Stays l new
+    stays_over new stays = record {
+      program = stays.program;
+      error_dictionary = stays.error_dictionary;
+      formed = stays.formed;
+      names = stays.names;
+      capacity = stays.capacity;
+      scratch = stays.scratch;
+    }
+
+    pub composes : (turned : Turned) (new : Lent)
+        → Turns over_asks over trial (Ok turned) restacked new
+        → Turns asks turn trial (Ok turned) l new
+    composes turned new turns = record {
+      meets = λ s shown.
+          let by = turns.meets s (restacked_shown are s shown) in
+          let did : IsTurned trial.refused (over restacked s) turned s l new = record {
+            after = by.did.after;
+            shown = by.did.shown;
+            lasts = by.did.lasts;
+            is = by.did.is;
+          } in
+          record {
+            did = subst (λ (t : Turn). IsTurned trial.refused t turned s l new) (same s shown) did;
+            logs = subst (λ (n : Needs). KeepsLogsWithin n.records l.grants new.grants trial.slot)
+                (same_needs s shown) by.logs;
+          };
+      good = turns.good;
+      keeps = turns.keeps;
+      stays = stays_over new turns.stays;
+      logs = turns.logs;
+      framed = tt;
+      under_way = turns.under_way;
+    }
+
+    -- not made; the stacks are put back
+    pub composes_unmade : IsGood l → (reason : Reason) (new : Lent)
+        → Turns over_asks over trial (Err reason) restacked new
+        → Turns asks turn trial (Err reason) l
+        (record new { operands = l.operands; frames = l.frames })
+    composes_unmade good reason new turns = record {
+      meets = λ s shown.
+          let by = turns.meets s (restacked_shown are s shown) in
+          record {
+            did = (
+              subst (λ (n : Needs). IsReason n trial.slot l
+                  (record new { operands = l.operands; frames = l.frames }) reason)
+                  (same_needs s shown) (reason_same _ trial.slot new reason by.did.0),
+              ap (λ (n : Lent). record n { operands = l.operands; frames = l.frames }) by.did.1,
+            );
+            logs = by.logs;
+          };
+      good = record {
+        sound = turns.good.sound;
+        operands = AreValues-kept l.heap new.heap turns.keeps l.operands good.operands;
+        dictionaries = turns.good.dictionaries;
+        frames = subst (λ (program : List ℕ). AreFrames new.heap (length program) l.frames)
+            (sym turns.stays.program)
+            (frames-good l.heap new.heap turns.keeps (length l.program) l.frames good.frames);
+        error_stands = turns.good.error_stands;
+        names = turns.good.names;
+        first = turns.good.first;
+        empty = turns.good.empty;
+      };
+      keeps = turns.keeps;
+      stays = let stays = stays_over new turns.stays in record {
+        program = stays.program;
+        error_dictionary = stays.error_dictionary;
+        formed = stays.formed;
+        names = stays.names;
+        capacity = stays.capacity;
+        scratch = stays.scratch;
+      };
+      logs = turns.logs;
+      framed = refl;
+      under_way = tt;
+    }

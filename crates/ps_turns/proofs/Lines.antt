@@ -1,0 +1,19 @@
+-- What stands, by whether it does, and texts for which there is no room.
+use Rattle.std.proofs.Common.{◌≡◌, ℕ, ◌-◌, ◌<◌, ◌≤◌, ◌++◌, arith, Bool, true, false, List, length, refl, length-append}
+use Rattle.std.specs.Prelude.{IfSome, option_map}
+use Rattle.ps_turns.specs.Ends.{given_that_stands}
+
+pub stands-map : {A B : Type 0} (f : A → B) (there : Bool) (a : A)
+    → option_map f (given_that_stands there a) ≡ given_that_stands there (f a)
+stands-map f true a = refl
+stands-map f false a = refl
+
+pub stands-if : {A : Type 0} (P : A → Type 0) (there : Bool) (a : A) → P a
+    → IfSome (given_that_stands there a) P
+stands-if P true a p = p
+stands-if P false a p = tt
+
+pub room_lacks : (capacity : ℕ) (old text : List ℕ) → length old ≤ capacity
+    → capacity < length (old ++ text) → capacity - length old < length text
+room_lacks capacity old text fits less =
+    let long = length-append old text in omega (arith, fits, less, long)

@@ -1,0 +1,189 @@
+//! An unwinding goes on, or ends a context that has no frame left (PLRM2, 3.10, 8 'Operators':
+//! Control).
+
+ghost use Rattle.std.specs.Prelude.{◌≡◌, ◌≢◌, ◌<◌, ◌≤◌, [], ℕ, List, Some, IfSome, IfErr, OnOk, OnErr, vec_capacity};
+ghost use Rattle.std.specs.List.{AllPairs};
+ghost use Rattle.ps_language.specs.Access.{dictionary_at};
+ghost use Rattle.ps_language.specs.StepErrors as language;
+ghost use Rattle.ps_language.specs.Value.{Store};
+ghost use Rattle.ps_mem.specs.Heap.{birth_at};
+ghost use Rattle.ps_mem.specs.Meaning.{value_of};
+ghost use Rattle.ps_mem.specs.References.{StandsAs};
+ghost use Rattle.ps_mem.specs.Shows.{IsSound, Shows};
+ghost use Rattle.ps_types.specs.Met.{BeginWithFirst};
+ghost use Rattle.ps_text.specs.Errors.{Appends};
+ghost use Rattle.ps_acts.specs.Lent.{lent, IsGood};
+ghost use Rattle.ps_control.specs.Turns.{cause_of};
+ghost use Rattle.ps_turns.specs.Entries.{IsNamed};
+ghost use Rattle.ps_turns.specs.Turns.{Turns, IsUnlogged, break_turn, nothing_more};
+
+use crate::notes::{ErrorKeys, error_keys};
+use crate::turned::Turned;
+use ps_acts::lent::{Context, Shared, Trial};
+use ps_control::frames::Cause;
+use ps_control::readers::boolean_of;
+use ps_dict::changes::put;
+use ps_dict::dictionaries::{position, value_of_key};
+use ps_dict::plans::PutPlan;
+use ps_language::kinds::Kind;
+use ps_mem::{Memory, SLOTS};
+use ps_names::Names;
+use ps_operands::plain;
+use ps_ops::changes::permitted;
+use ps_ops::failure::NotMade;
+use ps_text::errors::append_error_line;
+use ps_word::words::Word;
+use std::alloc::AllocError;
+
+/// Whether a value is the boolean true.
+fn is_true(word: Word) -> bool
+    ensures { (births : ℕ → ℕ) (names : List (List ℕ))
+        → result ≡ language.truth_in (value_of births names word).what }
+{
+    match boolean_of(word) {
+        Some(truth) => truth,
+        None => false,
+    }
+}
+
+/// Whether the error in the `$error` at an address is new. The memory is only read.
+fn has_new_error<M: Memory>(memory: &mut M, address: u32, keys: ErrorKeys) -> bool
+    requires sound { IsSound (M.heap memory.old) }
+    requires known { StandsAs (M.heap memory.old) Kind.Dictionary address 4 }
+    requires key { IsNamed 131 keys.newerror }
+    ensures heap { M.heap memory.new ≡ M.heap memory.old }
+    ensures grants { M.grants memory.new ≡ M.grants memory.old }
+    ensures value { (names : List (List ℕ)) (s : Store) → BeginWithFirst names
+        → AllPairs (λ one later. one ≢ later) names → Shows (M.heap memory.old) names s
+        → result ≡ language.has_new_error
+        (dictionary_at s (birth_at (M.heap memory.old) address)) }
+{
+    match value_of_key(memory, address, keys.newerror) {
+        Some(word) => is_true(word),
+        None => false,
+    }
+}
+
+/// Appends the line of the error in the `$error` at an address. The memory is only read.
+///
+/// `AllocError`: the output has no room for the line, and a growth was refused; its bytes are as
+/// they were.
+fn append_line<M: Memory>(
+    memory: &mut M,
+    names: &Names,
+    address: u32,
+    keys: ErrorKeys,
+    output: &mut Vec<u8>,
+) -> Result<(), AllocError>
+    requires sound { IsSound (M.heap memory.old) }
+    requires known { StandsAs (M.heap memory.old) Kind.Dictionary address 4 }
+    requires name { IsNamed 132 keys.errorname }
+    requires command { IsNamed 133 keys.command }
+    ensures heap { M.heap memory.new ≡ M.heap memory.old }
+    ensures grants { M.grants memory.new ≡ M.grants memory.old }
+    ensures err { OnErr result (output.new.items ≡ output.old.items) }
+    ensures appends { (s : Store) → BeginWithFirst names.now
+        → AllPairs (λ one later. one ≢ later) names.now → Shows (M.heap memory.old) names.now s
+        → Appends result
+        (language.error_line s (dictionary_at s (birth_at (M.heap memory.old) address)))
+        output.old.items output.new.items (vec_capacity output.old) (vec_capacity output.new) }
+    ensures capacity { vec_capacity output.old ≤ vec_capacity output.new }
+{
+    let name = value_of_key(memory, address, keys.errorname);
+    let command = value_of_key(memory, address, keys.command);
+    append_error_line(memory, names, name, command, output)
+}
+
+/// Asks for the record of an entry that is changed.
+///
+/// `LogFull`: the log of the slot is open and takes none. `LogClosed`: it is closed.
+fn permit_entry<M: Memory>(memory: &mut M, slot: u32) -> Result<(), NotMade>
+    requires slot { slot < SLOTS }
+    ensures heap { M.heap memory.new ≡ M.heap memory.old }
+    ensures kept { M.grants memory.new
+        ≡ record (M.grants memory.old) { records = (M.grants memory.new).records } }
+    ensures others { (s : ℕ) → s ≢ slot
+        → (M.grants memory.new).records s ≡ (M.grants memory.old).records s }
+    ensures more { (M.grants memory.old).records slot ≤ (M.grants memory.new).records slot }
+    ensures granted { OnOk result (1 ≤ (M.grants memory.new).records slot) }
+    ensures reason { IfErr result (λ reason.
+        IsUnlogged 1 slot (M.grants memory.old) (M.grants memory.new) reason) }
+{
+    permitted(memory, slot, 1)
+}
+
+/// An unwinding for stop ends a context that has no frame left. Where its error is new, the line is
+/// printed, and it is new no more.
+///
+/// `LogFull`, `LogClosed`: the log of the slot takes no record. `Memory`: the output has no room
+/// for the line. Nothing has changed then.
+fn end_by_stop<M: Memory>(
+    context: &mut Context,
+    shared: &mut Shared,
+    memory: &mut M,
+    trial: Trial,
+) -> Result<Turned, NotMade>
+    requires slot { trial.slot < SLOTS }
+    requires good { IsGood
+        (lent (M.heap memory.old) (M.grants memory.old) context.old shared.old) }
+    requires last { context.old.frames ≡ [] }
+    ensures { Turns nothing_more (break_turn (cause_of Cause.Stop)) trial result
+        (lent (M.heap memory.old) (M.grants memory.old) context.old shared.old)
+        (lent (M.heap memory.new) (M.grants memory.new) context.new shared.new) }
+{
+    let address = context.error_dictionary;
+    let keys = error_keys();
+    let Some(place) = position(memory, address, keys.newerror) else {
+        return Ok(Turned::Ends { told: false });
+    };
+    if !has_new_error(memory, address, keys) {
+        return Ok(Turned::Ends { told: false });
+    }
+    match permit_entry(memory, trial.slot) {
+        Ok(()) => {}
+        Err(reason) => return Err(reason),
+    }
+    match append_line(memory, &shared.names, address, keys, &mut shared.printed) {
+        Ok(()) => {}
+        Err(AllocError) => return Err(NotMade::Memory),
+    }
+    let plan = PutPlan::Replace(place);
+    put(
+        memory,
+        trial.slot,
+        address,
+        plan,
+        keys.newerror,
+        plain::boolean(false),
+    );
+    Ok(Turned::Ends { told: true })
+}
+
+/// An unwinding begins or goes on; where no frame is left the context ends, and for stop the line
+/// of a new error is printed.
+///
+/// `LogFull`, `LogClosed`: that error's entry can't be logged. `Memory`: the output has no room for
+/// its line. Nothing has changed then.
+pub fn break_off<M: Memory>(
+    cause: Cause,
+    context: &mut Context,
+    shared: &mut Shared,
+    memory: &mut M,
+    trial: Trial,
+) -> Result<Turned, NotMade>
+    requires slot { trial.slot < SLOTS }
+    requires good { IsGood
+        (lent (M.heap memory.old) (M.grants memory.old) context.old shared.old) }
+    ensures { Turns nothing_more (break_turn (cause_of cause)) trial result
+        (lent (M.heap memory.old) (M.grants memory.old) context.old shared.old)
+        (lent (M.heap memory.new) (M.grants memory.new) context.new shared.new) }
+{
+    if context.frames.len() > 0 {
+        return Ok(Turned::Breaks(cause));
+    }
+    match cause {
+        Cause::Stop => end_by_stop(context, shared, memory, trial),
+        Cause::Exit => Ok(Turned::Ends { told: false }),
+        Cause::Quit => Ok(Turned::Ends { told: false }),
+    }
+}

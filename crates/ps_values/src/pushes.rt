@@ -1,0 +1,89 @@
+//! A value becomes an operand, and a frame is pushed (PLRM2, 3.4, 3.5).
+
+ghost use Rattle.std.specs.Prelude.{◌≡◌, ◌<◌};
+ghost use Rattle.ps_acts.specs.Lent.{lent, IsGood};
+ghost use Rattle.ps_turns.specs.Turns.{Turns, nothing_more};
+ghost use Rattle.ps_values.specs.Values.{IsFrameLent, IsLent, framed_turn, pushed_turn};
+
+use ps_acts::lent::{Context, Shared, Trial};
+use ps_control::frames::Frame;
+use ps_language::errors::ErrorName;
+use ps_mem::{Memory, SLOTS};
+use ps_ops::failure::NotMade;
+use ps_turns::raises::raise;
+use ps_turns::turned::Turned;
+use ps_word::words::Word;
+
+/// A value becomes an operand. Where 500 stand, `stackoverflow` is raised with the command.
+///
+/// Not made, with nothing changed: as the note of an error.
+#[inline]
+pub fn push_value<M: Memory>(
+    word: Word,
+    command: Word,
+    context: &mut Context,
+    shared: &mut Shared,
+    memory: &mut M,
+    trial: Trial,
+) -> Result<Turned, NotMade>
+    requires slot { trial.slot < SLOTS }
+    requires good { IsGood
+        (lent (M.heap memory.old) (M.grants memory.old) context.old shared.old) }
+    requires word { IsLent
+        (lent (M.heap memory.old) (M.grants memory.old) context.old shared.old) word }
+    requires command { IsLent
+        (lent (M.heap memory.old) (M.grants memory.old) context.old shared.old) command }
+    ensures { Turns nothing_more (pushed_turn command word) trial result
+        (lent (M.heap memory.old) (M.grants memory.old) context.old shared.old)
+        (lent (M.heap memory.new) (M.grants memory.new) context.new shared.new) }
+{
+    if context.operands.is_full() {
+        return raise(
+            ErrorName::StackOverflow,
+            command,
+            context,
+            shared,
+            memory,
+            trial,
+        );
+    }
+    context.operands.push_reserved(word);
+    Ok(Turned::Goes)
+}
+
+/// A frame is pushed. Where 250 stand, `execstackoverflow` is raised with the command.
+///
+/// Not made, with nothing changed: as the note of an error.
+#[inline]
+pub fn push_frame<M: Memory>(
+    frame: Frame,
+    command: Word,
+    context: &mut Context,
+    shared: &mut Shared,
+    memory: &mut M,
+    trial: Trial,
+) -> Result<Turned, NotMade>
+    requires slot { trial.slot < SLOTS }
+    requires good { IsGood
+        (lent (M.heap memory.old) (M.grants memory.old) context.old shared.old) }
+    requires frame { IsFrameLent
+        (lent (M.heap memory.old) (M.grants memory.old) context.old shared.old) frame }
+    requires command { IsLent
+        (lent (M.heap memory.old) (M.grants memory.old) context.old shared.old) command }
+    ensures { Turns nothing_more (framed_turn command frame) trial result
+        (lent (M.heap memory.old) (M.grants memory.old) context.old shared.old)
+        (lent (M.heap memory.new) (M.grants memory.new) context.new shared.new) }
+{
+    if context.frames.is_full() {
+        return raise(
+            ErrorName::ExecStackOverflow,
+            command,
+            context,
+            shared,
+            memory,
+            trial,
+        );
+    }
+    context.frames.push_reserved(frame);
+    Ok(Turned::Goes)
+}
