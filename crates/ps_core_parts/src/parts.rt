@@ -43,7 +43,11 @@ impl Model for StandingObject {
 
     ghost Value = { Object };
 
-    ghost view = { λ o. record { address = o.address; header = o.header; fields = o.fields.items } };
+    ghost view = { λ object. record {
+      address = object.address;
+      header = object.header;
+      fields = object.fields.items;
+    } };
 }
 
 /// An original with its replica.

@@ -14,6 +14,7 @@ ghost use Rattle.ps_core_parts.specs.Conditions as conditions;
 ghost use Rattle.ps_core_parts.specs.Conditions.{GcMay};
 ghost use Rattle.ps_core_parts.specs.Objects as objects;
 ghost use Rattle.ps_core_parts.specs.Steps as steps;
+ghost use Rattle.ps_core_parts.specs.Steps.{gc_after};
 
 use crate::values::{
     address_in, addresses_named, holds_values, is_reference, renamed, values_have_replicas,
@@ -415,7 +416,7 @@ impl Collector {
 
     /// After a load to look.
     pub fn look(&mut self, place: u64, word: u64) -> Result<(), AllocError>
-        ensures { OnOk result (self.new ≡ steps.gc_after self.old any_vm (GcLoad place word)) }
+        ensures { OnOk result (self.new ≡ gc_after self.old any_vm (GcLoad place word)) }
     {
         if place == 1 {
             self.epoch = word;
@@ -428,14 +429,14 @@ impl Collector {
 
     /// After a load of the ring place of the slot's next record.
     pub fn take_up(&mut self, slot: u64, word: u64)
-        ensures { self.new ≡ steps.gc_after self.old any_vm (TakeLoad slot word) }
+        ensures { self.new ≡ gc_after self.old any_vm (TakeLoad slot word) }
     {
         self.taking = taken_up(slot, self.length_of(slot), word);
     }
 
     /// After a load of a field of an original.
     pub fn copy_from(&mut self, address: u64, field: u64, word: u64) -> Result<(), AllocError>
-        ensures { OnOk result (self.new ≡ steps.gc_after self.old any_vm
+        ensures { OnOk result (self.new ≡ gc_after self.old any_vm
             (CopyLoad address field word)) }
     {
         self.taking = with_load(self.taking, address, field);
@@ -470,7 +471,7 @@ impl Collector {
 
     /// After a store of a header of a replica to be.
     pub fn place(&mut self, place: u64, word: u64) -> Result<(), AllocError>
-        ensures { OnOk result (self.new ≡ steps.gc_after self.old any_vm
+        ensures { OnOk result (self.new ≡ gc_after self.old any_vm
             (ReplicaHeaderStore place word)) }
     {
         self.placed.insert(0, Seen { place, word })?;
@@ -480,7 +481,7 @@ impl Collector {
     /// After the store of the word being copied.
     pub fn store_copy(&mut self, scans: bool) -> Result<(), AllocError>
         requires { GcBounded self.old }
-        ensures { OnOk result (self.new ≡ steps.gc_after self.old any_vm (ReplicaFieldStore scans)) }
+        ensures { OnOk result (self.new ≡ gc_after self.old any_vm (ReplicaFieldStore scans)) }
     {
         match self.copying {
             None => Ok(()),
@@ -496,7 +497,7 @@ impl Collector {
 
     /// After a forwarding store.
     pub fn forward(&mut self, original: u64, replica: u64) -> Result<(), AllocError>
-        ensures { OnOk result (self.new ≡ steps.gc_after self.old any_vm
+        ensures { OnOk result (self.new ≡ gc_after self.old any_vm
             (ForwardStore original replica)) }
     {
         let alloc = *self.known.allocator();
@@ -509,7 +510,7 @@ impl Collector {
     /// After a head store.
     pub fn take(&mut self) -> Result<(), AllocError>
         requires { IsSlot self.old }
-        ensures { OnOk result (self.new ≡ steps.gc_after self.old any_vm HeadStore) }
+        ensures { OnOk result (self.new ≡ gc_after self.old any_vm HeadStore) }
     {
         if let Some(h) = self.taking {
             self.taken[h.slot as usize].push(h.what)?;
@@ -522,7 +523,7 @@ impl Collector {
     pub fn flip(&mut self, epoch: u64) -> Vec<Replica, Global>
         requires { GcBounded self.old }
         ensures pairs { result.items ≡ self.old.pairs }
-        ensures flipped { self.new ≡ steps.gc_after self.old (record any_vm { epoch = epoch })
+        ensures flipped { self.new ≡ gc_after self.old (record any_vm { epoch = epoch })
             (CycleStore []) }
     {
         let alloc = *self.known.allocator();

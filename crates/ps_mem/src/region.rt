@@ -112,8 +112,8 @@ impl Region {
     /// The header of what stands at an address.
     #[inline]
     pub(crate) fn header(&self, address: u32) -> Header
-        requires { (space : Space)
-            → IsSome (object_at (heap_in self.now.words self.now.used self.now.next space) address) }
+        requires { (s : Space)
+            → IsSome (object_at (heap_in self.now.words self.now.used self.now.next s) address) }
         ensures birth { result.birth < 2 ^ 40 }
         ensures answer { (space : Space)
             → IfSome (object_at (heap_in self.now.words self.now.used self.now.next space) address)
