@@ -1,12 +1,16 @@
 -- A dictionary that may still be filled: values and pairs put into it without a record.
-use Rattle.std.proofs.Common.{◌≡◌, ℕ, zero, suc, ◌+◌, ◌*◌, ◌<◌, ◌/◌, List, [], ◌∷◌, ◌++◌, length, take, get_or, Some, refl, ap, ◌∙◌, arith}
+use Rattle.std.proofs.Common.{◌≡◌, ℕ, zero, suc, ◌+◌, ◌*◌, ◌<◌, ◌/◌, List, [], ◌∷◌, ◌++◌, length, map, take, get_or, Some, refl, ap, ◌∙◌, arith}
 use Rattle.std.specs.Prelude.{slice_get, slice_set}
 use Rattle.std.specs.List.{AllByRecursion}
 use Rattle.ps_language.specs.Value.{Value, Dictionary as DictionaryValue, Object, dictionary_object, Store}
 use Rattle.ps_language.specs.Access.{dictionary_at, dictionary_object_in, with_dictionary}
 use Rattle.ps_language.specs.Dictionaries.{put_pair, put_pairs}
 use Rattle.ps_word.specs.declared.words.Word.{Word}
+use Rattle.ps_mem.specs.Heap.{Heap, birth_at}
+use Rattle.ps_mem.specs.Keeps.{Keeps}
+use Rattle.ps_mem.specs.Shows.{AreValues, pair_of}
 use Rattle.ps_mem.proofs.Lists.{slice_get-append_end}
+use Rattle.ps_mem.proofs.KeepsLemmas.{value_of-kept}
 use Rattle.ps_mem.specs.Index.{pairs_of_words}
 use Rattle.ps_dict.proofs.Pairs.{pair_here}
 
@@ -68,3 +72,15 @@ pair-in_twos ws i d below =
     pair_here ws i (get_or ws (2 * i) d) (get_or ws (2 * i + 1) d)
     (slice_get-get_or ws (2 * i) d (omega (arith, below)))
     (slice_get-get_or ws (2 * i + 1) d (omega (arith, below)))
+
+-- pairs of words that stand for values keep what they stand for
+pub pairs_of-kept : (g h : Heap) → Keeps g h → (names : List (List ℕ)) (ws : List Word)
+    → AreValues g ws → map (pair_of (birth_at h) names) (pairs_of_words ws)
+    ≡ map (pair_of (birth_at g) names) (pairs_of_words ws)
+unfolding pairs_of_words
+pairs_of-kept g h keeps names [] all = refl
+pairs_of-kept g h keeps names (x ∷ []) all = refl
+pairs_of-kept g h keeps names (x ∷ y ∷ ws) all = λ i. (
+  value_of-kept g h keeps names x all.0.known i,
+  value_of-kept g h keeps names y all.1.0.known i,
+) ∷ pairs_of-kept g h keeps names ws all.1.1 i

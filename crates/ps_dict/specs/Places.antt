@@ -1,11 +1,11 @@
 -- Where the fields of a dictionary say that its pairs are, and the place of a key among them.
-use Rattle.std.specs.Prelude.{ℕ, ℤ, unsigned_abs, suc, List, [], ◌∷◌, Option, Some, None, option_map, unwrap_or, slice_index_or, take, if◌then◌else◌, true, map, length, slice_get, slice_set, ◌≡◌, ◌<◌, ◌^◌}
+use Rattle.std.specs.Prelude.{ℕ, ◌<◌, IsTrue, ℤ, unsigned_abs, suc, List, [], ◌∷◌, Option, Some, None, option_map, unwrap_or, slice_index_or, take, if◌then◌else◌, true, map, length, slice_get, slice_set, ◌≡◌, ◌<◌, ◌^◌}
 use Rattle.ps_language.specs.Value.{Value}
 use Rattle.ps_language.specs.Equality.{same_key}
 use Rattle.ps_word.specs.declared.words.Word.{Word}
 use Rattle.ps_word.specs.Format.{content_in}
 use Rattle.ps_word.specs.Readers.{as_integer, as_body}
-use Rattle.ps_mem.specs.Heap.{Heap, fields_at, zero_word}
+use Rattle.ps_mem.specs.Heap.{Heap, Grants, fields_at, zero_word}
 use Rattle.ps_mem.specs.Index.{pairs_of_words, has_free, placed, index_word}
 use Rattle.ps_dict.specs.Keys.{same_words}
 
@@ -37,6 +37,14 @@ access_at h address = natural_in (fields_at h address) 2
 
 abbrev pub body_at : Heap → ℕ → ℕ
 body_at h address = body_in (fields_at h address) 3
+
+-- a list of this capacity doesn't take as many words as the dictionary has room for
+abbrev pub IsTooShort : (capacity : ℕ) → Heap → (address : ℕ) → Type 0
+IsTooShort capacity h address = capacity < capacity_at h address
+
+-- its body may still be filled
+abbrev pub HasNewBody : Heap → Grants → (address : ℕ) → Type 0
+HasNewBody h grants address = IsTrue (grants.fresh (body_at h address))
 
 -- ---- the pairs
 

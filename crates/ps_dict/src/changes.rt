@@ -37,8 +37,9 @@ pub(crate) fn natural_word(number: u32) -> Word
     Word::integer(number as i32)
 }
 
+/// The number of an access, as a dictionary's field has it.
 #[inline]
-fn access_number(access: Access) -> u32
+pub(crate) fn access_number(access: Access) -> u32
     ensures { result ≡ format.access_number access }
 {
     access as u32

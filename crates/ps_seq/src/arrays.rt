@@ -62,6 +62,28 @@ pub fn set_element<M: Memory>(memory: &mut M, slot: u32, part: Part, index: u16,
     );
 }
 
+/// Puts values, at least one, into a part of an array from a place on, by one store with one record
+/// in a cycle.
+pub fn set_elements<M: Memory>(memory: &mut M, slot: u32, part: Part, place: u16, words: &[Word])
+    requires granted { 1 ≤ (M.grants memory.old).records slot }
+    requires some { 1 ≤ length words.now }
+    requires sound { IsSound (M.heap memory.old) }
+    requires known { StandsAs (M.heap memory.old) Kind.Array part.address
+        (part.offset + part.length) }
+    requires fits { place + length words.now ≤ part.length }
+    requires held { AreValues (M.heap memory.old) words.now }
+    ensures sound { IsSound (M.heap memory.new) }
+    ensures keeps { Keeps (M.heap memory.old) (M.heap memory.new) }
+    ensures births { birth_at (M.heap memory.new) ≡ birth_at (M.heap memory.old) }
+    ensures grants { AfterStore (M.grants memory.old) (M.grants memory.new) slot }
+    ensures shows { (names : List (List ℕ)) (s : Store) → Shows (M.heap memory.old) names s
+        → AreWithin (M.heap memory.old) names s words.now → Shows (M.heap memory.new) names
+        (with_part_elements s (part_of (birth_at (M.heap memory.old)) part) place
+        (map (value_of (birth_at (M.heap memory.old)) names) words.now)) }
+{
+    memory.store(slot, part.address, part.offset as u32 + place as u32, words);
+}
+
 /// So many elements from a place of a part on, which share them with it.
 #[inline]
 pub fn interval(part: Part, place: u16, count: u16) -> Part
