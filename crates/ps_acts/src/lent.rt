@@ -30,9 +30,9 @@ pub struct Scratch {
 
 /// What all contexts share beside the memory.
 #[derive(Drop)]
-pub struct Shared {
+pub struct Shared<'a> {
     /// The program of the run.
-    pub program: Vec<u8>,
+    pub program: &'a [u8],
     pub names: Names,
     pub printed: Vec<u8>,
     pub scratch: Scratch,

@@ -23,7 +23,7 @@ use Rattle.ps_acts.specs.Lent.{Lent, scene_of, IsShown, IsGood}
 use Rattle.ps_acts.specs.Acts.{Needs, nothing_needed, IsReason}
 use Rattle.ps_acts.proofs.Meeting.{keeps-same, lasts-same, logs-same, logs_more, stays_as, at_least-same}
 use Rattle.ps_turns.specs.declared.turned.Turned.TheVariants.{Ends}
-use Rattle.ps_turns.specs.Turns.{IsUnlogged, Turns, break_needs, break_turn, is_told, last_line, nothing_more}
+use Rattle.ps_turns.specs.Turns.{IsUnlogged, Turns, break_needs, break_turn, is_told, last_line, none_asked, nothing_more}
 use Rattle.ps_turns.proofs.Ending.{ends_as, finished_as}
 use Rattle.ps_turns.proofs.Finishing.{EndsIn, ends_turns}
 
@@ -133,7 +133,7 @@ module _ (trial : Trial) (l : Lent) (good : IsGood l) (last : l.frames ≡ []) w
       → Turns nothing_more (break_turn cause) trial (Ok (Ends false)) l l
   untold_turns cause ends =
       ends_turns (break_turn cause) trial false l good l.heap l.grants l.printed l.room
-      (keeps-same l.heap) good.sound (omega arith) (logs-same _ l.grants trial.slot)
+      (keeps-same l.heap) IsShown (λ s shown. shown) good.sound (omega arith) (logs-same _ l.grants trial.slot)
       (untold_in cause ends)
 
   pub quits_turns : Turns nothing_more (break_turn for_quit) trial (Ok (Ends false)) l l
@@ -158,7 +158,8 @@ module _ (trial : Trial) (l : Lent) (good : IsGood l) (last : l.frames ≡ []) w
       records = 1;
     }
 
-    needs_as : (s : Store) → IsShown l s → break_needs birth for_stop (scene_of l s) ≡ asked s
+    needs_as : (s : Store) → IsShown l s
+        → break_needs none_asked birth for_stop (scene_of l s) ≡ asked s
     needs_as s shown =
         (λ i. record nothing_needed {
           bytes = length (last_line (none s i) s (dictionary_at s birth));
@@ -179,8 +180,8 @@ module _ (trial : Trial) (l : Lent) (good : IsGood l) (last : l.frames ≡ []) w
         → Turns nothing_more (break_turn for_stop) trial (Ok (Ends true)) l
         (record l { heap = heap; grants = grants; printed = printed; room = room })
     told_turns heap grants printed room keeps sound capacity logs lined shows =
-        ends_turns (break_turn for_stop) trial true l good heap grants printed room keeps sound
-        capacity (logs_more 1 most_records l.grants grants trial.slot (omega arith) logs)
+        ends_turns (break_turn for_stop) trial true l good heap grants printed room keeps IsShown
+        (λ s shown. shown) sound capacity (logs_more 1 most_records l.grants grants trial.slot (omega arith) logs)
         λ s shown. record {
           after = with_dictionary s birth (told (dictionary_at s birth));
           shows = shows s shown;

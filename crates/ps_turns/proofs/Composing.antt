@@ -22,29 +22,58 @@ use Rattle.ps_acts.proofs.Kept.{frames-good}
 use Rattle.ps_acts.proofs.Meeting.{keeps-same, lasts-same, logs-same, stays_as, at_least-same}
 use Rattle.ps_turns.specs.declared.turned.Turned.{Turned}
 use Rattle.ps_turns.specs.declared.turned.Turned.TheVariants.{Goes}
-use Rattle.ps_turns.specs.Turns.{IsTurned, TurnsBy, Turns, turn_needs, needs_in}
+use Rattle.ps_turns.specs.Turns.{IsShownWith, IsTurned, TurnsBy, TurnsOver, Turns, TurnsWith, turn_needs, needs_in}
 
 -- ---- the same turn, said otherwise
+
+-- over fewer stores
+pub turns_over : (stores others : Lent → Store → Type 0) (asks other_asks : Lent → Store → Asked)
+    (turn other : Lent → Store → Turn) (trial : Trial) (result : Result Turned Reason)
+    (old new : Lent)
+    → ((s : Store) → others old s → stores old s)
+    → ((s : Store) → others old s → turn old s ≡ other old s)
+    → ((s : Store) → others old s → asks old s ≡ other_asks old s)
+    → TurnsOver stores asks turn trial result old new
+    → TurnsOver others other_asks other trial result old new
+turns_over stores others asks other_asks turn other trial result old new fewer same asked turns =
+    record {
+      meets = λ s held. subst (λ (t : Turn). TurnsBy
+          (turn_needs trial.refused (other_asks old s) (birth_at old.heap old.error_dictionary)
+          (scene_of old s) t) trial result t s old new) (same s held)
+          (subst (λ (a : Asked). TurnsBy
+          (turn_needs trial.refused a (birth_at old.heap old.error_dictionary) (scene_of old s)
+          (turn old s)) trial result (turn old s) s old new) (asked s held)
+          (turns.meets s (fewer s held)));
+      good = turns.good;
+      keeps = turns.keeps;
+      stays = turns.stays;
+      logs = turns.logs;
+      framed = turns.framed;
+      under_way = turns.under_way;
+    }
 
 pub turns_as : (asks other_asks : Lent → Store → Asked) (turn other : Lent → Store → Turn)
     (trial : Trial) (result : Result Turned Reason) (old new : Lent)
     → ((s : Store) → IsShown old s → turn old s ≡ other old s)
     → ((s : Store) → IsShown old s → asks old s ≡ other_asks old s)
     → Turns asks turn trial result old new → Turns other_asks other trial result old new
-turns_as asks other_asks turn other trial result old new same asked turns = record {
-  meets = λ s shown. subst (λ (t : Turn). TurnsBy
-      (turn_needs trial.refused (other_asks old s) (birth_at old.heap old.error_dictionary)
-      (scene_of old s) t) trial result t s old new) (same s shown)
-      (subst (λ (a : Asked). TurnsBy
-      (turn_needs trial.refused a (birth_at old.heap old.error_dictionary) (scene_of old s)
-      (turn old s)) trial result (turn old s) s old new) (asked s shown) (turns.meets s shown));
-  good = turns.good;
-  keeps = turns.keeps;
-  stays = turns.stays;
-  logs = turns.logs;
-  framed = turns.framed;
-  under_way = turns.under_way;
-}
+turns_as asks other_asks turn other trial result old new same asked turns =
+    turns_over IsShown IsShown asks other_asks turn other trial result old new
+    (λ s shown. shown) same asked turns
+
+-- what is in hand is within each store that is shown
+pub turns_shown : (words : List Word) (frames : List Frame) (asks : Lent → Store → Asked)
+    (turn : Lent → Store → Turn) (trial : Trial) (result : Result Turned Reason) (old new : Lent)
+    → ((s : Store) → IsShown old s → AreWithin old.heap old.names s words)
+    → ((s : Store) → IsShown old s → AreFramesWithin old.heap old.names s frames)
+    → TurnsWith words frames asks turn trial result old new → Turns asks turn trial result old new
+turns_shown words frames asks turn trial result old new words_within frames_within turns =
+    turns_over (IsShownWith words frames) IsShown asks asks turn turn trial result old new
+    (λ s shown. record {
+      shown = shown;
+      words_within = words_within s shown;
+      frames_within = frames_within s shown;
+    }) (λ s shown. refl) (λ s shown. refl) turns
 
 -- ---- other stacks
 
@@ -81,34 +110,41 @@ module _ (l : Lent) (operands : List Word) (frames : List Frame) where
 
   -- ---- a turn that leaves them
 
-  module _ (asks : Lent → Store → Asked) (turn : Lent → Store → Turn) (trial : Trial)
-      (are : AreGood)
-      (leaves : (s : Store) → IsShown l s → turn l s ≡ leads (scene_of restacked s)) where
-    led : (s : Store) → IsShown l s → IsTurned trial.refused (leads (scene_of restacked s)) Goes s l
-        restacked
+  module _ (stores : Lent → Store → Type 0) (asks : Lent → Store → Asked)
+      (turn : Lent → Store → Turn) (trial : Trial)
+      (shows : (s : Store) → stores l s → IsShown restacked s)
+      (leaves : (s : Store) → stores l s → turn l s ≡ leads (scene_of restacked s)) where
+    led : (s : Store) → IsShown restacked s
+        → IsTurned trial.refused (leads (scene_of restacked s)) Goes s l restacked
     led s shown = record {
       after = s;
-      shown = restacked_shown are s shown;
+      shown = shown;
       lasts = lasts-same s;
       is = λ machine was address.
           (λ i. reaches (settled (record (with_scene (scene_of restacked s) running machine)
           { printed = (append-nil machine.printed ∙ was) i })));
     }
 
-    pub goes_on : IsGood l → Turns asks turn trial (Ok Goes) l restacked
-    goes_on good = record {
-      meets = λ s shown. record {
+    pub goes_over : IsGood restacked → TurnsOver stores asks turn trial (Ok Goes) l restacked
+    goes_over good = record {
+      meets = λ s held. record {
         did = subst (λ (t : Turn). IsTurned trial.refused t Goes s l restacked)
-            (sym (leaves s shown)) (led s shown);
+            (sym (leaves s held)) (led s (shows s held));
         logs = logs-same _ l.grants trial.slot;
       };
-      good = restacked_good are good;
+      good = good;
       keeps = keeps-same l.heap;
       stays = stays_as l restacked refl refl refl (omega arith) (at_least-same _);
       logs = logs-same _ l.grants trial.slot;
       framed = tt;
       under_way = tt;
     }
+
+  pub goes_on : (asks : Lent → Store → Asked) (turn : Lent → Store → Turn) (trial : Trial)
+      → AreGood → ((s : Store) → IsShown l s → turn l s ≡ leads (scene_of restacked s))
+      → IsGood l → Turns asks turn trial (Ok Goes) l restacked
+  goes_on asks turn trial are leaves good =
+      goes_over IsShown asks turn trial (restacked_shown are) leaves (restacked_good are good)
 
   -- ---- a turn over them
 
@@ -130,7 +166,8 @@ module _ (l : Lent) (operands : List Word) (frames : List Frame) where
   reason_same needs slot new Memory why = why
 
   module _ (asks over_asks : Lent → Store → Asked) (turn over : Lent → Store → Turn)
-      (trial : Trial) (are : AreGood)
+      (trial : Trial) (stores : Lent → Store → Type 0)
+      (shows : (s : Store) → IsShown l s → stores restacked s)
       (same : (s : Store) → IsShown l s → over restacked s ≡ turn l s)
       (asked : (s : Store) → IsShown l s → over_asks restacked s ≡ asks l s) where
     same_needs : (s : Store) → IsShown l s
@@ -152,11 +189,11 @@ module _ (l : Lent) (operands : List Word) (frames : List Frame) where
     }
 
     pub composes : (turned : Turned) (new : Lent)
-        → Turns over_asks over trial (Ok turned) restacked new
+        → TurnsOver stores over_asks over trial (Ok turned) restacked new
         → Turns asks turn trial (Ok turned) l new
     composes turned new turns = record {
       meets = λ s shown.
-          let by = turns.meets s (restacked_shown are s shown) in
+          let by = turns.meets s (shows s shown) in
           let did : IsTurned trial.refused (over restacked s) turned s l new = record {
             after = by.did.after;
             shown = by.did.shown;
@@ -178,12 +215,12 @@ module _ (l : Lent) (operands : List Word) (frames : List Frame) where
 
     -- not made; the stacks are put back
     pub composes_unmade : IsGood l → (reason : Reason) (new : Lent)
-        → Turns over_asks over trial (Err reason) restacked new
+        → TurnsOver stores over_asks over trial (Err reason) restacked new
         → Turns asks turn trial (Err reason) l
         (record new { operands = l.operands; frames = l.frames })
     composes_unmade good reason new turns = record {
       meets = λ s shown.
-          let by = turns.meets s (restacked_shown are s shown) in
+          let by = turns.meets s (shows s shown) in
           record {
             did = (
               subst (λ (n : Needs). IsReason n trial.slot l

@@ -1,6 +1,6 @@
 -- What is lent once a context has ended by an error.
-use Rattle.std.proofs.Common.{◌≡◌, ℕ, ◌+◌, ◌<◌, ◌≤◌, ◌++◌, arith, Bool, false, List, [], length, Some, Ok, Err, refl, sym, ap, subst, ◌∙◌, inl}
-use Rattle.std.specs.Prelude.{slice_get}
+use Rattle.std.proofs.Common.{◌≡◌, ℕ, ◌+◌, ◌<◌, ◌≤◌, ◌++◌, arith, Bool, false, List, [], ◌∷◌, length, Some, Ok, Err, refl, sym, ap, subst, ◌∙◌, inl}
+use Rattle.std.specs.Prelude.{slice_get, Result}
 use Rattle.ps_language.specs.declared.errors.ErrorName.{ErrorName}
 use Rattle.ps_language.specs.Value.{Value, dictionary_object, Store}
 use Rattle.ps_language.specs.World.{finished}
@@ -13,6 +13,7 @@ use Rattle.ps_mem.specs.Heap.{Heap, Grants, birth_at}
 use Rattle.ps_mem.specs.Keeps.{Keeps}
 use Rattle.ps_mem.specs.Meaning.{value_of}
 use Rattle.ps_mem.specs.Shows.{IsSound, Shows}
+use Rattle.ps_ops.specs.declared.failure.NotMade.{NotMade as Reason}
 use Rattle.ps_ops.specs.declared.failure.NotMade.TheVariants.{Memory}
 use Rattle.ps_ops.specs.Does.{KeepsLogsWithin, most_records}
 use Rattle.ps_control.specs.Frames.{frames_in}
@@ -23,10 +24,11 @@ use Rattle.ps_dict.proofs.Shapes.{there}
 use Rattle.ps_acts.specs.declared.lent.Trial.{Trial}
 use Rattle.ps_acts.specs.Lent.{Lent, scene_of, IsShown, IsGood}
 use Rattle.ps_acts.proofs.Meeting.{keeps-same, stays_as, at_least-same}
+use Rattle.ps_turns.specs.declared.turned.Turned.{Turned}
 use Rattle.ps_turns.specs.declared.turned.Turned.TheVariants.{Ends}
 use Rattle.ps_turns.specs.Ends.{newerror_stands, planned_line}
 use Rattle.ps_turns.specs.Entries.{entries_with}
-use Rattle.ps_turns.specs.Turns.{Turns, error_turn, lines_after, nothing_more}
+use Rattle.ps_turns.specs.Turns.{IsShownWith, TurnsWith, error_turn, lines_after, nothing_more}
 use Rattle.ps_turns.proofs.Telling.{plan}
 use Rattle.ps_turns.proofs.Ending.{after_end, asked_line, ends_by}
 use Rattle.ps_turns.proofs.Finishing.{EndsIn, ends_turns}
@@ -50,67 +52,76 @@ module _ (error : ErrorName) (command : Word) (trial : Trial) (l : Lent) (good :
   standing s shown =
       there l.heap l.error_dictionary good.error_stands.stands good.sound l.names s shown.shows
 
+  -- a store that is shown with the command in hand
+  abbrev Held : Store → Type 0
+  Held s = IsShownWith (command ∷ []) [] l s
+
+  abbrev TurnsTo : Result Turned Reason → Lent → Type 0
+  TurnsTo result new =
+      TurnsWith (command ∷ []) [] nothing_more (error_turn error command) trial result l new
+
   module _ (entries : ErrorPlan)
-      (planned : (s : Store) → IsShown l s → entries ≡ plan error value (dictionary_at s birth))
+      (planned : (s : Store) → Held s → entries ≡ plan error value (dictionary_at s birth))
     where
-      line_as : (s : Store) → IsShown l s
+      line_as : (s : Store) → Held s
           → planned_line s (plan error value (dictionary_at s birth)) name value
           ≡ planned_line s entries name value
-      line_as s shown = ap (λ p. planned_line s p name value) (sym (planned s shown))
+      line_as s held = ap (λ p. planned_line s p name value) (sym (planned s held))
 
       -- it has ended
       module _ (heap : Heap) (grants : Grants) (printed : List ℕ) (room : ℕ)
           (keeps : Keeps l.heap heap)
-          (lined : (s : Store) → IsShown l s
+          (lined : (s : Store) → Held s
           → printed ≡ l.printed ++ planned_line s entries name value)
-          (shows : (s : Store) → IsShown l s → Shows heap l.names (with_dictionary s birth
+          (shows : (s : Store) → Held s → Shows heap l.names (with_dictionary s birth
           (with_entries (entries_with false error value) (dictionary_at s birth))))
           (logs : KeepsLogsWithin most_records l.grants grants trial.slot) where
-        ends_in : (s : Store) → IsShown l s
+        ends_in : (s : Store) → Held s
             → EndsIn (error_turn error command) trial (newerror_stands entries) l good heap grants
             printed room keeps s
-        ends_in s shown =
-            let at = standing s shown in
+        ends_in s held =
+            let at = standing s held.shown in
             record {
               after = after_end error value (scene_of l s) birth (none s) at;
-              shows = shows s shown;
+              shows = shows s held;
               lasts = with-lengths s birth (dictionary_at s birth) _ at;
               is = λ machine was address.
                   ends_by error value (scene_of l s) birth (none s) at trial.refused machine address
                   ∙ (λ i. reaches (settled (record (with_scene (record (scene_of l s)
                   { store = after_end error value (scene_of l s) birth (none s) at })
                   finished machine) {
-                    printed = ((λ j. was j ++ line_as s shown j) ∙ sym (lined s shown)) i;
+                    printed = ((λ j. was j ++ line_as s held j) ∙ sym (lined s held)) i;
                     error_lines = lines_after (Ends
-                        (newerror_stands (sym (planned s shown) i))) machine.error_lines;
+                        (newerror_stands (sym (planned s held) i))) machine.error_lines;
                   })));
               logs = logs;
             }
 
         pub ended_on : IsSound heap → length l.printed + l.room ≤ length printed + room
             → (told : Bool) → told ≡ newerror_stands entries
-            → Turns nothing_more (error_turn error command) trial (Ok (Ends told)) l
+            → TurnsTo (Ok (Ends told))
             (record l { heap = heap; grants = grants; printed = printed; room = room })
         ended_on sound capacity told is =
-            subst (λ t. Turns nothing_more (error_turn error command) trial (Ok (Ends t)) l
+            subst (λ t. TurnsTo (Ok (Ends t))
             (record l { heap = heap; grants = grants; printed = printed; room = room })) (sym is)
             (ends_turns (error_turn error command) trial (newerror_stands entries) l good heap
-            grants printed room keeps sound capacity logs ends_in)
+            grants printed room keeps (IsShownWith (command ∷ []) []) (λ s held. held.shown) sound
+            capacity logs ends_in)
 
       -- its line had no room
       pub not_ended : (grants : Grants) (room : ℕ)
-          → ((s : Store) → IsShown l s → l.room < length (planned_line s entries name value))
+          → ((s : Store) → Held s → l.room < length (planned_line s entries name value))
           → l.room ≤ room → KeepsLogsWithin 0 l.grants grants trial.slot
-          → Turns nothing_more (error_turn error command) trial (Err Memory) l
+          → TurnsTo (Err Memory)
           (record l { grants = grants; room = room })
       not_ended grants room lacks more logs =
           let new : Lent = record l { grants = grants; room = room } in
           record {
-            meets = λ s shown. record {
+            meets = λ s held. record {
               did = (
                 inl (subst (λ (line : List ℕ). l.room < length line)
-                    (sym (asked_line error value (scene_of l s) birth (none s) (standing s shown)
-                    ∙ line_as s shown)) (lacks s shown)),
+                    (sym (asked_line error value (scene_of l s) birth (none s) (standing s held.shown)
+                    ∙ line_as s held)) (lacks s held)),
                 refl,
               );
               logs = logs;

@@ -13,7 +13,7 @@ use Rattle.ps_acts.specs.Lent.{Lent, scene_of, IsShown, IsGood}
 use Rattle.ps_acts.specs.Acts.{Lasts}
 use Rattle.ps_acts.proofs.Meeting.{stays_as, at_least-same}
 use Rattle.ps_turns.specs.declared.turned.Turned.TheVariants.{Ends}
-use Rattle.ps_turns.specs.Turns.{IsTurned, Turns, lines_after, needs_in, nothing_more}
+use Rattle.ps_turns.specs.Turns.{IsTurned, TurnsOver, lines_after, needs_in, nothing_more}
 use Rattle.ps_turns.proofs.Raising.{left_over, good_over}
 
 module _ (turn : Lent → Store → Turn) (trial : Trial) (told : Bool) (l : Lent) (good : IsGood l)
@@ -53,16 +53,17 @@ module _ (turn : Lent → Store → Turn) (trial : Trial) (told : Bool) (l : Len
             { printed = printed; error_lines = lines_after (Ends told) machine.error_lines })));
       }
 
-  pub ends_turns : IsSound heap → length l.printed + l.room ≤ length printed + room
+  pub ends_turns : (stores : Lent → Store → Type 0) → ((s : Store) → stores l s → IsShown l s)
+      → IsSound heap → length l.printed + l.room ≤ length printed + room
       → KeepsLogsWithin most_records l.grants grants trial.slot
-      → ((s : Store) → IsShown l s → EndsIn s)
-      → Turns nothing_more turn trial (Ok (Ends told)) l ended
-  ends_turns sound capacity logs ends =
+      → ((s : Store) → stores l s → EndsIn s)
+      → TurnsOver stores nothing_more turn trial (Ok (Ends told)) l ended
+  ends_turns stores shows sound capacity logs ends =
       let well = good_over l good heap grants keeps sound in
       record {
-        meets = λ s shown. record {
-          did = ends_turn s shown (ends s shown);
-          logs = (ends s shown).logs;
+        meets = λ s held. record {
+          did = ends_turn s (shows s held) (ends s held);
+          logs = (ends s held).logs;
         };
         good = record {
           sound = well.sound;

@@ -8,6 +8,6 @@ pub mod Lines
 pub mod Noting
 pub mod Raising
 pub mod Telling
-mod Told
+pub mod Told
 pub mod Truths
 pub mod Valued

@@ -10,7 +10,7 @@ use Rattle.ps_word.specs.declared.words.Word.{Word}
 use Rattle.ps_mem.specs.Heap.{Heap, Grants, birth_at}
 use Rattle.ps_mem.specs.Keeps.{Keeps}
 use Rattle.ps_mem.specs.Meaning.{value_of}
-use Rattle.ps_mem.specs.Shows.{IsSound, IsWithin, Shows}
+use Rattle.ps_mem.specs.Shows.{IsSound, Shows}
 use Rattle.ps_mem.proofs.KeepsLemmas.{AreValues-kept, AreWithin-kept, values_of-kept, known_values}
 use Rattle.ps_ops.specs.declared.failure.NotMade.{NotMade as Reason}
 use Rattle.ps_ops.specs.declared.failure.NotMade.TheVariants.{LogFull, LogClosed, NeedSpace, Memory}
@@ -24,7 +24,7 @@ use Rattle.ps_acts.proofs.Kept.{frames-good, frames-same, frames-within}
 use Rattle.ps_acts.proofs.Meeting.{stays_as, at_least-same}
 use Rattle.ps_turns.specs.declared.turned.Turned.{Turned}
 use Rattle.ps_turns.specs.declared.turned.Turned.TheVariants.{Breaks}
-use Rattle.ps_turns.specs.Turns.{Notes, IsTurned, IsUnderWay, TurnsBy, Turns, error_turn, needs_in, nothing_more}
+use Rattle.ps_turns.specs.Turns.{Notes, IsTurned, IsUnderWay, IsShownWith, TurnsBy, TurnsWith, error_turn, needs_in, nothing_more}
 
 -- ---- over another memory that keeps what stood
 
@@ -78,24 +78,25 @@ some_frames [] some = absurd (some refl)
 some_frames (frame ∷ frames) some = tt
 
 module _ (error : ErrorName) (command : Word) (trial : Trial) (l : Lent) (good : IsGood l)
-    (inside : (s : Store) → IsShown l s → IsWithin (birth_at l.heap) l.names s command)
     (heap : Heap) (grants : Grants) where
   abbrev NotesTo : Result Unit Reason → Type 0
   NotesTo result =
       Notes error command trial.slot l.error_dictionary result l.heap heap l.grants grants
 
   abbrev TurnsTo : Result Turned Reason → Lent → Type 0
-  TurnsTo result new = Turns nothing_more (error_turn error command) trial result l new
+  TurnsTo result new =
+      TurnsWith (command ∷ []) [] nothing_more (error_turn error command) trial result l new
 
   abbrev noted : Lent
   noted = record l { heap = heap; grants = grants }
 
-  noted_turn : NotesTo (Ok tt) → (s : Store) (shown : IsShown l s)
+  noted_turn : NotesTo (Ok tt) → (s : Store) (held : IsShownWith (command ∷ []) [] l s)
       → IsTurned trial.refused (error_turn error command l s) (Breaks Stop) s l noted
-  noted_turn notes s shown =
-      let note = notes.did.meets l.names s good.first good.names shown.shows (inside s shown) in
+  noted_turn notes s held =
+      let note = notes.did.meets l.names s good.first good.names held.shown.shows
+      held.words_within.0 in
       let value : Value = value_of (birth_at l.heap) l.names command in
-      let next = left_over l good heap grants notes.keeps s _ shown note.0 note.1 in
+      let next = left_over l good heap grants notes.keeps s _ held.shown note.0 note.1 in
       record {
         after = with_error error value (birth_at l.heap l.error_dictionary) s;
         shown = next.shown;
@@ -110,7 +111,7 @@ module _ (error : ErrorName) (command : Word) (trial : Trial) (l : Lent) (good :
 
   pub raised_on : length l.frames ≢ 0 → NotesTo (Ok tt) → TurnsTo (Ok (Breaks Stop)) noted
   raised_on some notes = record {
-    meets = λ s shown. record { did = noted_turn notes s shown; logs = notes.logs };
+    meets = λ s held. record { did = noted_turn notes s held; logs = notes.logs };
     good = good_over l good heap grants notes.keeps notes.sound;
     keeps = notes.keeps;
     stays = stays_as l noted refl refl refl (omega arith) (at_least-same _);
@@ -125,10 +126,10 @@ module _ (error : ErrorName) (command : Word) (trial : Trial) (l : Lent) (good :
   same_noted kept = ap (λ (h : Heap). record l { heap = h; grants = grants }) kept
 
   not_raised_by : (reason : Reason) → NotesTo (Err reason)
-      → ((s : Store) → IsShown l s → TurnsBy (needs_in trial nothing_more (error_turn error command)
-      l s) trial (Err reason) (error_turn error command l s) s l noted) → TurnsTo (Err reason) noted
+      → ((s : Store) → TurnsBy (needs_in trial nothing_more (error_turn error command) l s) trial
+      (Err reason) (error_turn error command l s) s l noted) → TurnsTo (Err reason) noted
   not_raised_by reason notes meets = record {
-    meets = meets;
+    meets = λ s held. meets s;
     good = good_over l good heap grants notes.keeps notes.sound;
     keeps = notes.keeps;
     stays = stays_as l noted refl refl refl (omega arith) (at_least-same _);
@@ -138,9 +139,9 @@ module _ (error : ErrorName) (command : Word) (trial : Trial) (l : Lent) (good :
   }
 
   pub not_raised : (reason : Reason) → NotesTo (Err reason) → TurnsTo (Err reason) noted
-  not_raised LogFull notes = not_raised_by LogFull notes λ s shown.
+  not_raised LogFull notes = not_raised_by LogFull notes λ s.
       record { did = ((notes.did.0, notes.did.1), same_noted notes.did.2); logs = notes.logs }
-  not_raised LogClosed notes = not_raised_by LogClosed notes λ s shown.
+  not_raised LogClosed notes = not_raised_by LogClosed notes λ s.
       record { did = ((omega arith, notes.did.0), same_noted notes.did.1); logs = notes.logs }
   not_raised Memory notes = absurd notes.did
   not_raised (NeedSpace words) notes = absurd notes.did

@@ -1,5 +1,5 @@
 -- When a step, or a part of one, went as the definitions say (PLRM2, 3.5, 3.10).
-use Rattle.std.specs.Prelude.{◌≡◌, ◌≢◌, ℕ, ◌+◌, ◌<◌, Bool, true, false, IsTrue, Option, Some, None, is_some, unwrap_or, IfOk, OnErr, List, [], ◌∷◌, length, AllPairs, Result, Ok, Err, if◌then◌else◌}
+use Rattle.std.specs.Prelude.{◌≡◌, ◌≢◌, ℕ, suc, ◌+◌, ◌<◌, Bool, true, false, IsTrue, Option, Some, None, is_some, unwrap_or, IfOk, OnErr, List, [], ◌∷◌, length, AllPairs, Result, Ok, Err, if◌then◌else◌}
 use Rattle.ps_language.specs.declared.errors.ErrorName.{ErrorName}
 use Rattle.ps_language.specs.declared.errors.ErrorName.TheVariants.{VmError, Undefined}
 use Rattle.ps_language.specs.declared.operators.Operator.{Operator}
@@ -18,12 +18,13 @@ use Rattle.ps_word.specs.declared.words.Word.{Word}
 use Rattle.ps_mem.specs.Heap.{Heap, Grants, birth_at}
 use Rattle.ps_mem.specs.Keeps.{Keeps}
 use Rattle.ps_mem.specs.Meaning.{value_of}
-use Rattle.ps_mem.specs.Shows.{IsSound, IsWithin, Shows}
+use Rattle.ps_mem.specs.Shows.{IsSound, IsWithin, AreWithin, Shows}
 use Rattle.ps_ops.specs.declared.failure.NotMade.{NotMade as Reason}
 use Rattle.ps_ops.specs.declared.failure.NotMade.TheVariants.{LogFull, LogClosed}
 use Rattle.ps_ops.specs.Does.{KeepsLogsWithin, most_records, spent}
 use Rattle.ps_types.specs.Met.{BeginWithFirst}
 use Rattle.ps_control.specs.declared.frames.Frame.{Frame as FrameHere}
+use Rattle.ps_control.specs.Frames.{AreFramesWithin}
 use Rattle.ps_control.specs.Turns.{cause_of}
 use Rattle.ps_acts.specs.declared.lent.Trial.{Trial}
 use Rattle.ps_acts.specs.Lent.{Lent, Rooms, scene_of, IsShown, IsGood}
@@ -97,15 +98,18 @@ error_needs scratch birth before error command kept =
       scratch = scratch;
     }
 
--- of an unwinding: the line of the context's end, and a record for its entry
-abbrev pub break_needs : (birth : ℕ) → Cause → Scene → Needs
-break_needs birth for_stop scene =
+-- of an unwinding: what is asked for beside, and at the context's end its line, with a record for
+-- its entry
+abbrev pub break_needs : Asked → (birth : ℕ) → Cause → Scene → Needs
+break_needs asked birth for_stop scene =
     let d : Dictionary = dictionary_at scene.store birth in
     record nothing_needed {
       bytes = length (last_line scene.frames scene.store d);
-      records = if is_told scene.frames d then 1 else 0;
+      records = if is_told scene.frames d then suc asked.records else asked.records;
+      scratch = asked.scratch;
     }
-break_needs birth cause scene = nothing_needed
+break_needs asked birth cause scene =
+    record nothing_needed { records = asked.records; scratch = asked.scratch }
 
 -- by the turn; asked: what the language doesn't say; birth: of $error
 abbrev pub turn_needs : (refused : Bool) → Asked → (birth : ℕ) → (before : Scene) → Turn → Needs
@@ -114,10 +118,12 @@ turn_needs refused asked birth before (tries command kept scene output) =
     if lacks_room refused kept.store scene.store then error_needs asked.scratch birth before VmError
     command (record kept { names = scene.names })
     else needs_between asked before scene output
-turn_needs refused asked birth before (breaks cause scene) = break_needs birth cause scene
+turn_needs refused asked birth before (breaks cause scene) =
+    break_needs asked birth cause scene
 turn_needs refused asked birth before (errs error command kept) =
     error_needs asked.scratch birth before error command kept
-turn_needs refused asked birth before (leaves_to calling kept) = nothing_needed
+turn_needs refused asked birth before (leaves_to calling kept) =
+    record nothing_needed { scratch = asked.scratch }
 
 -- ---- steps
 
@@ -191,11 +197,12 @@ needs_in trial asks turn l store =
     turn_needs trial.refused (asks l store) (birth_at l.heap l.error_dictionary) (scene_of l store)
     (turn l store)
 
--- For every store that the memory shows the turn came about, by what it asks for. What is lent
--- stays good, what stood goes on standing, and the logs are kept
-pub record Turns (asks : Lent → Store → Asked) (turn : Lent → Store → Turn) (trial : Trial)
-    (result : Result Turned Reason) (old new : Lent) : Type 0 where
-  pub meets : (store : Store) → IsShown old store
+-- For every one of these stores the turn came about, by what it asks for. What is lent stays good,
+-- what stood goes on standing, and the logs are kept
+pub record TurnsOver (stores : Lent → Store → Type 0) (asks : Lent → Store → Asked)
+    (turn : Lent → Store → Turn) (trial : Trial) (result : Result Turned Reason)
+    (old new : Lent) : Type 0 where
+  pub meets : (store : Store) → stores old store
       → TurnsBy (needs_in trial asks turn old store) trial result (turn old store) store old new
   pub good : IsGood new
   pub keeps : Keeps old.heap new.heap
@@ -205,11 +212,33 @@ pub record Turns (asks : Lent → Store → Asked) (turn : Lent → Store → Tu
   pub framed : OnErr result (new.frames ≡ old.frames)
   pub under_way : IfOk result (λ turned. IsUnderWay turned new.frames)
 
+-- for every store that the memory shows
+abbrev pub Turns : (asks : Lent → Store → Asked) → (turn : Lent → Store → Turn) → Trial
+    → Result Turned Reason → (old new : Lent) → Type 0
+Turns asks turn trial result old new = TurnsOver IsShown asks turn trial result old new
+
+-- a store that is shown, with values and frames in hand that are within it as the stacks are
+pub record IsShownWith (words : List Word) (frames : List FrameHere) (l : Lent) (store : Store)
+    : Type 0 where
+  pub shown : IsShown l store
+  pub words_within : AreWithin l.heap l.names store words
+  pub frames_within : AreFramesWithin l.heap l.names store frames
+
+-- for every store that is shown with them
+abbrev pub TurnsWith : (words : List Word) → (frames : List FrameHere)
+    → (asks : Lent → Store → Asked) → (turn : Lent → Store → Turn) → Trial
+    → Result Turned Reason → (old new : Lent) → Type 0
+TurnsWith words frames asks turn trial result old new =
+    TurnsOver (IsShownWith words frames) asks turn trial result old new
+
 -- ---- what is asked for beside
 
 -- nothing
+abbrev pub none_asked : Asked
+none_asked = record { records = 0; scratch = no_rooms }
+
 abbrev pub nothing_more : Lent → Store → Asked
-nothing_more l store = record { records = 0; scratch = no_rooms }
+nothing_more l store = none_asked
 
 -- ---- errors and unwindings
 

@@ -47,7 +47,7 @@ fn is_true(word: Word) -> bool
 }
 
 /// Whether the error in the `$error` at an address is new. The memory is only read.
-fn has_new_error<M: Memory>(memory: &mut M, address: u32, keys: ErrorKeys) -> bool
+pub fn has_new_error<M: Memory>(memory: &mut M, address: u32, keys: ErrorKeys) -> bool
     requires sound { IsSound (M.heap memory.old) }
     requires known { StandsAs (M.heap memory.old) Kind.Dictionary address 4 }
     requires key { IsNamed 131 keys.newerror }
@@ -68,7 +68,7 @@ fn has_new_error<M: Memory>(memory: &mut M, address: u32, keys: ErrorKeys) -> bo
 ///
 /// `AllocError`: the output has no room for the line, and a growth was refused; its bytes are as
 /// they were.
-fn append_line<M: Memory>(
+pub fn append_line<M: Memory>(
     memory: &mut M,
     names: &Names,
     address: u32,
@@ -94,22 +94,23 @@ fn append_line<M: Memory>(
     append_error_line(memory, names, name, command, output)
 }
 
-/// Asks for the record of an entry that is changed.
+/// Asks for so many records, at least one.
 ///
-/// `LogFull`: the log of the slot is open and takes none. `LogClosed`: it is closed.
-fn permit_entry<M: Memory>(memory: &mut M, slot: u32) -> Result<(), NotMade>
+/// `LogFull`: the log of the slot is open and takes fewer. `LogClosed`: it is closed.
+pub fn permit_records<M: Memory>(memory: &mut M, slot: u32, count: u32) -> Result<(), NotMade>
     requires slot { slot < SLOTS }
+    requires some { 1 ≤ count }
     ensures heap { M.heap memory.new ≡ M.heap memory.old }
     ensures kept { M.grants memory.new
         ≡ record (M.grants memory.old) { records = (M.grants memory.new).records } }
     ensures others { (s : ℕ) → s ≢ slot
         → (M.grants memory.new).records s ≡ (M.grants memory.old).records s }
     ensures more { (M.grants memory.old).records slot ≤ (M.grants memory.new).records slot }
-    ensures granted { OnOk result (1 ≤ (M.grants memory.new).records slot) }
+    ensures granted { OnOk result (count ≤ (M.grants memory.new).records slot) }
     ensures reason { IfErr result (λ reason.
-        IsUnlogged 1 slot (M.grants memory.old) (M.grants memory.new) reason) }
+        IsUnlogged count slot (M.grants memory.old) (M.grants memory.new) reason) }
 {
-    permitted(memory, slot, 1)
+    permitted(memory, slot, count)
 }
 
 /// An unwinding for stop ends a context that has no frame left. Where its error is new, the line is
@@ -139,7 +140,7 @@ fn end_by_stop<M: Memory>(
     if !has_new_error(memory, address, keys) {
         return Ok(Turned::Ends { told: false });
     }
-    match permit_entry(memory, trial.slot) {
+    match permit_records(memory, trial.slot, 1) {
         Ok(()) => {}
         Err(reason) => return Err(reason),
     }

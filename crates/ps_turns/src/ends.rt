@@ -1,15 +1,15 @@
 //! The end of a context: the line of an error that nothing caught (PLRM2, 3.10).
 
-ghost use Rattle.std.specs.Prelude.{◌≡◌, ◌<◌, ◌≤◌, [], List, ℕ, OnErr, vec_capacity};
+ghost use Rattle.std.specs.Prelude.{◌≡◌, ◌<◌, ◌≤◌, ◌∷◌, [], OnErr, vec_capacity};
 ghost use Rattle.ps_language.specs.Value.{Store};
 ghost use Rattle.ps_mem.specs.Heap.{birth_at};
 ghost use Rattle.ps_mem.specs.Meaning.{value_of};
-ghost use Rattle.ps_mem.specs.Shows.{IsValue, AreValues, IsSound, IsWithin, AreWithin, Shows, words_of_pairs};
+ghost use Rattle.ps_mem.specs.Shows.{IsValue, AreValues, IsSound, AreWithin, Shows, words_of_pairs};
 ghost use Rattle.ps_dict.specs.Entries.{entry_pairs};
 ghost use Rattle.ps_text.specs.Errors.{Appends};
-ghost use Rattle.ps_acts.specs.Lent.{lent, IsShown, IsGood};
+ghost use Rattle.ps_acts.specs.Lent.{lent, IsGood};
 ghost use Rattle.ps_turns.specs.Ends as ends;
-ghost use Rattle.ps_turns.specs.Turns.{Turns, error_turn, nothing_more};
+ghost use Rattle.ps_turns.specs.Turns.{TurnsWith, error_turn, nothing_more};
 
 use crate::notes::{entries_of, permit_note};
 use crate::turned::Turned;
@@ -100,11 +100,8 @@ pub fn end_by_error<M: Memory>(
     requires good { IsGood
         (lent (M.heap memory.old) (M.grants memory.old) context.old shared.old) }
     requires held { IsValue (M.heap memory.old) command }
-    requires within { (s : Store)
-        → IsShown (lent (M.heap memory.old) (M.grants memory.old) context.old shared.old) s
-        → IsWithin (birth_at (M.heap memory.old)) shared.old.names s command }
     requires last { context.old.frames ≡ [] }
-    ensures { Turns nothing_more (error_turn error command) trial result
+    ensures { TurnsWith (command ∷ []) [] nothing_more (error_turn error command) trial result
         (lent (M.heap memory.old) (M.grants memory.old) context.old shared.old)
         (lent (M.heap memory.new) (M.grants memory.new) context.new shared.new) }
 {

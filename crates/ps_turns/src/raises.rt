@@ -1,13 +1,13 @@
 //! An error is noted, and an unwinding for stop begins (PLRM2, 3.10).
 
-ghost use Rattle.std.specs.Prelude.{◌≡◌, ◌<◌, ℕ, List};
+ghost use Rattle.std.specs.Prelude.{◌≡◌, ◌<◌, ◌∷◌, [], ℕ, List};
 ghost use Rattle.ps_language.specs.StepValues.{command_of};
 ghost use Rattle.ps_language.specs.Value.{Store};
-ghost use Rattle.ps_mem.specs.Heap.{Heap, birth_at};
+ghost use Rattle.ps_mem.specs.Heap.{Heap};
 ghost use Rattle.ps_mem.specs.Meaning.{value_of};
 ghost use Rattle.ps_mem.specs.Shows.{IsValue, IsWithin};
-ghost use Rattle.ps_acts.specs.Lent.{lent, IsShown, IsGood};
-ghost use Rattle.ps_turns.specs.Turns.{Turns, error_turn, nothing_more, operator_error};
+ghost use Rattle.ps_acts.specs.Lent.{lent, IsGood};
+ghost use Rattle.ps_turns.specs.Turns.{Turns, TurnsWith, error_turn, nothing_more, operator_error};
 
 use crate::ends::end_by_error;
 use crate::notes::note;
@@ -38,10 +38,7 @@ pub fn raise<M: Memory>(
     requires good { IsGood
         (lent (M.heap memory.old) (M.grants memory.old) context.old shared.old) }
     requires held { IsValue (M.heap memory.old) command }
-    requires within { (s : Store)
-        → IsShown (lent (M.heap memory.old) (M.grants memory.old) context.old shared.old) s
-        → IsWithin (birth_at (M.heap memory.old)) shared.old.names s command }
-    ensures { Turns nothing_more (error_turn error command) trial result
+    ensures { TurnsWith (command ∷ []) [] nothing_more (error_turn error command) trial result
         (lent (M.heap memory.old) (M.grants memory.old) context.old shared.old)
         (lent (M.heap memory.new) (M.grants memory.new) context.new shared.new) }
 {

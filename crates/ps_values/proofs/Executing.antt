@@ -1,5 +1,5 @@
 -- What executing a word comes to, by what was done.
-use Rattle.std.proofs.Common.{◌≡◌, ◌⊎◌, ℕ, Bool, true, false, List, Option, Some, None, Ok, Err, refl, sym, ap, subst, ◌∙◌, inl, inr}
+use Rattle.std.proofs.Common.{◌≡◌, ◌⊎◌, ℕ, Bool, true, false, List, [], ◌∷◌, Option, Some, None, Ok, Err, refl, sym, ap, subst, ◌∙◌, inl, inr}
 use Rattle.std.specs.Prelude.{ℤ, ◌&&◌, Result, IfOk, IfSome}
 use Rattle.ps_language.specs.declared.errors.ErrorName.{ErrorName}
 use Rattle.ps_language.specs.declared.errors.ErrorName.TheVariants.{InvalidAccess, Undefined}
@@ -18,63 +18,99 @@ use Rattle.ps_mem.specs.References.{IsKnown, IsKnownContent}
 use Rattle.ps_mem.specs.Shows.{IsValue, IsWithin, IsWithinContent}
 use Rattle.ps_ops.specs.declared.failure.NotMade.{NotMade as Reason}
 use Rattle.ps_control.specs.declared.frames.Frame.TheVariants.{Pending}
-use Rattle.ps_control.specs.Frames.{IsHeld}
+use Rattle.ps_control.specs.Frames.{IsHeld, IsHeldText}
 use Rattle.ps_acts.specs.declared.lent.Trial.{Trial}
 use Rattle.ps_acts.specs.Acts.{Asked}
 use Rattle.ps_acts.specs.Lent.{Lent, scene_of, around_of, IsShown, IsGood}
 use Rattle.ps_turns.specs.declared.turned.Turned.{Turned}
 use Rattle.ps_turns.specs.declared.turned.Turned.TheVariants.{Goes}
-use Rattle.ps_turns.specs.Turns.{Turns, error_turn, nothing_more}
-use Rattle.ps_turns.proofs.Composing.{turns_as}
+use Rattle.ps_turns.specs.Turns.{IsShownWith, TurnsOver, Turns, TurnsWith, error_turn, none_asked, nothing_more}
+use Rattle.ps_turns.proofs.Composing.{turns_over}
 use Rattle.ps_keys.specs.Lookups.{found_of}
-use Rattle.ps_values.specs.Values.{IsLent, IsTextLent, meaning, pushed_turn, framed_turn, entered_turn, scanned_turn, operated_turn, executed_what_turn, treated_turn, executed_turn, done_turn, what_asks, treated_asks, executed_asks}
-use Rattle.ps_values.proofs.Pushing.{goes_as}
+use Rattle.ps_values.specs.Values.{meaning, pushed_turn, framed_turn, entered_turn, string_frame, scanned_turn, operated_turn, executed_what_turn, treated_turn, executed_turn, done_turn, Asks, what_asks, operated_asks, word_asks, treated_asks, executed_asks}
+use Rattle.ps_values.proofs.Pushing.{behind_first, goes_as}
 
-module _ (asks : Named → Lent → Store → Asked) (command word : Word) (l : Lent) (trial : Trial) where
-  abbrev word_asks : Lent → Store → Asked
-  word_asks l s = what_asks asks (meaning l word).what l s
+module _ (asks : Asks) (command word : Word) (l : Lent) (trial : Trial) where
+  -- a store that is shown with both in hand
+  abbrev Held : Store → Type 0
+  Held s = IsShownWith (word ∷ command ∷ []) [] l s
 
   module _ (result : Result Turned Reason) (new : Lent) where
     abbrev Comes : (Lent → Store → Asked) → (Lent → Store → Turn) → Type 0
-    Comes asked turn = Turns asked turn trial result l new
+    Comes asked turn = TurnsWith (word ∷ command ∷ []) [] asked turn trial result l new
+
+    comes_over : (stores : Lent → Store → Type 0) → ((s : Store) → Held s → stores l s)
+        → (asked other : Lent → Store → Asked) (done turn : Lent → Store → Turn)
+        → ((s : Store) → Held s → turn l s ≡ done l s)
+        → ((s : Store) → Held s → other l s ≡ asked l s)
+        → TurnsOver stores asked done trial result l new → Comes other turn
+    comes_over stores fewer asked other done turn is same turns =
+        turns_over stores (IsShownWith (word ∷ command ∷ []) []) asked other done turn trial result
+        l new fewer (λ s held. sym (is s held)) (λ s held. sym (same s held)) turns
 
     comes_as : (asked other : Lent → Store → Asked) (done turn : Lent → Store → Turn)
-        → ((s : Store) → IsShown l s → turn l s ≡ done l s)
-        → ((s : Store) → IsShown l s → other l s ≡ asked l s)
+        → ((s : Store) → Held s → turn l s ≡ done l s)
+        → ((s : Store) → Held s → other l s ≡ asked l s)
         → Comes asked done → Comes other turn
     comes_as asked other done turn is same turns =
-        turns_as asked other done turn trial result l new (λ s shown. sym (is s shown))
-        (λ s shown. sym (same s shown)) turns
+        comes_over (IsShownWith (word ∷ command ∷ []) []) (λ s held. held) asked other done turn is
+        same turns
+
+    -- done with the command alone in hand
+    comes_by : (asked other : Lent → Store → Asked) (done turn : Lent → Store → Turn)
+        → ((s : Store) → Held s → turn l s ≡ done l s)
+        → ((s : Store) → Held s → other l s ≡ asked l s)
+        → TurnsWith (command ∷ []) [] asked done trial result l new → Comes other turn
+    comes_by asked other done turn is same turns =
+        comes_over (IsShownWith (command ∷ []) []) (behind_first l word command) asked other done
+        turn is same turns
 
     -- ---- by the content
 
     pub name_waits : (number : ℕ) → content_in word.0 ≡ Name number
-        → Comes nothing_more (framed_turn command (Pending word))
-        → Comes word_asks (executed_what_turn command word)
+        → TurnsWith (command ∷ []) (Pending word ∷ []) nothing_more
+        (framed_turn command (Pending word)) trial result l new
+        → Comes (word_asks asks word) (executed_what_turn command word)
     unfolding value_of
     name_waits number content =
-        comes_as _ _ _ _ (λ s shown. rw content refl) (λ s shown. rw content refl)
+        comes_over (IsShownWith (command ∷ []) (Pending word ∷ [])) (λ s held. record {
+          shown = held.shown;
+          words_within = held.words_within.1;
+          frames_within = (held.words_within.0, tt);
+        })
+        _ _ _ _ (λ s held. rw content refl) (λ s held. rw content refl)
 
     pub operator_acts : (operator : Named) → content_in word.0 ≡ Operator operator
-        → Comes (asks operator) (operated_turn operator)
-        → Comes word_asks (executed_what_turn command word)
+        → Turns (operated_asks asks operator) (operated_turn operator) trial result l new
+        → Comes (word_asks asks word) (executed_what_turn command word)
     unfolding value_of
     operator_acts operator content =
-        comes_as _ _ _ _ (λ s shown. rw content refl) (λ s shown. rw content refl)
+        comes_over IsShown (λ s held. held.shown) _ _ _ _ (λ s held. rw content refl)
+        (λ s held. rw content refl)
 
     pub array_entered : (part : Part) → content_in word.0 ≡ Array part
-        → Comes nothing_more (entered_turn command part)
-        → Comes word_asks (executed_what_turn command word)
+        → TurnsWith (command ∷ []) [] nothing_more (entered_turn command part) trial result l new
+        → Comes (word_asks asks word) (executed_what_turn command word)
     unfolding value_of
     array_entered part content =
-        comes_as _ _ _ _ (λ s shown. rw content refl) (λ s shown. rw content refl)
+        comes_by _ _ _ _ (λ s held. rw content refl) (λ s held. rw content refl)
 
     pub text_scanned : (part : Part) → content_in word.0 ≡ Text part
-        → Comes nothing_more (scanned_turn command part)
-        → Comes word_asks (executed_what_turn command word)
-    unfolding value_of
+        → TurnsWith (command ∷ []) (string_frame part ∷ []) nothing_more
+        (scanned_turn command part) trial result l new
+        → Comes (word_asks asks word) (executed_what_turn command word)
+    unfolding value_of IsWithin
     text_scanned part content =
-        comes_as _ _ _ _ (λ s shown. rw content refl) (λ s shown. rw content refl)
+        comes_over (IsShownWith (command ∷ []) (string_frame part ∷ [])) (λ s held. record {
+          shown = held.shown;
+          words_within = held.words_within.1;
+          frames_within = (
+            subst (IsWithinContent (birth_at l.heap) l.names s) content
+                held.words_within.0,
+            tt,
+          );
+        })
+        _ _ _ _ (λ s held. rw content refl) (λ s held. rw content refl)
 
     -- ---- literal or executable
 
@@ -83,44 +119,55 @@ module _ (asks : Named → Lent → Store → Asked) (command word : Word) (l : 
         → Comes (treated_asks asks word) (treated_turn command word)
     unfolding value_of
     treated_literal literal =
-        comes_as _ _ _ _ (λ s shown. rw literal refl) (λ s shown. rw literal refl)
+        comes_as _ _ _ _ (λ s held. rw literal refl) (λ s held. rw literal refl)
 
     pub treated_executable : executable_in word.0 ≡ true
-        → Comes word_asks (executed_what_turn command word)
+        → Comes (word_asks asks word) (executed_what_turn command word)
         → Comes (treated_asks asks word) (treated_turn command word)
     unfolding value_of
     treated_executable may =
-        comes_as _ _ _ _ (λ s shown. rw may refl) (λ s shown. rw may refl)
+        comes_as _ _ _ _ (λ s held. rw may refl) (λ s held. rw may refl)
 
     -- ---- names that are looked up
 
     module _ (named : is_executable_name (meaning l word) ≡ true) where
       abbrev Finds : LookedUp → Type 0
-      Finds found = (s : Store) → IsShown l s
+      Finds found = (s : Store) → Held s
           → looked_up (meaning l word) (scene_of l s).dictionaries s ≡ found
 
-      pub found_treated : (value : Word) → Finds (known (meaning l value))
-          → Comes (treated_asks asks value) (treated_turn command value)
+      pub found_treated : (value : Word)
+          → ((s : Store) → IsShown l s → IsWithin (birth_at l.heap) l.names s value)
+          → Finds (known (meaning l value))
+          → TurnsWith (value ∷ command ∷ []) [] (treated_asks asks value)
+          (treated_turn command value) trial result l new
           → Comes (executed_asks asks word) (executed_turn command word)
       unfolding executed
-      found_treated value found =
-          comes_as _ _ _ _ (λ s shown. rw (named, found s shown) refl)
-          (λ s shown. rw (named, found s shown) refl)
+      found_treated value within found =
+          comes_over (IsShownWith (value ∷ command ∷ []) []) (λ s held. record {
+            shown = held.shown;
+            words_within = (within s held.shown, held.words_within.1);
+            frames_within = tt;
+          })
+          _ _ _ _ (λ s held. rw (named, found s held) refl)
+          (λ s held. rw (named, found s held) refl)
 
-      pub unknown_raised : Finds unknown → Comes nothing_more (error_turn Undefined command)
+      pub unknown_raised : Finds unknown
+          → TurnsWith (command ∷ []) [] nothing_more (error_turn Undefined command) trial result l
+          new
           → Comes (executed_asks asks word) (executed_turn command word)
       unfolding executed
       unknown_raised found =
-          comes_as _ _ _ _ (λ s shown. rw (named, found s shown) refl)
-          (λ s shown. rw (named, found s shown) refl)
+          comes_by _ _ _ _ (λ s held. rw (named, found s held) refl)
+          (λ s held. rw (named, found s held) refl)
 
       pub unreadable_raised : Finds unreadable
-          → Comes nothing_more (error_turn InvalidAccess command)
+          → TurnsWith (command ∷ []) [] nothing_more (error_turn InvalidAccess command) trial result
+          l new
           → Comes (executed_asks asks word) (executed_turn command word)
       unfolding executed
       unreadable_raised found =
-          comes_as _ _ _ _ (λ s shown. rw (named, found s shown) refl)
-          (λ s shown. rw (named, found s shown) refl)
+          comes_by _ _ _ _ (λ s held. rw (named, found s held) refl)
+          (λ s held. rw (named, found s held) refl)
 
     -- ---- all else
 
@@ -129,13 +176,13 @@ module _ (asks : Named → Lent → Store → Asked) (command word : Word) (l : 
         → Comes (executed_asks asks word) (executed_turn command word)
     unfolding executed
     executed_treated other =
-        comes_as _ _ _ _ (λ s shown. rw other refl) (λ s shown. rw other refl)
+        comes_as _ _ _ _ (λ s held. rw other refl) (λ s held. rw other refl)
 
     pub done_executed : is_procedure (meaning l word) ≡ false
         → Comes (executed_asks asks word) (executed_turn command word)
         → Comes (executed_asks asks word) (done_turn command word)
     unfolding done
-    done_executed other = comes_as _ _ _ _ (λ s shown. rw other refl) (λ s shown. refl)
+    done_executed other = comes_as _ _ _ _ (λ s held. rw other refl) (λ s held. refl)
 
     pub procedure_pushed : (part : Part) → executable_in word.0 ≡ true
         → content_in word.0 ≡ Array part
@@ -143,19 +190,20 @@ module _ (asks : Named → Lent → Store → Asked) (command word : Word) (l : 
         → Comes (executed_asks asks word) (done_turn command word)
     unfolding done is_procedure is_executable_name value_of
     procedure_pushed part may content =
-        comes_as _ _ _ _ (λ s shown. rw (may, content) refl) (λ s shown. rw (may, content) refl)
+        comes_as _ _ _ _ (λ s held. rw (may, content) refl) (λ s held. rw (may, content) refl)
 
   -- ---- a null
 
   pub null_goes : IsGood l
       → ((s : Store) → what_of (birth_at l.heap) l.names (content_in word.0) ≡ what_of (birth_at l.heap) l.names Null)
-      → Turns word_asks (executed_what_turn command word) trial (Ok Goes) l l
+      → TurnsWith (word ∷ command ∷ []) [] (word_asks asks word) (executed_what_turn command word)
+      trial (Ok Goes) l l
   unfolding value_of
   null_goes good null =
-      comes_as (Ok Goes) l nothing_more word_asks (executed_what_turn command word)
-      (executed_what_turn command word) (λ s shown. refl) (λ s shown. rw (null s) refl)
-      (goes_as command l trial (executed_what_turn command word) good
-      (λ s shown. rw (null s) refl))
+      comes_as (Ok Goes) l nothing_more (word_asks asks word) (executed_what_turn command word)
+      (executed_what_turn command word) (λ s held. refl) (λ s held. rw (null s) refl)
+      (goes_as command l trial (IsShownWith (word ∷ command ∷ []) [])
+      (executed_what_turn command word) (λ s held. held.shown) good (λ s held. rw (null s) refl))
 
 -- ---- what a word is
 
@@ -199,16 +247,12 @@ array_held h word part held content = record {
   end = (subst IsContent content held.word.value.content).within;
 }
 
-pub text_held : (l : Lent) (word : Word) (part : Part) → IsLent l word
-    → content_in word.0 ≡ Text part → IsTextLent l part
-unfolding IsKnown IsWithin
-text_held l word part held content = record {
-  held = record {
-    stands = subst (IsKnownContent l.heap) content held.held.known;
-    end = (subst IsContent content held.held.word.value.content).within;
-  };
-  within = λ s shown.
-      subst (IsWithinContent (birth_at l.heap) l.names s) content (held.within s shown);
+pub text_held : (h : Heap) (word : Word) (part : Part) → IsValue h word
+    → content_in word.0 ≡ Text part → IsHeldText h part
+unfolding IsKnown
+text_held h word part held content = record {
+  stands = subst (IsKnownContent h) content held.known;
+  end = (subst IsContent content held.word.value.content).within;
 }
 
 -- ---- by contents
@@ -273,18 +317,20 @@ module _ (births : ℕ → ℕ) (names : List (List ℕ)) where
 
 -- ---- a null, and what is pushed
 
-module _ (asks : Named → Lent → Store → Asked) (command word : Word) (l : Lent) (trial : Trial)
+module _ (asks : Asks) (command word : Word) (l : Lent) (trial : Trial)
     (content : Content) (is : content ≡ content_in word.0) where
-  pub idle_goes : IsGood l → IsIdle content
-      → Turns (word_asks asks command word l trial) (executed_what_turn command word) trial (Ok Goes)
-      l l
+  abbrev Executes : Result Turned Reason → Lent → Type 0
+  Executes result new = TurnsWith (word ∷ command ∷ []) [] (word_asks asks word)
+      (executed_what_turn command word) trial result l new
+
+  pub idle_goes : IsGood l → IsIdle content → Executes (Ok Goes) l
   idle_goes good idle = null_goes asks command word l trial good λ s.
       ap (what_of (birth_at l.heap) l.names) (sym is) ∙ idle_is (birth_at l.heap) l.names content idle
 
   pub datum_pushed : (result : Result Turned Reason) (new : Lent) → IsDatum content
-      → Turns nothing_more (pushed_turn command word) trial result l new
-      → Turns (word_asks asks command word l trial) (executed_what_turn command word) trial result
-      l new
+      → TurnsWith (word ∷ command ∷ []) [] nothing_more (pushed_turn command word) trial result l
+      new
+      → Executes result new
   unfolding value_of
   datum_pushed result new datum turns = by_kind datum
     where
@@ -292,21 +338,20 @@ module _ (asks : Named → Lent → Store → Asked) (command word : Word) (l : 
           → ((s : Store) → (executed_what (meaning l command) (meaning l word)
           (what_of (birth_at l.heap) l.names kind) (around_of l) (scene_of l s)
           ≡ pushed_turn command word l s)
-          × (what_asks asks (what_of (birth_at l.heap) l.names kind) l s ≡ nothing_more l s))
-          → Turns (word_asks asks command word l trial) (executed_what_turn command word) trial
-          result l new
+          × (what_asks asks (what_of (birth_at l.heap) l.names kind) (around_of l) (scene_of l s)
+          ≡ none_asked))
+          → Executes result new
       plain kind same means = comes_as asks command word l trial result new nothing_more
-          (word_asks asks command word l trial) (pushed_turn command word)
-          (executed_what_turn command word)
-          (λ s shown. (λ i. executed_what (meaning l command) (meaning l word)
+          (word_asks asks word) (pushed_turn command word) (executed_what_turn command word)
+          (λ s held. (λ i. executed_what (meaning l command) (meaning l word)
           (what_of (birth_at l.heap) l.names ((sym is ∙ same) i)) (around_of l) (scene_of l s))
           ∙ (means s).0)
-          (λ s shown. (λ i. what_asks asks
-          (what_of (birth_at l.heap) l.names ((sym is ∙ same) i)) l s) ∙ (means s).1) turns
+          (λ s held. (λ i. what_asks asks
+          (what_of (birth_at l.heap) l.names ((sym is ∙ same) i)) (around_of l) (scene_of l s))
+          ∙ (means s).1) turns
 
       by_kind : IsDatum content
-          → Turns (word_asks asks command word l trial) (executed_what_turn command word) trial
-          result l new
+          → Executes result new
       by_kind (inl e) = plain (Integer e.0) e.1 λ s. (refl, refl)
       by_kind (inr (inl e)) = plain (Boolean e.0) e.1 λ s. (refl, refl)
       by_kind (inr (inr (inl e))) = plain Mark e λ s. (refl, refl)
@@ -317,36 +362,30 @@ module _ (asks : Named → Lent → Store → Asked) (command word : Word) (l : 
 -- ---- what was found
 
 module _ (l : Lent) (word : Word) (result : Result (Option (Word × Word)) ErrorName)
-    (looks : (s : Store) → IsShown l s → look_up s (scene_of l s).dictionaries (meaning l word)
+    (stores : Lent → Store → Type 0)
+    (looks : (s : Store) → stores l s → look_up s (scene_of l s).dictionaries (meaning l word)
     ≡ found_of (birth_at l.heap) l.names result) where
   finds : (other : Result (Option (Word × Word)) ErrorName) → result ≡ other → (s : Store)
-      → IsShown l s → looked_up (meaning l word) (scene_of l s).dictionaries s
+      → stores l s → looked_up (meaning l word) (scene_of l s).dictionaries s
       ≡ seen (found_of (birth_at l.heap) l.names other)
   finds other is s shown =
       looked_as l word other s (looks s shown ∙ ap (found_of (birth_at l.heap) l.names) is)
 
-  pub finds_value : (pair : Word × Word) → result ≡ Ok (Some pair) → (s : Store) → IsShown l s
+  pub finds_value : (pair : Word × Word) → result ≡ Ok (Some pair) → (s : Store) → stores l s
       → looked_up (meaning l word) (scene_of l s).dictionaries s ≡ known (meaning l pair.1)
   finds_value pair is s shown = finds (Ok (Some pair)) is s shown
 
-  pub finds_none : result ≡ Ok None → (s : Store) → IsShown l s
+  pub finds_none : result ≡ Ok None → (s : Store) → stores l s
       → looked_up (meaning l word) (scene_of l s).dictionaries s ≡ unknown
   finds_none is s shown = finds (Ok None) is s shown
 
-  pub finds_closed : (error : ErrorName) → result ≡ Err error → (s : Store) → IsShown l s
+  pub finds_closed : (error : ErrorName) → result ≡ Err error → (s : Store) → stores l s
       → looked_up (meaning l word) (scene_of l s).dictionaries s ≡ unreadable
   finds_closed error is s shown = finds (Err error) is s shown
 
-pub found_lent : (l : Lent) (result : Result (Option (Word × Word)) ErrorName) (pair : Word × Word)
-    → result ≡ Ok (Some pair)
-    → IfOk result (λ found. IfSome found (λ p. IsValue l.heap p.0 × IsValue l.heap p.1))
-    → ((s : Store) → IsShown l s → IfOk result (λ found. IfSome found (λ p.
-    IsWithin (birth_at l.heap) l.names s p.0 × IsWithin (birth_at l.heap) l.names s p.1)))
-    → IsLent l pair.1
-found_lent l result pair is held within = record {
-  held = (subst (λ (r : Result (Option (Word × Word)) ErrorName). IfOk r (λ found. IfSome found
-      (λ p. IsValue l.heap p.0 × IsValue l.heap p.1))) is held).1;
-  within = λ s shown. (subst (λ (r : Result (Option (Word × Word)) ErrorName). IfOk r (λ found.
-      IfSome found (λ p. IsWithin (birth_at l.heap) l.names s p.0
-      × IsWithin (birth_at l.heap) l.names s p.1))) is (within s shown)).1;
-}
+-- what holds of what was found
+pub found_as : (P : Word → Type 0) (result : Result (Option (Word × Word)) ErrorName)
+    (pair : Word × Word) → result ≡ Ok (Some pair)
+    → IfOk result (λ found. IfSome found (λ p. P p.0 × P p.1)) → P pair.1
+found_as P result pair is held = (subst (λ (r : Result (Option (Word × Word)) ErrorName).
+    IfOk r (λ found. IfSome found (λ p. P p.0 × P p.1))) is held).1

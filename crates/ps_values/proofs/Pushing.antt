@@ -1,8 +1,9 @@
 -- What a push comes to, where a stack has room and where it is full.
-use Rattle.std.proofs.Common.{◌≡◌, ℕ, ◌<◌, ◌≤◌, arith, true, false, List, ◌∷◌, length, Ok, refl, sym}
+use Rattle.std.proofs.Common.{◌≡◌, ℕ, ◌<◌, ◌≤◌, arith, true, false, List, [], ◌∷◌, length, Ok, refl, sym}
 use Rattle.std.specs.Prelude.{Result}
 use Rattle.std.proofs.lemmas.Bool.Decides.{nat_tests}
 use Rattle.std.proofs.lemmas.List.{length-map}
+use Rattle.ps_language.specs.declared.errors.ErrorName.{ErrorName}
 use Rattle.ps_language.specs.declared.errors.ErrorName.TheVariants.{StackOverflow, ExecStackOverflow}
 use Rattle.ps_language.specs.Value.{Store}
 use Rattle.ps_language.specs.Readers.{is_full}
@@ -10,18 +11,44 @@ use Rattle.ps_language.specs.StepValues.{Turn, leads}
 use Rattle.ps_word.specs.declared.words.Word.{Word}
 use Rattle.ps_mem.specs.Heap.{Heap, birth_at}
 use Rattle.ps_mem.specs.Meaning.{value_of}
+use Rattle.ps_mem.specs.Shows.{IsValue, AreValues}
 use Rattle.ps_ops.specs.declared.failure.NotMade.{NotMade as Reason}
 use Rattle.ps_ops.specs.Does.{values_in}
 use Rattle.ps_control.specs.declared.frames.Frame.{Frame}
-use Rattle.ps_control.specs.Frames.{frame_of}
+use Rattle.ps_control.specs.Frames.{frame_of, IsFrame, AreFrames}
 use Rattle.ps_control.proofs.Rooms.{fits, full}
 use Rattle.ps_acts.specs.declared.lent.Trial.{Trial}
 use Rattle.ps_acts.specs.Lent.{Lent, scene_of, IsShown, IsGood}
 use Rattle.ps_turns.specs.declared.turned.Turned.{Turned}
 use Rattle.ps_turns.specs.declared.turned.Turned.TheVariants.{Goes}
-use Rattle.ps_turns.specs.Turns.{Turns, error_turn, nothing_more}
-use Rattle.ps_turns.proofs.Composing.{turns_as, goes_on}
-use Rattle.ps_values.specs.Values.{IsLent, IsFrameLent, pushed_turn, framed_turn}
+use Rattle.ps_turns.specs.Turns.{IsShownWith, TurnsOver, TurnsWith, error_turn, nothing_more}
+use Rattle.ps_turns.proofs.Composing.{restacked, turns_over, goes_over}
+use Rattle.ps_values.specs.Values.{pushed_turn, framed_turn}
+
+-- ---- what is in hand
+
+pub behind_first : (l : Lent) (word command : Word) (s : Store)
+    → IsShownWith (word ∷ command ∷ []) [] l s → IsShownWith (command ∷ []) [] l s
+behind_first l word command s held = record {
+  shown = held.shown;
+  words_within = held.words_within.1;
+  frames_within = tt;
+}
+
+-- ---- stacks that are held
+
+held_good : (l : Lent) (operands : List Word) (frames : List Frame) → AreValues l.heap operands
+    → AreFrames l.heap (length l.program) frames → IsGood l → IsGood (restacked l operands frames)
+held_good l operands frames operands_held frames_held good = record {
+  sound = good.sound;
+  operands = operands_held;
+  dictionaries = good.dictionaries;
+  frames = frames_held;
+  error_stands = good.error_stands;
+  names = good.names;
+  first = good.first;
+  empty = good.empty;
+}
 
 -- ---- operands
 
@@ -38,64 +65,75 @@ module _ (h : Heap) (names : List (List ℕ)) (operands : List Word) where
 
 module _ (command : Word) (l : Lent) (trial : Trial) where
   -- nothing is done
-  pub goes_as : (turn : Lent → Store → Turn) → IsGood l
-      → ((s : Store) → IsShown l s → turn l s ≡ leads (scene_of l s))
-      → Turns nothing_more turn trial (Ok Goes) l l
-  goes_as turn good is = goes_on l l.operands l.frames nothing_more turn trial (record {
-    operands_held = good.operands;
-    frames_held = good.frames;
-    operands_within = λ s shown. shown.operands;
-    frames_within = λ s shown. shown.frames;
-  }) is good
+  pub goes_as : (stores : Lent → Store → Type 0) (turn : Lent → Store → Turn)
+      → ((s : Store) → stores l s → IsShown l s) → IsGood l
+      → ((s : Store) → stores l s → turn l s ≡ leads (scene_of l s))
+      → TurnsOver stores nothing_more turn trial (Ok Goes) l l
+  goes_as stores turn shows good is =
+      goes_over l l.operands l.frames stores nothing_more turn trial shows is good
 
   -- ---- where there is room
 
-  pub pushed_goes : (word : Word) → IsGood l → IsLent l word → length l.operands < 500
-      → Turns nothing_more (pushed_turn command word) trial (Ok Goes) l
+  pub pushed_goes : (word : Word) → IsGood l → IsValue l.heap word → length l.operands < 500
+      → TurnsWith (word ∷ command ∷ []) [] nothing_more (pushed_turn command word) trial (Ok Goes) l
       (record l { operands = word ∷ l.operands })
-  pushed_goes word good held few =
-      goes_on l (word ∷ l.operands) l.frames nothing_more (pushed_turn command word) trial
-      (record {
-        operands_held = (held.held, good.operands);
-        frames_held = good.frames;
-        operands_within = λ s shown. (held.within s shown, shown.operands);
-        frames_within = λ s shown. shown.frames;
+  pushed_goes word good value few =
+      goes_over l (word ∷ l.operands) l.frames (IsShownWith (word ∷ command ∷ []) []) nothing_more
+      (pushed_turn command word) trial
+      (λ s held. record {
+        shows = held.shown.shows;
+        operands = (held.words_within.0, held.shown.operands);
+        dictionaries = held.shown.dictionaries;
+        frames = held.shown.frames;
       })
-      (λ s shown. rw (free_operands l.heap l.names l.operands few) refl) good
+      (λ s held. rw (free_operands l.heap l.names l.operands few) refl)
+      (held_good l (word ∷ l.operands) l.frames (value, good.operands) good.frames good)
 
-  pub framed_goes : (frame : Frame) → IsGood l → IsFrameLent l frame → length l.frames < 250
-      → Turns nothing_more (framed_turn command frame) trial (Ok Goes) l
-      (record l { frames = frame ∷ l.frames })
-  framed_goes frame good held few =
-      goes_on l l.operands (frame ∷ l.frames) nothing_more (framed_turn command frame) trial
-      (record {
-        operands_held = good.operands;
-        frames_held = (held.held, good.frames);
-        operands_within = λ s shown. shown.operands;
-        frames_within = λ s shown. (held.within s shown, shown.frames);
+  pub framed_goes : (frame : Frame) → IsGood l → IsFrame l.heap (length l.program) frame
+      → length l.frames < 250
+      → TurnsWith (command ∷ []) (frame ∷ []) nothing_more (framed_turn command frame) trial
+      (Ok Goes) l (record l { frames = frame ∷ l.frames })
+  framed_goes frame good value few =
+      goes_over l l.operands (frame ∷ l.frames) (IsShownWith (command ∷ []) (frame ∷ []))
+      nothing_more (framed_turn command frame) trial
+      (λ s held. record {
+        shows = held.shown.shows;
+        operands = held.shown.operands;
+        dictionaries = held.shown.dictionaries;
+        frames = (held.frames_within.0, held.shown.frames);
       })
-      (λ s shown. rw (fits (frame_of (birth_at l.heap) l.names) l.frames 1 (omega (arith, few)))
-      refl) good
+      (λ s held. rw (fits (frame_of (birth_at l.heap) l.names) l.frames 1 (omega (arith, few)))
+      refl)
+      (held_good l l.operands (frame ∷ l.frames) good.operands (value, good.frames) good)
 
   module _ (result : Result Turned Reason) (new : Lent) where
-    -- a turn that was done as another
-    abbrev DoneAs : (done turn : Lent → Store → Turn) → Type 0
-    DoneAs done turn =
-        Turns nothing_more done trial result l new → Turns nothing_more turn trial result l new
-
-    done_as : (done turn : Lent → Store → Turn) → ((s : Store) → turn l s ≡ done l s)
-        → DoneAs done turn
-    done_as done turn is =
-        turns_as nothing_more nothing_more done turn trial result l new (λ s shown. sym (is s))
-        (λ s shown. refl)
-
     -- ---- errors
 
-    pub pushed_full : (word : Word) → 500 ≤ length l.operands
-        → DoneAs (error_turn StackOverflow command) (pushed_turn command word)
-    pushed_full word many = done_as _ _ λ s. rw (full_operands l.heap l.names l.operands many) refl
+    -- by the command, with whatever else in hand
+    abbrev Raises : ErrorName → Type 0
+    Raises error =
+        TurnsWith (command ∷ []) [] nothing_more (error_turn error command) trial result l new
 
-    pub framed_full : (frame : Frame) → 250 ≤ length l.frames
-        → DoneAs (error_turn ExecStackOverflow command) (framed_turn command frame)
-    framed_full frame many = done_as _ _ λ s.
-        rw (full (frame_of (birth_at l.heap) l.names) l.frames 1 (omega (arith, many))) refl
+    pub pushed_full : (word : Word) → 500 ≤ length l.operands → Raises StackOverflow
+        → TurnsWith (word ∷ command ∷ []) [] nothing_more (pushed_turn command word) trial result l
+        new
+    pushed_full word many =
+        turns_over (IsShownWith (command ∷ []) []) (IsShownWith (word ∷ command ∷ []) [])
+        nothing_more nothing_more (error_turn StackOverflow command) (pushed_turn command word)
+        trial result l new (λ s held. behind_first l word command s held)
+        (λ s held. sym (rw (full_operands l.heap l.names l.operands many) refl)) (λ s held. refl)
+
+    pub framed_full : (frame : Frame) → 250 ≤ length l.frames → Raises ExecStackOverflow
+        → TurnsWith (command ∷ []) (frame ∷ []) nothing_more (framed_turn command frame) trial
+        result l new
+    framed_full frame many =
+        turns_over (IsShownWith (command ∷ []) []) (IsShownWith (command ∷ []) (frame ∷ []))
+        nothing_more nothing_more (error_turn ExecStackOverflow command)
+        (framed_turn command frame) trial result l new (λ s held. record {
+          shown = held.shown;
+          words_within = held.words_within;
+          frames_within = tt;
+        })
+        (λ s held. sym (rw
+        (full (frame_of (birth_at l.heap) l.names) l.frames 1 (omega (arith, many))) refl))
+        (λ s held. refl)

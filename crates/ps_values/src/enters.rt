@@ -1,10 +1,11 @@
 //! A procedure is entered, and a string is scanned (PLRM2, 3.5).
 
-ghost use Rattle.std.specs.Prelude.{◌≡◌, ◌<◌};
+ghost use Rattle.std.specs.Prelude.{◌≡◌, ◌<◌, ◌∷◌, []};
+ghost use Rattle.ps_mem.specs.Shows.{IsValue};
 ghost use Rattle.ps_acts.specs.Lent.{lent, IsGood};
-ghost use Rattle.ps_control.specs.Frames.{IsHeld};
-ghost use Rattle.ps_turns.specs.Turns.{Turns, nothing_more};
-ghost use Rattle.ps_values.specs.Values.{IsLent, IsTextLent, entered_turn, scanned_turn};
+ghost use Rattle.ps_control.specs.Frames.{IsHeld, IsHeldText};
+ghost use Rattle.ps_turns.specs.Turns.{TurnsWith, nothing_more};
+ghost use Rattle.ps_values.specs.Values.{entered_turn, scanned_turn, string_frame};
 
 use crate::pushes::push_frame;
 use ps_acts::lent::{Context, Shared, Trial};
@@ -34,9 +35,8 @@ pub fn enter<M: Memory>(
     requires good { IsGood
         (lent (M.heap memory.old) (M.grants memory.old) context.old shared.old) }
     requires part { IsHeld (M.heap memory.old) part }
-    requires command { IsLent
-        (lent (M.heap memory.old) (M.grants memory.old) context.old shared.old) command }
-    ensures { Turns nothing_more (entered_turn command part) trial result
+    requires command { IsValue (M.heap memory.old) command }
+    ensures { TurnsWith (command ∷ []) [] nothing_more (entered_turn command part) trial result
         (lent (M.heap memory.old) (M.grants memory.old) context.old shared.old)
         (lent (M.heap memory.new) (M.grants memory.new) context.new shared.new) }
 {
@@ -72,11 +72,10 @@ pub fn scan_string<M: Memory>(
     requires slot { trial.slot < SLOTS }
     requires good { IsGood
         (lent (M.heap memory.old) (M.grants memory.old) context.old shared.old) }
-    requires part { IsTextLent
-        (lent (M.heap memory.old) (M.grants memory.old) context.old shared.old) part }
-    requires command { IsLent
-        (lent (M.heap memory.old) (M.grants memory.old) context.old shared.old) command }
-    ensures { Turns nothing_more (scanned_turn command part) trial result
+    requires part { IsHeldText (M.heap memory.old) part }
+    requires command { IsValue (M.heap memory.old) command }
+    ensures { TurnsWith (command ∷ []) (string_frame part ∷ []) nothing_more
+        (scanned_turn command part) trial result
         (lent (M.heap memory.old) (M.grants memory.old) context.old shared.old)
         (lent (M.heap memory.new) (M.grants memory.new) context.new shared.new) }
 {

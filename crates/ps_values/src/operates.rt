@@ -1,12 +1,12 @@
 //! Who does the operators of a step.
 
 ghost use Rattle.std.specs.Prelude.{◌≡◌, ◌<◌};
-ghost use Rattle.ps_language.specs.Value.{Store};
+ghost use Rattle.ps_language.specs.Effect.{Around, Scene};
 ghost use Rattle.ps_language.specs.declared.operators.Operator as names;
 ghost use Rattle.ps_acts.specs.Acts.{Asked};
-ghost use Rattle.ps_acts.specs.Lent.{Lent, lent, IsGood};
+ghost use Rattle.ps_acts.specs.Lent.{lent, IsGood};
 ghost use Rattle.ps_turns.specs.Turns.{Turns};
-ghost use Rattle.ps_values.specs.Values.{operated_turn};
+ghost use Rattle.ps_values.specs.Values.{operated_asks, operated_turn};
 
 use ps_acts::lent::{Context, Shared, Trial};
 use ps_language::operators::Operator;
@@ -16,8 +16,8 @@ use ps_turns::turned::Turned;
 
 /// Does the operators of a step.
 pub trait Operate {
-    /// What an operator asks for that the language doesn't say.
-    ghost asks: { names.Operator → Lent → Store → Asked };
+    /// What an operator asks for that the language doesn't say, in a scene and what surrounds it.
+    ghost asks: { names.Operator → Around → Scene → Asked };
 
     /// An operator acts: its effect comes about, or its error is raised with the operator as the
     /// command.
@@ -34,7 +34,7 @@ pub trait Operate {
         requires slot { trial.slot < SLOTS }
         requires good { IsGood
             (lent (M.heap memory.old) (M.grants memory.old) context.old shared.old) }
-        ensures { Turns (asks operator) (operated_turn operator) trial result
+        ensures { Turns (operated_asks asks operator) (operated_turn operator) trial result
             (lent (M.heap memory.old) (M.grants memory.old) context.old shared.old)
             (lent (M.heap memory.new) (M.grants memory.new) context.new shared.new) };
 }

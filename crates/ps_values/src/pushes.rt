@@ -1,9 +1,11 @@
 //! A value becomes an operand, and a frame is pushed (PLRM2, 3.4, 3.5).
 
-ghost use Rattle.std.specs.Prelude.{◌≡◌, ◌<◌};
+ghost use Rattle.std.specs.Prelude.{◌≡◌, ◌<◌, ◌∷◌, [], length};
+ghost use Rattle.ps_mem.specs.Shows.{IsValue};
+ghost use Rattle.ps_control.specs.Frames.{IsFrame};
 ghost use Rattle.ps_acts.specs.Lent.{lent, IsGood};
-ghost use Rattle.ps_turns.specs.Turns.{Turns, nothing_more};
-ghost use Rattle.ps_values.specs.Values.{IsFrameLent, IsLent, framed_turn, pushed_turn};
+ghost use Rattle.ps_turns.specs.Turns.{TurnsWith, nothing_more};
+ghost use Rattle.ps_values.specs.Values.{framed_turn, pushed_turn};
 
 use ps_acts::lent::{Context, Shared, Trial};
 use ps_control::frames::Frame;
@@ -29,11 +31,10 @@ pub fn push_value<M: Memory>(
     requires slot { trial.slot < SLOTS }
     requires good { IsGood
         (lent (M.heap memory.old) (M.grants memory.old) context.old shared.old) }
-    requires word { IsLent
-        (lent (M.heap memory.old) (M.grants memory.old) context.old shared.old) word }
-    requires command { IsLent
-        (lent (M.heap memory.old) (M.grants memory.old) context.old shared.old) command }
-    ensures { Turns nothing_more (pushed_turn command word) trial result
+    requires word { IsValue (M.heap memory.old) word }
+    requires command { IsValue (M.heap memory.old) command }
+    ensures { TurnsWith (word ∷ command ∷ []) [] nothing_more (pushed_turn command word) trial
+        result
         (lent (M.heap memory.old) (M.grants memory.old) context.old shared.old)
         (lent (M.heap memory.new) (M.grants memory.new) context.new shared.new) }
 {
@@ -66,11 +67,10 @@ pub fn push_frame<M: Memory>(
     requires slot { trial.slot < SLOTS }
     requires good { IsGood
         (lent (M.heap memory.old) (M.grants memory.old) context.old shared.old) }
-    requires frame { IsFrameLent
-        (lent (M.heap memory.old) (M.grants memory.old) context.old shared.old) frame }
-    requires command { IsLent
-        (lent (M.heap memory.old) (M.grants memory.old) context.old shared.old) command }
-    ensures { Turns nothing_more (framed_turn command frame) trial result
+    requires frame { IsFrame (M.heap memory.old) (length shared.old.program.now) frame }
+    requires command { IsValue (M.heap memory.old) command }
+    ensures { TurnsWith (command ∷ []) (frame ∷ []) nothing_more (framed_turn command frame) trial
+        result
         (lent (M.heap memory.old) (M.grants memory.old) context.old shared.old)
         (lent (M.heap memory.new) (M.grants memory.new) context.new shared.new) }
 {

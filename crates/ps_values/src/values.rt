@@ -1,13 +1,13 @@
 //! A value is executed, and an element of a procedure is done (PLRM2, 3.5).
 
-ghost use Rattle.std.specs.Prelude.{◌≡◌, ◌<◌, ℕ, List, true};
-ghost use Rattle.ps_language.specs.Value.{Store};
+ghost use Rattle.std.specs.Prelude.{◌≡◌, ◌<◌, ◌∷◌, [], ℕ, List, true};
 ghost use Rattle.ps_language.specs.StepValues.{is_executable_name};
 ghost use Rattle.ps_word.specs.Format.{content_in};
 ghost use Rattle.ps_mem.specs.Meaning.{value_of};
-ghost use Rattle.ps_acts.specs.Lent.{Lent, lent, IsGood};
-ghost use Rattle.ps_turns.specs.Turns.{Turns};
-ghost use Rattle.ps_values.specs.Values.{IsLent, done_turn, executed_asks, executed_turn, executed_what_turn, meaning, treated_asks, treated_turn, what_asks};
+ghost use Rattle.ps_mem.specs.Shows.{IsValue};
+ghost use Rattle.ps_acts.specs.Lent.{lent, IsGood};
+ghost use Rattle.ps_turns.specs.Turns.{TurnsWith};
+ghost use Rattle.ps_values.specs.Values.{done_turn, executed_asks, executed_turn, executed_what_turn, treated_asks, treated_turn, word_asks};
 
 use crate::enters::{enter, scan_string};
 use crate::operates::Operate;
@@ -39,12 +39,11 @@ fn execute_content<O: Operate, M: Memory>(
     requires slot { trial.slot < SLOTS }
     requires good { IsGood
         (lent (M.heap memory.old) (M.grants memory.old) context.old shared.old) }
-    requires word { IsLent
-        (lent (M.heap memory.old) (M.grants memory.old) context.old shared.old) word }
-    requires command { IsLent
-        (lent (M.heap memory.old) (M.grants memory.old) context.old shared.old) command }
+    requires word { IsValue (M.heap memory.old) word }
+    requires command { IsValue (M.heap memory.old) command }
     requires content { content ≡ content_in word.0 }
-    ensures { Turns (λ (l : Lent) (s : Store). what_asks O.asks (meaning l word).what l s) (executed_what_turn command word) trial result
+    ensures { TurnsWith (word ∷ command ∷ []) [] (word_asks O.asks word)
+        (executed_what_turn command word) trial result
         (lent (M.heap memory.old) (M.grants memory.old) context.old shared.old)
         (lent (M.heap memory.new) (M.grants memory.new) context.new shared.new) }
 {
@@ -90,11 +89,10 @@ pub fn treat<O: Operate, M: Memory>(
     requires slot { trial.slot < SLOTS }
     requires good { IsGood
         (lent (M.heap memory.old) (M.grants memory.old) context.old shared.old) }
-    requires word { IsLent
-        (lent (M.heap memory.old) (M.grants memory.old) context.old shared.old) word }
-    requires command { IsLent
-        (lent (M.heap memory.old) (M.grants memory.old) context.old shared.old) command }
-    ensures { Turns (treated_asks O.asks word) (treated_turn command word) trial result
+    requires word { IsValue (M.heap memory.old) word }
+    requires command { IsValue (M.heap memory.old) command }
+    ensures { TurnsWith (word ∷ command ∷ []) [] (treated_asks O.asks word)
+        (treated_turn command word) trial result
         (lent (M.heap memory.old) (M.grants memory.old) context.old shared.old)
         (lent (M.heap memory.new) (M.grants memory.new) context.new shared.new) }
 {
@@ -125,13 +123,12 @@ pub fn execute_name<O: Operate, M: Memory>(
     requires slot { trial.slot < SLOTS }
     requires good { IsGood
         (lent (M.heap memory.old) (M.grants memory.old) context.old shared.old) }
-    requires word { IsLent
-        (lent (M.heap memory.old) (M.grants memory.old) context.old shared.old) word }
-    requires command { IsLent
-        (lent (M.heap memory.old) (M.grants memory.old) context.old shared.old) command }
+    requires word { IsValue (M.heap memory.old) word }
+    requires command { IsValue (M.heap memory.old) command }
     requires name { (births : ℕ → ℕ) (names : List (List ℕ))
         → is_executable_name (value_of births names word) ≡ true }
-    ensures { Turns (executed_asks O.asks word) (executed_turn command word) trial result
+    ensures { TurnsWith (word ∷ command ∷ []) [] (executed_asks O.asks word)
+        (executed_turn command word) trial result
         (lent (M.heap memory.old) (M.grants memory.old) context.old shared.old)
         (lent (M.heap memory.new) (M.grants memory.new) context.new shared.new) }
 {
@@ -174,11 +171,10 @@ pub fn execute<O: Operate, M: Memory>(
     requires slot { trial.slot < SLOTS }
     requires good { IsGood
         (lent (M.heap memory.old) (M.grants memory.old) context.old shared.old) }
-    requires word { IsLent
-        (lent (M.heap memory.old) (M.grants memory.old) context.old shared.old) word }
-    requires command { IsLent
-        (lent (M.heap memory.old) (M.grants memory.old) context.old shared.old) command }
-    ensures { Turns (executed_asks O.asks word) (executed_turn command word) trial result
+    requires word { IsValue (M.heap memory.old) word }
+    requires command { IsValue (M.heap memory.old) command }
+    ensures { TurnsWith (word ∷ command ∷ []) [] (executed_asks O.asks word)
+        (executed_turn command word) trial result
         (lent (M.heap memory.old) (M.grants memory.old) context.old shared.old)
         (lent (M.heap memory.new) (M.grants memory.new) context.new shared.new) }
 {
@@ -208,11 +204,10 @@ pub fn do_element<O: Operate, M: Memory>(
     requires slot { trial.slot < SLOTS }
     requires good { IsGood
         (lent (M.heap memory.old) (M.grants memory.old) context.old shared.old) }
-    requires word { IsLent
-        (lent (M.heap memory.old) (M.grants memory.old) context.old shared.old) word }
-    requires command { IsLent
-        (lent (M.heap memory.old) (M.grants memory.old) context.old shared.old) command }
-    ensures { Turns (executed_asks O.asks word) (done_turn command word) trial result
+    requires word { IsValue (M.heap memory.old) word }
+    requires command { IsValue (M.heap memory.old) command }
+    ensures { TurnsWith (word ∷ command ∷ []) [] (executed_asks O.asks word)
+        (done_turn command word) trial result
         (lent (M.heap memory.old) (M.grants memory.old) context.old shared.old)
         (lent (M.heap memory.new) (M.grants memory.new) context.new shared.new) }
 {

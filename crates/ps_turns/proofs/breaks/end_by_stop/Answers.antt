@@ -51,7 +51,7 @@ pub returns-in-Err : goal.returns-in-Err
 returns-in-Err g c =
     let new = rw c.position.ensures.heap at c.has_new_error.ensures.value in
     let grants = c.has_new_error.ensures.grants ∙ c.position.ensures.grants in
-    let permit = c.permit_entry.ensures in
+    let permit = c.permit_records.ensures in
     let news : (s : Store) → IsShown (lent (g.M.Memory.heap c.args.memory.now)
     (g.M.Memory.grants c.args.memory.now) c.args.context.now c.args.shared.now) s
     → has_new_error (dictionary_at s (birth_at (g.M.Memory.heap c.args.memory.now)
@@ -61,7 +61,7 @@ returns-in-Err g c =
     rw (permit.heap ∙ (c.has_new_error.ensures.heap ∙ c.position.ensures.heap))
     (untold_reason c.args.trial _ c.requires.good c.requires.last news _ _ c.in-Err.reason
     (λ s shown. unlogged c.args.trial _ c.requires.good c.requires.last news
-    (g.M.Memory.grants c.permit_entry.new.memory) s c.in-Err.reason
+    (g.M.Memory.grants c.permit_records.new.memory) s c.in-Err.reason
     (rw grants at c.in-Err.ensures.reason))
     (omega arith)
     (logs_asked c.args.trial.slot _ _ (rw grants at permit.kept) (rw grants at permit.others)
@@ -71,7 +71,7 @@ pub returns-in-Err-append_line : goal.returns-in-Err-append_line
 returns-in-Err-append_line g c =
     let new = rw c.position.ensures.heap at c.has_new_error.ensures.value in
     let grants = c.has_new_error.ensures.grants ∙ c.position.ensures.grants in
-    let permit = c.permit_entry.ensures in
+    let permit = c.permit_records.ensures in
     let there = permit.heap ∙ (c.has_new_error.ensures.heap ∙ c.position.ensures.heap) in
     let line = rw there at c.in-Err-append_line.ensures.appends in
     let more = c.in-Err-append_line.ensures.capacity in
@@ -98,7 +98,7 @@ unfolding plan_at
 put-requires-clause-plan g c =
     let there =
     c.in-Ok-append_line.ensures.heap
-    ∙ (c.permit_entry.ensures.heap ∙ (c.has_new_error.ensures.heap ∙ c.position.ensures.heap)) in
+    ∙ (c.permit_records.ensures.heap ∙ (c.has_new_error.ensures.heap ∙ c.position.ensures.heap)) in
     let h = g.M.Memory.heap c.args.memory.now in
     let address = c.args.context.now.error_dictionary in
     rw there (ap (λ place. plan_from place (count_at h address) (capacity_at h address))
@@ -123,7 +123,7 @@ returns g c =
     let key = c.error_keys-keys.ensures.newerror in
     let new = rw c.position.ensures.heap at c.has_new_error.ensures.value in
     let grants = c.has_new_error.ensures.grants ∙ c.position.ensures.grants in
-    let permit = c.permit_entry.ensures in
+    let permit = c.permit_records.ensures in
     let before = permit.heap ∙ (c.has_new_error.ensures.heap ∙ c.position.ensures.heap) in
     let there = c.in-Ok-append_line.ensures.heap ∙ before in
     let line = rw before at c.in-Ok-append_line.ensures.appends in

@@ -15,7 +15,7 @@ use Rattle.ps_turns.proofs.ends.end_by_error.Goals as goal
 
 pub returns-in-Err : goal.returns-in-Err
 returns-in-Err g c =
-    not_raised c.args.error c.args.command c.args.trial _ c.requires.good c.requires.within _ _ _
+    not_raised c.args.error c.args.command c.args.trial _ c.requires.good _ _ _
     ((rw c.in-Err.is at c.permit_note.ensures.reason) c.args.error c.args.command _)
 
 pub returns-in-Err-append_line : goal.returns-in-Err-append_line
@@ -40,17 +40,17 @@ returns-in-Err-append_line g c =
     )
     (not_ended c.args.error c.args.command c.args.trial _ c.requires.good c.requires.last
     c.plan_error-plan.result
-    (λ s shown. planned names s shown.shows c.requires.good.names
-    (entries.within _ names s first (c.requires.within s shown))
+    (λ s held. planned names s held.shown.shows c.requires.good.names
+    (entries.within _ names s first held.words_within.0)
     ∙ plan_valued births names c.entries_of-entries.result false c.args.error _ valued _)
     _ _
-    (λ s shown. room_lacks (vec_capacity c.args.shared.now.printed) c.args.shared.now.printed.items
+    (λ s held. room_lacks (vec_capacity c.args.shared.now.printed) c.args.shared.now.printed.items
     _ (omega (arith, fits, has)) (subst (λ (text : List ℕ). vec_capacity c.args.shared.now.printed
     < length (c.args.shared.now.printed.items ++ text))
     (λ i. planned_line s c.plan_error-plan.result
     (name_valued births names c.entries_of-entries.result false c.args.error _ valued i)
     (command_valued births names c.entries_of-entries.result false c.args.error _ valued i))
-    (line s shown.shows (entries.within _ names s first (c.requires.within s shown))).full))
+    (line s held.shown.shows (entries.within _ names s first held.words_within.0)).full))
     (omega (arith, more))
     (logs_asked c.args.trial.slot _ _ permit.kept permit.others permit.more))
 
@@ -73,19 +73,19 @@ returns g c =
     let has = c.args.shared.now.printed.ok.0 in
     ended_on c.args.error c.args.command c.args.trial _ c.requires.good c.requires.last
     c.plan_error-plan.result
-    (λ s shown. planned names s shown.shows c.requires.good.names
-    (entries.within _ names s first (c.requires.within s shown))
+    (λ s held. planned names s held.shown.shows c.requires.good.names
+    (entries.within _ names s first held.words_within.0)
     ∙ plan_valued births names c.entries_of-entries.result false c.args.error _ valued _)
     _ _ _ _ (rw there at c.put_error.ensures.keeps)
-    (λ s shown. (line s shown.shows (entries.within _ names s first (c.requires.within s shown))).ok
+    (λ s held. (line s held.shown.shows (entries.within _ names s first held.words_within.0)).ok
     ∙ (λ i. c.args.shared.now.printed.items ++ planned_line s c.plan_error-plan.result
     (name_valued births names c.entries_of-entries.result false c.args.error _ valued i)
     (command_valued births names c.entries_of-entries.result false c.args.error _ valued i)))
-    (λ s shown. subst (λ pairs. Shows (g.M.Memory.heap c.put_error.new.memory) names
+    (λ s held. subst (λ pairs. Shows (g.M.Memory.heap c.put_error.new.memory) names
     (with_dictionary s (births c.args.context.now.error_dictionary) (with_entries pairs
     (dictionary_at s (births c.args.context.now.error_dictionary))))) valued
-    ((rw there at c.put_error.ensures.shows) names s shown.shows c.requires.good.names
-    (entries.within _ names s first (c.requires.within s shown))))
+    ((rw there at c.put_error.ensures.shows) names s held.shown.shows c.requires.good.names
+    (entries.within _ names s first held.words_within.0)))
     (logs_noted c.args.trial.slot _ _ permit.kept permit.others permit.more _
     c.plan_error-plan.result (rw grants at c.put_error.ensures.grants))
     c.put_error.ensures.sound (omega (arith, more, fits, has)) c.stands.result c.stands.ensures

@@ -5,7 +5,7 @@ use Rattle.ps_values.proofs.values.execute_content.Goals as goal
 
 pub enter-requires-clause-part : goal.enter-requires-clause-part
 enter-requires-clause-part g c =
-    array_held _ c.args.word _ c.requires.word.held (sym c.requires.content ∙ c.in-Array.is)
+    array_held _ c.args.word _ c.requires.word (sym c.requires.content ∙ c.in-Array.is)
 
 pub scan_string-requires-clause-part : goal.scan_string-requires-clause-part
 scan_string-requires-clause-part g c =
