@@ -9,3 +9,8 @@ pub mod Defining
 pub mod Removing
 pub mod Making
 pub mod Copying
+pub mod Elements
+pub mod Gathering
+pub mod Counted
+pub mod Ending
+pub mod Pairing

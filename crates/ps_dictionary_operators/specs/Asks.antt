@@ -7,6 +7,7 @@ use Rattle.ps_language.specs.Equality.{key_of}
 use Rattle.ps_language.specs.Outcome.{Outcome, leaves, fails}
 use Rattle.ps_language.specs.Readers.{as_dictionary}
 use Rattle.ps_language.specs.RowsDictionaries.{storing_place}
+use Rattle.ps_language.specs.RowsStack.{split_at_mark}
 use Rattle.ps_language.specs.Value.{Value, Dictionary}
 use Rattle.ps_dict.specs.Merges as merges
 use Rattle.ps_dict.specs.Merges.{merge_planned, merge_room_of}
@@ -104,3 +105,14 @@ copy_asked_by scene operands = nothing_asked scene
 
 abbrev pub copy_asks : Scene → Asked
 copy_asks scene = copy_asked_by scene scene.operands
+
+-- ---- what stands above a mark
+
+-- its words are put together outside
+abbrev pub end_dict_asked : Option (List Value × List Value) → Asked
+end_dict_asked (Some parts) =
+    record { records = 0; scratch = record no_rooms { words = length parts.0 } }
+end_dict_asked None = record { records = 0; scratch = no_rooms }
+
+abbrev pub end_dict_asks : Scene → Asked
+end_dict_asks scene = end_dict_asked (split_at_mark scene.operands)

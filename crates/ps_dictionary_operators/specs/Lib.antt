@@ -1,4 +1,5 @@
 pub mod Asks
+pub mod Literals
 pub mod Places
 pub mod Puts
 pub mod Removals

@@ -5,6 +5,7 @@ pub mod copies;
 pub mod definitions;
 pub mod errors;
 pub mod finds;
+pub mod literals;
 pub mod makes;
 pub mod puts;
 pub mod reads;

@@ -157,7 +157,7 @@ fn put_met<M: Memory>(
 
 /// Raises `VMerror` in a refused step that formed a name, once its note has its records; else the
 /// names are cut to so many, and the step is not made.
-fn refuse<M: Memory>(names: &mut Names, memory: &mut M, slot: u32, count: usize) -> Break
+pub(crate) fn refuse<M: Memory>(names: &mut Names, memory: &mut M, slot: u32, count: usize) -> Break
     requires slot { slot < SLOTS }
     ensures heap { M.heap memory.new ≡ M.heap memory.old }
     ensures logs { KeepsLogsWithin 0 (M.grants memory.old) (M.grants memory.new) slot }

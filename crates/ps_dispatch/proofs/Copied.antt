@@ -6,8 +6,8 @@ use Rattle.ps_language.specs.Effect.{raises}
 use Rattle.ps_language.specs.Acts.{change_effect}
 use Rattle.ps_language.specs.Rows.{changing_row}
 use Rattle.ps_language.specs.RowsSequences.{copy_row, copy_by}
-use Rattle.ps_language.specs.Value.{What, Value, Store}
-use Rattle.ps_stacks.specs.Tops.{first_of, first_two_of}
+use Rattle.ps_language.specs.Value.{What, Store}
+use Rattle.ps_stacks.specs.Tops.{first_of}
 use Rattle.ps_word.specs.declared.words.Word.{Word}
 use Rattle.ps_word.specs.Format.{content_in}
 use Rattle.ps_word.specs.Readers as words

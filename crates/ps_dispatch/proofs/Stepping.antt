@@ -27,7 +27,7 @@ use Rattle.ps_acts.proofs.Meeting.{keeps-same, lasts-same, logs-same, stays_as, 
 use Rattle.ps_turns.specs.declared.turned.Turned.{Turned}
 use Rattle.ps_turns.specs.declared.turned.Turned.TheVariants.{Goes, Calls}
 use Rattle.ps_turns.specs.Turns.{Turns, break_turn, operator_error, nothing_more, deed_in, is_for_world, calling_of}
-use Rattle.ps_values.specs.Values.{operated_turn}
+use Rattle.ps_values.specs.Values.{operated_asks, operated_turn}
 use Rattle.ps_dispatch.specs.Operators.{row_now, asked_of}
 use Rattle.ps_dispatch.specs.Turns.{operator_asks}
 use Rattle.ps_dispatch.proofs.Turning.{goes_as, not_made_as, breaks_as, unbroken_as, raised_as, unraised_as}
@@ -59,7 +59,7 @@ module _ (operator : Operator) (trial : Trial) (l : Lent) where
 
   abbrev TurnsTo : Result Turned Reason → Lent → Type 0
   TurnsTo result new =
-      Turns (operator_asks operator) (operated_turn operator) trial result l new
+      Turns (operated_asks operator_asks operator) (operated_turn operator) trial result l new
 
   pub goes_on : (new : Lent) → Does (Ok tt) new → TurnsTo (Ok Goes) new
   unfolding operated

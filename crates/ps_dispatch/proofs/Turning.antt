@@ -24,7 +24,7 @@ use Rattle.ps_acts.specs.Acts.{Asked, Needs, no_rooms, LacksRooms, needs_of_refu
 use Rattle.ps_acts.proofs.Meeting.{lasts-same, at_least-same, logs_then, AreNeedsWithin, needs_within-same, reason_more}
 use Rattle.ps_turns.specs.declared.turned.Turned.{Turned}
 use Rattle.ps_turns.specs.declared.turned.Turned.TheVariants.{Goes}
-use Rattle.ps_turns.specs.Turns.{IsTurned, TurnsBy, error_needs, break_needs, break_turn, operator_error, nothing_more, turn_needs, needs_in}
+use Rattle.ps_turns.specs.Turns.{IsTurned, TurnsBy, error_needs, none_asked, break_needs, break_turn, operator_error, nothing_more, turn_needs, needs_in}
 use Rattle.ps_dispatch.specs.Operators.{asked_of}
 use Rattle.ps_dispatch.specs.Turns.{asked_by}
 
@@ -140,7 +140,8 @@ unnoted_within (suc names) asked needs is = subst (AreNeedsWithin _) (sym is) (r
 })
 
 -- an unwinding asks for no words
-no_words : (cause : TheCause) (birth : ℕ) (scene : Scene) → (break_needs birth cause scene).words ≡ 0
+no_words : (cause : TheCause) (birth : ℕ) (scene : Scene)
+    → (break_needs none_asked birth cause scene).words ≡ 0
 no_words for_stop birth scene = refl
 no_words for_exit birth scene = refl
 no_words for_quit birth scene = refl
@@ -231,7 +232,7 @@ module _ (operator : Operator) (trial : Trial) (l : Lent) (store : Store) where
         → needs_in trial nothing_more (breaks_mid cause) mid scene.store
         ≡ needs (unwinds for scene)
     broken_needs cause for scene for_is left same =
-        (λ i. break_needs (same_birth trial l mid new l.names same first stays i) (for_is i)
+        (λ i. break_needs none_asked (same_birth trial l mid new l.names same first stays i) (for_is i)
         (left.is i))
 
     pub breaks_as : (cause : Cause) (turned : Turned) (effect : Effect) (lacking : Bool)

@@ -1,16 +1,17 @@
 -- The row of each operator, and what it asks for that the language does not say.
-use Rattle.std.specs.Prelude.{Bool, true, false}
+use Rattle.std.specs.Prelude.{Bool, not}
 use Rattle.ps_language.specs.declared.operators.Operator.{Operator}
-use Rattle.ps_language.specs.declared.operators.Operator.TheVariants.{Put, Copy, PutInterval, Astore, Search, EndDict, Def, Store as StoreKey, Undef, NoAccess, ReadOnly, Cvs, CurrentContext, Fork, Join, Detach, Lock, Monitor, Condition, Wait, Notify, Yield, VmStatus, VmReclaim}
+use Rattle.ps_language.specs.declared.operators.Operator.TheVariants.{Put, Copy, PutInterval, Astore, Search, EndDict, Def, Store as StoreKey, Undef, NoAccess, ReadOnly, Cvs}
 use Rattle.ps_language.specs.Effect.{Scene}
 use Rattle.ps_language.specs.Scan.{scan}
 use Rattle.ps_language.specs.Rows.{Row, row_of}
 use Rattle.ps_language.specs.ArrayRows.{topmost_count}
 use Rattle.ps_sequence_operators.specs.Asks.{putinterval_asks, reduce_asks, search_asks}
 use Rattle.ps_conversion_operators.specs.Asks.{cvs_asks}
-use Rattle.ps_dictionary_operators.specs.Asks.{def_asks, store_asks, undef_asks}
+use Rattle.ps_dictionary_operators.specs.Asks.{def_asks, end_dict_asks, store_asks, undef_asks}
 use Rattle.ps_dispatch.specs.Joins.{copy_asks, put_asks}
 use Rattle.ps_acts.specs.Acts.{Asked, nothing_asked, stores}
+use Rattle.ps_turns.specs.Turns.{is_for_world}
 
 abbrev pub row_now : Operator → Row
 row_now operator = row_of scan operator
@@ -21,6 +22,7 @@ asked_of Copy = copy_asks
 asked_of Def = def_asks
 asked_of StoreKey = store_asks
 asked_of Undef = undef_asks
+asked_of EndDict = end_dict_asks
 asked_of PutInterval = putinterval_asks
 asked_of ReadOnly = reduce_asks
 asked_of NoAccess = reduce_asks
@@ -29,19 +31,6 @@ asked_of Search = search_asks
 asked_of Cvs = cvs_asks
 asked_of operator = nothing_asked
 
--- those that are here
+-- those that are here: none is left to the world
 abbrev pub is_done : Operator → Bool
-is_done EndDict = false
-is_done CurrentContext = false
-is_done Fork = false
-is_done Join = false
-is_done Detach = false
-is_done Lock = false
-is_done Monitor = false
-is_done Condition = false
-is_done Wait = false
-is_done Notify = false
-is_done Yield = false
-is_done VmStatus = false
-is_done VmReclaim = false
-is_done operator = true
+is_done operator = not (is_for_world operator)

@@ -15,6 +15,7 @@ use ps_conversion_operators::names::cvn;
 use ps_conversion_operators::numbers::cvi;
 use ps_conversion_operators::texts::cvs;
 use ps_dictionary_operators::errors::error_dictionary;
+use ps_dictionary_operators::literals::end_dict;
 use ps_dictionary_operators::makes::dict;
 use ps_dictionary_operators::reads::maxlength;
 use ps_dictionary_operators::removals::undef;
@@ -162,6 +163,7 @@ pub fn operate<M: Memory>(
         Operator::Def => definitions::def(context, shared, memory, trial),
         Operator::Store => definitions::store(context, shared, memory, trial),
         Operator::Undef => undef(context, shared, memory, trial),
+        Operator::EndDict => end_dict(context, shared, memory, trial),
         Operator::ErrorDict => error_dictionary(context, shared, memory),
         Operator::CurrentContext
         | Operator::Fork
@@ -174,7 +176,6 @@ pub fn operate<M: Memory>(
         | Operator::Notify
         | Operator::Yield
         | Operator::VmStatus
-        | Operator::VmReclaim
-        | Operator::EndDict => unreachable!(),
+        | Operator::VmReclaim => unreachable!(),
     }
 }

@@ -5,4 +5,5 @@
 pub mod dispatch;
 pub mod exits;
 pub mod joins;
+pub mod operators;
 pub mod turns;

@@ -5,7 +5,7 @@ ghost use Rattle.ps_acts.specs.Lent.{lent, IsGood};
 ghost use Rattle.ps_dispatch.specs.Operators.{is_done};
 ghost use Rattle.ps_dispatch.specs.Turns.{operator_asks};
 ghost use Rattle.ps_turns.specs.Turns.{Turns};
-ghost use Rattle.ps_values.specs.Values.{operated_turn};
+ghost use Rattle.ps_values.specs.Values.{operated_asks, operated_turn};
 
 use crate::dispatch::operate;
 use ps_acts::breaks::Break;
@@ -33,7 +33,7 @@ pub fn operated<M: Memory>(
     requires done { IsTrue (is_done operator) }
     requires good { IsGood
         (lent (M.heap memory.old) (M.grants memory.old) context.old shared.old) }
-    ensures { Turns (operator_asks operator) (operated_turn operator) trial result
+    ensures { Turns (operated_asks operator_asks operator) (operated_turn operator) trial result
         (lent (M.heap memory.old) (M.grants memory.old) context.old shared.old)
         (lent (M.heap memory.new) (M.grants memory.new) context.new shared.new) }
 {

@@ -210,7 +210,7 @@ fn operators_step(rt: HostRuntime) -> Result<(), Fail> {
         error_dictionary,
     };
     let mut shared = Shared {
-        program: Vec::new(rt.alloc()),
+        program: b"",
         names: Names::with_first(rt.alloc(), RandomState::new(&rt)?)?,
         printed: Vec::new(rt.alloc()),
         scratch: Scratch {

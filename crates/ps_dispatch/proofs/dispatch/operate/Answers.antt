@@ -323,6 +323,9 @@ returns-in-Store g c = named c.in-Store.is refl c.store.ensures.acts
 pub returns-in-Undef : goal.returns-in-Undef
 returns-in-Undef g c = named c.in-Undef.is refl c.undef.ensures.acts
 
+pub returns-in-EndDict : goal.returns-in-EndDict
+returns-in-EndDict g c = named c.in-EndDict.is refl c.end_dict.ensures.acts
+
 pub returns-in-ErrorDict : goal.returns-in-ErrorDict
 returns-in-ErrorDict g c =
     named c.in-ErrorDict.is refl (c.error_dictionary.ensures.acts c.args.trial)

@@ -1,0 +1,60 @@
+//! The operators of the language, for whoever executes values (PLRM2, 8 'Operators').
+
+ghost use Rattle.std.specs.Prelude.{◌≡◌};
+ghost use Rattle.ps_dispatch.specs.Turns.{operator_asks};
+ghost use Rattle.ps_turns.specs.Turns as turns;
+
+use crate::turns::operated;
+use ps_acts::lent::{Context, Shared, Trial};
+use ps_language::operators::Operator;
+use ps_mem::Memory;
+use ps_ops::failure::NotMade;
+use ps_turns::turned::Turned;
+use ps_values::operates::Operate;
+
+/// Whether an operator is left to the world: one on contexts or locks, or one that is shown the
+/// memory.
+#[inline]
+fn is_for_world(operator: Operator) -> bool
+    ensures { result ≡ turns.is_for_world operator }
+{
+    match operator {
+        Operator::CurrentContext
+        | Operator::Fork
+        | Operator::Join
+        | Operator::Detach
+        | Operator::Lock
+        | Operator::Monitor
+        | Operator::Condition
+        | Operator::Wait
+        | Operator::Notify
+        | Operator::Yield
+        | Operator::VmStatus
+        | Operator::VmReclaim => true,
+        _ => false,
+    }
+}
+
+/// The operators of the language.
+#[derive(Clone, Copy, Debug, PartialEq, Eq)]
+pub struct Operators;
+
+impl Operate for Operators {
+    ghost asks = { operator_asks };
+
+    /// One that is left to the world is handed up; every other one acts.
+    #[inline]
+    fn operate<M: Memory>(
+        &self,
+        operator: Operator,
+        context: &mut Context,
+        shared: &mut Shared,
+        memory: &mut M,
+        trial: Trial,
+    ) -> Result<Turned, NotMade> {
+        if is_for_world(operator) {
+            return Ok(Turned::Calls(operator));
+        }
+        operated(operator, context, shared, memory, trial)
+    }
+}
