@@ -1,5 +1,5 @@
 -- A turn that was done as another one, to which every machine comes as to it.
-use Rattle.std.proofs.Common.{◌≡◌, ℕ, ◌≤◌, ◌<◌, arith, true, List, [], Result, Ok, Err, refl, sym, ap, subst, ◌∙◌, inl, inr}
+use Rattle.std.proofs.Common.{◌≡◌, ℕ, ◌≤◌, ◌<◌, arith, true, List, [], ◌∷◌, Result, Ok, Err, refl, sym, ap, subst, ◌∙◌, inl, inr}
 use Rattle.ps_language.specs.declared.errors.ErrorName.{ErrorName}
 use Rattle.ps_language.specs.declared.errors.ErrorName.TheVariants.{VmError}
 use Rattle.ps_language.specs.Value.{Store}
@@ -10,15 +10,18 @@ use Rattle.ps_language.specs.StepValues.{Turn, tries}
 use Rattle.ps_language.specs.Machines.{erred, after_turn}
 use Rattle.ps_word.specs.declared.words.Word.{Word}
 use Rattle.ps_mem.specs.Heap.{Grants, has_room, birth_at}
+use Rattle.ps_mem.specs.Shows.{IsWithin}
 use Rattle.ps_ops.specs.declared.failure.NotMade.{NotMade as Reason}
 use Rattle.ps_ops.specs.declared.failure.NotMade.TheVariants.{LogFull, LogClosed, NeedSpace, Memory}
 use Rattle.ps_ops.specs.Does.{KeepsLogsWithin}
+use Rattle.ps_acts.specs.declared.lent.Scratch.{Scratch}
 use Rattle.ps_acts.specs.declared.lent.Trial.{Trial}
-use Rattle.ps_acts.specs.Lent.{Lent, Rooms, rooms_of, scene_of, IsShown, IsGood}
+use Rattle.ps_acts.specs.Lent.{Lent, Rooms, rooms_of, IsEmpty, scene_of, IsShown, IsGood}
 use Rattle.ps_acts.specs.Acts.{Asked, Needs, LacksRooms, IsReason, IsAtLeast}
 use Rattle.ps_acts.proofs.Meeting.{keeps-same, logs-same, stays_as, at_least-same}
 use Rattle.ps_turns.specs.declared.turned.Turned.{Turned}
-use Rattle.ps_turns.specs.Turns.{TurnsBy, Turns, turn_needs, error_needs, needs_in, error_turn, nothing_more}
+use Rattle.ps_turns.specs.Turns.{TurnsBy, Turns, TurnsWith, turn_needs, error_needs, needs_in, error_turn, nothing_more}
+use Rattle.ps_turns.proofs.Composing.{turns_shown}
 use Rattle.ps_values.specs.Values.{meaning}
 
 -- ---- what is asked for
@@ -125,20 +128,16 @@ module _ (asks : Lent → Store → Asked) (turn : Lent → Store → Turn) (tri
     scratch = record { text = omega arith; sought = omega arith; words = omega arith };
   }
 
-  -- an error that is raised
-  pub raised : (error : ErrorName)
-      → ((s : Store) → IsShown l s → turn l s ≡ error_turn error command l s)
-      → Turns nothing_more (error_turn error command) trial result l new
-      → Turns asks turn trial result l new
-  raised error is =
-      done_alike asks nothing_more turn (error_turn error command) trial l new result
-      λ s shown. record {
-        is = λ machine. ap (after_turn trial.refused machine) (is s shown);
-        needs = subst (λ (t : Turn). Covers
-            (needs_in trial nothing_more (error_turn error command) l s)
-            (turn_needs trial.refused (asks l s) (birth_at l.heap l.error_dictionary)
-            (scene_of l s) t)) (sym (is s shown)) (error_covers error s);
-      }
+  error_alike : (error : ErrorName)
+      → ((s : Store) → IsShown l s → turn l s ≡ error_turn error command l s) → (s : Store)
+      → IsShown l s → IsAlike asks nothing_more turn (error_turn error command) trial l new s
+  error_alike error is s shown = record {
+    is = λ machine. ap (after_turn trial.refused machine) (is s shown);
+    needs = subst (λ (t : Turn). Covers
+        (needs_in trial nothing_more (error_turn error command) l s)
+        (turn_needs trial.refused (asks l s) (birth_at l.heap l.error_dictionary)
+        (scene_of l s) t)) (sym (is s shown)) (error_covers error s);
+  }
 
   -- a turn that is refused the room that it asks for
   pub record LacksRoom (s : Store) : Type 0 where
@@ -165,12 +164,31 @@ module _ (asks : Lent → Store → Asked) (turn : Lent → Store → Turn) (tri
             (record (scene_of l s) { names = ns }))) (sym lack.names) (error_covers VmError s)));
       }
 
-  pub lacked : ((s : Store) → IsShown l s → LacksRoom s)
-      → Turns nothing_more (error_turn VmError command) trial result l new
-      → Turns asks turn trial result l new
-  lacked lacks =
-      done_alike asks nothing_more turn (error_turn VmError command) trial l new result
-      λ s shown. lacks_as s (lacks s shown)
+  -- ---- where the command is within each store that is shown
+
+  module _ (within : (s : Store) → IsShown l s → IsWithin (birth_at l.heap) l.names s command)
+    where
+      errs_here : (error : ErrorName)
+          → TurnsWith (command ∷ []) [] nothing_more (error_turn error command) trial result l new
+          → Turns nothing_more (error_turn error command) trial result l new
+      errs_here error = turns_shown (command ∷ []) [] nothing_more (error_turn error command) trial
+          result l new (λ s shown. (within s shown, tt)) (λ s shown. tt)
+
+      -- an error that is raised
+      pub raised : (error : ErrorName)
+          → ((s : Store) → IsShown l s → turn l s ≡ error_turn error command l s)
+          → TurnsWith (command ∷ []) [] nothing_more (error_turn error command) trial result l new
+          → Turns asks turn trial result l new
+      raised error is turns =
+          done_alike asks nothing_more turn (error_turn error command) trial l new result
+          (error_alike error is) (errs_here error turns)
+
+      pub lacked : ((s : Store) → IsShown l s → LacksRoom s)
+          → TurnsWith (command ∷ []) [] nothing_more (error_turn VmError command) trial result l new
+          → Turns asks turn trial result l new
+      lacked lacks turns =
+          done_alike asks nothing_more turn (error_turn VmError command) trial l new result
+          (λ s shown. lacks_as s (lacks s shown)) (errs_here VmError turns)
 
 -- ---- not made, and nothing has changed
 
@@ -197,6 +215,36 @@ module _ (asks : Lent → Store → Asked) (turn : Lent → Store → Turn) (tri
     };
     keeps = keeps-same l.heap;
     stays = stays_as l granted refl refl refl (omega arith) (at_least-same _);
+    logs = logs;
+    framed = refl;
+    under_way = tt;
+  }
+
+-- nor but what was granted and the room of the lists
+module _ (asks : Lent → Store → Asked) (turn : Lent → Store → Turn) (trial : Trial) (l : Lent)
+    (good : IsGood l) (reason : Reason) (grants : Grants)
+    (logs : KeepsLogsWithin 0 l.grants grants trial.slot) (scratch : Scratch)
+    (empty : IsEmpty scratch) (least : IsAtLeast (rooms_of l.scratch) (rooms_of scratch)) where
+  abbrev relisted : Lent
+  relisted = record l { grants = grants; scratch = scratch }
+
+  pub unmade_listed : ((s : Store) → IsShown l s
+      → IsReason (needs_in trial asks turn l s) trial.slot l relisted reason)
+      → Turns asks turn trial (Err reason) l relisted
+  unmade_listed why = record {
+    meets = λ s shown. record { did = (why s shown, refl); logs = logs };
+    good = record {
+      sound = good.sound;
+      operands = good.operands;
+      dictionaries = good.dictionaries;
+      frames = good.frames;
+      error_stands = good.error_stands;
+      names = good.names;
+      first = good.first;
+      empty = empty;
+    };
+    keeps = keeps-same l.heap;
+    stays = stays_as l relisted refl refl refl (omega arith) least;
     logs = logs;
     framed = refl;
     under_way = tt;

@@ -13,8 +13,12 @@ use Rattle.ps_tokens.specs.Procedures.{tokens_in}
 
 module _ (text : List ℕ) (kinds : List TokenKind) where
   -- the next of them and those behind it
-  pub tokens-next : (i : ℕ) (kind : TokenKind) → i < length kinds → kind ≡ get_or kinds i kind → tokens_in text (drop i kinds) ≡ more_tokens (token_of text kind) (tokens_in text (drop (i + 1) kinds))
-  tokens-next i kind below is = rw add-one (ap (tokens_in text) (drop-cons kinds i kind below) ∙ ap (λ k. more_tokens (token_of text k) (tokens_in text (drop (suc i) kinds))) (sym is))
+  pub tokens-next : (i : ℕ) (kind : TokenKind) → i < length kinds → kind ≡ get_or kinds i kind
+      → tokens_in text (drop i kinds)
+      ≡ more_tokens (token_of text kind) (tokens_in text (drop (i + 1) kinds))
+  tokens-next i kind below is =
+      rw add-one (ap (tokens_in text) (drop-cons kinds i kind below)
+      ∙ ap (λ k. more_tokens (token_of text k) (tokens_in text (drop (suc i) kinds))) (sym is))
 
   -- none are behind the last
   pub tokens-end : (i : ℕ) → length kinds ≤ i → tokens_in text (drop i kinds) ≡ no_tokens
@@ -24,5 +28,8 @@ module _ (text : List ℕ) (kinds : List TokenKind) where
   tokens-count = count-elements (map (token_of text) kinds) ∙ length-map kinds (token_of text)
 
 -- a procedure
-pub procedure-token : (text : List ℕ) (inner : Vec TokenKind Global) → token_of text (Procedure inner) ≡ procedure_token (tokens_in text inner.items)
-procedure-token text inner = sym (procedure_is text inner (map (token_of text) inner.items) (λ i. map (token_of text) inner.items))
+pub procedure-token : (text : List ℕ) (inner : Vec TokenKind Global)
+    → token_of text (Procedure inner) ≡ procedure_token (tokens_in text inner.items)
+procedure-token text inner =
+    sym (procedure_is text inner (map (token_of text) inner.items)
+    (λ i. map (token_of text) inner.items))

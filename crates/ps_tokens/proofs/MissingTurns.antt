@@ -1,5 +1,6 @@
 -- What a missing name comes to: it is met, and its error is raised.
-use Rattle.std.proofs.Common.{◌≡◌, ℕ, ◌++◌, List, [], ◌∷◌, length, Option, Some, None, Result, Err, refl, sym, ap, ◌∙◌, inl, inr}
+use Rattle.std.proofs.Common.{◌≡◌, ℕ, ◌++◌, arith, List, [], ◌∷◌, length, Option, Some, None, Result, Ok, Err, refl, sym, ap, subst, ◌∙◌, inl, inr}
+use Rattle.std.specs.Prelude.{IfOk, IfSome}
 use Rattle.std.proofs.lemmas.List.{length_push}
 use Rattle.ps_language.specs.declared.errors.ErrorName.{ErrorName}
 use Rattle.ps_language.specs.declared.errors.ErrorName.TheVariants.{LimitCheck}
@@ -10,6 +11,7 @@ use Rattle.ps_language.specs.Value.{Value, Store}
 use Rattle.ps_word.specs.declared.words.Word.{Word}
 use Rattle.ps_mem.specs.Heap.{Heap, birth_at}
 use Rattle.ps_mem.specs.Meaning.{value_of}
+use Rattle.ps_mem.specs.Shows.{IsWithin}
 use Rattle.ps_names.specs.Names.{place_of}
 use Rattle.ps_names.proofs.Places.{meet_new}
 use Rattle.ps_ops.specs.declared.failure.NotMade.TheVariants.{Memory}
@@ -47,8 +49,8 @@ module _ (l : Lent) (text : List ℕ) (error : ErrorName) where
         let size = ap length (met ∙ sym (meet_new text l.names unmet))
         ∙ length_push l.names text in
         unmade nothing_more (missing_turn error text) trial l good Memory λ s shown.
-        inr (inl (one_more l text names formed_is trial (nothing_more l s)
-        (birth_at l.heap l.error_dictionary) s size _ (rw formed_is refl)))
+        inr (inl (one_more l names (omega (arith, size)) trial (nothing_more l s)
+        (birth_at l.heap l.error_dictionary) s _ (rw formed_is refl)))
 
 -- ---- looked up by its key
 
@@ -79,3 +81,12 @@ module _ (h : Heap) (names : List (List ℕ)) (dictionaries : List Word) (s : St
       looked key met result looks
       ∙ ap (λ (r : Result (Option (Word × Word)) ErrorName). seen (found_of (birth_at h) names r))
       same
+
+pub found_inside : (h : Heap) (names : List (List ℕ)) (s : Store)
+    (result : Result (Option (Word × Word)) ErrorName) (pair : Word × Word)
+    → result ≡ Ok (Some pair)
+    → IfOk result (λ found. IfSome found (λ p. IsWithin (birth_at h) names s p.0
+    × IsWithin (birth_at h) names s p.1)) → IsWithin (birth_at h) names s pair.1
+found_inside h names s result pair is within =
+    (subst (λ (r : Result (Option (Word × Word)) ErrorName). IfOk r (λ found. IfSome found
+    (λ p. IsWithin (birth_at h) names s p.0 × IsWithin (birth_at h) names s p.1))) is within).1

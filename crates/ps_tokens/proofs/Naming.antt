@@ -1,6 +1,6 @@
 -- The word of a name that is met, and what is lent once it is.
 use Rattle.std.proofs.Common.{◌≡◌, ℕ, ◌<◌, ◌≤◌, ◌++◌, arith, Bool, true, false, List, [], ◌∷◌, length, slice_get, Option, Some, None, refl, sym, ap, subst, ◌∙◌, bytes_eq}
-use Rattle.std.specs.Prelude.{nat_le, unwrap_or, if◌then◌else◌}
+use Rattle.std.specs.Prelude.{is_some, nat_le, option_map, unwrap_or, if◌then◌else◌}
 use Rattle.std.specs.List.{position_or_len, list_any}
 use Rattle.std.proofs.lemmas.Bool.Decides.{nat_tests}
 use Rattle.std.proofs.lemmas.List.{append-nil, length_push}
@@ -15,7 +15,7 @@ use Rattle.ps_word.specs.Format.{value_in, IsWord}
 use Rattle.ps_mem.specs.Meaning.{value_of}
 use Rattle.ps_mem.specs.Shows.{IsWithin}
 use Rattle.ps_names.specs.Names.{place_of, AreNames}
-use Rattle.ps_names.proofs.Places.{meet_known, meet_new, next_place, names_with}
+use Rattle.ps_names.proofs.Places.{any_position, meet_known, meet_new, next_place, names_with}
 use Rattle.ps_ops.proofs.Makers.{value_of-is}
 use Rattle.ps_types.proofs.First.{name_held}
 use Rattle.ps_acts.specs.Lent.{Lent}
@@ -102,3 +102,22 @@ over_full names text unmet full =
     let size = length_push names text in
     subst (λ (ns : List (List ℕ)). names_limit < length ns) (meet_new text names unmet)
     (omega (arith, size, full))
+
+-- one more where it is new
+pub one_longer : (names : List (List ℕ)) (text : List ℕ) → place_of text names ≡ None
+    → length names < length (meet names text)
+one_longer names text unmet =
+    let size = length_push names text in
+    subst (λ (ns : List (List ℕ)). length names < length ns) (meet_new text names unmet)
+    (omega (arith, size))
+
+-- met where it is found
+pub is_met : {A : Type 0} (number : A → ℕ) (found : Option A) (names : List (List ℕ))
+    (text : List ℕ) → option_map number found ≡ place_of text names
+    → list_any (bytes_eq text) names ≡ is_some found
+is_met number found names text place =
+    any_position (bytes_eq text) names ∙ (ap is_some (sym place) ∙ by found)
+  where
+    by : (o : Option _) → is_some (option_map number o) ≡ is_some o
+    by (Some a) = refl
+    by None = refl

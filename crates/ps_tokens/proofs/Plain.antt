@@ -2,7 +2,7 @@
 use Rattle.std.proofs.Common.{◌≡◌, ℕ, arith, ap, ◌∙◌}
 use Rattle.ps_operands.specs.Plain.{IsPlain}
 use Rattle.ps_word.specs.declared.words.Word.{Word}
-use Rattle.ps_mem.specs.Heap.{Grants, AfterNew, birth_at}
+use Rattle.ps_mem.specs.Heap.{Grants, AfterNew, SameLogs, birth_at}
 use Rattle.ps_ops.specs.Does.{KeepsLogsWithin}
 use Rattle.ps_ops.proofs.Ready.{plain_value, plain_within}
 use Rattle.ps_acts.specs.Lent.{Lent}
@@ -47,3 +47,11 @@ module _ (old mid : Grants) (slot : ℕ)
       (used.closed ∙ ap (λ (g : Grants). g.closed) is)
       (used.records ∙ ap (λ (g : Grants). g.records) is)
       (used.put ∙ ap (λ (g : Grants). g.put) is)
+
+  -- and objects were made in it
+  pub made_logs : (new : Grants) → SameLogs mid new → KeepsLogsWithin 0 old new slot
+  made_logs new same =
+      unlogged old new slot (same.cycle_open ∙ ap (λ (g : Grants). g.cycle_open) is)
+      (same.closed ∙ ap (λ (g : Grants). g.closed) is)
+      (same.records ∙ ap (λ (g : Grants). g.records) is)
+      (same.put ∙ ap (λ (g : Grants). g.put) is)

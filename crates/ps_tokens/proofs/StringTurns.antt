@@ -30,7 +30,7 @@ use Rattle.ps_tokens.specs.Tokens.{token_turn}
 use Rattle.ps_tokens.proofs.Alike.{LacksRoom}
 use Rattle.ps_tokens.proofs.Makes.{lacks_made, Wants, Makes}
 
-newest_bytes : (s : Store) (text : List ℕ) → bytes (s ++ string_object text ∷ []) (length s) ≡ text
+pub newest_bytes : (s : Store) (text : List ℕ) → bytes (s ++ string_object text ∷ []) (length s) ≡ text
 unfolding bytes
 newest_bytes s text = ap bytes_in (slice_get-append_end s [] (string_object text))
 

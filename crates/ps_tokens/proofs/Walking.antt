@@ -1,7 +1,7 @@
 -- What the elements of a procedure come to: the first one, and then the others.
-use Rattle.std.proofs.Common.{◌≡◌, ℕ, ◌≤◌, ◌++◌, arith, Bool, true, false, List, [], ◌∷◌, length, Option, Some, None, refl, sym, ap, ◌∙◌, append-nil, length-append, bytes_eq}
+use Rattle.std.proofs.Common.{◌≡◌, ℕ, ◌+◌, ◌≤◌, ◌++◌, arith, Bool, true, false, List, [], ◌∷◌, length, Option, Some, None, refl, sym, ap, ◌∙◌, append-nil, length-append, bytes_eq}
 use Rattle.std.specs.Prelude.{fold, if◌then◌else◌, is_some, option_map}
-use Rattle.std.specs.List.{list_any}
+use Rattle.std.specs.List.{AllByRecursion, list_any}
 use Rattle.std.proofs.lemmas.List.Sums.{fold-append}
 use Rattle.ps_language.specs.declared.errors.ErrorName.{ErrorName}
 use Rattle.ps_language.specs.Dictionaries.{meet}
@@ -9,6 +9,7 @@ use Rattle.ps_language.specs.StepTokens.{names_in, Missing, missing_name, missin
 use Rattle.ps_language.specs.StepValues.{LookedUp, known, unknown, unreadable}
 use Rattle.ps_language.specs.Token.{Token, Tokens, number_token, literal_name_token, executable_name_token, immediate_name_token, string_token, procedure_token, no_tokens, more_tokens}
 use Rattle.ps_tokens.specs.Missing.{error_of}
+use Rattle.ps_tokens.specs.Procedures.{element_words}
 
 -- ---- names
 
@@ -21,6 +22,13 @@ names_more (immediate_name_token text) rest = refl
 names_more (string_token bytes) rest = refl
 names_more (procedure_token inner) rest =
     ap (λ (ns : List (List ℕ)). ns ++ names_in rest) (sym (append-nil (names_in inner)))
+
+-- met, the first one's and those of the others
+pub met_more : (P : List ℕ → Type 0) (xs ys : List (List ℕ)) → AllByRecursion P (xs ++ ys)
+    → AllByRecursion P xs × AllByRecursion P ys
+met_more P [] ys all = (tt, all)
+met_more P (x ∷ xs) ys all =
+    let rest = met_more P xs ys all.1 in ((all.0, rest.0), rest.1)
 
 pub formed_more : (names : List (List ℕ)) (token : Token) (rest : Tokens)
     → fold meet names (names_in (more_tokens token rest))
@@ -42,6 +50,40 @@ fold_longer names (text ∷ texts) =
     let one = meet_longer names text in
     let rest = fold_longer (meet names text) texts in
     omega (arith, one, rest)
+
+-- each is one more at most
+meet_few : (names : List (List ℕ)) (text : List ℕ)
+    → length (meet names text) ≤ length names + 1
+meet_few names text = by (list_any (bytes_eq text) names)
+  where
+    by : (met : Bool) → length (if met then names else names ++ text ∷ []) ≤ length names + 1
+    by true = omega arith
+    by false = let size = length-append names (text ∷ []) in omega (arith, size)
+
+pub fold_few : (names texts : List (List ℕ))
+    → length (fold meet names texts) ≤ length names + length texts
+fold_few names [] = omega arith
+fold_few names (text ∷ texts) =
+    let one = meet_few names text in
+    let rest = fold_few (meet names text) texts in
+    omega (arith, one, rest)
+
+-- and no more than there are elements
+pub names_few : (elements : Tokens) → length (names_in elements) ≤ element_words elements
+names_few no_tokens = omega arith
+names_few (more_tokens (number_token number) rest) = let few = names_few rest in omega (arith, few)
+names_few (more_tokens (literal_name_token text) rest) =
+    let few = names_few rest in omega (arith, few)
+names_few (more_tokens (executable_name_token text) rest) =
+    let few = names_few rest in omega (arith, few)
+names_few (more_tokens (immediate_name_token text) rest) =
+    let few = names_few rest in omega (arith, few)
+names_few (more_tokens (string_token bytes) rest) = let few = names_few rest in omega (arith, few)
+names_few (more_tokens (procedure_token inner) rest) =
+    let first = names_few inner in
+    let few = names_few rest in
+    let size = length-append (names_in inner) (names_in rest) in
+    omega (arith, first, few, size)
 
 -- ---- names behind //
 

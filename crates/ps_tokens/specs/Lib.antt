@@ -1,3 +1,5 @@
+pub mod Fitting
+pub mod Made
 pub mod Missing
 pub mod Names
 pub mod Procedures

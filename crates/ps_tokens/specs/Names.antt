@@ -1,6 +1,5 @@
 -- Names of tokens, by what is done with them (PLRM2, 3.5, 3.11).
 use Rattle.std.specs.Prelude.{◌≡◌, ℕ, Bool, true, false, List}
-use Rattle.ps_language.specs.declared.operators.Operator.{Operator}
 use Rattle.ps_language.specs.StepValues.{Turn, after_look_up, done, looked_up}
 use Rattle.ps_language.specs.Token.{Token, literal_name_token, executable_name_token, immediate_name_token}
 use Rattle.ps_language.specs.Value.{name_value, Value, Store}
@@ -9,8 +8,8 @@ use Rattle.ps_word.specs.declared.values.Content.TheVariants.{Name}
 use Rattle.ps_word.specs.Format.{value_in}
 use Rattle.ps_acts.specs.Acts.{Asked}
 use Rattle.ps_acts.specs.Lent.{Lent, scene_of, around_of}
-use Rattle.ps_turns.specs.Turns.{nothing_more}
-use Rattle.ps_values.specs.Values.{meaning, pushed_turn, executed_turn, executed_asks}
+use Rattle.ps_turns.specs.Turns.{none_asked}
+use Rattle.ps_values.specs.Values.{meaning, pushed_turn, executed_turn, Asks, executed_asks}
 use Rattle.ps_tokens.specs.declared.names.NameKind.{NameKind}
 use Rattle.ps_tokens.specs.declared.names.NameKind.TheVariants.{Literal, Executable, Immediate}
 use Rattle.ps_tokens.specs.Tokens.{replaced_asks}
@@ -46,9 +45,9 @@ met_turn Immediate word l s =
     (λ found. done (meaning l word) found (around_of l) (scene_of l s))
 
 -- what is asked for beside
-abbrev pub met_asks : (asks : Operator → Lent → Store → Asked) → NameKind → Word → Lent → Store
-    → Asked
-met_asks asks Literal word l s = nothing_more l s
+abbrev pub met_asks : Asks → NameKind → Word → Lent → Store → Asked
+met_asks asks Literal word l s = none_asked
 met_asks asks Executable word l s = executed_asks asks word l s
 met_asks asks Immediate word l s =
-    replaced_asks asks (looked_up (meaning l word) (scene_of l s).dictionaries s) l s
+    replaced_asks asks (looked_up (meaning l word) (scene_of l s).dictionaries s) (around_of l)
+    (scene_of l s)

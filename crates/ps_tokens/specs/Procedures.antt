@@ -1,4 +1,5 @@
--- Procedures of tokens: the room that their objects take, and the list that they are put together in.
+-- Procedures of tokens: the room that their objects take, and the list that they are put together
+-- in.
 use Rattle.std.specs.Prelude.{◌≡◌, ℕ, ◌+◌, ◌/◌, ◌^◌, ◌++◌, nat_lt, List, length, map, if◌then◌else◌}
 use Rattle.ps_language.specs.StepValues.{Turn, tries}
 use Rattle.ps_language.specs.Token.{Token, Tokens, number_token, literal_name_token, executable_name_token, immediate_name_token, string_token, procedure_token, no_tokens, more_tokens}

@@ -23,8 +23,8 @@ use ps_turns::turned::Turned;
 /// Raises with the command null `stackoverflow` where 500 operands stand, and `VMerror` in a
 /// refused step.
 ///
-/// `NeedSpace`: its words have no room. `Memory`: a growth of the memory was refused. Not made, with
-/// nothing changed: also as the note of an error.
+/// `NeedSpace`: its words have no room. `Memory`: a growth of the memory was refused. Not made,
+/// with nothing changed: also as the note of an error.
 pub fn do_string<M: Memory>(
     bytes: &[u8],
     context: &mut Context,

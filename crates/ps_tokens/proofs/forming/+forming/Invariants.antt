@@ -1,4 +1,4 @@
-use Rattle.std.proofs.Common.{◌≡◌, List, drop}
+use Rattle.std.proofs.Common.{◌≡◌, drop}
 use Rattle.std.specs.Prelude.{fold}
 use Rattle.ps_language.specs.Dictionaries.{meet}
 use Rattle.ps_language.specs.StepTokens.{names_in}

@@ -1,5 +1,5 @@
 -- The first element that has one, and then the others.
-use Rattle.std.proofs.Common.{◌≡◌, ◌+◌, ℕ, List, Option, sym, ap, subst, ◌∙◌, drop}
+use Rattle.std.proofs.Common.{◌+◌, ℕ, List, Option, sym, ap, subst, ◌∙◌, drop}
 use Rattle.ps_language.specs.StepTokens.{Missing, missing_in, missing_or}
 use Rattle.ps_language.specs.StepValues.{LookedUp}
 use Rattle.ps_scan.specs.Shown.{token_of}

@@ -1,5 +1,5 @@
 -- The name is met, and taken back where its error is not noted.
-use Rattle.std.proofs.Common.{◌≡◌, ℕ, List, ◌++◌, take, Err, refl, sym, ap, ◌∙◌, subst, true}
+use Rattle.std.proofs.Common.{◌≡◌, ℕ, List, [], ◌∷◌, ◌++◌, take, Err, refl, sym, ap, ◌∙◌, subst, true}
 use Rattle.ps_language.specs.declared.errors.ErrorName.TheVariants.{LimitCheck}
 use Rattle.ps_language.specs.Dictionaries.{meet}
 use Rattle.ps_mem.specs.Heap.{birth_at}
@@ -9,6 +9,7 @@ use Rattle.ps_types.proofs.First.{name_held}
 use Rattle.ps_acts.specs.Lent.{Lent, lent}
 use Rattle.ps_acts.proofs.Forming.{formed_good, cut_names}
 use Rattle.ps_turns.specs.Turns.{error_turn, nothing_more}
+use Rattle.ps_turns.proofs.Composing.{turns_shown}
 use Rattle.ps_tokens.specs.declared.names.NameKind.TheVariants.{Executable}
 use Rattle.ps_tokens.specs.Missing.{missing_turn}
 use Rattle.ps_tokens.proofs.Alike.{raised}
@@ -35,17 +36,8 @@ raise-requires-clause-held g c =
     name_held c.name_word.result c.in-Ok.id.0 true c.name_word.ensures.value _
     c.name_word.ensures.word
 
-pub raise-requires-clause-within : goal.raise-requires-clause-within
-raise-requires-clause-within g c = λ s shown.
-    name_within Executable c.name_word.result c.in-Ok.id.0 c.name_word.ensures.value
-    c.intern.new.self c.args.text.now c.in-Ok.ensures.stands _ s
-
 pub raise-requires-in-Err-Full-clause-held : goal.raise-requires-in-Err-Full-clause-held
 raise-requires-in-Err-Full-clause-held g c = plain_value _ _ c.null.ensures.plain
-
-pub raise-requires-in-Err-Full-clause-within : goal.raise-requires-in-Err-Full-clause-within
-raise-requires-in-Err-Full-clause-within g c = λ s shown.
-    plain_within _ _ s _ c.null.ensures.plain
 
 pub returns-in-Ok-raise : goal.returns-in-Ok-raise
 returns-in-Ok-raise g c =
@@ -66,7 +58,13 @@ returns-in-Ok-raise g c =
     turns_formed l (added l.names text) names are nothing_more nothing_more
     (missing_turn c.args.error text) (error_turn c.args.error word) c.args.trial
     (missing_as l text c.args.error names formed (added l.names text) are word means)
-    (λ s shown. refl) c.in-Ok-raise.turned _ c.in-Ok-raise.ensures
+    (λ s shown. refl) c.in-Ok-raise.turned _
+    (turns_shown (word ∷ []) [] nothing_more (error_turn c.args.error word) c.args.trial _ _ _
+    (λ s shown. (
+      name_within Executable word c.in-Ok.id.0 c.name_word.ensures.value names text
+          c.in-Ok.ensures.stands _ s,
+      tt,
+    )) (λ s shown. tt) c.in-Ok-raise.ensures)
 
 pub returns-in-Err : goal.returns-in-Err
 returns-in-Err g c =
@@ -84,7 +82,12 @@ returns-in-Err g c =
     c.in-Ok.ensures.stands (birth_at l.heap) in
     let formed = met_formed l.names text c.len-count.ensures.names c.requires.short names met
     news in
-    let turns = c.in-Err.ensures in
+    let turns = turns_shown (word ∷ []) [] nothing_more (error_turn c.args.error word) c.args.trial
+    _ _ _ (λ s shown. (
+      name_within Executable word c.in-Ok.id.0 c.name_word.ensures.value names
+          text c.in-Ok.ensures.stands _ s,
+      tt,
+    )) (λ s shown. tt) c.in-Err.ensures in
     let cut : c.truncate.new.self ≡ l.names = c.truncate.ensures
     ∙ (ap (λ (ns : List (List ℕ)). take c.len-count.result ns)
     (turns.stays.names ∙ ap (λ (ns : List (List ℕ)). ns ++ turns.stays.formed) are)
@@ -102,7 +105,8 @@ returns-in-Err-Full g c =
     c.args.context.now c.args.shared.now) in
     let text = c.args.text.now in
     let full = c.intern.ensures.full.0 (c.in-Err-Full.is ∙ ap Err c.in-Err-Full.field-0-is) in
-    raised nothing_more (missing_turn c.args.error text) c.args.trial _ l _ c.null.result LimitCheck
+    raised nothing_more (missing_turn c.args.error text) c.args.trial _ l _ c.null.result
+    (λ s shown. plain_within _ _ s _ c.null.ensures.plain) LimitCheck
     (λ s shown. missing_overflows l text c.args.error (none_formed l.names text
     c.len-count.ensures.names c.requires.short full.0 full.2) c.null.result
     (c.null.ensures.value _ _) s)

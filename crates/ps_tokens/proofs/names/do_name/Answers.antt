@@ -40,7 +40,6 @@ raise-requires g c = record {
   slot = c.requires.slot;
   good = rw c.in-Err-Full.ensures.fault c.requires.good;
   held = plain_value _ _ c.null.ensures.plain;
-  within = λ s shown. plain_within _ _ s _ c.null.ensures.plain;
 }
 
 pub returns-in-Ok-do_met : goal.returns-in-Ok-do_met
@@ -65,7 +64,8 @@ returns-in-Ok-do_met g c =
     turns_formed l (added l.names text) names are (token_asks asks (name_token kind text))
     (met_asks asks kind word) (token_turn (name_token kind text)) (met_turn kind word) c.args.trial
     (met_as l text names formed (added l.names text) are kind word means)
-    (λ s shown. met_asked l text names formed (added l.names text) are kind word means asks met s)
+    (λ s shown. met_asked l text names formed (added l.names text) are kind word means asks met s
+    shown)
     c.in-Ok-do_met.turned _ c.in-Ok-do_met.ensures
 
 pub returns-in-Err : goal.returns-in-Err
@@ -97,7 +97,8 @@ returns-in-Err g c =
     (unmade_formed l (added l.names text) names are (token_asks asks (name_token kind text))
     (met_asks asks kind word) (token_turn (name_token kind text)) (met_turn kind word) c.args.trial
     (met_as l text names formed (added l.names text) are kind word means)
-    (λ s shown. met_asked l text names formed (added l.names text) are kind word means asks met s)
+    (λ s shown. met_asked l text names formed (added l.names text) are kind word means asks met s
+    shown)
     c.requires.good c.in-Err.reason _ turns)
 
 pub returns-in-Err-Memory : goal.returns-in-Err-Memory
@@ -119,7 +120,8 @@ returns-in-Err-Full g c =
     let text = c.args.text.now in
     let full = c.intern.ensures.full.0 (c.in-Err-Full.is ∙ ap Err c.in-Err-Full.field-0-is) in
     raised (token_asks g.O.Operate.asks (name_token c.args.kind text))
-    (token_turn (name_token c.args.kind text)) c.args.trial _ l _ c.null.result LimitCheck
+    (token_turn (name_token c.args.kind text)) c.args.trial _ l _ c.null.result
+    (λ s shown. plain_within _ _ s _ c.null.ensures.plain) LimitCheck
     (λ s shown. name_overflows l text (none_formed l.names text c.len-count.ensures.names
     c.requires.short full.0 full.2) c.null.result (c.null.ensures.value _ _) c.args.kind s)
     (rw c.in-Err-Full.ensures.fault at c.raise.ensures)

@@ -6,20 +6,21 @@ use Rattle.ps_language.specs.Readers.{integer}
 use Rattle.ps_language.specs.Token.{number_token}
 use Rattle.ps_mem.specs.Heap.{birth_at}
 use Rattle.ps_mem.specs.Meaning.{value_of}
+use Rattle.ps_ops.proofs.Ready.{plain_value}
 use Rattle.ps_acts.specs.Lent.{Lent, lent}
 use Rattle.ps_turns.specs.Turns.{nothing_more}
 use Rattle.ps_values.specs.Values.{pushed_turn}
 use Rattle.ps_tokens.specs.Tokens.{token_turn}
 use Rattle.ps_turns.proofs.Composing.{turns_as}
-use Rattle.ps_tokens.proofs.Doing.{number_pushed}
+use Rattle.ps_tokens.proofs.Doing.{lent_turns, number_pushed}
 use Rattle.ps_tokens.proofs.Plain.{plain_lent}
 use Rattle.ps_tokens.proofs.numbers.do_number.Goals as goal
 
 pub push_value-requires-clause-word : goal.push_value-requires-clause-word
-push_value-requires-clause-word g c = plain_lent _ _ c.integer-word.ensures.plain
+push_value-requires-clause-word g c = plain_value _ _ c.integer-word.ensures.plain
 
 pub push_value-requires-clause-command : goal.push_value-requires-clause-command
-push_value-requires-clause-command g c = plain_lent _ _ c.integer-word.ensures.plain
+push_value-requires-clause-command g c = plain_value _ _ c.integer-word.ensures.plain
 
 pub returns : goal.returns
 returns g c =
@@ -34,4 +35,8 @@ returns g c =
     (token_turn (number_token c.args.number)) c.args.trial _ l _
     (λ s shown. number_pushed l c.integer-word.result c.args.number
     (value (birth_at l.heap) l.names) s)
-    (λ s shown. refl) c.push_value.ensures
+    (λ s shown. refl)
+    (lent_turns l c.integer-word.result (plain_lent l c.integer-word.result
+    c.integer-word.ensures.plain) nothing_more
+    (pushed_turn c.integer-word.result c.integer-word.result) c.args.trial _ _
+    c.push_value.ensures)

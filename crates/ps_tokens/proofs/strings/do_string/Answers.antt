@@ -26,14 +26,12 @@ use Rattle.ps_tokens.proofs.strings.do_string.Goals as goal
 pub raise-requires-clause-held : goal.raise-requires-clause-held
 raise-requires-clause-held g c = plain_value _ _ c.null-command.ensures.plain
 
-pub raise-requires-clause-within : goal.raise-requires-clause-within
-raise-requires-clause-within g c = λ s shown. plain_within _ _ s _ c.null-command.ensures.plain
-
 pub returns-then-is_full : goal.returns-then-is_full
 returns-then-is_full g c =
     let l : Lent = (lent (g.M.Memory.heap c.args.memory.now) (g.M.Memory.grants c.args.memory.now)
     c.args.context.now c.args.shared.now) in
-    raised _ _ c.args.trial _ l _ c.null-command.result StackOverflow
+    raised _ _ c.args.trial _ l _ c.null-command.result
+    (λ s shown. plain_within _ _ s _ c.null-command.ensures.plain) StackOverflow
     (λ s shown. string_overflows l c.args.bytes.now c.null-command.result
     (c.null-command.ensures.value _ _)
     (grind (arith, nat_tests, c.is_full.ensures, c.if-is_full.true)) s) c.raise.ensures
@@ -41,15 +39,12 @@ returns-then-is_full g c =
 pub raise-requires-then-trial-clause-held : goal.raise-requires-then-trial-clause-held
 raise-requires-then-trial-clause-held g c = plain_value _ _ c.null-command.ensures.plain
 
-pub raise-requires-then-trial-clause-within : goal.raise-requires-then-trial-clause-within
-raise-requires-then-trial-clause-within g c = λ s shown.
-    plain_within _ _ s _ c.null-command.ensures.plain
-
 pub returns-then-trial : goal.returns-then-trial
 returns-then-trial g c =
     let l : Lent = (lent (g.M.Memory.heap c.args.memory.now) (g.M.Memory.grants c.args.memory.now)
     c.args.context.now c.args.shared.now) in
     lacked _ _ c.args.trial _ l _ c.null-command.result
+    (λ s shown. plain_within _ _ s _ c.null-command.ensures.plain)
     (λ s shown. string_lacks l c.args.bytes.now c.null-command.result
     (c.null-command.ensures.value _ _)
     (grind (arith, nat_tests, c.is_full.ensures, c.if-is_full.false)) c.args.trial _ _

@@ -1,0 +1,58 @@
+//! Doing a token of a text (PLRM2, 3.5).
+
+ghost use Rattle.std.specs.Prelude.{◌≡◌, ◌<◌};
+ghost use Rattle.ps_scan.specs.Shown.{token_of};
+ghost use Rattle.ps_acts.specs.Lent.{lent, IsGood};
+ghost use Rattle.ps_turns.specs.Turns.{Turns};
+ghost use Rattle.ps_tokens.specs.Short.{IsShort};
+ghost use Rattle.ps_tokens.specs.Tokens.{token_asks, token_turn};
+
+use crate::names::{NameKind, do_name};
+use crate::numbers::do_number;
+use crate::procedures::do_procedure;
+use crate::strings::do_string;
+use ps_acts::lent::{Context, Shared, Trial};
+use ps_mem::{Memory, SLOTS};
+use ps_ops::failure::NotMade;
+use ps_scan::TokenKind;
+use ps_turns::turned::Turned;
+use ps_values::operates::Operate;
+
+/// Does a token of a text: a number, a string or a procedure becomes an operand, and a name is done
+/// by its kind.
+///
+/// Raises and is not made as `do_number`, `do_name`, `do_string` and `do_procedure`.
+pub fn do_token<O: Operate, M: Memory>(
+    kind: &TokenKind,
+    text: &[u8],
+    operators: &O,
+    context: &mut Context,
+    shared: &mut Shared,
+    memory: &mut M,
+    trial: Trial,
+) -> Result<Turned, NotMade>
+    requires slot { trial.slot < SLOTS }
+    requires good { IsGood
+        (lent (M.heap memory.old) (M.grants memory.old) context.old shared.old) }
+    requires short { IsShort (token_of text.now kind.now) }
+    ensures { Turns (token_asks O.asks (token_of text.now kind.now))
+        (token_turn (token_of text.now kind.now)) trial result
+        (lent (M.heap memory.old) (M.grants memory.old) context.old shared.old)
+        (lent (M.heap memory.new) (M.grants memory.new) context.new shared.new) }
+{
+    let (name_kind, span) = match kind {
+        TokenKind::LiteralName(span) => (NameKind::Literal, *span),
+        TokenKind::ExecutableName(span) => (NameKind::Executable, *span),
+        TokenKind::ImmediateName(span) => (NameKind::Immediate, *span),
+        TokenKind::Integer(number) => {
+            let number = *number;
+            return do_number(number, context, shared, memory, trial);
+        }
+        TokenKind::Text(bytes) => return do_string(bytes, context, shared, memory, trial),
+        TokenKind::Procedure(elements) => {
+            return do_procedure(elements, text, context, shared, memory, trial);
+        }
+    };
+    let name = span.of(text);
+    do_name(name_kind, name, operators, context, shared, memory, trial)
+}
