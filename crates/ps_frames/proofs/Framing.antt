@@ -13,8 +13,8 @@ use Rattle.ps_acts.specs.Lent.{Lent, scene_of, IsShown, IsGood}
 use Rattle.ps_acts.specs.Acts.{Asked, Needs, IsReason}
 use Rattle.ps_acts.proofs.Kept.{frames-good}
 use Rattle.ps_turns.specs.declared.turned.Turned.TheVariants.{Goes}
-use Rattle.ps_turns.specs.Turns.{Turns, turn_needs, needs_in, nothing_more}
-use Rattle.ps_turns.proofs.Composing.{AreGood, restacked_shown, goes_on}
+use Rattle.ps_turns.specs.Turns.{TurnsOver, Turns, turn_needs, needs_in, nothing_more}
+use Rattle.ps_turns.proofs.Composing.{AreGood, goes_on}
 
 -- ---- frames below the topmost
 
@@ -62,15 +62,16 @@ module _ (l : Lent) (frames : List Frame) where
 
   -- not made; the frames are put back
   pub unmade_over : (asks over_asks : Lent → Store → Asked) (turn over : Lent → Store → Turn)
-      (trial : Trial) (are : AreGood l l.operands frames)
+      (trial : Trial) (stores : Lent → Store → Type 0)
+      (shows : (s : Store) → IsShown l s → stores (record l { frames = frames }) s)
       (same : (s : Store) → IsShown l s → over (record l { frames = frames }) s ≡ turn l s)
       (asked : (s : Store) → IsShown l s → over_asks (record l { frames = frames }) s ≡ asks l s)
       → IsGood l → (reason : Reason) (new : Lent)
-      → Turns over_asks over trial (Err reason) (record l { frames = frames }) new
+      → TurnsOver stores over_asks over trial (Err reason) (record l { frames = frames }) new
       → Turns asks turn trial (Err reason) l (record new { frames = l.frames })
-  unmade_over asks over_asks turn over trial are same asked good reason new turns = record {
+  unmade_over asks over_asks turn over trial stores shows same asked good reason new turns = record {
     meets = λ s shown.
-        let by = turns.meets s (restacked_shown l l.operands frames are s shown) in
+        let by = turns.meets s (shows s shown) in
         let birth : ℕ = birth_at l.heap l.error_dictionary in
         let needs : needs_in trial over_asks over (record l { frames = frames }) s
         ≡ needs_in trial asks turn l s =

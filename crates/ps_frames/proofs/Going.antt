@@ -1,5 +1,5 @@
 -- Unwindings, by the frame that goes.
-use Rattle.std.proofs.Common.{◌≡◌, ℕ, Bool, true, false, List, drop, length, Some, Ok, refl, sym, subst, ◌∙◌}
+use Rattle.std.proofs.Common.{◌≡◌, ℕ, Bool, true, false, List, ◌∷◌, drop, length, Some, Ok, refl, sym, ap, subst, ◌∙◌}
 use Rattle.std.specs.Prelude.{Result}
 use Rattle.ps_language.specs.Value.{Value, Store}
 use Rattle.ps_language.specs.World as world
@@ -12,7 +12,7 @@ use Rattle.ps_ops.specs.declared.failure.NotMade.{NotMade as Reason}
 use Rattle.ps_ops.specs.Does.{values_in}
 use Rattle.ps_ops.proofs.Operands.{first_split}
 use Rattle.ps_control.specs.declared.frames.Frame.{Frame}
-use Rattle.ps_control.specs.declared.frames.Frame.TheVariants.{Stopped}
+use Rattle.ps_control.specs.declared.frames.Frame.TheVariants.{Text, Procedure, Pending, Repeat, Loop, For, Forall, Stopped, Monitor, Bind}
 use Rattle.ps_control.specs.declared.frames.Cause.{Cause}
 use Rattle.ps_control.specs.declared.frames.Cause.TheVariants.{Stop}
 use Rattle.ps_control.specs.Frames.{frame_of, frames_in}
@@ -25,7 +25,8 @@ use Rattle.ps_acts.proofs.Lifts.{ready}
 use Rattle.ps_turns.specs.declared.turned.Turned.{Turned}
 use Rattle.ps_turns.specs.declared.turned.Turned.TheVariants.{Goes}
 use Rattle.ps_turns.specs.Turns.{Turns, break_turn, nothing_more}
-use Rattle.ps_frames.specs.Steps.{unwinding_turn, gone_turn, truth_turn, with_frames}
+use Rattle.ps_frames.specs.Steps.{unwinding_turn, gone_turn, truth_turn, unwinding_asks, unwound_asks, with_frames}
+use Rattle.ps_turns.proofs.Composing.{turns_as}
 use Rattle.ps_frames.proofs.Framing.{goes_here}
 
 -- ---- by what operands and frames came to
@@ -124,3 +125,41 @@ module _ (l : Lent) (trial : Trial) (cause : Cause) (frame : Frame) where
           → Turns nothing_more (break_turn (cause_of cause)) trial result l new
           → Turns nothing_more gone trial result l new
       gone_left is turns = gone_on false is turns
+
+-- ---- frames that hold no lock
+
+pub no_monitor : (top : Frame) → ((lock : ℕ) → top ≡ Monitor lock → ⊥) → is_monitor top ≡ false
+no_monitor (Monitor lock) other = absurd (other lock refl)
+no_monitor (Text source at) other = refl
+no_monitor (Procedure rest) other = refl
+no_monitor (Pending word) other = refl
+no_monitor (Repeat count body) other = refl
+no_monitor (Loop body) other = refl
+no_monitor (For control increment limit body) other = refl
+no_monitor (Forall over at body) other = refl
+no_monitor Stopped other = refl
+no_monitor (Bind over at depth) other = refl
+
+unlocked_asks : (top : Frame) (below : List Frame) (l : Lent) (s : Store)
+    → is_monitor top ≡ false
+    → nothing_more l s ≡ unwound_asks (frames_in l.heap l.names (top ∷ below))
+unlocked_asks (Monitor lock) below l s free = cc
+unlocked_asks (Text source at) below l s free = refl
+unlocked_asks (Procedure rest) below l s free = refl
+unlocked_asks (Pending word) below l s free = refl
+unlocked_asks (Repeat count body) below l s free = refl
+unlocked_asks (Loop body) below l s free = refl
+unlocked_asks (For control increment limit body) below l s free = refl
+unlocked_asks (Forall over at body) below l s free = refl
+unlocked_asks Stopped below l s free = refl
+unlocked_asks (Bind over at depth) below l s free = refl
+
+pub unlocked : (l new : Lent) (cause : Cause) (trial : Trial) (result : Result Turned Reason)
+    (top : Frame) → Some top ≡ first_of l.frames → is_monitor top ≡ false
+    → Turns nothing_more (unwinding_turn cause) trial result l new
+    → Turns unwinding_asks (unwinding_turn cause) trial result l new
+unlocked l new cause trial result top is free turns =
+    turns_as nothing_more unwinding_asks (unwinding_turn cause) (unwinding_turn cause) trial result
+    l new (λ s shown. refl) (λ s shown. unlocked_asks top (drop 1 l.frames) l s free
+    ∙ ap (λ (fs : List Frame). unwound_asks (frames_in l.heap l.names fs))
+    (sym (first_split l.frames top is))) turns

@@ -1,8 +1,17 @@
 pub mod Binding
 pub mod Framing
+pub mod Freeing
 pub mod Going
 pub mod Joining
 pub mod Listing
+pub mod Locking
 pub mod Placing
+pub mod Releasing
+pub mod Rewriting
+pub mod Rooming
 pub mod Settling
+pub mod Stepping
+pub mod Storing
 pub mod Taking
+pub mod Telling
+pub mod Unchanged

@@ -1,5 +1,5 @@
 -- The elements that bind has gone over.
-use Rattle.std.proofs.Common.{◌≡◌, ℕ, zero, suc, ◌+◌, ◌-◌, ◌<◌, ◌≤◌, arith, Bool, true, false, List, [], ◌∷◌, ◌++◌, length, take, drop, Some, None, refl, sym, ap, subst, ◌∙◌}
+use Rattle.std.proofs.Common.{◌≡◌, ℕ, zero, suc, ◌+◌, ◌-◌, ◌<◌, ◌≤◌, arith, Bool, true, false, IsTrue, List, [], ◌∷◌, ◌++◌, length, length-append, take, drop, Some, None, refl, sym, ap, subst, ◌∙◌}
 use Rattle.std.specs.Prelude.{◌||◌, slice_get}
 use Rattle.std.proofs.lemmas.List.{map-append}
 use Rattle.ps_language.specs.Value.{Part as PartValue, Value, Store}
@@ -72,6 +72,7 @@ module _ (h : Heap) (dictionaries : List Word) (over : Part) (at : ℕ) where
     pub replaced : (names : List (List ℕ)) (s : Store) → IsThere h dictionaries names s
         → replaces (look_in h dictionaries names s) (values_from h over at s)
         ≡ (changed || replaces (look_in h dictionaries names s) (values_from h over place s))
+    pub some : IsTrue changed → 1 ≤ length words
     pub held : AreValues h words
     pub within : (names : List (List ℕ)) (s : Store) → IsThere h dictionaries names s
         → AreWithin h names s words
@@ -80,6 +81,7 @@ module _ (h : Heap) (dictionaries : List Word) (over : Part) (at : ℕ) where
   bound_start = record {
     binds = λ names s there. refl;
     replaced = λ names s there. refl;
+    some = λ changed. cc;
     held = tt;
     within = λ names s there. tt;
   }
@@ -119,6 +121,7 @@ module _ (h : Heap) (dictionaries : List Word) (over : Part) (at : ℕ) where
             ∙ (ap (λ vs. changed || replaces (look_in h dictionaries names s) vs) (none_left s)
             ∙ or_nothing changed);
         count = count;
+        some = so.some;
         held = so.held;
         inner = tt;
         within = so.within;
@@ -166,6 +169,7 @@ module _ (h : Heap) (dictionaries : List Word) (over : Part) (at : ℕ) where
           ∙ before_none (values_in h names words)));
       replaced = λ names s there. tt;
       count = count;
+      some = tt;
       held = is.held;
       inner = tt;
       within = is.within;
@@ -202,6 +206,7 @@ module _ (h : Heap) (dictionaries : List Word) (over : Part) (at : ℕ) where
           || replaces (look_in h dictionaries names s) (values_from h over (place + 1) s)))
           (new names s there)
           ∙ joined (replaces (look_in h dictionaries names s) (values_from h over (place + 1) s))));
+      some = λ changed. let more = length-append words (left ∷ []) in omega (arith, more);
       held = all_append (IsValue h) words (left ∷ []) is.held (left_held, tt);
       within = λ names s there.
           all_append (IsWithin (birth_at h) names s) words (left ∷ []) (is.within names s there)
@@ -255,6 +260,8 @@ module _ (h : Heap) (dictionaries : List Word) (over : Part) (at : ℕ) where
               ∙ or_true changed
               (replaces (look_in h dictionaries names s) (values_from h over (place + 1) s))));
           count = count;
+          some = λ changed.
+              let more = length-append words (procedure ∷ []) in omega (arith, more);
           held = all_append (IsValue h) words (procedure ∷ []) is.held (by.held.0, tt);
           inner = by.held.1;
           within = λ names s there.

@@ -27,7 +27,7 @@ use Rattle.ps_acts.specs.Lent.{Lent, around_of, IsShown, IsGood}
 use Rattle.ps_turns.specs.declared.turned.Turned.{Turned}
 use Rattle.ps_turns.specs.declared.turned.Turned.TheVariants.{Goes}
 use Rattle.ps_turns.specs.Turns.{Turns, nothing_more, operator_error}
-use Rattle.ps_turns.proofs.Composing.{AreGood, restacked, goes_on, composes, turns_as}
+use Rattle.ps_turns.proofs.Composing.{AreGood, restacked, restacked_shown, goes_on, composes, turns_as}
 use Rattle.ps_frames.specs.Steps.{running_turn, settled_turn, outcome_turn, truth_turn, with_frames}
 
 -- ---- by what operands and frames came to
@@ -94,7 +94,8 @@ module _ (l : Lent) (good : IsGood l) (trial : Trial) (operator : Operator) wher
       → Turns nothing_more running_turn trial result l new
   settles outcome operands frames did (Ok turned) new operands_same frames_same goes_so turns =
       composes l operands frames nothing_more nothing_more running_turn
-      (outcome_turn operator outcome) trial (settled_good l operator outcome operands frames did)
+      (outcome_turn operator outcome) trial IsShown
+      (restacked_shown l operands frames (settled_good l operator outcome operands frames did))
       (settled_is l operator outcome operands frames did) (λ s shown. refl) turned new turns
   settles (Ok u) operands frames did (Err reason) new operands_same frames_same goes_so turns = cc
   settles (Err e) operands frames did (Err reason) new operands_same frames_same goes_so turns =

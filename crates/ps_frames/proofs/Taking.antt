@@ -1,9 +1,8 @@
--- The turn of a procedure's first element, by its frames.
-use Rattle.std.proofs.Common.{◌≡◌, ℕ, ◌+◌, ◌-◌, ◌<◌, ◌≤◌, ◌^◌, arith, Bool, true, false, List, ◌∷◌, length, Some, refl, sym, ap, subst}
+-- The turn of a procedure's first element, and of a value that waits, by their frames.
+use Rattle.std.proofs.Common.{◌≡◌, ℕ, ◌+◌, ◌-◌, ◌<◌, ◌≤◌, ◌^◌, arith, Bool, true, false, List, [], ◌∷◌, length, Some, refl, sym, ap, subst}
 use Rattle.std.specs.List.{AllByRecursion}
 use Rattle.std.specs.Prelude.{nat_lt, slice_get, unwrap_or, if◌then◌else◌}
 use Rattle.std.proofs.lemmas.Bool.Decides.{nat_tests}
-use Rattle.ps_language.specs.declared.operators.Operator.{Operator}
 use Rattle.ps_language.specs.declared.kinds.Kind.TheVariants.{Array as ArrayKind}
 use Rattle.ps_language.specs.Value.{Store}
 use Rattle.ps_language.specs.Access.{elements}
@@ -15,13 +14,14 @@ use Rattle.ps_word.specs.declared.words.Word.{Word}
 use Rattle.ps_mem.specs.Heap.{Heap, birth_at}
 use Rattle.ps_mem.specs.Meaning.{part_of}
 use Rattle.ps_mem.specs.References.{StandsAs}
+use Rattle.ps_mem.specs.Shows.{IsValue, IsWithin}
 use Rattle.ps_control.specs.declared.frames.Frame.{Frame}
-use Rattle.ps_control.specs.declared.frames.Frame.TheVariants.{Procedure}
+use Rattle.ps_control.specs.declared.frames.Frame.TheVariants.{Pending, Procedure}
 use Rattle.ps_control.specs.Frames.{IsHeld, frames_in, IsFrame, AreFrames, IsFrameWithin, AreFramesWithin}
-use Rattle.ps_acts.specs.Acts.{Asked}
 use Rattle.ps_acts.specs.Lent.{Lent, IsShown, IsGood}
-use Rattle.ps_turns.proofs.Composing.{AreGood}
-use Rattle.ps_values.specs.Values.{meaning, done_turn, executed_asks}
+use Rattle.ps_turns.specs.Turns.{IsShownWith}
+use Rattle.ps_turns.proofs.Composing.{AreGood, restacked_shown}
+use Rattle.ps_values.specs.Values.{meaning, done_turn, executed_turn, Asks, executed_asks}
 use Rattle.ps_frames.specs.Steps.{running_turn, rest_frames, with_frames, frame_asks}
 
 -- ---- procedures
@@ -98,6 +98,49 @@ module _ (l : Lent) (rest : Part) (below : List Frame) (top : l.frames ≡ Proce
       procedure_is s shown =
           rw (top, element_is s shown, sym (rest_shown l.heap l.names rest below)) refl
 
-      pub procedure_asks : (asks : Operator → Lent → Store → Asked) (s : Store) → IsShown l s
+      pub element_shown : IsGood l
+          → ((s : Store) → IsShown l s → IsWithin (birth_at l.heap) l.names s word) → (s : Store)
+          → IsShown l s
+          → IsShownWith (word ∷ word ∷ []) [] (with_frames (rest_frames rest below) l) s
+      element_shown good within s shown = record {
+        shown = restacked_shown l l.operands (rest_frames rest below) (rest_good good) s shown;
+        words_within = (within s shown, (within s shown, tt));
+        frames_within = tt;
+      }
+
+      pub procedure_asks : (asks : Asks) (s : Store) → IsShown l s
           → executed_asks asks word (with_frames (rest_frames rest below) l) s ≡ frame_asks asks l s
-      procedure_asks asks s shown = rw (top, element_is s shown) refl
+      procedure_asks asks s shown =
+          rw (top, element_is s shown, sym (rest_shown l.heap l.names rest below)) refl
+
+-- ---- a value that waits
+
+module _ (l : Lent) (word : Word) (below : List Frame) (top : l.frames ≡ Pending word ∷ below)
+  where
+    pub waiting_held : IsGood l → IsValue l.heap word
+    waiting_held good = (subst (AreFrames l.heap (length l.program)) top good.frames).0
+
+    -- its frame tells that it is within each store that is shown
+    pub waiting_shown : (s : Store) → IsShown l s
+        → IsShownWith (word ∷ word ∷ []) [] (with_frames below l) s
+    waiting_shown s shown =
+        let frames = subst (AreFramesWithin l.heap l.names s) top shown.frames in
+        record {
+          shown = record {
+            shows = shown.shows;
+            operands = shown.operands;
+            dictionaries = shown.dictionaries;
+            frames = frames.1;
+          };
+          words_within = (frames.0, (frames.0, tt));
+          frames_within = tt;
+        }
+
+    pub waiting_is : (s : Store) → IsShown l s
+        → executed_turn word word (with_frames below l) s ≡ running_turn l s
+    unfolding frame_turn
+    waiting_is s shown = rw top refl
+
+    pub waiting_asks : (asks : Asks) (s : Store) → IsShown l s
+        → executed_asks asks word (with_frames below l) s ≡ frame_asks asks l s
+    waiting_asks asks s shown = rw top refl

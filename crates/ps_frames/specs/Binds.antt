@@ -1,7 +1,10 @@
 -- What bind makes of the elements of a procedure (PLRM2, 3.11, 8 'bind').
-use Rattle.std.specs.Prelude.{◌≡◌, ◌≢◌, ℕ, ◌+◌, ◌≤◌, ◌||◌, Bool, true, false, Option, Some, None, List, [], ◌∷◌, length, drop, IfSome, AllPairs, if◌then◌else◌}
+use Rattle.std.specs.Prelude.{◌≡◌, ◌≢◌, ℕ, ◌+◌, ◌≤◌, ◌||◌, Bool, true, false, Option, Some, None, List, [], ◌∷◌, length, drop, nat_le, IfSome, IsTrue, AllPairs, Result, Ok, Err, if◌then◌else◌}
+use Rattle.ps_language.specs.declared.errors.ErrorName.{ErrorName}
+use Rattle.ps_language.specs.declared.errors.ErrorName.TheVariants.{ExecStackOverflow, InvalidAccess, LimitCheck}
 use Rattle.ps_language.specs.Value.{Part, Value, Store}
 use Rattle.ps_language.specs.Access.{is_writable, part_elements}
+use Rattle.ps_language.specs.Limits.{frame_limit, nesting_limit}
 use Rattle.ps_language.specs.Control.{as_procedure}
 use Rattle.ps_language.specs.StepValues.{LookedUp, known, looked_up, is_executable_name}
 use Rattle.ps_language.specs.StepBind as language
@@ -12,6 +15,8 @@ use Rattle.ps_mem.specs.Heap.{Heap, birth_at}
 use Rattle.ps_mem.specs.Meaning.{value_of, part_of}
 use Rattle.ps_mem.specs.Shows.{IsValue, AreValues, IsWithin, AreWithin, Shows}
 use Rattle.ps_ops.specs.Does.{values_in}
+use Rattle.ps_control.specs.declared.frames.Frame.{Frame}
+use Rattle.ps_control.specs.declared.frames.Frame.TheVariants.{Bind}
 use Rattle.ps_control.specs.Frames.{IsHeld}
 use Rattle.ps_frames.specs.declared.binds.Bound.{Bound}
 use Rattle.ps_frames.specs.declared.binds.Bindings.{Bindings}
@@ -151,7 +156,32 @@ pub record BindsAll (h : Heap) (dictionaries : List Word) (over : PartHere) (at 
       → IfSome result (λ bindings.
       replaces (look_in h dictionaries names s) (values_from h over at s) ≡ bindings.changed)
   pub count : at + length words ≤ over.length
+  pub some : IfSome result (λ bindings. IsTrue bindings.changed → 1 ≤ length words)
   pub held : AreValues h words
   pub inner : IfSome result (λ bindings. IfSome bindings.inner (IsHeld h))
   pub within : (names : List (List ℕ)) (s : Store) → IsThere h dictionaries names s
       → AreWithin h names s words
+
+-- ---- a step on a Bind frame
+
+-- a procedure that is gone into lies no deeper than the limit, and its frame has room; count: of
+-- frames
+abbrev pub entered_within : Bindings → Option PartHere → (depth count : ℕ)
+    → Result Bindings ErrorName
+entered_within bindings None depth count = Ok bindings
+entered_within bindings (Some inner) depth count =
+    if nat_le (depth + 1) nesting_limit then
+    (if nat_le (count + 1) frame_limit then Ok bindings else Err ExecStackOverflow)
+    else Err LimitCheck
+
+-- what may be stored, or the first error
+abbrev pub within_limits : Option Bindings → (depth count : ℕ) → Result Bindings ErrorName
+within_limits None depth count = Err InvalidAccess
+within_limits (Some bindings) depth count = entered_within bindings bindings.inner depth count
+
+-- the frames afterwards; at: behind the elements that are stored
+abbrev pub bind_frames : (over : PartHere) → (at depth : ℕ) → Option PartHere
+    → (below : List Frame) → List Frame
+bind_frames over at depth None below = below
+bind_frames over at depth (Some inner) below =
+    Bind inner 0 (depth + 1) ∷ Bind over at depth ∷ below

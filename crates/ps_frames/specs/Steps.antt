@@ -1,24 +1,31 @@
 -- A step by the topmost frame, and one of an unwinding, over what is lent (PLRM2, 3.4, 3.5, 3.10).
-use Rattle.std.specs.Prelude.{◌+◌, ◌-◌, Bool, true, false, List, ◌∷◌, nat_lt, Result, Ok, Err, if◌then◌else◌}
+use Rattle.std.specs.Prelude.{ℕ, ◌+◌, ◌-◌, Bool, true, false, List, [], ◌∷◌, drop, nat_lt, Result, Ok, Err, if◌then◌else◌}
 use Rattle.ps_language.specs.declared.errors.ErrorName.{ErrorName}
 use Rattle.ps_language.specs.declared.operators.Operator.{Operator}
-use Rattle.ps_language.specs.Value.{Value, Store}
-use Rattle.ps_language.specs.World.{running, unwinding}
-use Rattle.ps_language.specs.Effect.{Scene}
-use Rattle.ps_language.specs.StepValues.{Turn, errs, leads, command_of, is_executable_name, looked_up}
-use Rattle.ps_language.specs.StepFrames.{element_at, stopped_turn}
+use Rattle.ps_language.specs.Access.{part_elements}
+use Rattle.ps_language.specs.Control as control
+use Rattle.ps_language.specs.Value.{Part as PartValue, Dictionary, Store}
+use Rattle.ps_language.specs.World as world
+use Rattle.ps_language.specs.World.{for_stop, running, unwinding}
+use Rattle.ps_language.specs.Effect.{Around, Scene}
+use Rattle.ps_language.specs.StepValues.{Turn, breaks, errs, leads, command_of, looked_up}
+use Rattle.ps_language.specs.StepFrames as language
+use Rattle.ps_language.specs.StepFrames.{element_at, freed, stopped_turn}
 use Rattle.ps_language.specs.Machines.{turn_as}
 use Rattle.ps_word.specs.declared.values.Part.{Part}
 use Rattle.ps_mem.specs.Heap.{birth_at}
 use Rattle.ps_mem.specs.Meaning.{part_of}
 use Rattle.ps_control.specs.declared.frames.Cause.{Cause}
 use Rattle.ps_control.specs.declared.frames.Frame.{Frame}
-use Rattle.ps_control.specs.declared.frames.Frame.TheVariants.{Text, Procedure, Pending, Monitor, Bind}
+use Rattle.ps_control.specs.declared.frames.Frame.TheVariants.{Text, Procedure}
 use Rattle.ps_control.specs.Turns.{cause_of}
-use Rattle.ps_acts.specs.Acts.{Asked}
+use Rattle.ps_acts.specs.Acts.{Asked, no_rooms}
 use Rattle.ps_acts.specs.Lent.{Lent, scene_of, around_of}
-use Rattle.ps_turns.specs.Turns.{nothing_more, break_turn}
-use Rattle.ps_values.specs.Values.{value_asks, found_asks}
+use Rattle.ps_turns.specs.declared.turned.Turned.{Turned}
+use Rattle.ps_turns.specs.declared.turned.Turned.TheVariants.{Breaks, Ends}
+use Rattle.ps_turns.specs.Turns.{is_told, none_asked, break_turn}
+use Rattle.ps_values.specs.Values.{Asks, done_asks}
+use Rattle.ps_frames.specs.Binds.{replaces}
 
 -- ---- turns
 
@@ -50,6 +57,21 @@ gone_turn true stopped cause l s = leads (scene_of l s)
 gone_turn false true cause l s = truth_turn true l s
 gone_turn false false cause l s = break_turn (cause_of cause) l s
 
+-- an unwinding once the frame of a monitor has gone, whose lock is freed
+abbrev pub releasing_turn : Cause → (lock : ℕ) → Lent → Store → Turn
+releasing_turn cause lock l s =
+    breaks (cause_of cause) (freed (birth_at l.heap lock) (scene_of l s).frames (scene_of l s))
+
+-- whether an unwinding tells the error of its context's end
+abbrev pub tells : world.Cause → List world.Frame → Dictionary → Bool
+tells for_stop frames d = is_told frames d
+tells cause frames d = false
+
+-- what one comes to that tells none
+abbrev pub untold : Cause → List Frame → Turned
+untold cause [] = Ends false
+untold cause (frame ∷ frames) = Breaks cause
+
 -- ---- frames
 
 -- once the first element of a procedure was taken: the last takes the frame with it
@@ -62,31 +84,54 @@ rest_frames rest below =
 -- those by which steps are made here
 abbrev pub is_stepped : Frame → Bool
 is_stepped (Text source at) = false
-is_stepped (Pending word) = false
-is_stepped (Monitor lock) = false
-is_stepped (Bind over at depth) = false
 is_stepped frame = true
 
 -- other frames
 abbrev pub with_frames : List Frame → Lent → Lent
 with_frames frames l = record l { frames = frames }
 
--- ---- what is asked for beside; asks: by each operator
+-- ---- what is asked for beside, in a scene and what surrounds it
 
--- of a value that is executed
-abbrev pub done_asks : (asks : Operator → Lent → Store → Asked) → Value → Lent → Store → Asked
-done_asks asks value l s =
-    if is_executable_name value then
-    found_asks asks (looked_up value (scene_of l s).dictionaries s) l s
-    else value_asks asks value l s
+-- of bind: a record where an element is replaced, and room for the words of those that are left
+abbrev pub bound_asks : (over : PartValue) → (at : ℕ) → Scene → Asked
+bound_asks over at scene = record {
+  records = if replaces (λ name. looked_up name scene.dictionaries scene.store)
+      (drop at (part_elements scene.store over)) then 1 else 0;
+  scratch = record no_rooms { words = over.count - at };
+}
 
--- by the frames, the topmost first
-abbrev pub top_asks : (asks : Operator → Lent → Store → Asked) → List Frame → Lent → Store → Asked
-top_asks asks (Procedure rest ∷ below) l s =
-    done_asks asks (element_at s (part_of (birth_at l.heap) rest) 0)
-    (with_frames (rest_frames rest below) l) s
-top_asks asks frames l s = nothing_more l s
+-- of a lock that is freed: its record
+abbrev pub freeing_asked : Asked
+freeing_asked = record { records = 1; scratch = no_rooms }
 
--- of a step of a running context
-abbrev pub frame_asks : (asks : Operator → Lent → Store → Asked) → Lent → Store → Asked
-frame_asks asks l s = top_asks asks l.frames l s
+abbrev pub lock_asks : Lent → Store → Asked
+lock_asks l s = freeing_asked
+
+module _ (asks : Asks) where
+  -- by the frames, the topmost first
+  abbrev pub top_asks : List world.Frame → Around → Scene → Asked
+  top_asks (world.procedure_frame rest ∷ below) around scene =
+      done_asks asks (element_at scene.store rest 0) around
+      (control.with_frames (language.rest_frames rest below) scene)
+  top_asks (world.pending_frame value ∷ below) around scene =
+      done_asks asks value around (control.with_frames below scene)
+  top_asks (world.bind_frame over at depth ∷ below) around scene = bound_asks over at scene
+  top_asks (world.monitor_frame lock ∷ below) around scene = freeing_asked
+  top_asks frames around scene = none_asked
+
+  -- of a step of a running context, as it is lent
+  abbrev pub frame_asks : Lent → Store → Asked
+  frame_asks l s = top_asks (scene_of l s).frames (around_of l) (scene_of l s)
+
+-- of bind, in what is lent
+abbrev pub bind_asks : (over : Part) → (at : ℕ) → Lent → Store → Asked
+bind_asks over at l s = bound_asks (part_of (birth_at l.heap) over) at (scene_of l s)
+
+-- of one frame of an unwinding
+abbrev pub unwound_asks : List world.Frame → Asked
+unwound_asks (world.monitor_frame lock ∷ below) = freeing_asked
+unwound_asks frames = none_asked
+
+-- of an unwinding, as it is lent
+abbrev pub unwinding_asks : Lent → Store → Asked
+unwinding_asks l s = unwound_asks (scene_of l s).frames

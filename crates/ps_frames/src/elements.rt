@@ -1,4 +1,4 @@
-//! Steps by the elements of a procedure (PLRM2, 3.5).
+//! Steps by the elements of a procedure, and by a value that waits (PLRM2, 3.5).
 
 ghost use Rattle.std.specs.Prelude.{◌≡◌, ◌<◌, Some};
 ghost use Rattle.ps_acts.specs.Lent.{lent, IsGood};
@@ -6,16 +6,17 @@ ghost use Rattle.ps_stacks.specs.Tops.{first_of};
 ghost use Rattle.ps_turns.specs.Turns.{Turns};
 ghost use Rattle.ps_frames.specs.Steps.{frame_asks, running_turn};
 
-use crate::frames::{advance, put_back};
+use crate::frames::{advance, drop_top, put_back};
 use ps_acts::lent::{Context, Shared, Trial};
-use ps_control::frames::Frame;
+use ps_control::frames::{Frame, push_frame};
 use ps_mem::{Memory, SLOTS};
 use ps_ops::failure::NotMade;
 use ps_seq::arrays::element;
 use ps_turns::turned::Turned;
 use ps_values::operates::Operate;
-use ps_values::values::do_element;
+use ps_values::values::{do_element, execute};
 use ps_word::values::Part;
+use ps_word::words::Word;
 
 /// The first element that is left of a procedure is done, as it stands now; the frame goes with the
 /// last. Raises what the element raises, with the element as the command.
@@ -43,6 +44,36 @@ pub fn procedure_turn<O: Operate, M: Memory>(
         Ok(turned) => Ok(turned),
         Err(reason) => {
             put_back(&mut context.frames, rest);
+            Err(reason)
+        }
+    }
+}
+
+/// A value that waits in the topmost frame is executed, and the frame goes. Raises what the value
+/// raises, with the value as the command; the frame goes then too.
+///
+/// Not made, with nothing changed: as the value.
+pub fn pending_turn<O: Operate, M: Memory>(
+    word: Word,
+    operators: &O,
+    context: &mut Context,
+    shared: &mut Shared,
+    memory: &mut M,
+    trial: Trial,
+) -> Result<Turned, NotMade>
+    requires slot { trial.slot < SLOTS }
+    requires good { IsGood
+        (lent (M.heap memory.old) (M.grants memory.old) context.old shared.old) }
+    requires top { first_of context.old.frames ≡ Some (Frame.Pending word) }
+    ensures { Turns (frame_asks O.asks) running_turn trial result
+        (lent (M.heap memory.old) (M.grants memory.old) context.old shared.old)
+        (lent (M.heap memory.new) (M.grants memory.new) context.new shared.new) }
+{
+    drop_top(&mut context.frames);
+    match execute(word, word, operators, context, shared, memory, trial) {
+        Ok(turned) => Ok(turned),
+        Err(reason) => {
+            push_frame(&mut context.frames, Frame::Pending { word });
             Err(reason)
         }
     }

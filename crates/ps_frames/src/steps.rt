@@ -6,8 +6,10 @@ ghost use Rattle.ps_stacks.specs.Tops.{first_of};
 ghost use Rattle.ps_turns.specs.Turns.{Turns};
 ghost use Rattle.ps_frames.specs.Steps.{frame_asks, is_stepped, running_turn};
 
-use crate::elements::procedure_turn;
+use crate::bindings::bind_turn;
+use crate::elements::{pending_turn, procedure_turn};
 use crate::loops::{for_step, forall_step, loop_step, repeat_step, stopped_step};
+use crate::monitors::monitor_turn;
 use ps_acts::lent::{Context, Shared, Trial};
 use ps_control::frames::Frame;
 use ps_mem::{Memory, SLOTS};
@@ -15,11 +17,13 @@ use ps_ops::failure::NotMade;
 use ps_turns::turned::Turned;
 use ps_values::operates::Operate;
 
-/// A step by the topmost frame: an element of a procedure is done, a loop turns or ends, or the
-/// frame of `stopped` goes. Raises what an element raises, and `stackoverflow` and
-/// `execstackoverflow` of a loop.
+/// A step by the topmost frame: an element of a procedure is done, a value that waits is executed,
+/// a loop turns or ends, elements are bound, or the frame of `stopped` or of a monitor goes, whose
+/// lock is free then. Raises what the element or the value raises, `stackoverflow` and
+/// `execstackoverflow` of a loop, and what `bind` raises.
 ///
-/// Not made, with nothing changed: as an element, or the note of an error.
+/// Not made, with nothing changed: as the element or the value, as `bind_turn` and `monitor_turn`,
+/// or the note of an error.
 #[inline]
 pub fn frame_turn<O: Operate, M: Memory>(
     top: Frame,
@@ -42,6 +46,7 @@ pub fn frame_turn<O: Operate, M: Memory>(
         Frame::Procedure { rest } => {
             procedure_turn(rest, operators, context, shared, memory, trial)
         }
+        Frame::Pending { word } => pending_turn(word, operators, context, shared, memory, trial),
         Frame::Repeat { count, body } => repeat_step(count, body, context, shared, memory, trial),
         Frame::Loop { body } => loop_step(body, context, shared, memory, trial),
         Frame::For {
@@ -56,7 +61,10 @@ pub fn frame_turn<O: Operate, M: Memory>(
             forall_step(over, at, body, context, shared, memory, trial)
         }
         Frame::Stopped => stopped_step(context, shared, memory, trial),
-        Frame::Text { .. } | Frame::Pending { .. } | Frame::Monitor { .. } | Frame::Bind { .. } =>
-            unreachable!(),
+        Frame::Bind { over, at, depth } => {
+            bind_turn(over, at, depth, context, shared, memory, trial)
+        }
+        Frame::Monitor { lock } => monitor_turn(lock, context, shared, memory, trial),
+        Frame::Text { .. } => unreachable!(),
     }
 }

@@ -5,10 +5,11 @@ ghost use Rattle.ps_acts.specs.Lent.{lent, IsGood};
 ghost use Rattle.ps_control.specs.Turns as control;
 ghost use Rattle.ps_stacks.specs.Tops.{first_of};
 ghost use Rattle.ps_turns.specs.Turns.{Turns, nothing_more};
-ghost use Rattle.ps_frames.specs.Steps.{gone_turn, unwinding_turn};
+ghost use Rattle.ps_frames.specs.Steps.{gone_turn, unwinding_asks, unwinding_turn};
 
 use crate::frames::drop_top;
 use crate::loops::push_truth;
+use crate::releases::unwind_monitor;
 use ps_acts::lent::{Context, Shared, Trial};
 use ps_control::frames::{Cause, Frame, push_frame};
 use ps_mem::{Memory, SLOTS};
@@ -75,11 +76,11 @@ fn after_frame<M: Memory>(
 
 /// One frame of an unwinding goes, which holds no lock. The unwinding ends at the frame of
 /// `stopped` for stop, where true is pushed, and at a loop for exit; else it goes on, and the
-/// context ends with the last frame. Raises `stackoverflow` with `stopped` as the command; the frame goes then
-/// too.
+/// context ends with the last frame. Raises `stackoverflow` with `stopped` as the command; the
+/// frame goes then too.
 ///
 /// Not made, with nothing changed: as the note of an error, or the end of a context.
-pub fn unwind_turn<M: Memory>(
+fn unwind_unlocked<M: Memory>(
     cause: Cause,
     top: Frame,
     context: &mut Context,
@@ -103,5 +104,34 @@ pub fn unwind_turn<M: Memory>(
             push_frame(&mut context.frames, top);
             Err(reason)
         }
+    }
+}
+
+/// One frame of an unwinding goes; the lock of a monitor is free then. The unwinding ends at the
+/// frame of `stopped` for stop, where true is pushed, and at a loop for exit; else it goes on, and
+/// the context ends with the last frame. Raises `stackoverflow` with `stopped` as the command; the
+/// frame goes then too.
+///
+/// Not made, with nothing changed: where the log of the slot takes no record for the lock, as the
+/// note of an error, or the end of a context.
+pub fn unwind_turn<M: Memory>(
+    cause: Cause,
+    top: Frame,
+    context: &mut Context,
+    shared: &mut Shared,
+    memory: &mut M,
+    trial: Trial,
+) -> Result<Turned, NotMade>
+    requires slot { trial.slot < SLOTS }
+    requires good { IsGood
+        (lent (M.heap memory.old) (M.grants memory.old) context.old shared.old) }
+    requires top { first_of context.old.frames ≡ Some top }
+    ensures { Turns unwinding_asks (unwinding_turn cause) trial result
+        (lent (M.heap memory.old) (M.grants memory.old) context.old shared.old)
+        (lent (M.heap memory.new) (M.grants memory.new) context.new shared.new) }
+{
+    match top {
+        Frame::Monitor { lock } => unwind_monitor(cause, lock, context, shared, memory, trial),
+        _ => unwind_unlocked(cause, top, context, shared, memory, trial),
     }
 }

@@ -1,13 +1,14 @@
 -- The element is done over the frames that are left, which are put back where it is not made.
-use Rattle.std.proofs.Common.{◌≡◌, ◌∷◌, drop, sym, ◌∙◌}
+use Rattle.std.proofs.Common.{◌≡◌, [], ◌∷◌, drop, sym, ◌∙◌}
 use Rattle.ps_ops.proofs.Operands.{first_split}
 use Rattle.ps_control.specs.declared.frames.Frame.TheVariants.{Procedure}
 use Rattle.ps_acts.specs.Lent.{Lent, lent}
+use Rattle.ps_turns.specs.Turns.{IsShownWith}
 use Rattle.ps_turns.proofs.Composing.{restacked_good, composes}
 use Rattle.ps_values.specs.Values.{done_turn, executed_asks}
 use Rattle.ps_frames.specs.Steps.{running_turn, rest_frames, frame_asks}
 use Rattle.ps_frames.proofs.Framing.{unmade_over}
-use Rattle.ps_frames.proofs.Taking.{rest_good, procedure_is, procedure_asks}
+use Rattle.ps_frames.proofs.Taking.{rest_good, element_shown, procedure_is, procedure_asks}
 use Rattle.ps_frames.proofs.elements.procedure_turn.Goals as goal
 
 pub do_element-requires-clause-good : goal.do_element-requires-clause-good
@@ -29,7 +30,10 @@ returns-in-Ok g c =
     composes l l.operands (rest_frames c.args.rest (drop 1 l.frames))
     (frame_asks g.O.Operate.asks) (executed_asks g.O.Operate.asks c.element-word.result)
     running_turn (done_turn c.element-word.result c.element-word.result) c.args.trial
-    (rest_good l c.args.rest (drop 1 l.frames) top c.requires.good)
+    (IsShownWith (c.element-word.result ∷ c.element-word.result ∷ []) [])
+    (element_shown l c.args.rest (drop 1 l.frames) top c.element-word.result
+    (λ s shown. c.element-word.ensures.value l.names s shown.shows) c.requires.good
+    (λ s shown. c.element-word.ensures.within l.names s shown.shows))
     (procedure_is l c.args.rest (drop 1 l.frames) top c.element-word.result
     (λ s shown. c.element-word.ensures.value l.names s shown.shows))
     (procedure_asks l c.args.rest (drop 1 l.frames) top c.element-word.result
@@ -58,7 +62,10 @@ returns-in-Err g c =
     (unmade_over l (rest_frames c.args.rest (drop 1 l.frames))
     (frame_asks g.O.Operate.asks) (executed_asks g.O.Operate.asks c.element-word.result)
     running_turn (done_turn c.element-word.result c.element-word.result) c.args.trial
-    (rest_good l c.args.rest (drop 1 l.frames) top c.requires.good)
+    (IsShownWith (c.element-word.result ∷ c.element-word.result ∷ []) [])
+    (element_shown l c.args.rest (drop 1 l.frames) top c.element-word.result
+    (λ s shown. c.element-word.ensures.value l.names s shown.shows) c.requires.good
+    (λ s shown. c.element-word.ensures.within l.names s shown.shows))
     (procedure_is l c.args.rest (drop 1 l.frames) top c.element-word.result
     (λ s shown. c.element-word.ensures.value l.names s shown.shows))
     (procedure_asks l c.args.rest (drop 1 l.frames) top c.element-word.result

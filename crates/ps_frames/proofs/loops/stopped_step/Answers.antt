@@ -3,9 +3,9 @@ use Rattle.std.proofs.Common.{◌≡◌, List, ◌∷◌, drop, refl, sym, ap, �
 use Rattle.ps_ops.proofs.Operands.{first_split}
 use Rattle.ps_control.specs.declared.frames.Frame.{Frame}
 use Rattle.ps_control.specs.declared.frames.Frame.TheVariants.{Stopped}
-use Rattle.ps_acts.specs.Lent.{Lent, lent}
+use Rattle.ps_acts.specs.Lent.{Lent, lent, IsShown}
 use Rattle.ps_turns.specs.Turns.{nothing_more}
-use Rattle.ps_turns.proofs.Composing.{restacked_good, composes}
+use Rattle.ps_turns.proofs.Composing.{restacked_good, restacked_shown, composes}
 use Rattle.ps_frames.specs.Steps.{running_turn, truth_turn}
 use Rattle.ps_frames.proofs.Framing.{below_good, unmade_over}
 use Rattle.ps_frames.proofs.Settling.{stopped_is}
@@ -24,7 +24,8 @@ returns-in-Ok g c =
     let l : Lent = lent (g.M.Memory.heap c.args.memory.now) (g.M.Memory.grants c.args.memory.now)
     c.args.context.now c.args.shared.now in
     composes l l.operands (drop 1 l.frames) nothing_more nothing_more running_turn
-    (truth_turn false) c.args.trial (below_good l c.requires.good)
+    (truth_turn false) c.args.trial IsShown
+    (restacked_shown l l.operands (drop 1 l.frames) (below_good l c.requires.good))
     (stopped_is l (drop 1 l.frames) (first_split _ _ (sym c.requires.top))) (λ s shown. refl)
     c.in-Ok.turned _ (rw (c.drop_top.ensures.frames, c.in-Ok.is) at c.push_truth.ensures)
 
@@ -36,5 +37,6 @@ returns-in-Err g c =
     let turns = rw (c.drop_top.ensures.frames, c.in-Err.is) at c.push_truth.ensures in
     rw (c.push_frame.ensures ∙ (ap (λ (fs : List Frame). Stopped ∷ fs) turns.framed ∙ sym top))
     (unmade_over l (drop 1 l.frames) nothing_more nothing_more running_turn (truth_turn false)
-    c.args.trial (below_good l c.requires.good) (stopped_is l (drop 1 l.frames) top)
+    c.args.trial IsShown
+    (restacked_shown l l.operands (drop 1 l.frames) (below_good l c.requires.good)) (stopped_is l (drop 1 l.frames) top)
     (λ s shown. refl) c.requires.good c.in-Err.reason _ turns)

@@ -1,6 +1,7 @@
 -- Each frame by its own step.
 use Rattle.std.proofs.Common.{refl}
-use Rattle.ps_frames.proofs.Joining.{joined}
+use Rattle.ps_frames.specs.Steps.{bind_asks, lock_asks}
+use Rattle.ps_frames.proofs.Joining.{joined, joined_asks}
 use Rattle.ps_frames.proofs.steps.frame_turn.Goals as goal
 
 pub returns-in-Repeat : goal.returns-in-Repeat
@@ -27,3 +28,13 @@ pub returns-in-Stopped : goal.returns-in-Stopped
 returns-in-Stopped g c =
     joined g.O.Operate.asks _ _ c.args.trial _ c.args.top _ c.in-Stopped.is c.requires.top
     (λ s. refl) c.stopped_step.ensures
+
+pub returns-in-Bind : goal.returns-in-Bind
+returns-in-Bind g c =
+    joined_asks g.O.Operate.asks (bind_asks c.in-Bind.over c.in-Bind.at) _ _ c.args.trial _
+    c.args.top _ c.in-Bind.is c.requires.top (λ s. refl) c.bind_turn.ensures
+
+pub returns-in-Monitor : goal.returns-in-Monitor
+returns-in-Monitor g c =
+    joined_asks g.O.Operate.asks lock_asks _ _ c.args.trial _ c.args.top _ c.in-Monitor.is
+    c.requires.top (λ s. refl) c.monitor_turn.ensures

@@ -1,44 +1,12 @@
--- The unwinding goes on over the frames below, and the frame is put back where it is not made.
-use Rattle.std.proofs.Common.{◌≡◌, List, ◌∷◌, drop, refl, sym, ap, ◌∙◌}
-use Rattle.ps_ops.proofs.Operands.{first_split}
-use Rattle.ps_control.specs.declared.frames.Frame.{Frame}
-use Rattle.ps_control.specs.Turns.{ends_at_loop, ends_at_stopped}
-use Rattle.ps_acts.specs.Lent.{Lent, lent}
-use Rattle.ps_turns.specs.Turns.{nothing_more}
-use Rattle.ps_turns.proofs.Composing.{restacked_good, composes}
-use Rattle.ps_frames.specs.Steps.{unwinding_turn, gone_turn}
-use Rattle.ps_frames.proofs.Framing.{below_good, unmade_over}
-use Rattle.ps_frames.proofs.Going.{gone_is}
+-- By whether the frame holds a lock.
+use Rattle.std.proofs.Common.{sym}
+use Rattle.ps_frames.proofs.Going.{no_monitor, unlocked}
 use Rattle.ps_frames.proofs.unwindings.unwind_turn.Goals as goal
 
-pub after_frame-requires-clause-good : goal.after_frame-requires-clause-good
-after_frame-requires-clause-good g c =
-    let l : Lent = lent (g.M.Memory.heap c.args.memory.now) (g.M.Memory.grants c.args.memory.now)
-    c.args.context.now c.args.shared.now in
-    rw c.drop_top.ensures.frames
-    (restacked_good l l.operands (drop 1 l.frames) (below_good l c.requires.good) c.requires.good)
+pub unwind_unlocked-requires-clause-free : goal.unwind_unlocked-requires-clause-free
+unwind_unlocked-requires-clause-free g c = no_monitor c.args.top c.in_default.not-Monitor
 
-pub returns-in-Ok : goal.returns-in-Ok
-returns-in-Ok g c =
-    let l : Lent = lent (g.M.Memory.heap c.args.memory.now) (g.M.Memory.grants c.args.memory.now)
-    c.args.context.now c.args.shared.now in
-    composes l l.operands (drop 1 l.frames) nothing_more nothing_more (unwinding_turn c.args.cause)
-    (gone_turn (ends_at_loop c.args.cause c.args.top) (ends_at_stopped c.args.cause c.args.top)
-    c.args.cause) c.args.trial (below_good l c.requires.good)
-    (gone_is l c.requires.good c.args.cause c.args.top (sym c.requires.top) c.requires.free)
-    (λ s shown. refl) c.in-Ok.turned _
-    (rw (c.drop_top.ensures.frames, c.in-Ok.is) at c.after_frame.ensures)
-
-pub returns-in-Err : goal.returns-in-Err
-returns-in-Err g c =
-    let l : Lent = lent (g.M.Memory.heap c.args.memory.now) (g.M.Memory.grants c.args.memory.now)
-    c.args.context.now c.args.shared.now in
-    let top : l.frames ≡ c.args.top ∷ drop 1 l.frames = first_split _ _ (sym c.requires.top) in
-    let turns = rw (c.drop_top.ensures.frames, c.in-Err.is) at c.after_frame.ensures in
-    rw (c.push_frame.ensures
-    ∙ (ap (λ (fs : List Frame). c.args.top ∷ fs) turns.framed ∙ sym top))
-    (unmade_over l (drop 1 l.frames) nothing_more nothing_more (unwinding_turn c.args.cause)
-    (gone_turn (ends_at_loop c.args.cause c.args.top) (ends_at_stopped c.args.cause c.args.top)
-    c.args.cause) c.args.trial (below_good l c.requires.good)
-    (gone_is l c.requires.good c.args.cause c.args.top (sym c.requires.top) c.requires.free)
-    (λ s shown. refl) c.requires.good c.in-Err.reason _ turns)
+pub returns-in_default : goal.returns-in_default
+returns-in_default g c =
+    unlocked _ _ c.args.cause c.args.trial _ c.args.top (sym c.requires.top)
+    (no_monitor c.args.top c.in_default.not-Monitor) c.unwind_unlocked.ensures
