@@ -1,0 +1,91 @@
+-- A step by a text, and what it asks for that the language does not say (PLRM2, 3.2, 3.5).
+use Rattle.std.specs.Prelude.{◌≡◌, ℕ, ◌+◌, ◌≤◌, ◌^◌, Bool, true, false, List, ◌∷◌, ◌++◌, length, max}
+use Rattle.ps_language.specs.Control.{with_frames}
+use Rattle.ps_language.specs.Effect.{Around, Scene}
+use Rattle.ps_language.specs.Scan.{scan}
+use Rattle.ps_language.specs.StepFrames.{source_bytes}
+use Rattle.ps_language.specs.Token.{string_token, procedure_token, Scan, found, faulty}
+use Rattle.ps_language.specs.Value.{Store}
+use Rattle.ps_language.specs.World as world
+use Rattle.ps_mem.specs.Heap.{birth_at}
+use Rattle.ps_control.specs.declared.frames.Source.{Source}
+use Rattle.ps_control.specs.declared.frames.Frame.{Frame}
+use Rattle.ps_control.specs.Frames.{source_of, frames_in}
+use Rattle.ps_acts.specs.Acts.{Asked}
+use Rattle.ps_acts.specs.Lent.{Lent, around_of, scene_of, IsShown}
+use Rattle.ps_turns.specs.Turns.{none_asked}
+use Rattle.ps_values.specs.Values.{Asks}
+use Rattle.ps_tokens.specs.Tokens.{doing_asks}
+
+-- ---- texts
+
+-- the bytes of a source as they stand
+abbrev pub bytes_of : Source → Lent → Store → List ℕ
+bytes_of source l s =
+    source_bytes (around_of l).program s (source_of (birth_at l.heap) source)
+
+-- what stands at a place of it
+abbrev pub scan_at : Source → (at : ℕ) → Lent → Store → Scan
+scan_at source at l s = scan (bytes_of source l s) at
+
+-- a text behind so many bytes of a whole
+pub record IsBehind (first : ℕ) (text whole : List ℕ) : Type 0 where
+  pub front : List ℕ
+  pub size : length front ≡ first
+  pub is : whole ≡ front ++ text
+
+-- a text that was read: what is left of a source behind so many bytes, and a place in it
+pub record IsRead (source : Source) (first at : ℕ) (text : List ℕ) (l : Lent) : Type 0 where
+  pub first_within : first ≤ at
+  pub at_within : at ≤ first + length text
+  pub behind : (s : Store) → IsShown l s → IsBehind first text (bytes_of source l s)
+
+-- ---- what is asked for beside, in a scene and what surrounds it
+
+-- a list that no room is kept for: that of a string that is read, of a string's bytes, and of a
+-- procedure's elements
+abbrev pub unkept : Asked → Asked
+unkept asked =
+    record asked { scratch = record asked.scratch { text = max asked.scratch.text (2 ^ 64) } }
+
+-- whether what is scanned takes one
+abbrev pub takes_list : Scan → Bool
+takes_list (found (string_token (byte ∷ bytes)) end) = true
+takes_list (found (procedure_token elements) end) = true
+takes_list (faulty fault) = true
+takes_list outcome = false
+
+abbrev pub with_list : Bool → Asked → Asked
+with_list true asked = unkept asked
+with_list false asked = asked
+
+-- a string is read into a list too
+abbrev pub source_asks : world.Source → Scan → Asked → Asked
+source_asks world.from_program outcome asked = with_list (takes_list outcome) asked
+source_asks (world.from_string part) outcome asked = unkept asked
+
+module _ (asks : Asks) where
+  -- of the token, once the text has gone on
+  abbrev pub taking_asks : world.Source → (below : List world.Frame) → Scan → Around → Scene
+      → Asked
+  taking_asks source below (found token end) around scene =
+      doing_asks asks token around (with_frames (world.text_frame source end ∷ below) scene)
+  taking_asks source below outcome around scene = none_asked
+
+  -- of a step by a text
+  abbrev pub reading_asks : world.Source → (at : ℕ) → (below : List world.Frame) → Around → Scene
+      → Asked
+  reading_asks source at below around scene =
+      let outcome : Scan = scan (source_bytes around.program scene.store source) at in
+      source_asks source outcome (taking_asks source below outcome around scene)
+
+  -- of what is lent
+  abbrev pub scanned_asks : Source → (below : List Frame) → Scan → Lent → Store → Asked
+  scanned_asks source below outcome l s =
+      taking_asks (source_of (birth_at l.heap) source) (frames_in l.heap l.names below) outcome
+      (around_of l) (scene_of l s)
+
+  abbrev pub text_asks : Source → (at : ℕ) → (below : List Frame) → Lent → Store → Asked
+  text_asks source at below l s =
+      reading_asks (source_of (birth_at l.heap) source) at (frames_in l.heap l.names below)
+      (around_of l) (scene_of l s)

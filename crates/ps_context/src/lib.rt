@@ -1,0 +1,6 @@
+//! The steps of one context: of its texts, of its other frames, and of its unwindings
+//! (PLRM2, 3.4, 3.5, 3.10).
+#![tactic(auto)]
+
+pub mod steps;
+pub mod texts;

@@ -1,0 +1,10 @@
+pub mod Reached
+pub mod Made
+pub mod Unmade
+pub mod Undefining
+pub mod Turning
+pub mod Beginning
+pub mod Laws
+pub mod Making
+pub mod Owning
+mod AloneExamples

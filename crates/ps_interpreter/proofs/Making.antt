@@ -1,0 +1,75 @@
+-- Many ordinary steps.
+use Rattle.std.proofs.Common.{◌≡◌, ℕ, ◌+◌, true, false, List, refl, sym, ◌∙◌, ap, subst, IsTrue, Ok}
+use Rattle.std.proofs.lemmas.List.{replicate_more}
+use Rattle.ps_language.specs.Effect.{Around, Scene}
+use Rattle.ps_language.specs.Machines.{may_end}
+use Rattle.ps_language.specs.Schedules.{plain_move}
+use Rattle.ps_language.specs.World.{Status, Machine}
+use Rattle.ps_acts.specs.declared.lent.Trial.{Trial}
+use Rattle.ps_acts.specs.Acts.{Asked}
+use Rattle.ps_acts.specs.Lent.{Lent}
+use Rattle.ps_interpreter.specs.declared.courses.Course.{Course}
+use Rattle.ps_interpreter.specs.declared.courses.Course.TheVariants.{Running, Unwinding, Calling, Finished}
+use Rattle.ps_interpreter.specs.Alone.{alone_step, is_alone_ready, after_alone_moves, all_alone_ready}
+use Rattle.ps_interpreter.specs.Courses.{Held, has_steps, IsAtBy, IsAt, IsSteady}
+use Rattle.ps_interpreter.specs.Makes.{plain_moves, HasMade}
+use Rattle.ps_interpreter.specs.Steps.{Steps}
+use Rattle.ps_interpreter.proofs.Laws.{ready_move, first_ready, after_more, ready_more}
+
+-- ---- whether there is another step
+
+pub may_at : (course : Course) (l : Lent) (lines : ℕ) (machine : Machine)
+    → IsAtBy course l lines machine → may_end machine.context.status ≡ has_steps course
+may_at Running l lines machine at = ap may_end at.is_so
+may_at (Unwinding cause) l lines machine at = ap may_end at.is_so
+may_at (Calling operator) l lines machine at = at.goes_on
+may_at Finished l lines machine at = ap may_end at.is_so
+
+pub ready_at : (h : Held) (machine : Machine) → IsAt h machine
+    → is_alone_ready machine 1 ≡ has_steps h.course
+ready_at h machine at = first_ready machine ∙ may_at h.course h.lent h.error_lines machine at
+
+-- ---- steps in a row
+
+pub made_none : (h : Held) → IsSteady h → HasMade 0 h h
+unfolding after_alone_moves
+made_none h steady = record {
+  at = λ machine at. at;
+  ready = λ machine at. refl;
+  steady = steady;
+  program = refl;
+}
+
+module _ (asks : Status → Around → Scene → Asked) (slot made : ℕ) (old mid new : Held)
+    (so_far : HasMade made old mid) (steps : has_steps mid.course ≡ true) where
+  abbrev trial : Trial
+  trial = record { slot = slot; refused = false }
+
+  abbrev reached : Machine → Machine
+  reached machine = after_alone_moves old.lent.program machine (plain_moves made)
+
+  still_ready : (machine : Machine) → IsAt old machine → is_alone_ready (reached machine) 1 ≡ true
+  still_ready machine at = ready_at mid (reached machine) (so_far.at machine at) ∙ steps
+
+  next_is : (machine : Machine) → IsAt old machine
+      → alone_step mid.lent.program false (reached machine)
+      ≡ after_alone_moves old.lent.program machine (plain_moves (made + 1))
+  next_is machine at =
+      ap (λ (p : List ℕ). alone_step p false (reached machine)) so_far.program
+      ∙ (sym (ready_move old.lent.program (reached machine) (plain_move 1) (still_ready machine at))
+      ∙ (sym (after_more old.lent.program machine (plain_moves made) (plain_move 1))
+      ∙ ap (after_alone_moves old.lent.program machine) (replicate_more made (plain_move 1))))
+
+  pub made_more : Steps asks trial (Ok (tt {0})) mid new → HasMade (made + 1) old new
+  made_more step = record {
+    at = λ machine at.
+        subst (IsAt new) (next_is machine at)
+        (step.meets (reached machine) (so_far.at machine at)).did;
+    ready = λ machine at.
+        subst (λ ms. IsTrue (all_alone_ready old.lent.program machine ms))
+        (replicate_more made (plain_move 1))
+        (ready_more old.lent.program machine (plain_moves made) (plain_move 1)
+        (so_far.ready machine at) (still_ready machine at));
+    steady = step.steady;
+    program = step.stays.program ∙ so_far.program;
+  }

@@ -1,0 +1,7 @@
+pub mod Alone
+pub mod Courses
+pub mod Interprets
+pub mod Makes
+pub mod Needs
+pub mod Owns
+pub mod Steps

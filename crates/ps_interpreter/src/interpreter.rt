@@ -1,0 +1,229 @@
+//! A context with what it prints, how far it is, and its steps (PLRM2, 3.5, 3.10).
+
+ghost use Rattle.std.specs.Prelude.{◌≡◌, ◌<◌, false, true, OnErr, IfOk, IfErr};
+ghost use Rattle.ps_language.specs.Effect.{Around, Scene};
+ghost use Rattle.ps_language.specs.World.{Status};
+ghost use Rattle.ps_mem.specs.Heap.{SameLogs};
+ghost use Rattle.ps_acts.specs.Acts.{Asked};
+ghost use Rattle.ps_acts.specs.Lent.{lent};
+ghost use Rattle.ps_start.specs.Starts.{IsEmptyHeap, IsStartReason, first_machine};
+ghost use Rattle.ps_turns.specs.Turns.{lines_after};
+ghost use Rattle.ps_interpreter.specs.Courses as courses;
+ghost use Rattle.ps_interpreter.specs.Courses.{held, IsAt, IsSteady};
+ghost use Rattle.ps_interpreter.specs.Steps.{Steps};
+
+use crate::courses::Course;
+use crate::interprets::Interpret;
+use ps_acts::lent::{Context, Shared, Trial};
+use ps_control::frames::Cause;
+use ps_language::errors::ErrorName;
+use ps_language::operators::Operator;
+use ps_mem::{Memory, SLOTS};
+use ps_ops::failure::NotMade;
+use ps_start::start::start;
+use ps_turns::raises::raise_by;
+use ps_turns::turned::Turned;
+use std::alloc::Global;
+use std::hash::RandomState;
+
+/// A context with what contexts share; its objects stand in a memory that is given to each step.
+#[derive(Drop)]
+pub struct Interpreter<'a> {
+    pub context: Context,
+    pub shared: Shared<'a>,
+    pub course: Course,
+    /// How many lines of errors were printed; at most one, at the end.
+    pub error_lines: u32,
+}
+
+impl<'a> Interpreter<'a> {
+    /// The first context of a program before its first step, over a memory in which nothing stands.
+    /// The keys are for the names alone.
+    ///
+    /// `NeedSpace`: the first objects have no room. `Memory`: a growth was refused. There is no
+    /// other, and nothing was made then.
+    pub fn new<M: Memory>(
+        alloc: Global,
+        memory: &mut M,
+        program: &'a [u8],
+        keys: RandomState,
+    ) -> Result<Interpreter<'a>, NotMade>
+        requires heap { IsEmptyHeap (M.heap memory.old) }
+        ensures at { IfOk result (λ made. IsAt
+            (held (lent (M.heap memory.new) (M.grants memory.new) made.context made.shared)
+            made.course made.error_lines) (first_machine program.now)) }
+        ensures steady { IfOk result (λ made. IsSteady
+            (held (lent (M.heap memory.new) (M.grants memory.new) made.context made.shared)
+            made.course made.error_lines)) }
+        ensures program { IfOk result (λ made. made.shared.program.now ≡ program.now) }
+        ensures not_made { OnErr result (M.heap memory.new ≡ M.heap memory.old) }
+        ensures reason { IfErr result (λ reason. IsStartReason reason (M.heap memory.old)) }
+        ensures logs { SameLogs (M.grants memory.old) (M.grants memory.new) }
+    {
+        let (context, shared) = start(alloc, memory, program, keys)?;
+        Ok(Interpreter {
+            context,
+            shared,
+            course: Course::Running,
+            error_lines: 0,
+        })
+    }
+}
+
+impl Interpreter<'_> {
+    /// Whether the context has another step.
+    pub fn has_steps(&self) -> bool
+        ensures { result ≡ courses.has_steps self.now.course }
+    {
+        self.course != Course::Finished
+    }
+
+    /// How many lines of errors were printed.
+    pub fn error_lines(&self) -> u32
+        ensures { result ≡ self.now.error_lines }
+    {
+        self.error_lines
+    }
+
+    /// The printed bytes, at the end.
+    pub fn into_printed(self) -> Vec<u8>
+        ensures { result.items ≡ self.entry.shared.printed.items }
+    {
+        let Interpreter { shared, .. } = self;
+        let Shared { printed, .. } = shared;
+        printed
+    }
+
+    /// One step over a memory, whose records go into the log of a slot. An operator that is left to
+    /// the world raises `undefined`.
+    ///
+    /// Not made: as the operator that acts, or the note of an error. The context is then at the
+    /// same place of its run; if the error of an operator that is left to the world can't be noted,
+    /// the element of that operator is taken, and the next step notes it.
+    pub fn step<S: Interpret, M: Memory>(
+        &mut self,
+        interpret: &mut S,
+        memory: &mut M,
+        trial: Trial,
+    ) -> Result<(), NotMade>
+        requires slot { trial.slot < SLOTS }
+        requires steady { IsSteady
+            (held (lent (M.heap memory.old) (M.grants memory.old) self.old.context self.old.shared)
+            self.old.course self.old.error_lines) }
+        requires going { courses.has_steps self.old.course ≡ true }
+        ensures { Steps S.asks trial result
+            (held (lent (M.heap memory.old) (M.grants memory.old) self.old.context self.old.shared)
+            self.old.course self.old.error_lines)
+            (held (lent (M.heap memory.new) (M.grants memory.new) self.new.context self.new.shared)
+            self.new.course self.new.error_lines) }
+    {
+        match self.course {
+            Course::Running => self.turn(None, interpret, memory, trial),
+            Course::Unwinding(cause) => self.turn(Some(cause), interpret, memory, trial),
+            Course::Calling(operator) => self.undefine(operator, memory, trial),
+            Course::Finished => Ok(()),
+        }
+    }
+
+    /// How far the context is after a turn: it ends where no frame is left.
+    fn settle(&mut self, turned: Turned)
+        requires { self.old.error_lines ≡ 0 }
+        ensures context { self.new.context ≡ self.old.context }
+        ensures shared { self.new.shared ≡ self.old.shared }
+        ensures course { self.new.course ≡ courses.course_after turned self.old.context.frames }
+        ensures lines { self.new.error_lines ≡ lines_after turned self.old.error_lines }
+    {
+        match turned {
+            Turned::Goes => {
+                if self.context.frames.len() == 0 {
+                    self.course = Course::Finished;
+                } else {
+                    self.course = Course::Running;
+                }
+            }
+            Turned::Calls(operator) => self.course = Course::Calling(operator),
+            Turned::Breaks(cause) => self.course = Course::Unwinding(cause),
+            Turned::Ends { told } => {
+                self.course = Course::Finished;
+                self.error_lines += told as u32;
+            }
+        }
+    }
+
+    /// The error of an operator that is left to the world, whose element is taken.
+    ///
+    /// Not made, with nothing changed: as the note of an error.
+    fn undefine<M: Memory>(
+        &mut self,
+        operator: Operator,
+        memory: &mut M,
+        trial: Trial,
+    ) -> Result<(), NotMade>
+        requires slot { trial.slot < SLOTS }
+        requires steady { IsSteady
+            (held (lent (M.heap memory.old) (M.grants memory.old) self.old.context self.old.shared)
+            self.old.course self.old.error_lines) }
+        requires calling { self.old.course ≡ Course.Calling operator }
+        ensures { (asks : Status → Around → Scene → Asked) → Steps asks trial result
+            (held (lent (M.heap memory.old) (M.grants memory.old) self.old.context self.old.shared)
+            self.old.course self.old.error_lines)
+            (held (lent (M.heap memory.new) (M.grants memory.new) self.new.context self.new.shared)
+            self.new.course self.new.error_lines) }
+    {
+        match raise_by(
+            operator,
+            ErrorName::Undefined,
+            &mut self.context,
+            &mut self.shared,
+            memory,
+            trial,
+        ) {
+            Ok(turned) => {
+                self.settle(turned);
+                Ok(())
+            }
+            Err(reason) => Err(reason),
+        }
+    }
+
+    /// The turn of a context that runs, or is unwinding for a cause.
+    fn turn<S: Interpret, M: Memory>(
+        &mut self,
+        unwinding: Option<Cause>,
+        interpret: &mut S,
+        memory: &mut M,
+        trial: Trial,
+    ) -> Result<(), NotMade>
+        requires slot { trial.slot < SLOTS }
+        requires steady { IsSteady
+            (held (lent (M.heap memory.old) (M.grants memory.old) self.old.context self.old.shared)
+            self.old.course self.old.error_lines) }
+        requires course { self.old.course ≡ courses.course_in unwinding }
+        ensures { Steps S.asks trial result
+            (held (lent (M.heap memory.old) (M.grants memory.old) self.old.context self.old.shared)
+            self.old.course self.old.error_lines)
+            (held (lent (M.heap memory.new) (M.grants memory.new) self.new.context self.new.shared)
+            self.new.course self.new.error_lines) }
+    {
+        let turned = match interpret.step(
+            unwinding,
+            &mut self.context,
+            &mut self.shared,
+            memory,
+            trial,
+        ) {
+            Ok(turned) => turned,
+            Err(reason) => return Err(reason),
+        };
+        match turned {
+            Turned::Calls(operator) => {
+                self.course = Course::Calling(operator);
+                self.undefine(operator, memory, trial)
+            }
+            _ => {
+                self.settle(turned);
+                Ok(())
+            }
+        }
+    }
+}

@@ -1,0 +1,5 @@
+pub mod Pushing
+pub mod Meaning
+pub mod Distinct
+pub mod Standing
+pub mod Starting

@@ -1,0 +1,6 @@
+//! What stands at the start of a run: the first dictionaries and the first context (PLRM2, 3.7, 7.1).
+#![tactic(auto)]
+
+pub mod dictionaries;
+pub mod start;
+mod words;
