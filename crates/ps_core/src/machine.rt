@@ -16,7 +16,7 @@ ghost use Rattle.ps_record.specs.Format as layout;
 ghost use Rattle.ps_core_parts.specs.Steps.{State, happens};
 
 use ps_core_parts::events::{Event, Roots};
-use ps_core_parts::parts::{load, load_field, same_logs, store, store_field};
+use ps_core_parts::lists::{load, load_field, same_logs, store, store_field};
 use ps_core_seats::collector::Collector;
 use ps_core_seats::mutator::Mutator;
 use ps_record::{Record, SPACES_START, ring_place};

@@ -16,7 +16,8 @@ use Rattle.ps_core_laws.proofs.Closes.{ClosesOf, closes_kept}
 use Rattle.ps_core_laws.proofs.Spaced.{SpacedOf, spaced}
 use Rattle.ps_core_laws.proofs.Births.{BirthsOf, births_kept}
 use Rattle.ps_core_laws.proofs.Keeping.{Good, HasHeader}
-use Rattle.ps_core_laws.proofs.Kept.{good, carried_pair}
+use Rattle.ps_core_laws.proofs.Kept.{good}
+use Rattle.ps_core_laws.proofs.Replicating.{carried_pair}
 
 module _ (space : ℕ) (size : IsSpace space) (s : State) (h : Good space s) where
   base_is : space_base s.vm.space s.vm.cycle ≡ space_base space s.vm.cycle

@@ -20,7 +20,8 @@ use Rattle.ps_core_laws.proofs.Bases.{match_some}
 use Rattle.ps_core_laws.proofs.Lookups.{pair_to-of, object_at-replicas}
 use Rattle.ps_core_laws.proofs.Views.{value_of, word_of, size_in, word_in, replica_in, copy_in, filled_in, load_of, replica_by, view, word_of-renamed, word_of-same, value_of-reference}
 use Rattle.ps_core_laws.proofs.Keeping.{Good, IsMatch, original}
-use Rattle.ps_core_laws.proofs.Kept.{replicas_low, can_flip}
+use Rattle.ps_core_laws.proofs.Replicating.{replicas_low}
+use Rattle.ps_core_laws.proofs.Kept.{can_flip}
 
 module _ (space : ℕ) (size : IsSpace space) (s : State) (h : Good space s) where
   -- the heap's word for a field of a replica is the renamed word
@@ -81,7 +82,7 @@ module _ (space : ℕ) (size : IsSpace space) (s : State) (h : Good space s) whe
         w =
             word_of (Rattle.ps_core_parts.specs.Steps.header_of (pair_of s.gc.pairs k.address)) k.word;
       }) (ap (load_of s.gc.pairs) is) in
-      let q = Rattle.ps_core_laws.proofs.Kept.carried_pair space s h k is in
+      let q = Rattle.ps_core_laws.proofs.Replicating.carried_pair space s h k is in
       let o = original space s h k.address q.0 q.1 in
       match_some (λ (x : Object). (k.word ≡ slice_index x.fields k.field)
       ⊎ laws.IsDue s k.address k.field) (object_at s.vm.objects k.address) o.0 o.1

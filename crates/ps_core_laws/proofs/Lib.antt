@@ -15,10 +15,13 @@ pub mod Lists
 pub mod Lookups
 pub mod Reached
 pub mod Renames
+pub mod Replicating
 pub mod Rings
 pub mod RunFacts
 pub mod Seconds
 pub mod Shown
 pub mod Sizes
 pub mod Spaced
+pub mod Storing
+pub mod Taken
 pub mod Views

@@ -23,7 +23,8 @@ use Rattle.ps_core_laws.proofs.Lookups.{object_at-address, pair_to-replica, pair
 use Rattle.ps_core_laws.proofs.Rings.{ring_in}
 use Rattle.ps_core_laws.proofs.Shown.{some_map, none_at_end}
 use Rattle.ps_core_laws.proofs.Keeping.{Good, IsMatch, original, HasHeader}
-use Rattle.ps_core_laws.proofs.Kept.{good, carried_pair}
+use Rattle.ps_core_laws.proofs.Kept.{good}
+use Rattle.ps_core_laws.proofs.Replicating.{carried_pair}
 
 pub record Seconds (ws : List ℕ) (os : List Object) (ps : List Pair) (cycle epoch : ℕ) : Type 0
   where

@@ -13,7 +13,7 @@ use Rattle.ps_core_laws.specs.Runs.{IsSpace}
 use Rattle.ps_core_laws.proofs.Bases.{spaces_wide, some_match}
 use Rattle.ps_core_laws.proofs.Lookups.{object_at-address, end_of_replicas-high}
 use Rattle.ps_core_laws.proofs.Keeping.{Good}
-use Rattle.ps_core_laws.proofs.Kept.{replicas_low}
+use Rattle.ps_core_laws.proofs.Replicating.{replicas_low}
 use Rattle.ps_core_laws.proofs.Spaced.{SpacedOf}
 
 module _ (space : ℕ) (size : IsSpace space) (s : State) (h : Good space s) where

@@ -1,2 +1,2 @@
 pub mod Ends
-pub mod Lists
+pub mod ListLemmas

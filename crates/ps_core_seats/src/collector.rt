@@ -5,27 +5,29 @@
 #![tactic(auto)]
 
 ghost use Rattle.std.specs.Bool.{Decides};
-ghost use Rattle.std.specs.Prelude.{◌≡◌, ◌+◌, ◌<◌, ◌++◌, ◌&&◌, if◌then◌else◌, ◌^◌, IfOk, OnOk, MatchBool, MatchOption, None, [], length, not, true, option_copied};
+ghost use Rattle.std.specs.Prelude.{◌≡◌, ◌<◌, ◌++◌, if◌then◌else◌, ◌^◌, IfOk, OnOk, MatchOption, None, [], length};
 ghost use Rattle.std.specs.Option.{option_map};
-ghost use Rattle.ps_core_parts.specs.Bounds.{AllLow, GcBounded, IsSlot, any_vm, copied_pairs, target_of};
+ghost use Rattle.ps_core_parts.specs.Bounds.{GcBounded, IsSlot, any_vm, target_of};
 ghost use Rattle.ps_core_parts.specs.declared.events.Event.TheVariants.{GcLoad, TakeLoad, CopyLoad, ReplicaHeaderStore, ReplicaFieldStore, ForwardStore, HeadStore, CycleStore};
-ghost use Rattle.ps_record.specs.Format as layout;
 ghost use Rattle.ps_core_parts.specs.Conditions as conditions;
 ghost use Rattle.ps_core_parts.specs.Conditions.{GcMay};
 ghost use Rattle.ps_core_parts.specs.Objects as objects;
 ghost use Rattle.ps_core_parts.specs.Steps as steps;
 ghost use Rattle.ps_core_parts.specs.Steps.{gc_after};
 
+use crate::pairs::{copied, header_of, is_seen, leads_back, replica_of};
+use crate::taking::{is_spent, lacks_replica, taken_up, with_load};
 use crate::values::{
     address_in, addresses_named, holds_values, is_reference, renamed, values_have_replicas,
     word_has_replica,
 };
 use ps_core_parts::events::{Carried, Event, Half, Seen, Target};
-use ps_core_parts::parts::{
-    Log, Replica, all_filled, among, copy_logs, copy_pairs, empty_logs, fields_in, is_in_replica,
-    pair_of, seen_at, with_copy, with_front,
+use ps_core_parts::lists::{
+    all_filled, among, copy_logs, copy_pairs, empty_logs, is_in_replica, pair_of, seen_at,
+    with_front,
 };
-use ps_record::{PackedRecord, Record, SPACES_START};
+use ps_core_parts::parts::{Log, Replica, fields_in};
+use ps_record::SPACES_START;
 use std::alloc::{AllocError, Global};
 use std::marker::Model;
 use std::mem;
@@ -64,108 +66,6 @@ impl Model for Collector {
       known = m.known.items;
       handed = m.handed.items;
     } };
-}
-
-/// Whether all fields of a record were loaded, where so many were.
-fn is_loaded(logged: Record, loaded: u64) -> bool
-    ensures { result ≡ objects.is_loaded logged loaded }
-{
-    match logged {
-        Record::Place { count, .. } => count as u64 <= loaded,
-        Record::Close => true,
-    }
-}
-
-/// Whether a record names the place.
-fn names(logged: Record, place: u64, field: u64) -> bool
-    ensures { result ≡ objects.names logged place field }
-{
-    match logged {
-        Record::Place {
-            address,
-            first,
-            count,
-        } => place == address as u64
-            && first as u64 <= field
-            && field < first as u64 + count as u64,
-        Record::Close => false,
-    }
-}
-
-/// Whether a place that a record names is being copied.
-fn is_copied_from(logged: Record, copying: Option<Carried>) -> bool
-    ensures { result ≡ objects.is_copied_from logged copying }
-{
-    match copying {
-        None => false,
-        Some(k) => names(logged, k.address, k.field),
-    }
-}
-
-/// Whether a record names an object that has no replica.
-fn lacks_replica(pairs: &[Replica], logged: Record) -> bool
-    ensures { result ≡ objects.lacks_replica pairs.now logged }
-{
-    match logged {
-        Record::Place { address, .. } => pair_of(pairs, address as u64).is_none(),
-        Record::Close => false,
-    }
-}
-
-/// The header of a pair, where there is one.
-fn header_of(pair: Option<&Replica>) -> u64
-    ensures { result ≡ steps.header_of (option_copied pair.entry) }
-{
-    match pair {
-        None => 0,
-        Some(p) => p.header(),
-    }
-}
-
-/// Whether the word was seen at the place.
-fn is_seen(list: &[Seen], place: u64, word: u64) -> bool
-    ensures { Decides result (objects.seen_at list.now place ≡ Some word) }
-{
-    match seen_at(list, place) {
-        None => false,
-        Some(w) => w == word,
-    }
-}
-
-/// Whether the word that was seen at the place leads to this address in this cycle.
-#[tactic(auto, unfolding(ps_word::specs::Headers::forward_packed))]
-fn leads_back(list: &[Seen], place: u64, cycle: u64, address: u64) -> bool
-    requires { cycle < 2 ^ 33 }
-    ensures { Decides result (objects.seen_at list.now place ≡ Some
-        (steps.forwarding cycle address)) }
-{
-    match seen_at(list, place) {
-        None => false,
-        Some(w) => w >= cycle * (1 << 24) && w - cycle * (1 << 24) == address,
-    }
-}
-
-/// Whether nothing of the record being taken is left to load or to store.
-fn is_spent(half: Half, copying: Option<Carried>) -> bool
-    ensures { result ≡ (objects.is_loaded half.what half.loaded && not
-        (objects.is_copied_from half.what copying)) }
-{
-    is_loaded(half.what, half.loaded) && !is_copied_from(half.what, copying)
-}
-
-/// What is being taken after a load of the ring place where record `number` of the slot is to
-/// stand.
-fn taken_up(slot: u64, number: u64, word: u64) -> Option<Half>
-    ensures { result ≡ steps.taken_up slot (layout.read_record number word) }
-{
-    match PackedRecord(word).read(number) {
-        None => None,
-        Some(what) => Some(Half {
-            slot,
-            what,
-            loaded: 0,
-        }),
-    }
 }
 
 impl Collector {
@@ -534,68 +434,5 @@ impl Collector {
         self.known.clear();
         self.handed.clear();
         mem::replace(&mut self.pairs, Vec::new(alloc))
-    }
-}
-
-/// The pairs after the store of the word being copied.
-fn copied(
-    alloc: Global,
-    pairs: Vec<Replica, Global>,
-    k: Carried,
-    scans: bool,
-) -> Result<Vec<Replica, Global>, AllocError>
-    requires { AllLow pairs.items }
-    ensures { IfOk result (λ v. v.items ≡ copied_pairs pairs.items k scans) }
-{
-    let word = renamed(
-        pairs.as_slice(),
-        header_of(pair_of(pairs.as_slice(), k.address)),
-        k.word,
-    );
-    with_copy(alloc, pairs, k.address, k.field, word, scans)
-}
-
-/// The replica of a pair, where there is one.
-fn replica_of(pair: Option<&Replica>) -> u64
-    ensures { result ≡ steps.replica_of (option_copied pair.entry) }
-{
-    match pair {
-        None => 0,
-        Some(p) => p.replica(),
-    }
-}
-
-/// Whether this field of a record is the next one to be loaded.
-fn is_next(logged: Record, loaded: u64, place: u64, field: u64) -> bool
-    ensures { result ≡ objects.is_next logged loaded place field }
-{
-    match logged {
-        Record::Place {
-            address,
-            first,
-            count,
-        } => place == address as u64 && loaded < count as u64 && field == first as u64 + loaded,
-        Record::Close => false,
-    }
-}
-
-/// The record being taken after a load.
-fn with_load(taking: Option<Half>, place: u64, field: u64) -> Option<Half>
-    ensures { result ≡ objects.with_load taking place field }
-{
-    match taking {
-        None => None,
-        Some(h) => {
-            let loaded = if is_next(h.what, h.loaded, place, field) {
-                h.loaded + 1
-            } else {
-                h.loaded
-            };
-            Some(Half {
-                slot: h.slot,
-                what: h.what,
-                loaded,
-            })
-        }
     }
 }

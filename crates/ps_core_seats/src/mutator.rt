@@ -6,8 +6,7 @@
 
 ghost use Rattle.std.specs.Bool.{Decides};
 ghost use Rattle.std.specs.Prelude.{◌≡◌, ◌+◌, ◌^◌, ◌<◌, ◌++◌, ◌∷◌, false, slice_index, slice_set, IfOk, OnOk, MatchBool, [], length, true};
-ghost use Rattle.ps_record.specs.Format as layout;
-ghost use Rattle.ps_core_parts.specs.Bounds.{AllLow, IsShort, VmBounded, any_gc};
+ghost use Rattle.ps_core_parts.specs.Bounds.{AllLow, VmBounded, any_gc};
 ghost use Rattle.ps_core_parts.specs.declared.events.Event.TheVariants.{ClearStore, CycleStore, EpochStore, HeaderStore};
 ghost use Rattle.ps_core_parts.specs.Conditions as conditions;
 ghost use Rattle.ps_core_parts.specs.Conditions.{VmMay, HasRoom, HasNumber};
@@ -15,11 +14,13 @@ ghost use Rattle.ps_core_parts.specs.Objects as objects;
 ghost use Rattle.ps_core_parts.specs.Steps as steps;
 
 use crate::values::{renamed_values, values_stand, word_stands};
+use crate::written::{adjoins, fits, names_written, widened};
 use ps_core_parts::events::{Event, Written};
-use ps_core_parts::parts::{
-    Log, Replica, StandingObject, among, copy_logs, copy_objects, dictionary_stands, empty_logs,
-    end_of_replicas, fields_in, load, object_at, replicas, store, with_field,
+use ps_core_parts::lists::{
+    among, copy_logs, copy_objects, dictionary_stands, empty_logs, end_of_replicas, load,
+    object_at, replicas, store, with_field,
 };
+use ps_core_parts::parts::{Log, Replica, StandingObject, fields_in};
 use ps_record::{Record, SPACES_START};
 use std::alloc::{AllocError, Global};
 use std::marker::Model;
@@ -63,50 +64,6 @@ impl Model for Mutator {
       roots = m.roots.items;
       stored = m.stored;
     } };
-}
-
-/// Whether a store there is in what is written, or next to it, or nothing is written.
-fn adjoins(written: Option<Written>, address: u64, field: u64) -> bool
-    ensures { result ≡ objects.adjoins written address field }
-{
-    match written {
-        None => true,
-        Some(w) => address == w.address
-            && (w.first <= field || w.first - field <= 1)
-            && (field <= w.first || field - w.first <= w.count),
-    }
-}
-
-/// Whether a place record names just what is written.
-fn names_written(written: Option<Written>, logged: Record) -> bool
-    ensures { Decides result (conditions.IsNamed written logged) }
-{
-    match (logged, written) {
-        (Record::Close, _) => true,
-        (
-            Record::Place {
-                address,
-                first,
-                count,
-            },
-            Some(w),
-        ) => w.address == address as u64 && w.first == first as u64 && w.count == count as u64,
-        (Record::Place { .. }, None) => false,
-    }
-}
-
-/// Whether the layout has a word for the record.
-fn fits(logged: Record) -> bool
-    ensures { Decides result (layout.IsRecord logged) }
-{
-    match logged {
-        Record::Close => true,
-        Record::Place {
-            address,
-            first,
-            count,
-        } => address < 1 << 24 && count > 0 && (first as u32) + (count as u32) < 1 << 16,
-    }
 }
 
 impl Mutator {
@@ -473,28 +430,5 @@ impl Mutator {
         self.fresh.clear();
         self.making = 0;
         Ok(())
-    }
-}
-
-/// What is written after one more store.
-fn widened(written: Option<Written>, address: u64, field: u64) -> Written
-    requires short { IsShort written }
-    requires small { field < 2 ^ 20 }
-    ensures { result ≡ objects.widened written address field }
-{
-    match written {
-        None => Written {
-            address,
-            first: field,
-            count: 1,
-        },
-        Some(w) => {
-            let first = w.first.min(field);
-            Written {
-                address: w.address,
-                first,
-                count: (w.first + w.count).max(field + 1) - first,
-            }
-        }
     }
 }

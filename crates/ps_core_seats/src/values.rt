@@ -8,7 +8,8 @@ ghost use Rattle.ps_core_parts.specs.Objects as objects;
 ghost use Rattle.ps_word.specs.Format as format;
 ghost use Rattle.ps_word.specs.Readers as readers;
 
-use ps_core_parts::parts::{Replica, StandingObject, object_at, pair_of};
+use ps_core_parts::lists::{object_at, pair_of};
+use ps_core_parts::parts::{Replica, StandingObject};
 use ps_word::words::Word;
 use std::alloc::{AllocError, Global};
 

@@ -29,7 +29,7 @@ use Rattle.ps_dict.proofs.Shapes.{there, count-shown, capacity-shown}
 use Rattle.ps_dict.proofs.Reading.{position-shown, position-below}
 use Rattle.ps_dict.proofs.Changing.{with_twice, dictionary_at-with, with-lengths}
 use Rattle.ps_dict.proofs.WordRuns.{put-present, put-absent}
-use Rattle.ps_dict.proofs.Rewriting.{after_value, replaced-keeps, replaced-sound, replaced-shows, replaced-others, value-count_at, value-capacity_at, value-body_at, value-pairs_at}
+use Rattle.ps_dict.proofs.Revaluing.{after_value, replaced-keeps, replaced-sound, replaced-shows, replaced-others, value-count_at, value-capacity_at, value-body_at, value-pairs_at}
 
 -- ---- the place of a key among more pairs
 

@@ -12,6 +12,8 @@ pub mod Changing
 pub mod WordRuns
 pub mod Naturals
 pub mod Rewriting
+pub mod Revaluing
+pub mod Lengthening
 pub mod Planning
 pub mod Growing
 pub mod Filling

@@ -39,8 +39,8 @@ abbrev pub body_at : Heap → ℕ → ℕ
 body_at h address = body_in (fields_at h address) 3
 
 -- a list of this capacity doesn't take as many words as the dictionary has room for
-abbrev pub IsTooShort : (capacity : ℕ) → Heap → (address : ℕ) → Type 0
-IsTooShort capacity h address = capacity < capacity_at h address
+abbrev pub IsShort : (capacity : ℕ) → Heap → (address : ℕ) → Type 0
+IsShort capacity h address = capacity < capacity_at h address
 
 -- its body may still be filled
 abbrev pub HasNewBody : Heap → Grants → (address : ℕ) → Type 0

@@ -9,7 +9,7 @@ ghost use Rattle.ps_mem.specs.Index.{index_words};
 ghost use Rattle.ps_mem.specs.Keeps.{Keeps};
 ghost use Rattle.ps_mem.specs.References.{StandsAs};
 ghost use Rattle.ps_mem.specs.Shows.{IsSound, Shows};
-ghost use Rattle.ps_dict.specs.Places.{IsTooShort, count_at, capacity_at, pairs_at, first_place};
+ghost use Rattle.ps_dict.specs.Places.{IsShort, count_at, capacity_at, pairs_at, first_place};
 ghost use Rattle.ps_dict.specs.Puts.{AfterChange};
 ghost use Rattle.ps_dict.specs.Removals as removals;
 ghost use Rattle.ps_dict.specs.Removals.{without_place, with_pairs_moved};
@@ -92,7 +92,7 @@ pub fn remove<M: Memory>(
         (record d { pairs = without d.pairs key }))) }
     ensures unchanged { OnErr result
         ((M.heap memory.new ≡ M.heap memory.old) × (M.grants memory.new ≡ M.grants memory.old)) }
-    ensures full { OnErr result (IsTooShort (vec_capacity scratch.old) (M.heap memory.old) address) }
+    ensures full { OnErr result (IsShort (vec_capacity scratch.old) (M.heap memory.old) address) }
     ensures scratch { scratch.new.items ≡ [] }
     ensures room { vec_capacity scratch.old ≤ vec_capacity scratch.new }
 {
@@ -142,7 +142,7 @@ fn gather_index<M: Memory>(
         (capacity_at (M.heap memory.old) address)
         (without_place (pairs_at (M.heap memory.old) address) gone)) }
     ensures unchanged { OnErr result (scratch.new.items ≡ []) }
-    ensures full { OnErr result (IsTooShort (vec_capacity scratch.old) (M.heap memory.old) address) }
+    ensures full { OnErr result (IsShort (vec_capacity scratch.old) (M.heap memory.old) address) }
     ensures room { vec_capacity scratch.old ≤ vec_capacity scratch.new }
 {
     let capacity = capacity(memory, address);

@@ -1,4 +1,4 @@
-// The words in front of an object's fields.
+//! The words in front of an object's fields.
 #![tactic(auto)]
 
 ghost use Rattle.std.specs.Prelude.{◌≡◌, ◌↔◌};

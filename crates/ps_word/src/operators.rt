@@ -1,4 +1,4 @@
-// The operators by their numbers.
+//! The operators by their numbers.
 #![tactic(auto)]
 
 ghost use Rattle.std.specs.Prelude.{◌≡◌, slice_index_or};

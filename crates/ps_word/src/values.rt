@@ -1,4 +1,4 @@
-// Values as words hold them.
+//! Values as words hold them.
 #![tactic(auto)]
 
 use ps_language::access::Access;

@@ -1,4 +1,4 @@
-// Packed words: made of values, read back, and read and changed in place.
+//! Packed words: made of values, read back, and read and changed in place.
 #![tactic(auto)]
 
 ghost use Rattle.std.specs.Prelude.{◌≡◌, ◌↔◌, ◌<◌, ◌^◌, ◌&&◌, true, false, IsSome, IsTrue, IfSome, is_some};
@@ -6,7 +6,11 @@ ghost use Rattle.ps_word.specs.Format as layout;
 ghost use Rattle.ps_word.specs.Format.{value_in, content_in, IsWord, IsInFormat, IsContent};
 ghost use Rattle.ps_word.specs.Readers as readers;
 
-use crate::operators::{number_of, operator_of};
+use crate::bits::{
+    ACCESS, ADDRESS, EXECUTABLE, OFFSET, REFERENCE, TYPE, access_number, access_of, content_bits,
+    type_number,
+};
+use crate::operators::operator_of;
 use crate::values::{Content, Part, Value};
 use ps_language::access::Access;
 use ps_language::kinds::Kind;
@@ -15,87 +19,6 @@ use ps_language::operators::Operator;
 /// A word of memory.
 #[derive(Clone, Copy, Debug, PartialEq, Eq)]
 pub struct Word(pub u64);
-
-const TYPE: u64 = 1 << 60;
-
-const EXECUTABLE: u64 = 1 << 59;
-
-const ACCESS: u64 = 1 << 57;
-
-const REFERENCE: u64 = 1 << 56;
-
-const ADDRESS: u64 = 1 << 32;
-
-const OFFSET: u64 = 1 << 16;
-
-#[inline]
-fn access_number(access: Access) -> u64
-    ensures { result ≡ layout.access_number access }
-{
-    access as u64
-}
-
-#[inline]
-fn access_of(number: u64) -> Access
-    ensures { result ≡ layout.access_of number }
-{
-    match number {
-        0 => Access::Unlimited,
-        1 => Access::ReadOnly,
-        2 => Access::ExecuteOnly,
-        _ => Access::NoAccess,
-    }
-}
-
-#[inline]
-fn part_bits(part: Part) -> u64
-    requires { layout.IsPart part }
-    ensures { result ≡ layout.part_bits part }
-{
-    access_number(part.access) * ACCESS
-        + part.address as u64 * ADDRESS
-        + part.offset as u64 * OFFSET
-        + part.length as u64
-}
-
-#[inline]
-fn type_number(content: Content) -> u64
-    ensures { result ≡ layout.type_number content }
-{
-    match content {
-        Content::Null => 0,
-        Content::Integer(_) => 1,
-        Content::Boolean(_) => 2,
-        Content::Mark => 3,
-        Content::Name(_) => 4,
-        Content::Operator(_) => 5,
-        Content::Array(_) => 6,
-        Content::Text(_) => 7,
-        Content::Dictionary(_) => 8,
-        Content::Lock(_) => 9,
-        Content::Condition(_) => 10,
-        Content::Body(_) => 11,
-    }
-}
-
-#[inline]
-fn content_bits(content: Content) -> u64
-    requires { IsContent content }
-    ensures { result ≡ layout.content_bits content }
-{
-    match content {
-        Content::Null | Content::Mark => 0,
-        Content::Integer(value) => value.cast_unsigned() as u64,
-        Content::Boolean(value) => value as u64,
-        Content::Name(number) => number as u64,
-        Content::Operator(operator) => number_of(operator) as u64,
-        Content::Array(part) | Content::Text(part) => part_bits(part),
-        Content::Dictionary(address)
-        | Content::Lock(address)
-        | Content::Condition(address)
-        | Content::Body(address) => address as u64 * ADDRESS,
-    }
-}
 
 impl Value {
     /// Whether the layout has a word for the value: a reference's address is below 2^24, a part

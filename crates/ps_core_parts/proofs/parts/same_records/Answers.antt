@@ -1,5 +1,5 @@
 use Rattle.std.proofs.Common.{arith}
-use Rattle.ps_core_parts.proofs.Lists.{same_lists}
+use Rattle.ps_core_parts.proofs.ListLemmas.{same_lists}
 use Rattle.ps_core_parts.proofs.parts.same_records.Goals as goal
 
 pub returns : goal.returns

@@ -7,7 +7,7 @@ use Rattle.ps_mem.specs.Shows.{IsSound, Shows}
 use Rattle.ps_dict.specs.Places.{body_at}
 use Rattle.ps_dict.specs.Puts.{with_value}
 use Rattle.ps_dict.proofs.Shapes.{small-count}
-use Rattle.ps_dict.proofs.Rewriting.{value-fits, replaced-sound, replaced-keeps, replaced-shows}
+use Rattle.ps_dict.proofs.Revaluing.{value-fits, replaced-sound, replaced-keeps, replaced-shows}
 use Rattle.ps_dict.proofs.changes.replace_value.Goals as goal
 
 pub overflow_mul-place : goal.overflow_mul-place

@@ -9,7 +9,7 @@ use Rattle.ps_mem.proofs.KeepsLemmas.{Extends-stored}
 use Rattle.ps_dict.specs.Places.{count_at, capacity_at, body_at}
 use Rattle.ps_dict.specs.Puts.{with_value}
 use Rattle.ps_dict.proofs.Shapes.{small-count}
-use Rattle.ps_dict.proofs.Rewriting.{value-fits, replaced-sound, replaced-keeps, replaced-shows, value-count_at, value-capacity_at, value-body_at}
+use Rattle.ps_dict.proofs.Revaluing.{value-fits, replaced-sound, replaced-keeps, replaced-shows, value-count_at, value-capacity_at, value-body_at}
 use Rattle.ps_dict.proofs.makes.fill_value.Goals as goal
 
 pub overflow_mul-place : goal.overflow_mul-place

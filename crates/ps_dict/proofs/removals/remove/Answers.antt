@@ -1,4 +1,4 @@
-use Rattle.std.proofs.Common.{◌≡◌, ◌+◌, ◌*◌, ◌-◌, ◌≤◌, ◌∙◌, [], ◌∷◌, ap, sym, subst, length}
+use Rattle.std.proofs.Common.{◌≡◌, ℕ, ◌+◌, ◌*◌, ◌-◌, ◌≤◌, ◌∙◌, List, [], ◌∷◌, ap, sym, subst, length}
 use Rattle.ps_language.specs.Access.{dictionary_at, with_dictionary}
 use Rattle.ps_language.specs.Dictionaries.{without}
 use Rattle.ps_word.specs.declared.words.Word.{Word}
@@ -12,7 +12,97 @@ use Rattle.ps_dict.specs.Places.{count_at, capacity_at, body_at, pairs_at}
 use Rattle.ps_dict.specs.Removals.{without_place, with_pairs_moved}
 use Rattle.ps_dict.proofs.Removing.{null_is_zero}
 use Rattle.ps_dict.proofs.Taking.{moved, nulled, counted, after, index, nulled-place, counted-place, index-place, index-some, index-known, births-after, taken-keeps, taken-sound, taken-shows}
+use Rattle.ps_dict.proofs.removals.remove.Given.{Over}
 use Rattle.ps_dict.proofs.removals.remove.Goals as goal
+
+-- the memory before the index is stored
+
+module _ (g : Over) (c : goal.After-as_slice g) where
+  abbrev h : Heap
+  h = g.M.Memory.heap c.args.memory.now
+
+  abbrev a : ℕ
+  a = c.args.address
+
+  abbrev w : Word
+  w = c.natural_word-fewer.result
+
+  counted_before : g.M.Memory.heap c.length-count.new.memory ≡ h
+  counted_before = c.length-count.ensures.heap
+
+  sized_before : g.M.Memory.heap c.capacity-capacity.new.memory ≡ h
+  sized_before = c.capacity-capacity.ensures.heap ∙ counted_before
+
+  before : g.M.Memory.heap c.gather_index.new.memory ≡ h
+  before = c.gather_index.ensures.heap ∙ (c.body-body.ensures.heap ∙ sized_before)
+
+  is_count : c.length-count.result ≡ count_at h a
+  is_count = c.length-count.ensures.words
+
+  is_capacity : c.capacity-capacity.result ≡ capacity_at h a
+  is_capacity = c.capacity-capacity.ensures.words ∙ ap (λ (k : Heap). capacity_at k a)
+      counted_before
+
+  is_body : c.body-body.result ≡ body_at h a
+  is_body = c.body-body.ensures.words ∙ ap (λ (k : Heap). body_at k a) sized_before
+
+  natural : IsNatural w (count_at h a - 1)
+  natural = subst (λ n. IsNatural w (n - 1)) is_count c.natural_word-fewer.ensures.value
+
+  now : g.M.Memory.heap c.move_down.new.memory ≡ moved h a c.requires.known c.requires.sound
+      c.args.place c.requires.place w natural (c.natural_word-fewer.ensures.held h)
+  now = c.move_down.ensures.heap ∙ ap (λ (k : Heap). with_pairs_moved k a c.args.place) before
+
+  null : c.null-null.result ≡ zero_word
+  null = null_is_zero c.null-null.result c.null-null.ensures.value c.null-null.ensures.word
+
+  abbrev moved_heap : Heap
+  moved_heap = moved h a c.requires.known c.requires.sound c.args.place c.requires.place w natural
+      (c.natural_word-fewer.ensures.held h)
+
+  abbrev nulled_heap : Heap
+  nulled_heap = nulled h a c.requires.known c.requires.sound c.args.place c.requires.place w
+      natural (c.natural_word-fewer.ensures.held h)
+
+  abbrev counted_heap : Heap
+  counted_heap = counted h a c.requires.known c.requires.sound c.args.place c.requires.place w
+      natural (c.natural_word-fewer.ensures.held h)
+
+  abbrev words : List Word
+  words = index h a c.requires.known c.requires.sound c.args.place c.requires.place w natural
+      (c.natural_word-fewer.ensures.held h)
+
+  now2 : g.M.Memory.heap c.store.new.self ≡ nulled_heap
+  now2 = c.store.ensures.heap ∙ (ap (λ (k : Heap). stored k c.body-body.result (2 *
+      (c.length-count.result - 1)) (c.null-null.result ∷ c.null-null.result ∷ [])) now ∙ (ap (λ b.
+      stored moved_heap b (2 * (c.length-count.result - 1)) (c.null-null.result ∷
+      c.null-null.result ∷ [])) is_body ∙ (ap (λ n. stored moved_heap (body_at h a) (2 * (n - 1))
+      (c.null-null.result ∷ c.null-null.result ∷ [])) is_count ∙ ap (λ x. stored moved_heap
+      (body_at h a) (2 * (count_at h a - 1)) (x ∷ x ∷ [])) null)))
+
+  now3 : g.M.Memory.heap c.store-2.new.self ≡ counted_heap
+  now3 = c.store-2.ensures.heap ∙ ap (λ (k : Heap). stored k a 0 (w ∷ [])) now2
+
+  items : c.as_slice.result.now ≡ words
+  items = c.as_slice.ensures.value ∙ (c.in_ok-gather_index.ensures.index ∙ (ap (λ (k : Heap).
+      index_words (birth_at k) (capacity_at k a) (without_place (pairs_at k a) c.args.place))
+      (c.body-body.ensures.heap ∙ sized_before)))
+
+-- the memory at the end
+now4 : (g : Over) (c : goal.After-clear g) → let d = c.before.before.before in
+    g.M.Memory.heap c.store-3.new.self ≡ after (h g d) (a g d) c.requires.known c.requires.sound
+    c.args.place c.requires.place (w g d) (natural g d) (c.natural_word-fewer.ensures.held (h g d))
+now4 g c =
+    let d = c.before.before.before in
+    c.store-3.ensures.heap ∙ (ap
+    (λ (k : Heap). stored k c.body-body.result (2 * c.capacity-capacity.result)
+    c.as_slice.result.now) (now3 g d)
+    ∙ (ap (λ b. stored (counted_heap g d) b (2 * c.capacity-capacity.result)
+    c.as_slice.result.now) (is_body g d)
+    ∙ (ap (λ n. stored (counted_heap g d) (body_at (h g d) (a g d)) (2 * n)
+    c.as_slice.result.now) (is_capacity g d)
+    ∙ ap (stored (counted_heap g d) (body_at (h g d) (a g d)) (2 * capacity_at (h g d) (a g d)))
+    (items g d))))
 
 pub store-requires-clause-known : goal.store-requires-clause-known
 store-requires-clause-known g c =
@@ -94,413 +184,57 @@ store-requires-2-clause-place g c =
 
 pub store-requires-3-clause-some : goal.store-requires-3-clause-some
 store-requires-3-clause-some g c =
-    let h = g.M.Memory.heap c.args.memory.now in
-    let a = c.args.address in
-    let w = c.natural_word-fewer.result in
-    let counted_before : g.M.Memory.heap c.length-count.new.memory ≡ h =
-    c.length-count.ensures.heap in
-    let sized_before : g.M.Memory.heap c.capacity-capacity.new.memory ≡ h =
-    c.capacity-capacity.ensures.heap ∙ counted_before in
-    let before : g.M.Memory.heap c.gather_index.new.memory ≡ h = c.gather_index.ensures.heap
-    ∙ (c.body-body.ensures.heap ∙ sized_before) in
-    let is_count : c.length-count.result ≡ count_at h a = c.length-count.ensures.words in
-    let is_capacity : c.capacity-capacity.result ≡ capacity_at h a =
-    c.capacity-capacity.ensures.words ∙ ap (λ (k : Heap). capacity_at k a) counted_before in
-    let is_body : c.body-body.result ≡ body_at h a = c.body-body.ensures.words
-    ∙ ap (λ (k : Heap). body_at k a) sized_before in
-    let natural : IsNatural w (count_at h a - 1) =
-    subst (λ n. IsNatural w (n - 1)) is_count c.natural_word-fewer.ensures.value in
-    let now : g.M.Memory.heap c.move_down.new.memory ≡ moved h a c.requires.known c.requires.sound
-    c.args.place c.requires.place w natural (c.natural_word-fewer.ensures.held h) =
-    c.move_down.ensures.heap ∙ ap (λ (k : Heap). with_pairs_moved k a c.args.place) before in
-    let null : c.null-null.result ≡ zero_word =
-    null_is_zero c.null-null.result c.null-null.ensures.value c.null-null.ensures.word in
-    let now2 : g.M.Memory.heap c.store.new.self ≡ nulled h a c.requires.known c.requires.sound
-    c.args.place c.requires.place w natural (c.natural_word-fewer.ensures.held h) =
-    c.store.ensures.heap ∙ (ap
-    (λ (k : Heap). stored k c.body-body.result (2 * (c.length-count.result - 1))
-    (c.null-null.result ∷ c.null-null.result ∷ [])) now
-    ∙ (ap (λ b. stored (moved h a c.requires.known c.requires.sound c.args.place c.requires.place w
-    natural (c.natural_word-fewer.ensures.held h)) b (2 * (c.length-count.result - 1))
-    (c.null-null.result ∷ c.null-null.result ∷ [])) is_body
-    ∙ (ap (λ n. stored (moved h a c.requires.known c.requires.sound c.args.place c.requires.place w
-    natural (c.natural_word-fewer.ensures.held h)) (body_at h a) (2 * (n - 1))
-    (c.null-null.result ∷ c.null-null.result ∷ [])) is_count
-    ∙ ap (λ x. stored (moved h a c.requires.known c.requires.sound c.args.place c.requires.place w
-    natural (c.natural_word-fewer.ensures.held h)) (body_at h a) (2 * (count_at h a - 1))
-    (x ∷ x ∷ [])) null))) in
-    let now3 : g.M.Memory.heap c.store-2.new.self ≡ counted h a c.requires.known c.requires.sound
-    c.args.place c.requires.place w natural (c.natural_word-fewer.ensures.held h) =
-    c.store-2.ensures.heap ∙ ap (λ (k : Heap). stored k a 0 (w ∷ [])) now2 in
-    let items : c.as_slice.result.now ≡ index h a c.requires.known c.requires.sound c.args.place
-    c.requires.place w natural (c.natural_word-fewer.ensures.held h) =
-    c.as_slice.ensures.value ∙ (c.in_ok-gather_index.ensures.index
-    ∙ (ap (λ (k : Heap). index_words (birth_at k) (capacity_at k a)
-    (without_place (pairs_at k a) c.args.place)) (c.body-body.ensures.heap ∙ sized_before))) in
-    subst (λ ws. 1 ≤ length ws) (sym items)
-    (index-some h a c.requires.known c.requires.sound c.args.place c.requires.place w natural
-    (c.natural_word-fewer.ensures.held h))
+    subst (λ ws. 1 ≤ length ws) (sym (items g c)) (index-some (h g c) (a g c) c.requires.known
+    c.requires.sound c.args.place c.requires.place (w g c) (natural g c)
+    (c.natural_word-fewer.ensures.held (h g c)))
 
 pub store-requires-3-clause-known : goal.store-requires-3-clause-known
 store-requires-3-clause-known g c =
-    let h = g.M.Memory.heap c.args.memory.now in
-    let a = c.args.address in
-    let w = c.natural_word-fewer.result in
-    let counted_before : g.M.Memory.heap c.length-count.new.memory ≡ h =
-    c.length-count.ensures.heap in
-    let sized_before : g.M.Memory.heap c.capacity-capacity.new.memory ≡ h =
-    c.capacity-capacity.ensures.heap ∙ counted_before in
-    let before : g.M.Memory.heap c.gather_index.new.memory ≡ h = c.gather_index.ensures.heap
-    ∙ (c.body-body.ensures.heap ∙ sized_before) in
-    let is_count : c.length-count.result ≡ count_at h a = c.length-count.ensures.words in
-    let is_capacity : c.capacity-capacity.result ≡ capacity_at h a =
-    c.capacity-capacity.ensures.words ∙ ap (λ (k : Heap). capacity_at k a) counted_before in
-    let is_body : c.body-body.result ≡ body_at h a = c.body-body.ensures.words
-    ∙ ap (λ (k : Heap). body_at k a) sized_before in
-    let natural : IsNatural w (count_at h a - 1) =
-    subst (λ n. IsNatural w (n - 1)) is_count c.natural_word-fewer.ensures.value in
-    let now : g.M.Memory.heap c.move_down.new.memory ≡ moved h a c.requires.known c.requires.sound
-    c.args.place c.requires.place w natural (c.natural_word-fewer.ensures.held h) =
-    c.move_down.ensures.heap ∙ ap (λ (k : Heap). with_pairs_moved k a c.args.place) before in
-    let null : c.null-null.result ≡ zero_word =
-    null_is_zero c.null-null.result c.null-null.ensures.value c.null-null.ensures.word in
-    let now2 : g.M.Memory.heap c.store.new.self ≡ nulled h a c.requires.known c.requires.sound
-    c.args.place c.requires.place w natural (c.natural_word-fewer.ensures.held h) =
-    c.store.ensures.heap ∙ (ap
-    (λ (k : Heap). stored k c.body-body.result (2 * (c.length-count.result - 1))
-    (c.null-null.result ∷ c.null-null.result ∷ [])) now
-    ∙ (ap (λ b. stored (moved h a c.requires.known c.requires.sound c.args.place c.requires.place w
-    natural (c.natural_word-fewer.ensures.held h)) b (2 * (c.length-count.result - 1))
-    (c.null-null.result ∷ c.null-null.result ∷ [])) is_body
-    ∙ (ap (λ n. stored (moved h a c.requires.known c.requires.sound c.args.place c.requires.place w
-    natural (c.natural_word-fewer.ensures.held h)) (body_at h a) (2 * (n - 1))
-    (c.null-null.result ∷ c.null-null.result ∷ [])) is_count
-    ∙ ap (λ x. stored (moved h a c.requires.known c.requires.sound c.args.place c.requires.place w
-    natural (c.natural_word-fewer.ensures.held h)) (body_at h a) (2 * (count_at h a - 1))
-    (x ∷ x ∷ [])) null))) in
-    let now3 : g.M.Memory.heap c.store-2.new.self ≡ counted h a c.requires.known c.requires.sound
-    c.args.place c.requires.place w natural (c.natural_word-fewer.ensures.held h) =
-    c.store-2.ensures.heap ∙ ap (λ (k : Heap). stored k a 0 (w ∷ [])) now2 in
-    let items : c.as_slice.result.now ≡ index h a c.requires.known c.requires.sound c.args.place
-    c.requires.place w natural (c.natural_word-fewer.ensures.held h) =
-    c.as_slice.ensures.value ∙ (c.in_ok-gather_index.ensures.index
-    ∙ (ap (λ (k : Heap). index_words (birth_at k) (capacity_at k a)
-    (without_place (pairs_at k a) c.args.place)) (c.body-body.ensures.heap ∙ sized_before))) in
-    subst (λ ws. NamesStanding (g.M.Memory.heap c.store-2.new.self) c.body-body.result ws)
-    (sym items) (record {
-      known =
-          λ o at text. index-known h a c.requires.known c.requires.sound c.args.place c.requires.place
-          w natural (c.natural_word-fewer.ensures.held h) (g.M.Memory.heap c.store-2.new.self);
+    subst (λ ws. NamesStanding (g.M.Memory.heap c.store-2.new.self) c.body-body.result ws) (sym
+    (items g c)) (record {
+      known = λ o at text. index-known (h g c) (a g c) c.requires.known
+          c.requires.sound c.args.place c.requires.place (w g c) (natural g c)
+          (c.natural_word-fewer.ensures.held (h g c)) (g.M.Memory.heap c.store-2.new.self);
     })
 
 pub store-requires-3-clause-place : goal.store-requires-3-clause-place
 store-requires-3-clause-place g c =
-    let h = g.M.Memory.heap c.args.memory.now in
-    let a = c.args.address in
-    let w = c.natural_word-fewer.result in
-    let counted_before : g.M.Memory.heap c.length-count.new.memory ≡ h =
-    c.length-count.ensures.heap in
-    let sized_before : g.M.Memory.heap c.capacity-capacity.new.memory ≡ h =
-    c.capacity-capacity.ensures.heap ∙ counted_before in
-    let before : g.M.Memory.heap c.gather_index.new.memory ≡ h = c.gather_index.ensures.heap
-    ∙ (c.body-body.ensures.heap ∙ sized_before) in
-    let is_count : c.length-count.result ≡ count_at h a = c.length-count.ensures.words in
-    let is_capacity : c.capacity-capacity.result ≡ capacity_at h a =
-    c.capacity-capacity.ensures.words ∙ ap (λ (k : Heap). capacity_at k a) counted_before in
-    let is_body : c.body-body.result ≡ body_at h a = c.body-body.ensures.words
-    ∙ ap (λ (k : Heap). body_at k a) sized_before in
-    let natural : IsNatural w (count_at h a - 1) =
-    subst (λ n. IsNatural w (n - 1)) is_count c.natural_word-fewer.ensures.value in
-    let now : g.M.Memory.heap c.move_down.new.memory ≡ moved h a c.requires.known c.requires.sound
-    c.args.place c.requires.place w natural (c.natural_word-fewer.ensures.held h) =
-    c.move_down.ensures.heap ∙ ap (λ (k : Heap). with_pairs_moved k a c.args.place) before in
-    let null : c.null-null.result ≡ zero_word =
-    null_is_zero c.null-null.result c.null-null.ensures.value c.null-null.ensures.word in
-    let now2 : g.M.Memory.heap c.store.new.self ≡ nulled h a c.requires.known c.requires.sound
-    c.args.place c.requires.place w natural (c.natural_word-fewer.ensures.held h) =
-    c.store.ensures.heap ∙ (ap
-    (λ (k : Heap). stored k c.body-body.result (2 * (c.length-count.result - 1))
-    (c.null-null.result ∷ c.null-null.result ∷ [])) now
-    ∙ (ap (λ b. stored (moved h a c.requires.known c.requires.sound c.args.place c.requires.place w
-    natural (c.natural_word-fewer.ensures.held h)) b (2 * (c.length-count.result - 1))
-    (c.null-null.result ∷ c.null-null.result ∷ [])) is_body
-    ∙ (ap (λ n. stored (moved h a c.requires.known c.requires.sound c.args.place c.requires.place w
-    natural (c.natural_word-fewer.ensures.held h)) (body_at h a) (2 * (n - 1))
-    (c.null-null.result ∷ c.null-null.result ∷ [])) is_count
-    ∙ ap (λ x. stored (moved h a c.requires.known c.requires.sound c.args.place c.requires.place w
-    natural (c.natural_word-fewer.ensures.held h)) (body_at h a) (2 * (count_at h a - 1))
-    (x ∷ x ∷ [])) null))) in
-    let now3 : g.M.Memory.heap c.store-2.new.self ≡ counted h a c.requires.known c.requires.sound
-    c.args.place c.requires.place w natural (c.natural_word-fewer.ensures.held h) =
-    c.store-2.ensures.heap ∙ ap (λ (k : Heap). stored k a 0 (w ∷ [])) now2 in
-    let items : c.as_slice.result.now ≡ index h a c.requires.known c.requires.sound c.args.place
-    c.requires.place w natural (c.natural_word-fewer.ensures.held h) =
-    c.as_slice.ensures.value ∙ (c.in_ok-gather_index.ensures.index
-    ∙ (ap (λ (k : Heap). index_words (birth_at k) (capacity_at k a)
-    (without_place (pairs_at k a) c.args.place)) (c.body-body.ensures.heap ∙ sized_before))) in
-    subst (λ n. 2 * n + length c.as_slice.result.now ≤ length
-    (fields_at (g.M.Memory.heap c.store-2.new.self) c.body-body.result)) (sym is_capacity)
-    (subst (λ ws. 2 * capacity_at h a + length ws ≤ length
-    (fields_at (g.M.Memory.heap c.store-2.new.self) c.body-body.result)) (sym items)
-    (subst (λ b. 2 * capacity_at h a + length
-    (index h a c.requires.known c.requires.sound c.args.place c.requires.place w natural
-    (c.natural_word-fewer.ensures.held h)) ≤ length
-    (fields_at (g.M.Memory.heap c.store-2.new.self) b)) (sym is_body)
-    (subst (λ (k : Heap). 2 * capacity_at h a + length
-    (index h a c.requires.known c.requires.sound c.args.place c.requires.place w natural
-    (c.natural_word-fewer.ensures.held h)) ≤ length (fields_at k (body_at h a))) (sym now3)
-    (index-place h a c.requires.known c.requires.sound c.args.place c.requires.place w natural
-    (c.natural_word-fewer.ensures.held h)))))
+    subst (λ n. 2 * n + length c.as_slice.result.now ≤ length (fields_at (g.M.Memory.heap
+    c.store-2.new.self) c.body-body.result)) (sym (is_capacity g c)) (subst (λ ws. 2 * capacity_at
+    (h g c) (a g c) + length ws ≤ length (fields_at (g.M.Memory.heap c.store-2.new.self)
+    c.body-body.result)) (sym (items g c)) (subst (λ b. 2 * capacity_at (h g c) (a g c) + length
+    (words g c) ≤ length (fields_at (g.M.Memory.heap c.store-2.new.self) b)) (sym (is_body g c))
+    (subst (λ (k : Heap). 2 * capacity_at (h g c) (a g c) + length (words g c) ≤ length (fields_at
+    k (body_at (h g c) (a g c)))) (sym (now3 g c)) (index-place (h g c) (a g c) c.requires.known
+    c.requires.sound c.args.place c.requires.place (w g c) (natural g c)
+    (c.natural_word-fewer.ensures.held (h g c))))))
 
 pub returns-clause-sound : goal.returns-clause-sound
 returns-clause-sound g c =
-    let h = g.M.Memory.heap c.args.memory.now in
-    let a = c.args.address in
-    let w = c.natural_word-fewer.result in
-    let counted_before : g.M.Memory.heap c.length-count.new.memory ≡ h =
-    c.length-count.ensures.heap in
-    let sized_before : g.M.Memory.heap c.capacity-capacity.new.memory ≡ h =
-    c.capacity-capacity.ensures.heap ∙ counted_before in
-    let before : g.M.Memory.heap c.gather_index.new.memory ≡ h = c.gather_index.ensures.heap
-    ∙ (c.body-body.ensures.heap ∙ sized_before) in
-    let is_count : c.length-count.result ≡ count_at h a = c.length-count.ensures.words in
-    let is_capacity : c.capacity-capacity.result ≡ capacity_at h a =
-    c.capacity-capacity.ensures.words ∙ ap (λ (k : Heap). capacity_at k a) counted_before in
-    let is_body : c.body-body.result ≡ body_at h a = c.body-body.ensures.words
-    ∙ ap (λ (k : Heap). body_at k a) sized_before in
-    let natural : IsNatural w (count_at h a - 1) =
-    subst (λ n. IsNatural w (n - 1)) is_count c.natural_word-fewer.ensures.value in
-    let now : g.M.Memory.heap c.move_down.new.memory ≡ moved h a c.requires.known c.requires.sound
-    c.args.place c.requires.place w natural (c.natural_word-fewer.ensures.held h) =
-    c.move_down.ensures.heap ∙ ap (λ (k : Heap). with_pairs_moved k a c.args.place) before in
-    let null : c.null-null.result ≡ zero_word =
-    null_is_zero c.null-null.result c.null-null.ensures.value c.null-null.ensures.word in
-    let now2 : g.M.Memory.heap c.store.new.self ≡ nulled h a c.requires.known c.requires.sound
-    c.args.place c.requires.place w natural (c.natural_word-fewer.ensures.held h) =
-    c.store.ensures.heap ∙ (ap
-    (λ (k : Heap). stored k c.body-body.result (2 * (c.length-count.result - 1))
-    (c.null-null.result ∷ c.null-null.result ∷ [])) now
-    ∙ (ap (λ b. stored (moved h a c.requires.known c.requires.sound c.args.place c.requires.place w
-    natural (c.natural_word-fewer.ensures.held h)) b (2 * (c.length-count.result - 1))
-    (c.null-null.result ∷ c.null-null.result ∷ [])) is_body
-    ∙ (ap (λ n. stored (moved h a c.requires.known c.requires.sound c.args.place c.requires.place w
-    natural (c.natural_word-fewer.ensures.held h)) (body_at h a) (2 * (n - 1))
-    (c.null-null.result ∷ c.null-null.result ∷ [])) is_count
-    ∙ ap (λ x. stored (moved h a c.requires.known c.requires.sound c.args.place c.requires.place w
-    natural (c.natural_word-fewer.ensures.held h)) (body_at h a) (2 * (count_at h a - 1))
-    (x ∷ x ∷ [])) null))) in
-    let now3 : g.M.Memory.heap c.store-2.new.self ≡ counted h a c.requires.known c.requires.sound
-    c.args.place c.requires.place w natural (c.natural_word-fewer.ensures.held h) =
-    c.store-2.ensures.heap ∙ ap (λ (k : Heap). stored k a 0 (w ∷ [])) now2 in
-    let items : c.as_slice.result.now ≡ index h a c.requires.known c.requires.sound c.args.place
-    c.requires.place w natural (c.natural_word-fewer.ensures.held h) =
-    c.as_slice.ensures.value ∙ (c.in_ok-gather_index.ensures.index
-    ∙ (ap (λ (k : Heap). index_words (birth_at k) (capacity_at k a)
-    (without_place (pairs_at k a) c.args.place)) (c.body-body.ensures.heap ∙ sized_before))) in
-    let now4 : g.M.Memory.heap c.store-3.new.self ≡ after h a c.requires.known c.requires.sound
-    c.args.place c.requires.place w natural (c.natural_word-fewer.ensures.held h) =
-    c.store-3.ensures.heap ∙ (ap
-    (λ (k : Heap). stored k c.body-body.result (2 * c.capacity-capacity.result)
-    c.as_slice.result.now) now3
-    ∙ (ap (λ b. stored (counted h a c.requires.known c.requires.sound c.args.place c.requires.place
-    w natural (c.natural_word-fewer.ensures.held h)) b (2 * c.capacity-capacity.result)
-    c.as_slice.result.now) is_body
-    ∙ (ap (λ n. stored (counted h a c.requires.known c.requires.sound c.args.place c.requires.place
-    w natural (c.natural_word-fewer.ensures.held h)) (body_at h a) (2 * n)
-    c.as_slice.result.now) is_capacity
-    ∙ ap (stored (counted h a c.requires.known c.requires.sound c.args.place c.requires.place w
-    natural (c.natural_word-fewer.ensures.held h)) (body_at h a) (2 * capacity_at h a))
-    items))) in
-    subst IsSound (sym now4) (taken-sound h a c.requires.known c.requires.sound c.args.place
-    c.requires.place w natural (c.natural_word-fewer.ensures.held h))
+    let d = c.before.before.before in
+    subst IsSound (sym (now4 g c)) (taken-sound (h g d) (a g d) c.requires.known c.requires.sound
+    c.args.place c.requires.place (w g d) (natural g d) (c.natural_word-fewer.ensures.held (h g d)))
 
 pub returns-clause-keeps : goal.returns-clause-keeps
 returns-clause-keeps g c =
-    let h = g.M.Memory.heap c.args.memory.now in
-    let a = c.args.address in
-    let w = c.natural_word-fewer.result in
-    let counted_before : g.M.Memory.heap c.length-count.new.memory ≡ h =
-    c.length-count.ensures.heap in
-    let sized_before : g.M.Memory.heap c.capacity-capacity.new.memory ≡ h =
-    c.capacity-capacity.ensures.heap ∙ counted_before in
-    let before : g.M.Memory.heap c.gather_index.new.memory ≡ h = c.gather_index.ensures.heap
-    ∙ (c.body-body.ensures.heap ∙ sized_before) in
-    let is_count : c.length-count.result ≡ count_at h a = c.length-count.ensures.words in
-    let is_capacity : c.capacity-capacity.result ≡ capacity_at h a =
-    c.capacity-capacity.ensures.words ∙ ap (λ (k : Heap). capacity_at k a) counted_before in
-    let is_body : c.body-body.result ≡ body_at h a = c.body-body.ensures.words
-    ∙ ap (λ (k : Heap). body_at k a) sized_before in
-    let natural : IsNatural w (count_at h a - 1) =
-    subst (λ n. IsNatural w (n - 1)) is_count c.natural_word-fewer.ensures.value in
-    let now : g.M.Memory.heap c.move_down.new.memory ≡ moved h a c.requires.known c.requires.sound
-    c.args.place c.requires.place w natural (c.natural_word-fewer.ensures.held h) =
-    c.move_down.ensures.heap ∙ ap (λ (k : Heap). with_pairs_moved k a c.args.place) before in
-    let null : c.null-null.result ≡ zero_word =
-    null_is_zero c.null-null.result c.null-null.ensures.value c.null-null.ensures.word in
-    let now2 : g.M.Memory.heap c.store.new.self ≡ nulled h a c.requires.known c.requires.sound
-    c.args.place c.requires.place w natural (c.natural_word-fewer.ensures.held h) =
-    c.store.ensures.heap ∙ (ap
-    (λ (k : Heap). stored k c.body-body.result (2 * (c.length-count.result - 1))
-    (c.null-null.result ∷ c.null-null.result ∷ [])) now
-    ∙ (ap (λ b. stored (moved h a c.requires.known c.requires.sound c.args.place c.requires.place w
-    natural (c.natural_word-fewer.ensures.held h)) b (2 * (c.length-count.result - 1))
-    (c.null-null.result ∷ c.null-null.result ∷ [])) is_body
-    ∙ (ap (λ n. stored (moved h a c.requires.known c.requires.sound c.args.place c.requires.place w
-    natural (c.natural_word-fewer.ensures.held h)) (body_at h a) (2 * (n - 1))
-    (c.null-null.result ∷ c.null-null.result ∷ [])) is_count
-    ∙ ap (λ x. stored (moved h a c.requires.known c.requires.sound c.args.place c.requires.place w
-    natural (c.natural_word-fewer.ensures.held h)) (body_at h a) (2 * (count_at h a - 1))
-    (x ∷ x ∷ [])) null))) in
-    let now3 : g.M.Memory.heap c.store-2.new.self ≡ counted h a c.requires.known c.requires.sound
-    c.args.place c.requires.place w natural (c.natural_word-fewer.ensures.held h) =
-    c.store-2.ensures.heap ∙ ap (λ (k : Heap). stored k a 0 (w ∷ [])) now2 in
-    let items : c.as_slice.result.now ≡ index h a c.requires.known c.requires.sound c.args.place
-    c.requires.place w natural (c.natural_word-fewer.ensures.held h) =
-    c.as_slice.ensures.value ∙ (c.in_ok-gather_index.ensures.index
-    ∙ (ap (λ (k : Heap). index_words (birth_at k) (capacity_at k a)
-    (without_place (pairs_at k a) c.args.place)) (c.body-body.ensures.heap ∙ sized_before))) in
-    let now4 : g.M.Memory.heap c.store-3.new.self ≡ after h a c.requires.known c.requires.sound
-    c.args.place c.requires.place w natural (c.natural_word-fewer.ensures.held h) =
-    c.store-3.ensures.heap ∙ (ap
-    (λ (k : Heap). stored k c.body-body.result (2 * c.capacity-capacity.result)
-    c.as_slice.result.now) now3
-    ∙ (ap (λ b. stored (counted h a c.requires.known c.requires.sound c.args.place c.requires.place
-    w natural (c.natural_word-fewer.ensures.held h)) b (2 * c.capacity-capacity.result)
-    c.as_slice.result.now) is_body
-    ∙ (ap (λ n. stored (counted h a c.requires.known c.requires.sound c.args.place c.requires.place
-    w natural (c.natural_word-fewer.ensures.held h)) (body_at h a) (2 * n)
-    c.as_slice.result.now) is_capacity
-    ∙ ap (stored (counted h a c.requires.known c.requires.sound c.args.place c.requires.place w
-    natural (c.natural_word-fewer.ensures.held h)) (body_at h a) (2 * capacity_at h a))
-    items))) in
-    subst (Keeps h) (sym now4)
-    (taken-keeps h a c.requires.known c.requires.sound c.args.place c.requires.place w natural
-    (c.natural_word-fewer.ensures.held h))
+    let d = c.before.before.before in
+    subst (Keeps (h g d)) (sym (now4 g c)) (taken-keeps (h g d) (a g d) c.requires.known
+    c.requires.sound c.args.place c.requires.place (w g d) (natural g d)
+    (c.natural_word-fewer.ensures.held (h g d)))
 
 pub returns-clause-births : goal.returns-clause-births
 returns-clause-births g c =
-    let h = g.M.Memory.heap c.args.memory.now in
-    let a = c.args.address in
-    let w = c.natural_word-fewer.result in
-    let counted_before : g.M.Memory.heap c.length-count.new.memory ≡ h =
-    c.length-count.ensures.heap in
-    let sized_before : g.M.Memory.heap c.capacity-capacity.new.memory ≡ h =
-    c.capacity-capacity.ensures.heap ∙ counted_before in
-    let before : g.M.Memory.heap c.gather_index.new.memory ≡ h = c.gather_index.ensures.heap
-    ∙ (c.body-body.ensures.heap ∙ sized_before) in
-    let is_count : c.length-count.result ≡ count_at h a = c.length-count.ensures.words in
-    let is_capacity : c.capacity-capacity.result ≡ capacity_at h a =
-    c.capacity-capacity.ensures.words ∙ ap (λ (k : Heap). capacity_at k a) counted_before in
-    let is_body : c.body-body.result ≡ body_at h a = c.body-body.ensures.words
-    ∙ ap (λ (k : Heap). body_at k a) sized_before in
-    let natural : IsNatural w (count_at h a - 1) =
-    subst (λ n. IsNatural w (n - 1)) is_count c.natural_word-fewer.ensures.value in
-    let now : g.M.Memory.heap c.move_down.new.memory ≡ moved h a c.requires.known c.requires.sound
-    c.args.place c.requires.place w natural (c.natural_word-fewer.ensures.held h) =
-    c.move_down.ensures.heap ∙ ap (λ (k : Heap). with_pairs_moved k a c.args.place) before in
-    let null : c.null-null.result ≡ zero_word =
-    null_is_zero c.null-null.result c.null-null.ensures.value c.null-null.ensures.word in
-    let now2 : g.M.Memory.heap c.store.new.self ≡ nulled h a c.requires.known c.requires.sound
-    c.args.place c.requires.place w natural (c.natural_word-fewer.ensures.held h) =
-    c.store.ensures.heap ∙ (ap
-    (λ (k : Heap). stored k c.body-body.result (2 * (c.length-count.result - 1))
-    (c.null-null.result ∷ c.null-null.result ∷ [])) now
-    ∙ (ap (λ b. stored (moved h a c.requires.known c.requires.sound c.args.place c.requires.place w
-    natural (c.natural_word-fewer.ensures.held h)) b (2 * (c.length-count.result - 1))
-    (c.null-null.result ∷ c.null-null.result ∷ [])) is_body
-    ∙ (ap (λ n. stored (moved h a c.requires.known c.requires.sound c.args.place c.requires.place w
-    natural (c.natural_word-fewer.ensures.held h)) (body_at h a) (2 * (n - 1))
-    (c.null-null.result ∷ c.null-null.result ∷ [])) is_count
-    ∙ ap (λ x. stored (moved h a c.requires.known c.requires.sound c.args.place c.requires.place w
-    natural (c.natural_word-fewer.ensures.held h)) (body_at h a) (2 * (count_at h a - 1))
-    (x ∷ x ∷ [])) null))) in
-    let now3 : g.M.Memory.heap c.store-2.new.self ≡ counted h a c.requires.known c.requires.sound
-    c.args.place c.requires.place w natural (c.natural_word-fewer.ensures.held h) =
-    c.store-2.ensures.heap ∙ ap (λ (k : Heap). stored k a 0 (w ∷ [])) now2 in
-    let items : c.as_slice.result.now ≡ index h a c.requires.known c.requires.sound c.args.place
-    c.requires.place w natural (c.natural_word-fewer.ensures.held h) =
-    c.as_slice.ensures.value ∙ (c.in_ok-gather_index.ensures.index
-    ∙ (ap (λ (k : Heap). index_words (birth_at k) (capacity_at k a)
-    (without_place (pairs_at k a) c.args.place)) (c.body-body.ensures.heap ∙ sized_before))) in
-    let now4 : g.M.Memory.heap c.store-3.new.self ≡ after h a c.requires.known c.requires.sound
-    c.args.place c.requires.place w natural (c.natural_word-fewer.ensures.held h) =
-    c.store-3.ensures.heap ∙ (ap
-    (λ (k : Heap). stored k c.body-body.result (2 * c.capacity-capacity.result)
-    c.as_slice.result.now) now3
-    ∙ (ap (λ b. stored (counted h a c.requires.known c.requires.sound c.args.place c.requires.place
-    w natural (c.natural_word-fewer.ensures.held h)) b (2 * c.capacity-capacity.result)
-    c.as_slice.result.now) is_body
-    ∙ (ap (λ n. stored (counted h a c.requires.known c.requires.sound c.args.place c.requires.place
-    w natural (c.natural_word-fewer.ensures.held h)) (body_at h a) (2 * n)
-    c.as_slice.result.now) is_capacity
-    ∙ ap (stored (counted h a c.requires.known c.requires.sound c.args.place c.requires.place w
-    natural (c.natural_word-fewer.ensures.held h)) (body_at h a) (2 * capacity_at h a))
-    items))) in
-    ap (λ (k : Heap). birth_at k) now4
-    ∙ births-after h a c.requires.known c.requires.sound c.args.place c.requires.place w natural
-    (c.natural_word-fewer.ensures.held h)
+    let d = c.before.before.before in
+    ap (λ (k : Heap). birth_at k) (now4 g c) ∙ births-after (h g d) (a g d) c.requires.known
+    c.requires.sound c.args.place c.requires.place (w g d) (natural g d)
+    (c.natural_word-fewer.ensures.held (h g d))
 
 pub returns-clause-shows : goal.returns-clause-shows
 returns-clause-shows g c = λ names s shows key at.
-    let h = g.M.Memory.heap c.args.memory.now in
-    let a = c.args.address in
-    let w = c.natural_word-fewer.result in
-    let counted_before : g.M.Memory.heap c.length-count.new.memory ≡ h =
-    c.length-count.ensures.heap in
-    let sized_before : g.M.Memory.heap c.capacity-capacity.new.memory ≡ h =
-    c.capacity-capacity.ensures.heap ∙ counted_before in
-    let before : g.M.Memory.heap c.gather_index.new.memory ≡ h = c.gather_index.ensures.heap
-    ∙ (c.body-body.ensures.heap ∙ sized_before) in
-    let is_count : c.length-count.result ≡ count_at h a = c.length-count.ensures.words in
-    let is_capacity : c.capacity-capacity.result ≡ capacity_at h a =
-    c.capacity-capacity.ensures.words ∙ ap (λ (k : Heap). capacity_at k a) counted_before in
-    let is_body : c.body-body.result ≡ body_at h a = c.body-body.ensures.words
-    ∙ ap (λ (k : Heap). body_at k a) sized_before in
-    let natural : IsNatural w (count_at h a - 1) =
-    subst (λ n. IsNatural w (n - 1)) is_count c.natural_word-fewer.ensures.value in
-    let now : g.M.Memory.heap c.move_down.new.memory ≡ moved h a c.requires.known c.requires.sound
-    c.args.place c.requires.place w natural (c.natural_word-fewer.ensures.held h) =
-    c.move_down.ensures.heap ∙ ap (λ (k : Heap). with_pairs_moved k a c.args.place) before in
-    let null : c.null-null.result ≡ zero_word =
-    null_is_zero c.null-null.result c.null-null.ensures.value c.null-null.ensures.word in
-    let now2 : g.M.Memory.heap c.store.new.self ≡ nulled h a c.requires.known c.requires.sound
-    c.args.place c.requires.place w natural (c.natural_word-fewer.ensures.held h) =
-    c.store.ensures.heap ∙ (ap
-    (λ (k : Heap). stored k c.body-body.result (2 * (c.length-count.result - 1))
-    (c.null-null.result ∷ c.null-null.result ∷ [])) now
-    ∙ (ap (λ b. stored (moved h a c.requires.known c.requires.sound c.args.place c.requires.place w
-    natural (c.natural_word-fewer.ensures.held h)) b (2 * (c.length-count.result - 1))
-    (c.null-null.result ∷ c.null-null.result ∷ [])) is_body
-    ∙ (ap (λ n. stored (moved h a c.requires.known c.requires.sound c.args.place c.requires.place w
-    natural (c.natural_word-fewer.ensures.held h)) (body_at h a) (2 * (n - 1))
-    (c.null-null.result ∷ c.null-null.result ∷ [])) is_count
-    ∙ ap (λ x. stored (moved h a c.requires.known c.requires.sound c.args.place c.requires.place w
-    natural (c.natural_word-fewer.ensures.held h)) (body_at h a) (2 * (count_at h a - 1))
-    (x ∷ x ∷ [])) null))) in
-    let now3 : g.M.Memory.heap c.store-2.new.self ≡ counted h a c.requires.known c.requires.sound
-    c.args.place c.requires.place w natural (c.natural_word-fewer.ensures.held h) =
-    c.store-2.ensures.heap ∙ ap (λ (k : Heap). stored k a 0 (w ∷ [])) now2 in
-    let items : c.as_slice.result.now ≡ index h a c.requires.known c.requires.sound c.args.place
-    c.requires.place w natural (c.natural_word-fewer.ensures.held h) =
-    c.as_slice.ensures.value ∙ (c.in_ok-gather_index.ensures.index
-    ∙ (ap (λ (k : Heap). index_words (birth_at k) (capacity_at k a)
-    (without_place (pairs_at k a) c.args.place)) (c.body-body.ensures.heap ∙ sized_before))) in
-    let now4 : g.M.Memory.heap c.store-3.new.self ≡ after h a c.requires.known c.requires.sound
-    c.args.place c.requires.place w natural (c.natural_word-fewer.ensures.held h) =
-    c.store-3.ensures.heap ∙ (ap
-    (λ (k : Heap). stored k c.body-body.result (2 * c.capacity-capacity.result)
-    c.as_slice.result.now) now3
-    ∙ (ap (λ b. stored (counted h a c.requires.known c.requires.sound c.args.place c.requires.place
-    w natural (c.natural_word-fewer.ensures.held h)) b (2 * c.capacity-capacity.result)
-    c.as_slice.result.now) is_body
-    ∙ (ap (λ n. stored (counted h a c.requires.known c.requires.sound c.args.place c.requires.place
-    w natural (c.natural_word-fewer.ensures.held h)) (body_at h a) (2 * n)
-    c.as_slice.result.now) is_capacity
-    ∙ ap (stored (counted h a c.requires.known c.requires.sound c.args.place c.requires.place w
-    natural (c.natural_word-fewer.ensures.held h)) (body_at h a) (2 * capacity_at h a))
-    items))) in
-    let d = dictionary_at s (birth_at h a) in
+    let e = c.before.before.before in
+    let b = birth_at (h g e) (a g e) in
+    let d = dictionary_at s b in
     subst (λ (k : Heap). Shows k names
-    (with_dictionary s (birth_at h a) (record d { pairs = without d.pairs key }))) (sym now4)
-    (taken-shows h a c.requires.known c.requires.sound c.args.place c.requires.place w natural
-    (c.natural_word-fewer.ensures.held h) names s shows key at)
+    (with_dictionary s b (record d { pairs = without d.pairs key }))) (sym (now4 g c))
+    (taken-shows (h g e) (a g e) c.requires.known c.requires.sound c.args.place c.requires.place (w
+    g e) (natural g e) (c.natural_word-fewer.ensures.held (h g e)) names s shows key at)

@@ -1,6 +1,6 @@
 use Rattle.std.proofs.Common.{◌+◌, ◌≤◌, length, arith, sym}
-use Rattle.ps_core_parts.proofs.Lists.{set_past}
-use Rattle.ps_core_parts.proofs.parts.store_field.Goals as goal
+use Rattle.ps_core_parts.proofs.ListLemmas.{set_past}
+use Rattle.ps_core_parts.proofs.lists.store_field.Goals as goal
 
 pub returns-in-None : goal.returns-in-None
 returns-in-None c =

@@ -2,7 +2,7 @@ use Rattle.std.proofs.Common.{◌≡◌, ℕ, subst}
 use Rattle.std.specs.Prelude.{IfOk}
 use Rattle.ps_core_parts.specs.Objects.{pair_of, renamed, with_copy}
 use Rattle.ps_core_parts.specs.Steps.{header_of}
-use Rattle.ps_core_seats.proofs.collector.copied.Goals as goal
+use Rattle.ps_core_seats.proofs.pairs.copied.Goals as goal
 
 pub returns : goal.returns
 returns c =

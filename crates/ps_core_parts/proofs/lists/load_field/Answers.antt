@@ -1,6 +1,6 @@
 use Rattle.std.proofs.Common.{◌+◌, ◌≤◌, length, arith, sym}
 use Rattle.std.proofs.lemmas.List.{get_or_past}
-use Rattle.ps_core_parts.proofs.parts.load_field.Goals as goal
+use Rattle.ps_core_parts.proofs.lists.load_field.Goals as goal
 
 pub returns-in-None : goal.returns-in-None
 returns-in-None c =

@@ -2,7 +2,7 @@ use Rattle.std.proofs.Common.{◌≡◌, [], arith, drop, ap}
 use Rattle.std.proofs.Math.ListN.{drop_of_length-le}
 use Rattle.ps_core_parts.specs.Objects.{end_of_replicas}
 use Rattle.ps_core_parts.proofs.Ends.{end_of_replicas-low}
-use Rattle.ps_core_parts.proofs.parts.end_of_replicas.Goals as goal
+use Rattle.ps_core_parts.proofs.lists.end_of_replicas.Goals as goal
 
 pub loop-p-init : goal.loop-p-init
 loop-p-init c = let low = end_of_replicas-low c.args.list.now c.args.low in record { low = omega arith; whole = omega arith }
