@@ -32,37 +32,59 @@ pub record IsReadyFor (h : Heap) (size : ℕ) (stacks : Stacks) : Type 0 where
   pub frames : AreFrames h size stacks.frames
 
 -- both are within the names met and the store
-pub record IsWithinBoth (h : Heap) (names : List (List ℕ)) (store : Store) (stacks : Stacks) : Type 0 where
+pub record IsWithinBoth (h : Heap) (names : List (List ℕ)) (store : Store)
+    (stacks : Stacks) : Type 0 where
   pub operands : AreWithin h names store stacks.operands
   pub frames : AreFramesWithin h names store stacks.frames
 
-abbrev pub scene_of : Heap → (names : List (List ℕ)) → Store → (dictionaries : List Value) → Stacks → Scene
-scene_of h names store dictionaries stacks = scene_in h names store dictionaries stacks.operands stacks.frames
+abbrev pub scene_of : Heap → (names : List (List ℕ)) → Store → (dictionaries : List Value) → Stacks
+    → Scene
+scene_of h names store dictionaries stacks =
+    scene_in h names store dictionaries stacks.operands stacks.frames
 
 -- the scene that the row leaves, or its error with the stacks as they were
-abbrev pub ControlsAs : Result Unit ErrorName → Outcome Scene → Heap → (names : List (List ℕ)) → Store → (dictionaries : List Value) → (before after : Stacks) → Type 0
-ControlsAs (Ok _) (leaves scene) h names store dictionaries before after = (scene_of h names store dictionaries after ≡ scene) × IsWithinBoth h names store after
+abbrev pub ControlsAs : Result Unit ErrorName → Outcome Scene → Heap → (names : List (List ℕ))
+    → Store → (dictionaries : List Value) → (before after : Stacks) → Type 0
+ControlsAs (Ok _) (leaves scene) h names store dictionaries before after =
+    (scene_of h names store dictionaries after ≡ scene) × IsWithinBoth h names store after
 ControlsAs (Ok _) (fails raised) h names store dictionaries before after = ⊥
-ControlsAs (Err error) (fails raised) h names store dictionaries before after = (error ≡ raised) × (after ≡ before)
+ControlsAs (Err error) (fails raised) h names store dictionaries before after = (error ≡ raised)
+    × (after ≡ before)
 ControlsAs (Err error) (leaves scene) h names store dictionaries before after = ⊥
 
--- for every store that the memory shows and every dictionary stack, the operator did what its row says, and what was held is held
-pub record Controls (row : List Value → Scene → Outcome Scene) (result : Result Unit ErrorName) (h : Heap) (size : ℕ) (before after : Stacks) : Type 0 where
-  pub meets : (names : List (List ℕ)) (store : Store) (dictionaries : List Value) → Shows h names store → IsWithinBoth h names store before →
-      ControlsAs result (row (scene_of h names store dictionaries before).operands (scene_of h names store dictionaries before)) h names store dictionaries before after
+-- for every store that the memory shows and every dictionary stack, the operator did what its row
+-- says, and what was held is held
+pub record Controls (row : List Value → Scene → Outcome Scene)
+    (result : Result Unit ErrorName) (h : Heap) (size : ℕ) (before after : Stacks) : Type 0 where
+  pub meets : (names : List (List ℕ)) (store : Store) (dictionaries : List Value)
+      → Shows h names store → IsWithinBoth h names store before →
+      ControlsAs result
+      (row (scene_of h names store dictionaries before).operands
+      (scene_of h names store dictionaries before)) h names store dictionaries before after
   pub ready : IsReadyFor h size after
 
 -- a row that takes so many operands and pushes a frame
-pub record Begins (row : List Value → Scene → Outcome Scene) (h : Heap) (operands : List Word) (count : ℕ) (frame : Frame) : Type 0 where
-  pub is : (names : List (List ℕ)) (scene : Scene) → row (values_in h names operands) (with_operands (values_in h names operands) scene) ≡ with_frame (frame_of (birth_at h) names frame) (with_operands (drop count (values_in h names operands)) scene)
+pub record Begins (row : List Value → Scene → Outcome Scene) (h : Heap)
+    (operands : List Word) (count : ℕ) (frame : Frame) : Type 0 where
+  pub is : (names : List (List ℕ)) (scene : Scene)
+      → row (values_in h names operands) (with_operands (values_in h names operands) scene)
+      ≡ with_frame (frame_of (birth_at h) names frame)
+      (with_operands (drop count (values_in h names operands)) scene)
 
 -- one that takes so many operands and enters a procedure
-pub record Enters (row : List Value → Scene → Outcome Scene) (h : Heap) (operands : List Word) (count : ℕ) (body : Part) : Type 0 where
-  pub is : (names : List (List ℕ)) (scene : Scene) → row (values_in h names operands) (with_operands (values_in h names operands) scene) ≡ entered (part_of (birth_at h) body) (with_operands (drop count (values_in h names operands)) scene)
+pub record Enters (row : List Value → Scene → Outcome Scene) (h : Heap)
+    (operands : List Word) (count : ℕ) (body : Part) : Type 0 where
+  pub is : (names : List (List ℕ)) (scene : Scene)
+      → row (values_in h names operands) (with_operands (values_in h names operands) scene)
+      ≡ entered (part_of (birth_at h) body)
+      (with_operands (drop count (values_in h names operands)) scene)
 
 -- what a frame holds is within the names met and each store, where operands and frames are
-pub record IsFrameHeld (h : Heap) (operands : List Word) (frames : List Frame) (frame : Frame) : Type 0 where
-  pub within : (names : List (List ℕ)) (store : Store) → IsWithinBoth h names store (stacks operands frames) → IsFrameWithin (birth_at h) names store frame
+pub record IsFrameHeld (h : Heap) (operands : List Word) (frames : List Frame)
+    (frame : Frame) : Type 0 where
+  pub within : (names : List (List ℕ)) (store : Store)
+      → IsWithinBoth h names store (stacks operands frames)
+      → IsFrameWithin (birth_at h) names store frame
 
 -- a procedure is entered above other frames; an empty one needs no frame
 abbrev pub entered_above : (body : Part) → List Frame → List Frame
@@ -70,5 +92,6 @@ entered_above body frames = if body.length == 0 then frames else Procedure body 
 
 -- the access of the second operand, for every store that the memory shows
 pub record IsSecondAccess (h : Heap) (operands : List Word) (access : Option Access) : Type 0 where
-  pub meets : (names : List (List ℕ)) (store : Store) → Shows h names store → (first second : Word) → Some (first, second) ≡ first_two_of operands →
+  pub meets : (names : List (List ℕ)) (store : Store) → Shows h names store → (first second : Word)
+      → Some (first, second) ≡ first_two_of operands →
       access_of store (value_of (birth_at h) names second) ≡ access

@@ -1,4 +1,5 @@
--- The frames of the execution stack as words, and the frames of the definitions that they stand for (PLRM2, 3.4).
+-- The frames of the execution stack as words, and the frames of the definitions that they stand for
+-- (PLRM2, 3.4).
 use Rattle.std.specs.Prelude.{ℕ, ℤ, pos, negsuc, ◌≤ℤ◌, ◌+◌, ◌<◌, ◌≤◌, ◌^◌, List, length, map}
 use Rattle.std.specs.List.{AllByRecursion}
 use Rattle.ps_language.specs.declared.kinds.Kind.TheVariants.{Array as ArrayKind, Text as TextKind, Lock as LockKind}
@@ -31,8 +32,10 @@ frame_of births names (Procedure rest) = world.procedure_frame (part_of births r
 frame_of births names (Pending word) = world.pending_frame (value_of births names word)
 frame_of births names (Repeat count body) = world.repeat_frame count (part_of births body)
 frame_of births names (Loop body) = world.loop_frame (part_of births body)
-frame_of births names (For control increment limit body) = world.for_frame control increment limit (part_of births body)
-frame_of births names (Forall over at body) = world.forall_frame (value_of births names over) at (part_of births body)
+frame_of births names (For control increment limit body) =
+    world.for_frame control increment limit (part_of births body)
+frame_of births names (Forall over at body) =
+    world.forall_frame (value_of births names over) at (part_of births body)
 frame_of births names Stopped = world.stopped_frame
 frame_of births names (Monitor lock) = world.monitor_frame (births lock)
 frame_of births names (Bind over at depth) = world.bind_frame (part_of births over) at depth
@@ -41,7 +44,8 @@ abbrev pub frames_in : Heap → (names : List (List ℕ)) → List Frame → Lis
 frames_in h names frames = map (frame_of (birth_at h) names) frames
 
 -- the scene of operands and frames over a store; dictionaries: what is on the dictionary stack
-abbrev pub scene_in : Heap → (names : List (List ℕ)) → Store → (dictionaries : List Value) → List Word → List Frame → Scene
+abbrev pub scene_in : Heap → (names : List (List ℕ)) → Store → (dictionaries : List Value)
+    → List Word → List Frame → Scene
 scene_in h names store dictionaries operands frames = record {
   operands = values_in h names operands;
   dictionaries = dictionaries;
@@ -67,7 +71,8 @@ abbrev pub IsSourceAt : Heap → (size : ℕ) → Source → (at : ℕ) → Type
 IsSourceAt h size Program at = at ≤ size
 IsSourceAt h size (TextOf part) at = IsHeldText h part × (at ≤ part.length)
 
--- a control value that began as an integer of 32 bits and went on by this increment, up to one turn past them
+-- a control value that began as an integer of 32 bits and went on by this increment, up to one turn
+-- past them
 abbrev pub IsCourse : (control increment : ℤ) → Type 0
 IsCourse control (pos n) = (negsuc 2147483647 ≤ℤ control) × (control ≤ℤ pos 4294967295)
 IsCourse control (negsuc n) = (negsuc 4294967295 ≤ℤ control) × (control ≤ℤ pos 2147483647)
@@ -83,7 +88,8 @@ IsFrame h size (For control increment limit body) = IsHeld h body × IsCourse co
 IsFrame h size (Forall over at body) = IsValue h over × IsHeld h body
 IsFrame h size Stopped = Unit {0}
 IsFrame h size (Monitor lock) = StandsAs h LockKind lock 1
-IsFrame h size (Bind over at depth) = IsHeld h over × (at ≤ over.length) × (1 ≤ depth) × (depth ≤ nesting_limit)
+IsFrame h size (Bind over at depth) = IsHeld h over × (at ≤ over.length) × (1 ≤ depth)
+    × (depth ≤ nesting_limit)
 
 abbrev pub AreFrames : Heap → (size : ℕ) → List Frame → Type 0
 AreFrames h size frames = AllByRecursion (IsFrame h size) frames
@@ -93,7 +99,8 @@ AreFrames h size frames = AllByRecursion (IsFrame h size) frames
 -- names in frames are names met, and a part of a string lies within its bytes
 abbrev pub IsSourceWithin : (births : ℕ → ℕ) → Store → Source → Type 0
 IsSourceWithin births store Program = Unit {0}
-IsSourceWithin births store (TextOf part) = part.offset + part.length ≤ length (bytes store (births part.address))
+IsSourceWithin births store (TextOf part) = part.offset + part.length
+    ≤ length (bytes store (births part.address))
 
 abbrev pub IsFrameWithin : (births : ℕ → ℕ) → (names : List (List ℕ)) → Store → Frame → Type 0
 IsFrameWithin births names store (Text source at) = IsSourceWithin births store source
@@ -108,4 +115,5 @@ IsFrameWithin births names store (Monitor lock) = Unit {0}
 IsFrameWithin births names store (Bind over at depth) = Unit {0}
 
 abbrev pub AreFramesWithin : Heap → (names : List (List ℕ)) → Store → List Frame → Type 0
-AreFramesWithin h names store frames = AllByRecursion (IsFrameWithin (birth_at h) names store) frames
+AreFramesWithin h names store frames =
+    AllByRecursion (IsFrameWithin (birth_at h) names store) frames

@@ -24,7 +24,8 @@ use Rattle.ps_control.specs.declared.turns.TurnOperands.TheVariants.{Nothing, On
 use Rattle.ps_control.specs.Frames.{frame_of, frames_in, IsFrame, IsHeld, IsFrameWithin}
 use Rattle.ps_control.specs.Controls.{Stacks, scene_of, IsReadyFor, IsWithinBoth}
 
--- goes on with the scene of the stacks, without output; an error has this command and keeps the scene of the stacks
+-- goes on with the scene of the stacks, without output; an error has this command and keeps the
+-- scene of the stacks
 abbrev pub TurnsAs : (operator : Operator) → Result Unit ErrorName → Turn → Heap
     → (names : List (List ℕ)) → Store → (dictionaries : List Value) → (after : Stacks) → Type 0
 TurnsAs operator (Ok _) (goes scene output) h names store dictionaries after =
@@ -34,7 +35,8 @@ TurnsAs operator (Err error) (errs raised command kept) h names store dictionari
     × (kept ≡ scene_of h names store dictionaries after)
 TurnsAs operator result turn h names store dictionaries after = ⊥
 
--- for every store that the memory shows, a step of the topmost frame of a running context; operator: whose frame it is
+-- for every store that the memory shows, a step of the topmost frame of a running context;
+-- operator: whose frame it is
 pub record Turns (operator : Operator) (result : Result Unit ErrorName) (h : Heap) (size : ℕ)
     (before after : Stacks) : Type 0 where
   pub meets : (around : Around) (names : List (List ℕ)) (store : Store) (dictionaries : List Value)
@@ -102,7 +104,8 @@ words_of Nothing = []
 words_of (One word) = word ∷ []
 words_of (Pair key value) = value ∷ key ∷ []
 
--- a turn of the topmost frame that pushes these words, the topmost first, leaves this frame in its place and enters this procedure
+-- a turn of the topmost frame that pushes these words, the topmost first, leaves this frame in its
+-- place and enters this procedure
 pub record IsTurn (operator : Operator) (words : List Word) (left : Frame) (body : Part) (h : Heap)
     (before : Stacks) : Type 0 where
   pub is : (around : Around) (names : List (List ℕ)) (store : Store) (dictionaries : List Value)

@@ -40,14 +40,16 @@ pub enum Frame {
     Loop {
         body: Part,
     },
-    /// The control value of the next turn, which may lie one increment past 32 bits, the increment, the limit and the procedure.
+    /// The control value of the next turn, which may lie one increment past 32 bits, the increment,
+    /// the limit and the procedure.
     For {
         control: i64,
         increment: i32,
         limit: i32,
         body: Part,
     },
-    /// An array, a string or a dictionary, the place of its next element, and the procedure that is done for each.
+    /// An array, a string or a dictionary, the place of its next element, and the procedure that is
+    /// done for each.
     Forall {
         over: Word,
         at: usize,
@@ -59,7 +61,8 @@ pub enum Frame {
     Monitor {
         lock: u32,
     },
-    /// A procedure whose names are replaced by operators, the place of its next element, and how deep it lies in others, from 1.
+    /// A procedure whose names are replaced by operators, the place of its next element, and how
+    /// deep it lies in others, from 1.
     Bind {
         over: Part,
         at: u32,

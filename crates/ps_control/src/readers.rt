@@ -17,7 +17,8 @@ use ps_word::words::Word;
 /// The part of an array, if it is an executable one.
 #[inline]
 pub fn procedure_of(word: Word) -> Option<Part>
-    ensures part { (births : ℕ → ℕ) (names : List (List ℕ)) → language.as_procedure (value_of births names word) ≡ option_map (part_of births) result }
+    ensures part { (births : ℕ → ℕ) (names : List (List ℕ))
+        → language.as_procedure (value_of births names word) ≡ option_map (part_of births) result }
     ensures held { (h : Heap) → IsValue h word → IfSome result (λ part. IsHeld h part) }
 {
     if !word.is_executable() {
@@ -30,7 +31,8 @@ pub fn procedure_of(word: Word) -> Option<Part>
 #[inline]
 #[tactic(auto, using(crate::proofs::Reading::boolean_lemmas))]
 pub fn boolean_of(word: Word) -> Option<bool>
-    ensures { (births : ℕ → ℕ) (names : List (List ℕ)) → language.as_boolean (value_of births names word) ≡ result }
+    ensures { (births : ℕ → ℕ) (names : List (List ℕ))
+        → language.as_boolean (value_of births names word) ≡ result }
 {
     word.as_boolean()
 }

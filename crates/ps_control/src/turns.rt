@@ -61,8 +61,10 @@ impl TurnOperands {
     }
 }
 
-/// Pushes the operands of a turn in their order, puts what is left of the loop in the place of its frame, and enters the procedure. Raises `stackoverflow` where the
-/// operands don't fit, and `execstackoverflow` where the procedure isn't empty and 250 frames stand; then nothing has changed.
+/// Pushes the operands of a turn in their order, puts what is left of the loop in the place of its
+/// frame, and enters the procedure. Raises `stackoverflow` where the operands don't fit, and
+/// `execstackoverflow` where the procedure isn't empty and 250 frames stand; then nothing has
+/// changed.
 fn go_on(
     operands: &mut Operands,
     frames: &mut Frames,
@@ -71,7 +73,12 @@ fn go_on(
     body: Part,
 ) -> Result<(), ErrorName>
     requires some { 1 ≤ length frames.old }
-    ensures turns { (operator : TheOperator) (h : Heap) (size : ℕ) → IsReadyFor h size (stacks operands.old frames.old) → IsTurnHeld h size (words_of pushed) left body (stacks operands.old frames.old) → IsTurn operator (words_of pushed) left body h (stacks operands.old frames.old) → Turns operator result h size (stacks operands.old frames.old) (stacks operands.new frames.new) }
+    ensures turns { (operator : TheOperator) (h : Heap) (size : ℕ)
+        → IsReadyFor h size (stacks operands.old frames.old)
+        → IsTurnHeld h size (words_of pushed) left body (stacks operands.old frames.old)
+        → IsTurn operator (words_of pushed) left body h (stacks operands.old frames.old)
+        → Turns operator result h size (stacks operands.old frames.old)
+        (stacks operands.new frames.new) }
     ensures operands { OnErr result (operands.new ≡ operands.old) }
     ensures frames { OnErr result (frames.new ≡ frames.old) }
 {
@@ -103,7 +110,9 @@ pub fn leave(frames: &mut Frames)
 /// A turn of `loop`. Raises `execstackoverflow`; then nothing has changed.
 pub fn loop_turn(operands: &mut Operands, frames: &mut Frames, body: Part) -> Result<(), ErrorName>
     requires top { first_of frames.old ≡ Some (Frame.Loop body) }
-    ensures turns { (h : Heap) (size : ℕ) → IsReadyFor h size (stacks operands.old frames.old) → Turns Operator.Loop result h size (stacks operands.old frames.old) (stacks operands.new frames.new) }
+    ensures turns { (h : Heap) (size : ℕ) → IsReadyFor h size (stacks operands.old frames.old)
+        → Turns Operator.Loop result h size (stacks operands.old frames.old)
+        (stacks operands.new frames.new) }
     ensures operands { OnErr result (operands.new ≡ operands.old) }
     ensures frames { OnErr result (frames.new ≡ frames.old) }
 {
@@ -116,7 +125,8 @@ pub fn loop_turn(operands: &mut Operands, frames: &mut Frames, body: Part) -> Re
     )
 }
 
-/// A turn of `repeat`, or its end where no turn is left. Raises `execstackoverflow`; then nothing has changed.
+/// A turn of `repeat`, or its end where no turn is left. Raises `execstackoverflow`; then nothing
+/// has changed.
 pub fn repeat_turn(
     operands: &mut Operands,
     frames: &mut Frames,
@@ -124,7 +134,9 @@ pub fn repeat_turn(
     body: Part,
 ) -> Result<(), ErrorName>
     requires top { first_of frames.old ≡ Some (Frame.Repeat count body) }
-    ensures turns { (h : Heap) (size : ℕ) → IsReadyFor h size (stacks operands.old frames.old) → Turns Operator.Repeat result h size (stacks operands.old frames.old) (stacks operands.new frames.new) }
+    ensures turns { (h : Heap) (size : ℕ) → IsReadyFor h size (stacks operands.old frames.old)
+        → Turns Operator.Repeat result h size (stacks operands.old frames.old)
+        (stacks operands.new frames.new) }
     ensures operands { OnErr result (operands.new ≡ operands.old) }
     ensures frames { OnErr result (frames.new ≡ frames.old) }
 {
@@ -153,13 +165,15 @@ fn is_past(control: i64, increment: i32, limit: i32) -> bool
 /// The word of a control value that isn't past the limit, which is an integer of 32 bits.
 fn control_word(control: i64) -> Word
     requires { FitsSigned w32 control }
-    ensures value { (births : ℕ → ℕ) (names : List (List ℕ)) → value_of births names result ≡ integer control }
+    ensures value { (births : ℕ → ℕ) (names : List (List ℕ)) → value_of births names result
+        ≡ integer control }
     ensures plain { IsPlain result }
 {
     plain::integer(control as i32)
 }
 
-/// A turn of `for`, which pushes the control value, or its end past the limit. Raises `stackoverflow` and `execstackoverflow`; then nothing has changed.
+/// A turn of `for`, which pushes the control value, or its end past the limit. Raises
+/// `stackoverflow` and `execstackoverflow`; then nothing has changed.
 pub fn for_turn(
     operands: &mut Operands,
     frames: &mut Frames,
@@ -170,7 +184,9 @@ pub fn for_turn(
 ) -> Result<(), ErrorName>
     requires top { first_of frames.old ≡ Some (Frame.For control increment limit body) }
     requires course { IsCourse control increment }
-    ensures turns { (h : Heap) (size : ℕ) → IsReadyFor h size (stacks operands.old frames.old) → Turns Operator.For result h size (stacks operands.old frames.old) (stacks operands.new frames.new) }
+    ensures turns { (h : Heap) (size : ℕ) → IsReadyFor h size (stacks operands.old frames.old)
+        → Turns Operator.For result h size (stacks operands.old frames.old)
+        (stacks operands.new frames.new) }
     ensures operands { OnErr result (operands.new ≡ operands.old) }
     ensures frames { OnErr result (frames.new ≡ frames.old) }
 {
@@ -188,7 +204,8 @@ pub fn for_turn(
     go_on(operands, frames, pushed, left, body)
 }
 
-/// A turn of `forall`, which pushes what stands at its place, or its end where nothing does. Raises `stackoverflow` and `execstackoverflow`; then nothing has changed.
+/// A turn of `forall`, which pushes what stands at its place, or its end where nothing does. Raises
+/// `stackoverflow` and `execstackoverflow`; then nothing has changed.
 pub fn forall_turn(
     operands: &mut Operands,
     frames: &mut Frames,
@@ -199,7 +216,10 @@ pub fn forall_turn(
 ) -> Result<(), ErrorName>
     requires top { first_of frames.old ≡ Some (Frame.Forall over at body) }
     requires place { at < 2 ^ 32 }
-    ensures turns { (h : Heap) (size : ℕ) → IsReadyFor h size (stacks operands.old frames.old) → IsPushed h over at pushed → Turns Operator.Forall result h size (stacks operands.old frames.old) (stacks operands.new frames.new) }
+    ensures turns { (h : Heap) (size : ℕ) → IsReadyFor h size (stacks operands.old frames.old)
+        → IsPushed h over at pushed
+        → Turns Operator.Forall result h size (stacks operands.old frames.old)
+        (stacks operands.new frames.new) }
     ensures operands { OnErr result (operands.new ≡ operands.old) }
     ensures frames { OnErr result (frames.new ≡ frames.old) }
 {
@@ -215,10 +235,13 @@ pub fn forall_turn(
     go_on(operands, frames, pushed, left, body)
 }
 
-/// The frame of `stopped` goes, and a boolean is pushed. Raises `stackoverflow` where there is no room for it; the frame goes then too.
+/// The frame of `stopped` goes, and a boolean is pushed. Raises `stackoverflow` where there is no
+/// room for it; the frame goes then too.
 pub fn stopped_turn(operands: &mut Operands, frames: &mut Frames) -> Result<(), ErrorName>
     requires top { first_of frames.old ≡ Some Frame.Stopped }
-    ensures turns { (h : Heap) (size : ℕ) → IsReadyFor h size (stacks operands.old frames.old) → Turns Operator.Stopped result h size (stacks operands.old frames.old) (stacks operands.new frames.new) }
+    ensures turns { (h : Heap) (size : ℕ) → IsReadyFor h size (stacks operands.old frames.old)
+        → Turns Operator.Stopped result h size (stacks operands.old frames.old)
+        (stacks operands.new frames.new) }
 {
     leave(frames);
     if operands.is_full() {

@@ -42,8 +42,9 @@ fn ends_at_stopped(cause: Cause, frame: Frame) -> bool
     }
 }
 
-/// A step of an unwinding: the topmost frame, which holds no lock, goes. It answers whether the unwinding ends with it; where that is the frame of `stopped`, a
-/// boolean is pushed. Raises `stackoverflow` where there is no room for that.
+/// A step of an unwinding: the topmost frame, which holds no lock, goes. It answers whether the
+/// unwinding ends with it; where that is the frame of `stopped`, a boolean is pushed. Raises
+/// `stackoverflow` where there is no room for that.
 pub fn unwind(
     operands: &mut Operands,
     frames: &mut Frames,
@@ -52,7 +53,9 @@ pub fn unwind(
 ) -> Result<bool, ErrorName>
     requires top { first_of frames.old ≡ Some top }
     requires free { is_monitor top ≡ false }
-    ensures unwinds { (h : Heap) (size : ℕ) → IsReadyFor h size (stacks operands.old frames.old) → Unwinds cause result h size (stacks operands.old frames.old) (stacks operands.new frames.new) }
+    ensures unwinds { (h : Heap) (size : ℕ) → IsReadyFor h size (stacks operands.old frames.old)
+        → Unwinds cause result h size (stacks operands.old frames.old)
+        (stacks operands.new frames.new) }
 {
     leave(frames);
     if ends_at_loop(cause, top) {
@@ -70,7 +73,8 @@ pub fn unwind(
 
 /// Whether `exit` has a loop to end: one stands above the topmost frame of `stopped`.
 pub fn is_in_loop(frames: &Frames) -> bool
-    ensures { (h : Heap) (names : List (List ℕ)) → result ≡ language.is_in_loop (frames_in h names frames.now) }
+    ensures { (h : Heap) (names : List (List ℕ)) → result
+        ≡ language.is_in_loop (frames_in h names frames.now) }
 {
     for depth in 0..frames.len() {
         let Some(frame) = frames.peek(depth) else {

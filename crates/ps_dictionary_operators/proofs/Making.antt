@@ -14,7 +14,7 @@ use Rattle.ps_word.specs.declared.words.Word.{Word}
 use Rattle.ps_mem.specs.Heap.{Heap, birth_at}
 use Rattle.ps_mem.specs.Meaning.{value_of}
 use Rattle.ps_mem.specs.Shows.{IsWithin, AreWithin, Shows}
-use Rattle.ps_operators.proofs.Asking.{Leaving, IsMade}
+use Rattle.ps_acts.proofs.Asking.{Leaving, IsMade}
 use Rattle.ps_ops.specs.Does.{values_in}
 use Rattle.ps_ops.proofs.Operands.{first_split}
 use Rattle.ps_ops.proofs.Making.{IsMaking, MakesObject}

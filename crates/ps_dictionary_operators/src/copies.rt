@@ -27,9 +27,9 @@ use ps_ops::changes::may_copy;
 use ps_ops::failure::NotMade;
 use ps_word::words::Word;
 
-/// Whether the pairs of one dictionary may be put into another. Raises `limitcheck` where they would
-/// be too many, and `VMerror` in a refused step that would make a new body. They are counted only
-/// where one of the two may come.
+/// Whether the pairs of one dictionary may be put into another. Raises `limitcheck` where they
+/// would be too many, and `VMerror` in a refused step that would make a new body. They are counted
+/// only where one of the two may come.
 fn test_merge<M: Memory>(memory: &mut M, refused: bool, to: u32, from: u32) -> Result<(), ErrorName>
     requires sound { IsSound (M.heap memory.old) }
     requires target { StandsAs (M.heap memory.old) Kind.Dictionary to 4 }

@@ -137,8 +137,8 @@ fn storing_place<M: Memory>(
 /// `k x store`: into the topmost dictionary that has the key, else into the current one; a string's
 /// name is formed.
 ///
-/// Raises and is not made as `def`, and raises `invalidaccess` where a dictionary that can't be read
-/// is come to first.
+/// Raises and is not made as `def`, and raises `invalidaccess` where a dictionary that can't be
+/// read is come to first.
 pub fn store<M: Memory>(
     context: &mut Context,
     shared: &mut Shared,

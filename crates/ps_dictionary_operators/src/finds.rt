@@ -133,8 +133,8 @@ pub fn load<M: Memory>(
     }
 }
 
-/// `k where D true`: the topmost dictionary that has a key, or `false`, for which a string's name is
-/// formed.
+/// `k where D true`: the topmost dictionary that has a key, or `false`, for which a string's name
+/// is formed.
 ///
 /// Raises `stackunderflow`, `typecheck`, `invalidaccess`, `limitcheck` of a name, and
 /// `stackoverflow`. Not made, by `Memory`, where the growth for a name is refused.

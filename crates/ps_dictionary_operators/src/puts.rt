@@ -56,7 +56,8 @@ pub(crate) fn asked<M: Memory>(
         × (words ≤ (M.grants memory.new).words)) }
     ensures open { OnOk result (1 ≤ records → (M.grants memory.new).closed slot ≡ false) }
     ensures reason { IfErr result
-        (IsLack records words slot (M.heap memory.old) (M.grants memory.old) (M.grants memory.new)) }
+        (IsLack records words slot (M.heap memory.old) (M.grants memory.old)
+        (M.grants memory.new)) }
 {
     if let Err(reason) = permitted(memory, slot, records) {
         return Err(reason);
@@ -175,8 +176,8 @@ pub(crate) fn refuse<M: Memory>(names: &mut Names, memory: &mut M, slot: u32, co
 
 /// Puts a pair whose key is a string of which no name was met; its name is formed.
 ///
-/// Raises `limitcheck`, and `VMerror` as `put_met`. Not made as `put_planned`, or for want of memory
-/// for the name; it is not formed then.
+/// Raises `limitcheck`, and `VMerror` as `put_met`. Not made as `put_planned`, or for want of
+/// memory for the name; it is not formed then.
 fn put_unmet<M: Memory>(
     context: &mut Context,
     shared: &mut Shared,
@@ -226,8 +227,8 @@ fn put_unmet<M: Memory>(
 /// Puts a pair whose key was read.
 ///
 /// Raises `invalidaccess` where the dictionary may not be written, `limitcheck` of a name and where
-/// the pairs would be too many, and `VMerror` in a refused step that would make a new body. Not made
-/// for want of memory for a name, of records, or of room for a new body.
+/// the pairs would be too many, and `VMerror` in a refused step that would make a new body. Not
+/// made for want of memory for a name, of records, or of room for a new body.
 pub(crate) fn put_key<M: Memory>(
     context: &mut Context,
     shared: &mut Shared,

@@ -23,7 +23,8 @@ pub fn maxlength<M: Memory>(
 ) -> Result<(), Break>
     requires good { IsGood
         (lent (M.heap memory.old) (M.grants memory.old) context.old shared.old) }
-    ensures acts { (trial : Trial) → Acts nothing_asked (reading_row rows.maxlength_row) trial result
+    ensures acts { (trial : Trial)
+        → Acts nothing_asked (reading_row rows.maxlength_row) trial result
         (lent (M.heap memory.old) (M.grants memory.old) context.old shared.old)
         (lent (M.heap memory.new) (M.grants memory.new) context.new shared.new) }
 {

@@ -113,7 +113,8 @@ fn text_key<M: Memory>(memory: &mut M, names: &Names, part: Part) -> Key
 #[inline]
 pub fn name_word(number: usize) -> Word
     requires { number < names_limit }
-    ensures value { value_in result.0 ≡ record { content = Content.Name number; executable = false } }
+    ensures value { value_in result.0
+        ≡ record { content = Content.Name number; executable = false } }
     ensures word { IsWord result.0 }
 {
     Word::literal(Content::Name(number as u16))

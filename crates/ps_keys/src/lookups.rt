@@ -92,8 +92,8 @@ fn look_in<M: Memory>(
     }
 }
 
-/// The topmost dictionary that has a key, and its value there. Raises `invalidaccess` where one that
-/// can't be read is come to first.
+/// The topmost dictionary that has a key, and its value there. Raises `invalidaccess` where one
+/// that can't be read is come to first.
 pub fn look_up<M: Memory>(
     memory: &mut M,
     dictionaries: &Dictionaries,

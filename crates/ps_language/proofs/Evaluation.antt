@@ -1,4 +1,5 @@
--- What a run of a program computes with: under 'unfolding evaluation' the world of a program is computed.
+-- What a run of a program computes with: under 'unfolding evaluation' the world of a program is
+-- computed.
 use Rattle.std.specs.Prelude.{ℕ}
 use Rattle.std.specs.Fmt.{digits}
 use Rattle.ps_language.specs.Access
@@ -18,8 +19,6 @@ use Rattle.ps_language.specs.RowsRelations
 use Rattle.ps_language.specs.RowsSequences
 use Rattle.ps_language.specs.Scan
 use Rattle.ps_language.specs.Schedules
-use Rattle.ps_language.specs.Small
-use Rattle.ps_language.specs.SmallRows
 use Rattle.ps_language.specs.Step
 use Rattle.ps_language.specs.StepBind
 use Rattle.ps_language.specs.StepErrors
@@ -54,11 +53,7 @@ unfolding digits Access.elements Access.bytes Access.dictionary_at Access.with_e
     StepErrors.has_new_error StepErrors.error_line StepFrames.frame_turn StepFrames.unwound_turn
     StepTokens.token_done StepValues.operated StepValues.looked_up StepValues.is_executable_name
     StepValues.is_procedure StepValues.executed StepValues.done Texts.plain_text Texts.full_text
-    Small.small_names Small.small_pairs Small.named Small.small_pushed Small.small_effect
-    Small.small_operated Small.element_done Small.procedure_pushed Small.small_error_line
-    Small.forall_turn Small.small_step Small.is_small_ready Small.after_small_move
-    Small.after_small_moves Small.small_world Small.small_printed Small.IsSmallProper
-    SmallRows.small_text Worlds.system_pairs Worlds.first_names Worlds.starting_world
+    Worlds.system_pairs Worlds.first_names Worlds.starting_world
     Schedules.moves Schedules.count_of Worlds.after_moves Worlds.world Worlds.printed
     Worlds.IsProper Worlds.is_all_over Worlds.is_some_ready
 evaluation = 0

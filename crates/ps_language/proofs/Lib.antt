@@ -28,8 +28,6 @@ pub mod StringEnds
 pub mod StringLaw
 pub mod StringPlaces
 pub mod Strings
-mod SmallExamples
-pub mod SmallLaws
 pub mod WordForms
 pub mod Words
 pub mod WorldLaws

@@ -1,5 +1,6 @@
--- The rows of the operators on arrays, strings and dictionaries, as far as the operands are arrays (PLRM2, 8 'Operators': Array). Each is a part of
--- the whole language's row: an operand that is no array is a typecheck here.
+-- The rows of the operators on arrays, strings and dictionaries, as far as the operands are arrays
+-- (PLRM2, 8 'Operators': Array). Each is a part of the whole language's row: an operand that is no
+-- array is a typecheck here.
 use Rattle.std.specs.Prelude.{ℕ, List, ◌∷◌, ◌&&◌, nat_le, Option, Some, None}
 use Rattle.ps_language.specs.declared.errors.ErrorName.TheVariants.{InvalidAccess, RangeCheck, StackUnderflow, TypeCheck}
 use Rattle.ps_language.specs.Value.{Part, Value, Store}
@@ -19,12 +20,14 @@ array_length_row _ = fails StackUnderflow
 
 -- A i get x
 abbrev pub array_get_row : Store → List Value → Outcome (List Value)
-array_get_row store (k ∷ x ∷ rest) = given (as_array x) TypeCheck λ part. get_element store part k rest
+array_get_row store (k ∷ x ∷ rest) =
+    given (as_array x) TypeCheck λ part. get_element store part k rest
 array_get_row store _ = fails StackUnderflow
 
 -- A i x put
 abbrev pub array_put_row : Store → List Value → Outcome Change
-array_put_row store (y ∷ k ∷ x ∷ rest) = given (as_array x) TypeCheck λ part. put_element store part k y rest
+array_put_row store (y ∷ k ∷ x ∷ rest) =
+    given (as_array x) TypeCheck λ part. put_element store part k y rest
 array_put_row store _ = fails StackUnderflow
 
 -- A i n getinterval B, with the access and attribute of A
@@ -57,7 +60,8 @@ array_copy_row store (y ∷ x ∷ rest) =
     given (as_array y) TypeCheck λ to.
     given_that (is_readable from.access && is_writable to.access) InvalidAccess
     (given_that (nat_le from.count to.count) RangeCheck
-    (changing (with_part y (part_at to 0 from.count) ∷ rest) (with_part_elements store to 0 (part_elements store from))))
+    (changing (with_part y (part_at to 0 from.count) ∷ rest)
+    (with_part_elements store to 0 (part_elements store from))))
 array_copy_row store _ = fails StackUnderflow
 
 -- ---- how many elements the rows store

@@ -30,9 +30,6 @@ pub mod RowsStack
 pub mod RowsTypes
 pub mod Scan
 pub mod Schedules
-pub mod Small
-pub mod SmallActs
-pub mod SmallRows
 pub mod Step
 pub mod StepBind
 pub mod StepErrors

@@ -117,7 +117,8 @@ abbrev pub erred : Machine → ErrorName → (command : Value) → (kept : Scene
 erred machine error command kept =
     reaches (settled (failed error command (with_scene kept running machine)))
 
--- by its turn; behind all other errors, a refused turn that asks for room is a VMerror, and the names that it formed stay
+-- by its turn; behind all other errors, a refused turn that asks for room is a VMerror, and the
+-- names that it formed stay
 abbrev pub after_turn : (refused : Bool) → Machine → Turn → Reached
 after_turn refused machine (goes scene output) = went machine scene output
 after_turn refused machine (tries command kept scene output) =

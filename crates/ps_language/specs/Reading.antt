@@ -1,4 +1,5 @@
--- What stands in front of a text: a token with what is left behind it, or a fault (PLRM2, 3.2, appendix B).
+-- What stands in front of a text: a token with what is left behind it, or a fault (PLRM2, 3.2,
+-- appendix B).
 use Rattle.std.specs.Prelude.{ℕ, ◌+◌, ◌-◌, ◌*◌, ◌^◌, ℤ, pos, negsuc, Bool, List, [], ◌∷◌, ◌++◌, length, nat_lt, nat_le, if◌then◌else◌, neg_ℤ}
 use Rattle.ps_language.specs.Bytes.{digit_of}
 use Rattle.ps_language.specs.Limits.{name_limit, sequence_limit}
@@ -34,10 +35,13 @@ count_of (more_tokens token rest) = 1 + count_of rest
 
 -- a name, a string and a procedure, unless it is past its limit
 unfoldable pub named : (List ℕ → Token) → (text rest : List ℕ) → Reading
-named name text rest = if nat_le (length text) name_limit then token_then (name text) rest else stuck limit_fault
+named name text rest =
+    if nat_le (length text) name_limit then token_then (name text) rest else stuck limit_fault
 
 unfoldable pub sized_string : (value rest : List ℕ) → Reading
-sized_string value rest = if nat_le (length value) sequence_limit then token_then (string_token value) rest else stuck limit_fault
+sized_string value rest =
+    if nat_le (length value) sequence_limit then token_then (string_token value) rest
+    else stuck limit_fault
 
 -- an unfinished string is a syntax fault, however long it is
 unfoldable pub string_reading : Ending → Reading
@@ -45,7 +49,9 @@ string_reading unfinished = stuck syntax_fault
 string_reading (string_end value rest) = sized_string value rest
 
 unfoldable pub enclosed : Tail → Reading
-enclosed (procedure_end elements rest) = if nat_le (count_of elements) sequence_limit then token_then (procedure_token elements) rest else stuck limit_fault
+enclosed (procedure_end elements rest) =
+    if nat_le (count_of elements) sequence_limit then token_then (procedure_token elements) rest
+    else stuck limit_fault
 enclosed (procedure_fault fault) = stuck fault
 
 -- ---- numbers
@@ -68,8 +74,11 @@ pub data Word : Type 0 where
 
 -- there are no reals here: one is past the limits
 unfoldable pub word_reading : (run rest : List ℕ) → Word → Reading
-word_reading run rest (integer_word number) = if fits_integer number then token_then (number_token number) rest else stuck limit_fault
-word_reading run rest (radix_word number) = if nat_lt number (2 ^ 32) then token_then (number_token (as_signed number)) rest else stuck limit_fault
+word_reading run rest (integer_word number) =
+    if fits_integer number then token_then (number_token number) rest else stuck limit_fault
+word_reading run rest (radix_word number) =
+    if nat_lt number (2 ^ 32) then token_then (number_token (as_signed number)) rest
+    else stuck limit_fault
 word_reading run rest real_word = stuck limit_fault
 word_reading run rest name_word = named executable_name_token run rest
 

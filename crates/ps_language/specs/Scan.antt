@@ -1,4 +1,5 @@
--- The scanner as a function: the first token of a text from a place on, with its end, or a fault (PLRM2, 3.2). Each function takes what is left of the text.
+-- The scanner as a function: the first token of a text from a place on, with its end, or a fault
+-- (PLRM2, 3.2). Each function takes what is left of the text.
 use Rattle.std.specs.Prelude.{ℕ, zero, suc, ◌+◌, ◌-◌, ◌%◌, ℤ, pos, neg_ℤ, Bool, true, false, not, ◌&&◌, ◌||◌, List, [], ◌∷◌, length, drop, filter, ◌==◌, nat_le, if◌then◌else◌}
 use Rattle.std.specs.List.{list_all}
 use Rattle.ps_language.specs.Bytes.{is_white, is_comment_end, is_regular, is_digit_in, is_digit, is_hex, is_hex_or_white, is_octal, is_sign, is_exponent_mark, value_in}
@@ -19,7 +20,12 @@ beyond test (b ∷ bs) = elim (test b) [ true ↦ beyond test bs | false ↦ b �
 unfoldable pub behind_blank : (is_in_comment : Bool) → List ℕ → List ℕ
 behind_blank is_in_comment [] = []
 behind_blank true (b ∷ bs) = behind_blank (not (is_comment_end b)) bs
-behind_blank false (b ∷ bs) = elim (is_white b) [ true ↦ behind_blank false bs | false ↦ elim (b == 37) [ true ↦ behind_blank true bs | false ↦ b ∷ bs ] ]
+behind_blank false (b ∷ bs) =
+    elim (is_white b) [
+      | true ↦ behind_blank false bs
+      | false ↦ elim (b == 37)
+          [ true ↦ behind_blank true bs | false ↦ b ∷ bs ]
+    ]
 
 -- ---- numbers and executable names (3.2)
 
@@ -56,23 +62,29 @@ unfoldable pub is_exponent : List ℕ → Bool
 is_exponent [] = false
 is_exponent (b ∷ bs) = is_exponent_mark b && are_digits (unsigned bs)
 
--- what follows the first digits of a real: a point, perhaps digits, perhaps an exponent; or an exponent
+-- what follows the first digits of a real: a point, perhaps digits, perhaps an exponent; or an
+-- exponent
 unfoldable pub is_real_tail : (has_digits : Bool) → List ℕ → Bool
 is_real_tail has_digits [] = false
 is_real_tail has_digits (b ∷ bs) = elim (b == 46) [
-  | true ↦ (has_digits || not (is_empty (leading is_digit bs))) && (is_empty (beyond is_digit bs) || is_exponent (beyond is_digit bs))
+  | true ↦ (has_digits || not (is_empty (leading is_digit bs)))
+      && (is_empty (beyond is_digit bs) || is_exponent (beyond is_digit bs))
   | false ↦ has_digits && is_exponent (b ∷ bs)
 ]
 
 -- whether these are a radix number's digits
 unfoldable pub are_radix_digits : (base : ℕ) → List ℕ → Bool
-are_radix_digits base ds = nat_le 2 base && nat_le base 36 && not (is_empty ds) && list_all (is_digit_in base) ds
+are_radix_digits base ds = nat_le 2 base && nat_le base 36 && not (is_empty ds)
+    && list_all (is_digit_in base) ds
 
 -- what a run of regular bytes is, by its first digits and what follows them
 unfoldable pub word_by : (run whole tail : List ℕ) → Word
-word_by run whole [] = if is_empty whole then name_word else integer_word (signed_value (is_negative run) (value_in 10 0 whole))
+word_by run whole [] =
+    if is_empty whole then name_word
+    else integer_word (signed_value (is_negative run) (value_in 10 0 whole))
 word_by run whole (b ∷ bs) = elim (b == 35) [
-  | true ↦ if not (is_signed run) && are_radix_digits (value_in 10 0 whole) bs then radix_word (value_in (value_in 10 0 whole) 0 bs) else name_word
+  | true ↦ if not (is_signed run) && are_radix_digits (value_in 10 0 whole) bs
+      then radix_word (value_in (value_in 10 0 whole) 0 bs) else name_word
   | false ↦ if is_real_tail (not (is_empty whole)) (b ∷ bs) then real_word else name_word
 ]
 
@@ -108,8 +120,15 @@ pub data Escape : Type 0 where
 
 -- an octal digit, a newline, n r t b f, or any other byte
 unfoldable pub escape_of : ℕ → Escape
-escape_of b = if is_octal b then octal_escape else (if b == 10 then feed_escape else (if b == 13 then return_escape else (if b == 110 then byte_escape 10 else (if b == 114 then byte_escape 13
-    else (if b == 116 then byte_escape 9 else (if b == 98 then byte_escape 8 else (if b == 102 then byte_escape 12 else byte_escape b)))))))
+escape_of b =
+    if is_octal b then octal_escape else
+    (if b == 10 then feed_escape else
+    (if b == 13 then return_escape else
+    (if b == 110 then byte_escape 10 else
+    (if b == 114 then byte_escape 13 else
+    (if b == 116 then byte_escape 9 else
+    (if b == 98 then byte_escape 8 else
+    (if b == 102 then byte_escape 12 else byte_escape b)))))))
 
 -- the bytes that an escape gives, and what is left behind it
 unfoldable pub escape_front : Escape → (text : List ℕ) → List ℕ
@@ -134,9 +153,13 @@ pub data Mark : Type 0 where
 
 -- 40 ( 41 ) 92 \ 13 carriage return
 unfoldable pub mark_of : ℕ → Mark
-mark_of b = if b == 40 then opening else (if b == 41 then closing else (if b == 92 then escaping else (if b == 13 then returning else plain)))
+mark_of b =
+    if b == 40 then opening else
+    (if b == 41 then closing else
+    (if b == 92 then escaping else (if b == 13 then returning else plain)))
 
--- the end of the string that goes on so, inside so many open parentheses; further reads what is left
+-- the end of the string that goes on so, inside so many open parentheses; further reads what is
+-- left
 unfoldable pub string_close : (further : ℕ → List ℕ → Ending) (depth : ℕ) (bs : List ℕ) → Ending
 string_close further zero bs = string_end [] bs
 string_close further (suc depth) bs = with_front (41 ∷ []) (further depth bs)
@@ -144,10 +167,13 @@ string_close further (suc depth) bs = with_front (41 ∷ []) (further depth bs)
 -- behind a backslash
 unfoldable pub string_escape : (further : ℕ → List ℕ → Ending) (depth : ℕ) (bs : List ℕ) → Ending
 string_escape further depth [] = unfinished
-string_escape further depth (c ∷ bs) = with_front (escape_front (escape_of c) (c ∷ bs)) (further depth (escape_rest (escape_of c) (c ∷ bs)))
+string_escape further depth (c ∷ bs) =
+    with_front (escape_front (escape_of c) (c ∷ bs))
+    (further depth (escape_rest (escape_of c) (c ∷ bs)))
 
 -- one byte, and what follows
-unfoldable pub string_step : (further : ℕ → List ℕ → Ending) (depth b : ℕ) (bs : List ℕ) → Mark → Ending
+unfoldable pub string_step : (further : ℕ → List ℕ → Ending) (depth b : ℕ) (bs : List ℕ) → Mark
+    → Ending
 string_step further depth b bs opening = with_front (40 ∷ []) (further (suc depth) bs)
 string_step further depth b bs closing = string_close further depth bs
 string_step further depth b bs escaping = string_escape further depth bs
@@ -169,7 +195,8 @@ string_from depth text = string_body (suc (length text)) depth text
 -- inner is what may stand in the string, and after is what follows
 unfoldable pub hex_reading : (inner after : List ℕ) → Reading
 hex_reading inner [] = stuck syntax_fault
-hex_reading inner (b ∷ bs) = if b == 62 then sized_string (pairs (filter is_hex inner)) bs else stuck syntax_fault
+hex_reading inner (b ∷ bs) =
+    if b == 62 then sized_string (pairs (filter is_hex inner)) bs else stuck syntax_fault
 
 -- ---- tokens but for procedures (3.2)
 
@@ -185,24 +212,44 @@ pub data Start : Type 0 where
 
 -- 40 ( 60 < 62 > 91 [ 93 ] 47 /
 unfoldable pub start_of : ℕ → Start
-start_of b = if is_regular b then regular_start else (if b == 40 then string_start else (if b == 60 then hex_start else (if b == 62 then angle_start else (if b == 91 then bracket_start else (if b == 93 then bracket_start else (if b == 47 then slash_start else stray_start))))))
+start_of b =
+    if is_regular b then regular_start else
+    (if b == 40 then string_start else
+    (if b == 60 then hex_start else
+    (if b == 62 then angle_start else
+    (if b == 91 then bracket_start else
+    (if b == 93 then bracket_start else
+    (if b == 47 then slash_start else stray_start))))))
 
 -- behind an opening angle, behind a closing one, behind a slash
 unfoldable pub after_hex_start : List ℕ → Reading
 after_hex_start [] = stuck syntax_fault
-after_hex_start (b ∷ bs) = elim (b == 60) [ true ↦ token_then (executable_name_token (60 ∷ 60 ∷ [])) bs | false ↦ hex_reading (leading is_hex_or_white (b ∷ bs)) (beyond is_hex_or_white (b ∷ bs)) ]
+after_hex_start (b ∷ bs) =
+    elim (b == 60) [
+      | true ↦ token_then (executable_name_token (60 ∷ 60 ∷ [])) bs
+      | false ↦ hex_reading (leading is_hex_or_white (b ∷ bs))
+          (beyond is_hex_or_white (b ∷ bs))
+    ]
 
 unfoldable pub after_angle : List ℕ → Reading
 after_angle [] = stuck syntax_fault
-after_angle (b ∷ bs) = if b == 62 then token_then (executable_name_token (62 ∷ 62 ∷ [])) bs else stuck syntax_fault
+after_angle (b ∷ bs) =
+    if b == 62 then token_then (executable_name_token (62 ∷ 62 ∷ [])) bs else stuck syntax_fault
 
 unfoldable pub after_slash : List ℕ → Reading
 after_slash [] = named literal_name_token [] []
-after_slash (b ∷ bs) = elim (b == 47) [ true ↦ named immediate_name_token (leading is_regular bs) (beyond is_regular bs) | false ↦ named literal_name_token (leading is_regular (b ∷ bs)) (beyond is_regular (b ∷ bs)) ]
+after_slash (b ∷ bs) =
+    elim (b == 47) [
+      | true ↦ named immediate_name_token (leading is_regular bs) (beyond is_regular bs)
+      | false ↦
+          named literal_name_token (leading is_regular (b ∷ bs)) (beyond is_regular (b ∷ bs))
+    ]
 
 -- the token that begins with this byte
 unfoldable pub simple_by : Start → (b : ℕ) (bs : List ℕ) → Reading
-simple_by regular_start b bs = word_reading (leading is_regular (b ∷ bs)) (beyond is_regular (b ∷ bs)) (word_of (leading is_regular (b ∷ bs)))
+simple_by regular_start b bs =
+    word_reading (leading is_regular (b ∷ bs)) (beyond is_regular (b ∷ bs))
+    (word_of (leading is_regular (b ∷ bs)))
 simple_by string_start b bs = string_reading (string_from 0 bs)
 simple_by hex_start b bs = after_hex_start bs
 simple_by angle_start b bs = after_angle bs
@@ -218,14 +265,18 @@ then_elements further (stuck fault) = procedure_fault fault
 then_elements further (token_then token rest) = with_first token (further rest)
 
 -- at a closing brace (125), at an element, or at the end of the text
-unfoldable pub elements_step : (element : ℕ → List ℕ → Reading) (further : List ℕ → Tail) → List ℕ → Tail
+unfoldable pub elements_step : (element : ℕ → List ℕ → Reading) (further : List ℕ → Tail) → List ℕ
+    → Tail
 elements_step element further [] = procedure_fault syntax_fault
-elements_step element further (b ∷ bs) = elim (b == 125) [ true ↦ procedure_end no_tokens bs | false ↦ then_elements further (element b bs) ]
+elements_step element further (b ∷ bs) =
+    elim (b == 125)
+    [ true ↦ procedure_end no_tokens bs | false ↦ then_elements further (element b bs) ]
 
 -- the elements up to the closing brace, by a counter that is above the length of what is left
 unfoldable pub elements : (element : ℕ → List ℕ → Reading) (counter : ℕ) → List ℕ → Tail
 elements element zero text = procedure_fault syntax_fault
-elements element (suc counter) text = elements_step element (elements element counter) (behind_blank false text)
+elements element (suc counter) text =
+    elements_step element (elements element counter) (behind_blank false text)
 
 -- the elements, with a counter that is high enough
 abbrev pub elements_from : (element : ℕ → List ℕ → Reading) → List ℕ → Tail
@@ -234,7 +285,11 @@ elements_from element text = elements element (suc (length text)) text
 -- the token that begins with this byte, where so many braces may still be opened
 unfoldable pub token_here : (room b : ℕ) (bs : List ℕ) → Reading
 token_here zero b bs = if b == 123 then stuck limit_fault else simple_by (start_of b) b bs
-token_here (suc room) b bs = elim (b == 123) [ true ↦ enclosed (elements_from (token_here room) bs) | false ↦ simple_by (start_of b) b bs ]
+token_here (suc room) b bs =
+    elim (b == 123) [
+      | true ↦ enclosed (elements_from (token_here room) bs)
+      | false ↦ simple_by (start_of b) b bs
+    ]
 
 -- ---- the first token of a text from a place on
 

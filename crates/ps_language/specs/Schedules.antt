@@ -1,4 +1,5 @@
--- Schedules: which context makes each step of a run (the form is this profile's own; PLRM2, 7.1, leaves the order of contexts open).
+-- Schedules: which context makes each step of a run (the form is this profile's own; PLRM2, 7.1,
+-- leaves the order of contexts open).
 use Rattle.std.specs.Prelude.{◌≡◌, ℕ, zero, suc, ℤ, ◌+◌, ◌&&◌, ◌==◌, Bool, true, false, not, Option, None, is_none, List, [], ◌∷◌, ◌++◌, length, replicate, nat_lt, if◌then◌else◌}
 use Rattle.ps_language.specs.declared.schedules.Entry.{Entry}
 
@@ -36,29 +37,40 @@ count_of schedule = length (moves schedule)
 abbrev pub steps_limit : ℕ
 steps_limit = 4294967295
 
--- whether a further step of a context joins an entry: the entry is of that context, its last step is an ordinary one, and it isn't full
+-- whether a further step of a context joins an entry: the entry is of that context, its last step
+-- is an ordinary one, and it isn't full
 abbrev pub joins : Entry → ℕ → Bool
-joins entry context = (entry.context == context) && (not entry.refused && (is_none entry.shown && nat_lt entry.steps steps_limit))
+joins entry context = (entry.context == context)
+    && (not entry.refused && (is_none entry.shown && nat_lt entry.steps steps_limit))
 
 -- an entry of one step
 abbrev pub single : Move → Entry
-single move = record { context = move.context; steps = 1; refused = move.refused; shown = move.shown }
+single move =
+    record { context = move.context; steps = 1; refused = move.refused; shown = move.shown }
 
 -- an entry with a step more
 abbrev pub joined : Entry → Move → Entry
-joined entry move = record { context = entry.context; steps = entry.steps + 1; refused = move.refused; shown = move.shown }
+joined entry move =
+    record {
+      context = entry.context;
+      steps = entry.steps + 1;
+      refused = move.refused;
+      shown = move.shown;
+    }
 
 -- a step more joins the last entry, where it can
 abbrev pub added : List Entry → Move → List Entry
 added [] move = single move ∷ []
-added (entry ∷ []) move = if joins entry move.context then joined entry move ∷ [] else entry ∷ single move ∷ []
+added (entry ∷ []) move =
+    if joins entry move.context then joined entry move ∷ [] else entry ∷ single move ∷ []
 added (entry ∷ next ∷ entries) move = entry ∷ added (next ∷ entries) move
 
 -- each entry has a step, and no two neighbours could be one
 abbrev pub is_longest : List Entry → Bool
 is_longest [] = true
 is_longest (entry ∷ []) = nat_lt 0 entry.steps
-is_longest (entry ∷ next ∷ entries) = nat_lt 0 entry.steps && (not (joins entry next.context) && is_longest (next ∷ entries))
+is_longest (entry ∷ next ∷ entries) = nat_lt 0 entry.steps
+    && (not (joins entry next.context) && is_longest (next ∷ entries))
 
 -- ---- beginnings
 

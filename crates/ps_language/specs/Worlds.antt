@@ -98,7 +98,8 @@ type_names =
     codes "arraytype" ∷ codes "stringtype" ∷ codes "dicttype" ∷ codes "locktype"
     ∷ codes "conditiontype" ∷ []
 
--- The names met at the start, in this order: the keys of systemdict in theirs, the errors by the letter, the types of values, the keys of $error
+-- The names met at the start, in this order: the keys of systemdict in theirs, the errors by the
+-- letter, the types of values, the keys of $error
 unfoldable pub first_names : List (List ℕ)
 first_names = map operator_name every_operator ++ names_of value_pairs ++ map error_text every_error
     ++ type_names ++ names_of new_error_pairs

@@ -18,7 +18,8 @@ use std::hash::RandomState;
 use std::process::Abort;
 use std::test::Fail;
 
-/// Counts no operand, prints the count, pops what isn't there: no frame is left, so the error is told.
+/// Counts no operand, prints the count, pops what isn't there: no frame is left, so the error is
+/// told.
 fn step_row<M: Memory>(rt: &impl Abort, context: &mut Context, shared: &mut Shared, memory: &mut M)
     requires good { IsGood
         (lent (M.heap memory.old) (M.grants memory.old) context.old shared.old) }
@@ -153,8 +154,8 @@ fn conversions_row<M: Memory>(
     );
 }
 
-/// `count dict begin count count def count count store count load = currentdict count dup put currentdict count get =
-/// currentdict count undef currentdict length =`
+/// `count dict begin count count def count count store count load = currentdict count dup put
+/// currentdict count get = currentdict count undef currentdict length =`
 fn dictionaries_row<M: Memory>(
     rt: &impl Abort,
     context: &mut Context,

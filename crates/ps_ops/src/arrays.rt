@@ -4,10 +4,12 @@ ghost use Rattle.std.specs.Prelude.{◌≡◌, ℕ, ◌+◌, ◌<◌, ◌≤◌,
 ghost use Rattle.ps_language.specs.Access as language;
 ghost use Rattle.ps_language.specs.Readers as readers;
 ghost use Rattle.ps_language.specs.RowsSequences as sequences;
+ghost use Rattle.ps_language.specs.RowsSequences.{aload_row};
 ghost use Rattle.ps_mem.specs.Heap.{Heap, fields_at};
 ghost use Rattle.ps_mem.specs.References.{StandsAs};
 ghost use Rattle.ps_mem.specs.Shows.{IsReady};
 ghost use Rattle.ps_language.specs.ArrayRows as rows;
+ghost use Rattle.ps_language.specs.ArrayRows.{array_get_row};
 ghost use Rattle.ps_ops.specs.Does.{Observes};
 
 use crate::Operands;
@@ -95,7 +97,7 @@ pub fn get<M: Memory>(operands: &mut Operands, memory: &mut M) -> Result<(), Err
     requires ready { IsReady (M.heap memory.old) operands.old }
     ensures heap { M.heap memory.new ≡ M.heap memory.old }
     ensures grants { M.grants memory.new ≡ M.grants memory.old }
-    ensures does { Observes rows.array_get_row result (M.heap memory.old) operands.old operands.new }
+    ensures does { Observes array_get_row result (M.heap memory.old) operands.old operands.new }
     ensures ready { IsReady (M.heap memory.old) operands.new }
 {
     let Some((key, array)) = operands.top_two() else {
@@ -197,7 +199,7 @@ pub fn aload<M: Memory>(operands: &mut Operands, memory: &mut M) -> Result<(), E
     requires ready { IsReady (M.heap memory.old) operands.old }
     ensures heap { M.heap memory.new ≡ M.heap memory.old }
     ensures grants { M.grants memory.new ≡ M.grants memory.old }
-    ensures does { Observes sequences.aload_row result (M.heap memory.old) operands.old operands.new }
+    ensures does { Observes aload_row result (M.heap memory.old) operands.old operands.new }
     ensures ready { IsReady (M.heap memory.old) operands.new }
 {
     let Some(array) = operands.top() else {

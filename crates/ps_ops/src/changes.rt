@@ -11,6 +11,7 @@ ghost use Rattle.ps_mem.specs.Meaning.{part_of};
 ghost use Rattle.ps_mem.specs.Keeps.{Keeps};
 ghost use Rattle.ps_mem.specs.Shows.{IsSound, IsReady, AreWithin, Shows};
 ghost use Rattle.ps_language.specs.ArrayRows as rows;
+ghost use Rattle.ps_language.specs.ArrayRows.{array_putinterval_row, topmost_count};
 ghost use Rattle.ps_ops.specs.Does.{values_in, Changes, KeepsLogs, KeepsLogsWithin, spent};
 
 use crate::Operands;
@@ -38,7 +39,7 @@ pub fn permitted<M: Memory>(memory: &mut M, slot: u32, count: u32) -> Result<(),
     ensures closed { (result ≡ Err NotMade.LogClosed)
         ↔ ((1 ≤ count) × IsTrue ((M.grants memory.old).closed slot)) }
     ensures full { result ≡ Err NotMade.LogFull → (M.grants memory.new).records slot < count }
-    ensures reason { IfErr result (λ reason. (reason ≡ NotMade.LogFull) ⊎ (reason ≡ NotMade.LogClosed)) }
+    ensures reason { IfErr result (λ why. (why ≡ NotMade.LogFull) ⊎ (why ≡ NotMade.LogClosed)) }
 {
     match memory.permit(slot, count) {
         Permit::Yes => Ok(()),
@@ -101,7 +102,7 @@ pub fn putinterval<M: Memory>(
 ) -> Result<(), Failure>
     requires slot { slot < SLOTS }
     requires ready { IsReady (M.heap memory.old) operands.old }
-    ensures does { Changes rows.array_putinterval_row rows.topmost_count result slot (M.grants memory.old)
+    ensures does { Changes array_putinterval_row topmost_count result slot (M.grants memory.old)
         (M.grants memory.new) (M.heap memory.old) (M.heap memory.new) operands.old operands.new }
     ensures ready { IsReady (M.heap memory.new) operands.new }
     ensures keeps { Keeps (M.heap memory.old) (M.heap memory.new) }
@@ -181,7 +182,8 @@ pub fn copy<M: Memory>(operands: &mut Operands, memory: &mut M, slot: u32) -> Re
 fn store_elements<M: Memory>(operands: &Operands, memory: &mut M, slot: u32, part: Part)
     requires granted { 1 ≤ part.length → 1 ≤ (M.grants memory.old).records slot }
     requires ready { IsReady (M.heap memory.old) operands.now }
-    requires stands { StandsAs (M.heap memory.old) Kind.Array part.address (part.offset + part.length) }
+    requires stands { let end = part.offset + part.length in
+        StandsAs (M.heap memory.old) Kind.Array part.address end }
     requires within { part.length ≤ length operands.now }
     ensures sound { IsSound (M.heap memory.new) }
     ensures keeps { Keeps (M.heap memory.old) (M.heap memory.new) }

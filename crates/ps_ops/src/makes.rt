@@ -2,6 +2,7 @@
 
 ghost use Rattle.std.specs.Prelude.{◌≡◌, ◌≤◌, OnOk, IfErr};
 ghost use Rattle.ps_language.specs.RowsSequences as sequences;
+ghost use Rattle.ps_language.specs.RowsSequences.{end_array_row};
 ghost use Rattle.ps_mem.specs.Heap.{Heap};
 ghost use Rattle.ps_mem.specs.Keeps.{Keeps};
 ghost use Rattle.ps_mem.specs.Shows.{IsReady};
@@ -89,7 +90,7 @@ pub fn end_array<M: Memory>(
     refused: bool,
 ) -> Result<(), Failure>
     requires ready { IsReady (M.heap memory.old) operands.old }
-    ensures does { Makes sequences.end_array_row refused result (M.heap memory.old) (M.heap memory.new)
+    ensures does { Makes end_array_row refused result (M.heap memory.old) (M.heap memory.new)
         operands.old operands.new }
     ensures spends { KeepsLogsWithin 0 (M.grants memory.old) (M.grants memory.new) slot }
     ensures ready { IsReady (M.heap memory.new) operands.new }

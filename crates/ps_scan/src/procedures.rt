@@ -17,7 +17,8 @@ pub(crate) fn token_from(
     room: u8,
 ) -> Result<Token, ScanFault>
     requires { at < length bytes.now }
-    ensures { IsAnswer (MayStarve room bytes.now at) bytes.now at result (token_at room bytes.now at) }
+    ensures { let reading = token_at room bytes.now at in
+        IsAnswer (MayStarve room bytes.now at) bytes.now at result reading }
 {
     if bytes[at] != b'{' {
         return simple_token(alloc, bytes, at);

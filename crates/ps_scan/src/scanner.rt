@@ -17,7 +17,7 @@ pub fn next_token(alloc: Global, bytes: &[u8], at: usize) -> Result<Option<Token
     // a token exactly where the grammar has one, and nothing exactly where only white space and
     // comments are left
     ensures answer { IfOk result (λ token. scan bytes.now at ≡ scan_of bytes.now token) }
-    ensures place { IfOk result (λ token. IfSome token (λ t. (at < t.end) × (t.end ≤ length bytes.now))) }
+    ensures place { IfOk result (λ o. IfSome o (λ t. (at < t.end) × (t.end ≤ length bytes.now))) }
     // a fault exactly where the grammar has it; memory for nothing but strings that aren't empty
     // and procedures
     ensures fault { IfErr result (IsFaultBy bytes.now at) }

@@ -43,7 +43,8 @@ fn octal_digit(bytes: &[u8], at: usize) -> Option<u8>
     ensures some { IfSome result (λ digit. (at < length bytes.now)
         × (is_octal (slice_index bytes.now at) ≡ true)
         × (digit ≡ digit_of (slice_index bytes.now at)) × (digit < 8)) }
-    ensures none { IfNone result (at < length bytes.now → is_octal (slice_index bytes.now at) ≡ false) }
+    ensures none { let byte = slice_index bytes.now at in
+        IfNone result (at < length bytes.now → is_octal byte ≡ false) }
 {
     if at >= bytes.len() {
         return None;
@@ -109,7 +110,8 @@ fn letter_byte(letter: u8) -> u8
 /// What a backslash gives with what stands behind it, at `at`; nothing where the text ends there.
 fn escape_part(bytes: &[u8], at: usize) -> Option<Part>
     requires { at ≤ length bytes.now }
-    ensures part { PartReads bytes.now result (λ depth. string_escape string_from depth (drop at bytes.now)) }
+    ensures part { let rest = drop at bytes.now in
+        PartReads bytes.now result (λ depth. string_escape string_from depth rest) }
     ensures place { IfSome result (λ part. (at < part.next) × (part.next ≤ length bytes.now)) }
 {
     if at >= bytes.len() {

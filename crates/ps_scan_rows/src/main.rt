@@ -1,4 +1,5 @@
-//! Scans the rows of its input and prints their tokens, and then the texts of a fixed generator by two scanners; with a number of megabytes it measures the speed.
+//! Scans the rows of its input and prints their tokens, and then the texts of a fixed generator by
+//! two scanners; with a number of megabytes it measures the speed.
 #![tactic(auto)]
 
 mod rows;

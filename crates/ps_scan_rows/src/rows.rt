@@ -1,4 +1,5 @@
-//! Rows of texts, one a line: fields `TIMES:TEXT` with tabs between them, where `\\` and two hexadecimal digits are a byte.
+//! Rows of texts, one a line: fields `TIMES:TEXT` with tabs between them, where `\\` and two
+//! hexadecimal digits are a byte.
 
 use crate::shown::{show_fault, show_next, show_size};
 use ps_scan::{ScanFault, TokenKind, next_token};

@@ -1,4 +1,5 @@
-//! Tokens as texts: `12`, `name`, `/literal`, `//immediate`, `(` the bytes of a string in hexadecimal `)`, `{` elements, each with a space, `}`.
+//! Tokens as texts: `12`, `name`, `/literal`, `//immediate`, `(` the bytes of a string in
+//! hexadecimal `)`, `{` elements, each with a space, `}`.
 
 use ps_scan::{ScanFault, Token, TokenKind, next_token};
 use std::alloc::{AllocError, Global};
@@ -62,7 +63,8 @@ pub fn show_end(alloc: Global, out: &mut Vec<u8>, end: usize) -> Result<(), Allo
     out.extend_from_slice(place.as_bytes())
 }
 
-/// Writes what stands at a place of a text: a token with its end, `.` where nothing is left, `!` and a fault; gives the token's end.
+/// Writes what stands at a place of a text: a token with its end, `.` where nothing is left, `!`
+/// and a fault; gives the token's end.
 pub fn show_next(
     alloc: Global,
     out: &mut Vec<u8>,

@@ -1,4 +1,5 @@
-//! A scanner by the letter of the grammar: each run is looked for anew, a real is looked for at each of its splits, and procedures are gone through with a counter of open braces.
+//! A scanner by the letter of the grammar: each run is looked for anew, a real is looked for at
+//! each of its splits, and procedures are gone through with a counter of open braces.
 
 ghost use Rattle.std.specs.Prelude.{◌≡◌, ◌≢◌, [], ◌∷◌, take, drop};
 ghost use Rattle.ps_language.specs.Bytes as bytes;

@@ -1,4 +1,5 @@
-//! Texts of a fixed generator, scanned from each of their places by the scanner and by the slow one.
+//! Texts of a fixed generator, scanned from each of their places by the scanner and by the slow
+//! one.
 
 ghost use Rattle.std.specs.Prelude.{◌≡◌, ◌≢◌, ◌+◌, ◌*◌, ◌^◌, ◌<◌, ◌≤◌, IfOk, vec_len};
 
@@ -103,10 +104,17 @@ impl Outcome {
     fn count(&mut self, fast: &[u8], slow: &[u8])
         requires few { self.old.places + 1 < 2 ^ 64 }
         requires some { self.old.differences ≤ self.old.places }
-        ensures place { self.new ≡ record self.old { places = self.old.places + 1; differences = self.new.differences } }
+        ensures place { self.new
+            ≡ record self.old { places = self.old.places + 1; differences = self.new.differences } }
         ensures some { self.new.differences ≤ self.new.places }
-        ensures same { fast.now ≡ slow.now → self.new ≡ record self.old { places = self.old.places + 1 } }
-        ensures differs { fast.now ≢ slow.now → self.new ≡ record self.old { places = self.old.places + 1; differences = self.old.differences + 1 } }
+        ensures same { fast.now ≡ slow.now → self.new
+            ≡ record self.old { places = self.old.places + 1 } }
+        ensures differs { fast.now ≢ slow.now → self.new
+            ≡ record self.old {
+              places = self.old.places + 1;
+              differences =
+                  self.old.differences + 1;
+            } }
     {
         self.places += 1;
         if fast != slow {

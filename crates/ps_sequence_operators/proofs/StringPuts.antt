@@ -19,7 +19,7 @@ use Rattle.ps_mem.specs.Shows.{IsValue, AreValues, IsWithin, IsWithinContent, Ar
 use Rattle.ps_mem.proofs.Lists.{length-splice}
 use Rattle.ps_seq.proofs.TextLemmas.{text_at}
 use Rattle.ps_ops.specs.Does.{values_in}
-use Rattle.ps_operators.proofs.Asking.{IsUnasked, Leaving, leaving_error, leaving_given, leaving_given_that}
+use Rattle.ps_acts.proofs.Asking.{IsUnasked, Leaving, leaving_error, leaving_given, leaving_given_that}
 use Rattle.ps_strings.specs.StringRows.{string_put_row}
 use Rattle.ps_strings.proofs.Changed.{longer}
 use Rattle.ps_acts.proofs.Changing.{RowLasts, lasts_given, lasts_given_that}

@@ -18,8 +18,8 @@ use ps_ops::arrays::interval_within;
 use ps_ops::changes::may_copy;
 use ps_ops::readers::integer_of;
 
-/// `X i Y putinterval`: what `Y` holds into `X` from `i` on, two arrays or two strings, as if all was
-/// read first. Raises `stackunderflow`, `typecheck`, `invalidaccess` and `rangecheck`. Not made
+/// `X i Y putinterval`: what `Y` holds into `X` from `i` on, two arrays or two strings, as if all
+/// was read first. Raises `stackunderflow`, `typecheck`, `invalidaccess` and `rangecheck`. Not made
 /// where something is copied and the log takes no record, or a list for bytes can't grow.
 pub fn putinterval<M: Memory>(
     context: &mut Context,
@@ -56,8 +56,8 @@ pub fn putinterval<M: Memory>(
     Ok(())
 }
 
-/// `x1 .. xn n copy x1 .. xn x1 .. xn`, or `X Y copy Z` but for dictionaries: what `X` holds into the
-/// front of `Y`, two arrays or two strings, and that part of `Y`. Raises `stackunderflow`,
+/// `x1 .. xn n copy x1 .. xn x1 .. xn`, or `X Y copy Z` but for dictionaries: what `X` holds into
+/// the front of `Y`, two arrays or two strings, and that part of `Y`. Raises `stackunderflow`,
 /// `typecheck`, `rangecheck`, `stackoverflow` and `invalidaccess`. Not made as `putinterval`.
 pub fn copy_sequence<M: Memory>(
     context: &mut Context,

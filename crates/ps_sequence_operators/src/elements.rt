@@ -1,5 +1,5 @@
-//! Single elements of arrays and strings, and all elements of an array (PLRM2, 8 'Operators': Array,
-//! String).
+//! Single elements of arrays and strings, and all elements of an array (PLRM2, 8 'Operators':
+//! Array, String).
 
 ghost use Rattle.std.specs.Prelude.{◌≡◌, ◌<◌, false};
 ghost use Rattle.ps_language.specs.ArrayRows.{one_stored, topmost_count};

@@ -13,8 +13,8 @@ use ps_mem::Memory;
 use ps_ops::arrays;
 use ps_strings::strings;
 
-/// `X i n getinterval Y`: `n` elements of an array or bytes of a string from `i` on, shared with it.
-/// Raises `stackunderflow`, `typecheck`, `invalidaccess` and `rangecheck`.
+/// `X i n getinterval Y`: `n` elements of an array or bytes of a string from `i` on, shared with
+/// it. Raises `stackunderflow`, `typecheck`, `invalidaccess` and `rangecheck`.
 pub fn getinterval<M: Memory>(
     context: &mut Context,
     shared: &mut Shared,

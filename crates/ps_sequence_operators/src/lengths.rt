@@ -59,8 +59,8 @@ fn measure<M: Memory>(memory: &mut M, names: &Names, word: Word) -> Option<(u32,
     Some((count, dictionaries::access(memory, address)))
 }
 
-/// `x length n`: of an array, a string, a dictionary or a name. Raises `stackunderflow`, `typecheck`
-/// and `invalidaccess`.
+/// `x length n`: of an array, a string, a dictionary or a name. Raises `stackunderflow`,
+/// `typecheck` and `invalidaccess`.
 pub fn length<M: Memory>(
     context: &mut Context,
     shared: &mut Shared,

@@ -58,7 +58,8 @@ pub fn pair_of(source: Word, target: Word) -> Option<Pair>
     ensures within { (births : ℕ → ℕ) (names : List (List ℕ)) (s : Store)
         → IsWithin births names s source → IsWithin births names s target
         → IfSome result (IsPairWithin births s) }
-    ensures end { IsWord target.0 → IfSome result (λ pair. pair.to.offset + pair.to.length < 2 ^ 16) }
+    ensures end { IsWord target.0
+        → IfSome result (λ pair. pair.to.offset + pair.to.length < 2 ^ 16) }
 {
     if let Some(to) = array_of(target) {
         return match array_of(source) {

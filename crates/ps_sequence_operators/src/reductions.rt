@@ -26,8 +26,8 @@ use ps_ops::changes::permitted;
 use ps_ops::failure::NotMade;
 use ps_types::attributes::reduces_to;
 
-/// Gives a dictionary another access, with one record. Not made where the log takes none; nothing has
-/// changed then.
+/// Gives a dictionary another access, with one record. Not made where the log takes none; nothing
+/// has changed then.
 fn reduce_dictionary<M: Memory>(
     memory: &mut M,
     slot: u32,
@@ -93,9 +93,9 @@ fn reduce<M: Memory>(
     }
 }
 
-/// `X readonly X`: an array or a string that can't be written, or a dictionary whose object can't be.
-/// Raises `stackunderflow`, `typecheck`, and `invalidaccess` where less is permitted already. Not
-/// made where a dictionary's access is stored and the log takes no record.
+/// `X readonly X`: an array or a string that can't be written, or a dictionary whose object can't
+/// be. Raises `stackunderflow`, `typecheck`, and `invalidaccess` where less is permitted already.
+/// Not made where a dictionary's access is stored and the log takes no record.
 pub fn readonly<M: Memory>(
     context: &mut Context,
     shared: &mut Shared,
@@ -112,8 +112,8 @@ pub fn readonly<M: Memory>(
     reduce(context, shared, memory, trial, Access::ReadOnly)
 }
 
-/// `X noaccess X`: an array or a string of which nothing can be done, or a dictionary whose object is
-/// so. Raises `stackunderflow` and `typecheck`. Not made as `readonly`.
+/// `X noaccess X`: an array or a string of which nothing can be done, or a dictionary whose object
+/// is so. Raises `stackunderflow` and `typecheck`. Not made as `readonly`.
 pub fn noaccess<M: Memory>(
     context: &mut Context,
     shared: &mut Shared,

@@ -11,9 +11,9 @@ use ps_acts::lent::{Context, Shared, Trial};
 use ps_mem::Memory;
 use ps_strings::searches;
 
-/// `S T search behind match before true` at the first place where `S` has the bytes of `T`, else `S
-/// false`. Raises `stackunderflow`, `typecheck`, `invalidaccess` and `stackoverflow`. Not made where
-/// a list for the bytes of either can't grow.
+/// `S T search behind match before true` at the first place where `S` has the bytes of `T`, else
+/// `S false`. Raises `stackunderflow`, `typecheck`, `invalidaccess` and `stackoverflow`. Not made
+/// where a list for the bytes of either can't grow.
 pub fn search<M: Memory>(
     context: &mut Context,
     shared: &mut Shared,

@@ -5,6 +5,7 @@ ghost use Rattle.ps_mem.specs.Heap.{Heap};
 ghost use Rattle.ps_mem.specs.Shows.{IsReady};
 ghost use Rattle.ps_ops.specs.Does.{Observes};
 ghost use Rattle.ps_strings.specs.StringRows as rows;
+ghost use Rattle.ps_strings.specs.StringRows.{string_get_row};
 
 use crate::readers::{string_of, with_string_part};
 use ps_language::errors::ErrorName;
@@ -45,7 +46,7 @@ pub fn get<M: Memory>(operands: &mut Operands, memory: &mut M) -> Result<(), Err
     requires ready { IsReady (M.heap memory.old) operands.old }
     ensures heap { M.heap memory.new ≡ M.heap memory.old }
     ensures grants { M.grants memory.new ≡ M.grants memory.old }
-    ensures does { Observes rows.string_get_row result (M.heap memory.old) operands.old operands.new }
+    ensures does { Observes string_get_row result (M.heap memory.old) operands.old operands.new }
     ensures ready { IsReady (M.heap memory.old) operands.new }
 {
     let Some((key, string)) = operands.top_two() else {

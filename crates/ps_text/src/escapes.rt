@@ -34,7 +34,8 @@ fn append_escape(byte: u8, end: usize, output: &mut Vec<u8>) -> Result<(), Alloc
     requires { length output.old.items ≤ end }
     ensures goes_on { GoesOn end output.old.items output.new.items }
     ensures capacity { vec_capacity output.old ≤ vec_capacity output.new }
-    ensures ok { OnOk result (output.new.items ≡ take end (output.old.items ++ texts.escaped byte)) }
+    ensures ok { let shown = output.old.items ++ texts.escaped byte in
+        OnOk result (output.new.items ≡ take end shown) }
     ensures full { OnErr result (vec_capacity output.old < length (take end (output.old.items
         ++ texts.escaped byte))) }
 {

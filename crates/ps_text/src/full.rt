@@ -180,8 +180,9 @@ pub fn append_full<M: Memory>(
         memory.old)) names.now s word → OnOk result (output.new.items ≡ output.old.items
         ++ full_text s (value_of (birth_at (M.heap memory.old)) names.now word)) }
     ensures full { (s : Store) → Shows (M.heap memory.old) names.now s → IsWithin (birth_at (M.heap
-        memory.old)) names.now s word → OnErr result (vec_capacity output.old < length
-        (output.old.items ++ full_text s (value_of (birth_at (M.heap memory.old)) names.now word))) }
+        memory.old)) names.now s word → let text =
+        full_text s (value_of (birth_at (M.heap memory.old)) names.now word) in
+        OnErr result (vec_capacity output.old < length (output.old.items ++ text)) }
     ensures front { take (length output.old.items) output.new.items ≡ output.old.items }
     ensures err { OnErr result (output.new.items ≡ output.old.items) }
 {

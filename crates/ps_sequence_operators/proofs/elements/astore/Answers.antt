@@ -1,5 +1,5 @@
 -- All elements of an array.
-use Rattle.ps_operators.proofs.Asking.{astore_unasked}
+use Rattle.ps_acts.proofs.Asking.{astore_unasked}
 use Rattle.ps_acts.proofs.Alike.{came_acts}
 use Rattle.ps_acts.proofs.Changing.{changes_acts, astore_lasts}
 use Rattle.ps_sequence_operators.proofs.elements.astore.Goals as goal

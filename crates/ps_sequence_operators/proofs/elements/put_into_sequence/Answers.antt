@@ -1,6 +1,6 @@
 -- By the type of what is written.
 use Rattle.std.proofs.Common.{sym, ◌∙◌}
-use Rattle.ps_operators.proofs.Asking.{put_unasked}
+use Rattle.ps_acts.proofs.Asking.{put_unasked}
 use Rattle.ps_acts.proofs.Alike.{came_acts, effect_acts}
 use Rattle.ps_acts.proofs.Changing.{changes_acts, put_lasts}
 use Rattle.ps_sequence_operators.proofs.ElementRows.{put_into_array, put_into_string}
