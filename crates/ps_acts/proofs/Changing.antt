@@ -33,7 +33,7 @@ use Rattle.ps_ops.specs.declared.failure.NotMade.TheVariants.{LogFull, LogClosed
 use Rattle.ps_ops.specs.declared.failure.Failure.{Failure}
 use Rattle.ps_ops.specs.declared.failure.Failure.TheVariants.{Error, NotMade}
 use Rattle.ps_ops.specs.Does.{values_in, Agrees, KeepsLogsWithin, most_records, spent, IsRecordReason, Changes, refusing, IsRoomReason, Makes}
-use Rattle.ps_operators.proofs.Asking.{Leaving, IsUnasked, IsMade}
+use Rattle.ps_acts.proofs.Asking.{Leaving, IsUnasked, IsMade}
 use Rattle.ps_control.specs.declared.frames.Frame.{Frame}
 use Rattle.ps_acts.specs.declared.lent.Trial.{Trial}
 use Rattle.ps_acts.specs.Breaks.{tried}

@@ -1,3 +1,4 @@
+pub mod Asking
 pub mod Kept
 pub mod Meeting
 pub mod Lifts

@@ -4,7 +4,7 @@ use Rattle.ps_language.specs.declared.errors.ErrorName.TheVariants.{VmError}
 use Rattle.ps_language.specs.Value.{Value, Store}
 use Rattle.ps_language.specs.Access.{bytes}
 use Rattle.ps_language.specs.Objects.{made_between, lacks_room}
-use Rattle.ps_language.specs.Effect.{Scene, Effect, makes, unwinds, raises}
+use Rattle.ps_language.specs.Effect.{Around, Scene, Effect, makes, unwinds, raises}
 use Rattle.ps_language.specs.Rows.{Row}
 use Rattle.ps_language.specs.Acts.{effect_of}
 use Rattle.ps_word.specs.declared.words.Word.{Word}
@@ -29,6 +29,14 @@ no_rooms = record { text = 0; sought = 0; words = 0 }
 pub record Asked : Type 0 where
   pub records : ℕ
   pub scratch : Rooms
+
+-- fewer records than a step may put: the end of a context changes one entry more
+abbrev pub IsFew : Asked → Type 0
+IsFew asked = asked.records < most_records
+
+-- whatever asks
+abbrev pub AreFew : {A : Type 0} → (A → Around → Scene → Asked) → Type 0
+AreFew asks = (by : _) (around : Around) (scene : Scene) → IsFew (asks by around scene)
 
 -- what a step asks for: bytes of the output, names, records of the log, words and birth numbers,
 -- and room for what it reads

@@ -24,6 +24,7 @@ pub enum Break {
 }
 
 /// What an operator that is always made came to.
+#[inline(always)]
 pub fn made(outcome: Result<(), ErrorName>) -> Result<(), Break>
     ensures { result ≡ breaks.made outcome }
 {
@@ -34,6 +35,7 @@ pub fn made(outcome: Result<(), ErrorName>) -> Result<(), Break>
 }
 
 /// What an operator that may not be made came to.
+#[inline(always)]
 pub fn tried(outcome: Result<(), Failure>) -> Result<(), Break>
     ensures { result ≡ breaks.tried outcome }
 {

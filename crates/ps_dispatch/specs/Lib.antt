@@ -1,4 +1,5 @@
 pub mod Exits
+pub mod Few
 pub mod Joins
 pub mod Operators
 pub mod Turns

@@ -44,6 +44,7 @@ use ps_types::{access, attributes};
 /// Does what an operator does, each by its own function.
 ///
 /// `Raises`: the errors of its row, in their order. `NotMade`: for what it asks for, behind them.
+#[inline(always)]
 pub fn operate<M: Memory>(
     operator: Operator,
     context: &mut Context,

@@ -1,6 +1,7 @@
 //! The operators of the language, for whoever executes values (PLRM2, 8 'Operators').
 
 ghost use Rattle.std.specs.Prelude.{◌≡◌};
+ghost use Rattle.ps_dispatch.specs.Few.{operator_few};
 ghost use Rattle.ps_dispatch.specs.Turns.{operator_asks};
 ghost use Rattle.ps_turns.specs.Turns as turns;
 
@@ -43,7 +44,7 @@ impl Operate for Operators {
     ghost asks = { operator_asks };
 
     /// One that is left to the world is handed up; every other one acts.
-    #[inline]
+    #[inline(always)]
     fn operate<M: Memory>(
         &self,
         operator: Operator,
@@ -57,4 +58,6 @@ impl Operate for Operators {
         }
         operated(operator, context, shared, memory, trial)
     }
+
+    ghost few = { operator_few };
 }

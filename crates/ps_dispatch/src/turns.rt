@@ -22,6 +22,7 @@ use ps_turns::turned::Turned;
 ///
 /// Not made, with nothing changed: for what the operator asks for, behind its errors; or as
 /// `raise` and `break_off`.
+#[inline(always)]
 pub fn operated<M: Memory>(
     operator: Operator,
     context: &mut Context,

@@ -1,4 +1,5 @@
 pub mod Binding
+pub mod Few
 pub mod Framing
 pub mod Freeing
 pub mod Going

@@ -22,6 +22,7 @@ use ps_word::words::Word;
 /// last. Raises what the element raises, with the element as the command.
 ///
 /// Not made, with nothing changed: as the element.
+#[inline(always)]
 pub fn procedure_turn<O: Operate, M: Memory>(
     rest: Part,
     operators: &O,
@@ -53,6 +54,7 @@ pub fn procedure_turn<O: Operate, M: Memory>(
 /// raises, with the value as the command; the frame goes then too.
 ///
 /// Not made, with nothing changed: as the value.
+#[inline(never)]
 pub fn pending_turn<O: Operate, M: Memory>(
     word: Word,
     operators: &O,

@@ -9,7 +9,7 @@ use ps_control::frames::{Frame, Frames};
 use ps_word::values::Part;
 
 /// Takes the topmost frame off, if there is one; then there is room for another.
-#[inline]
+#[inline(always)]
 pub fn drop_top(frames: &mut Frames)
     ensures frames { frames.new ≡ drop 1 frames.old }
     ensures room { length frames.new < 250 }
@@ -20,7 +20,7 @@ pub fn drop_top(frames: &mut Frames)
 }
 
 /// Goes one element further in the topmost frame, a procedure that has more, in place.
-#[inline]
+#[inline(always)]
 fn go_further(frames: &mut Frames, rest: Part)
     requires top { first_of frames.old ≡ Some (Frame.Procedure rest) }
     requires more { 1 < rest.length }
@@ -35,7 +35,7 @@ fn go_further(frames: &mut Frames, rest: Part)
 }
 
 /// Takes the first element of the topmost frame, a procedure: the frame goes with the last.
-#[inline]
+#[inline(always)]
 pub fn advance(frames: &mut Frames, rest: Part)
     requires top { first_of frames.old ≡ Some (Frame.Procedure rest) }
     requires end { rest.offset + rest.length < 2 ^ 16 }
@@ -50,6 +50,7 @@ pub fn advance(frames: &mut Frames, rest: Part)
 }
 
 /// Puts the first element back that was taken.
+#[inline(never)]
 pub fn put_back(frames: &mut Frames, rest: Part)
     requires some { 1 < rest.length → 1 ≤ length frames.old }
     requires room { rest.length ≤ 1 → length frames.old < 250 }

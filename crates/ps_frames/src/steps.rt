@@ -24,7 +24,7 @@ use ps_values::operates::Operate;
 ///
 /// Not made, with nothing changed: as the element or the value, as `bind_turn` and `monitor_turn`,
 /// or the note of an error.
-#[inline]
+#[inline(always)]
 pub fn frame_turn<O: Operate, M: Memory>(
     top: Frame,
     operators: &O,

@@ -72,6 +72,7 @@ impl<'a> Interpreter<'a> {
 
 impl Interpreter<'_> {
     /// Whether the context has another step.
+    #[inline(always)]
     pub fn has_steps(&self) -> bool
         ensures { result ≡ courses.has_steps self.now.course }
     {
@@ -100,6 +101,7 @@ impl Interpreter<'_> {
     /// Not made: as the operator that acts, or the note of an error. The context is then at the
     /// same place of its run; if the error of an operator that is left to the world can't be noted,
     /// the element of that operator is taken, and the next step notes it.
+    #[inline(always)]
     pub fn step<S: Interpret, M: Memory>(
         &mut self,
         interpret: &mut S,
@@ -126,6 +128,7 @@ impl Interpreter<'_> {
     }
 
     /// How far the context is after a turn: it ends where no frame is left.
+    #[inline(always)]
     fn settle(&mut self, turned: Turned)
         requires { self.old.error_lines ≡ 0 }
         ensures context { self.new.context ≡ self.old.context }
@@ -153,6 +156,7 @@ impl Interpreter<'_> {
     /// The error of an operator that is left to the world, whose element is taken.
     ///
     /// Not made, with nothing changed: as the note of an error.
+    #[inline(never)]
     fn undefine<M: Memory>(
         &mut self,
         operator: Operator,
@@ -187,6 +191,7 @@ impl Interpreter<'_> {
     }
 
     /// The turn of a context that runs, or is unwinding for a cause.
+    #[inline(always)]
     fn turn<S: Interpret, M: Memory>(
         &mut self,
         unwinding: Option<Cause>,

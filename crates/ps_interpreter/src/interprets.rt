@@ -3,7 +3,7 @@
 ghost use Rattle.std.specs.Prelude.{◌≢◌, ◌<◌, []};
 ghost use Rattle.ps_language.specs.Effect.{Around, Scene};
 ghost use Rattle.ps_language.specs.World.{Status};
-ghost use Rattle.ps_acts.specs.Acts.{Asked};
+ghost use Rattle.ps_acts.specs.Acts.{Asked, AreFew};
 ghost use Rattle.ps_acts.specs.Lent.{lent, IsGood};
 ghost use Rattle.ps_turns.specs.Turns.{Turns};
 ghost use Rattle.ps_interpreter.specs.Interprets.{asks_in, own_turn};
@@ -38,4 +38,7 @@ pub trait Interpret {
         ensures { Turns (asks_in asks unwinding) (own_turn unwinding) trial result
             (lent (M.heap memory.old) (M.grants memory.old) context.old shared.old)
             (lent (M.heap memory.new) (M.grants memory.new) context.new shared.new) };
+
+    /// Every step leaves a record to the end of its context.
+    ghost few: { AreFew asks };
 }

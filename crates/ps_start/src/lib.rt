@@ -1,4 +1,4 @@
-//! What stands at the start of a run: the first dictionaries and the first context (PLRM2, 3.7, 7.1).
+//! What stands at the start of a run: the first dictionaries and the first context (PLRM2, 3.7).
 #![tactic(auto)]
 
 pub mod dictionaries;

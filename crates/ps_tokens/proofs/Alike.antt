@@ -1,5 +1,5 @@
 -- A turn that was done as another one, to which every machine comes as to it.
-use Rattle.std.proofs.Common.{◌≡◌, ℕ, ◌≤◌, ◌<◌, arith, true, List, [], ◌∷◌, Result, Ok, Err, refl, sym, ap, subst, ◌∙◌, inl, inr}
+use Rattle.std.proofs.Common.{◌≡◌, ℕ, arith, true, List, [], ◌∷◌, Result, Ok, Err, refl, sym, ap, subst, ◌∙◌}
 use Rattle.ps_language.specs.declared.errors.ErrorName.{ErrorName}
 use Rattle.ps_language.specs.declared.errors.ErrorName.TheVariants.{VmError}
 use Rattle.ps_language.specs.Value.{Store}
@@ -9,61 +9,19 @@ use Rattle.ps_language.specs.Objects.{lacks_room}
 use Rattle.ps_language.specs.StepValues.{Turn, tries}
 use Rattle.ps_language.specs.Machines.{erred, after_turn}
 use Rattle.ps_word.specs.declared.words.Word.{Word}
-use Rattle.ps_mem.specs.Heap.{Grants, has_room, birth_at}
+use Rattle.ps_mem.specs.Heap.{Grants, birth_at}
 use Rattle.ps_mem.specs.Shows.{IsWithin}
 use Rattle.ps_ops.specs.declared.failure.NotMade.{NotMade as Reason}
-use Rattle.ps_ops.specs.declared.failure.NotMade.TheVariants.{LogFull, LogClosed, NeedSpace, Memory}
 use Rattle.ps_ops.specs.Does.{KeepsLogsWithin}
 use Rattle.ps_acts.specs.declared.lent.Scratch.{Scratch}
 use Rattle.ps_acts.specs.declared.lent.Trial.{Trial}
-use Rattle.ps_acts.specs.Lent.{Lent, Rooms, rooms_of, IsEmpty, scene_of, IsShown, IsGood}
-use Rattle.ps_acts.specs.Acts.{Asked, Needs, LacksRooms, IsReason, IsAtLeast}
-use Rattle.ps_acts.proofs.Meeting.{keeps-same, logs-same, stays_as, at_least-same}
+use Rattle.ps_acts.specs.Lent.{Lent, rooms_of, IsEmpty, scene_of, IsShown, IsGood}
+use Rattle.ps_acts.specs.Acts.{Asked, IsReason, IsAtLeast}
+use Rattle.ps_acts.proofs.Meeting.{keeps-same, logs-same, logs_more, stays_as, at_least-same, AreNeedsWithin, reason_more}
 use Rattle.ps_turns.specs.declared.turned.Turned.{Turned}
 use Rattle.ps_turns.specs.Turns.{TurnsBy, Turns, TurnsWith, turn_needs, error_needs, needs_in, error_turn, nothing_more}
 use Rattle.ps_turns.proofs.Composing.{turns_shown}
 use Rattle.ps_values.specs.Values.{meaning}
-
--- ---- what is asked for
-
--- what is for want of the few is for want of the many
-pub record Covers (few many : Needs) : Type 0 where
-  pub bytes : few.bytes ≤ many.bytes
-  pub names : few.names ≤ many.names
-  pub records : few.records ≡ many.records
-  pub words : few.words ≡ many.words
-  pub births : few.births ≡ many.births
-  pub scratch : IsAtLeast few.scratch many.scratch
-
-more_rooms : (has few many : Rooms) → IsAtLeast few many → LacksRooms has few
-    → LacksRooms has many
-more_rooms has few many least (inl text) =
-    let more = least.text in inl (omega (arith, text, more))
-more_rooms has few many least (inr (inl sought)) =
-    let more = least.sought in inr (inl (omega (arith, sought, more)))
-more_rooms has few many least (inr (inr words)) =
-    let more = least.words in inr (inr (omega (arith, words, more)))
-
-pub reason_more : (few many : Needs) → Covers few many → (slot : ℕ) (old new : Lent)
-    (reason : Reason) → IsReason few slot old new reason → IsReason many slot old new reason
-reason_more few many covers slot old new LogFull why =
-    (why.0, subst (λ (n : ℕ). new.grants.records slot < n) covers.records why.1)
-reason_more few many covers slot old new LogClosed why =
-    (subst (λ (n : ℕ). 1 ≤ n) covers.records why.0, why.1)
-reason_more few many covers slot old new (NeedSpace words) why = (
-  why.0 ∙ covers.words,
-  why.1,
-  (λ i. has_room old.heap (sym covers.words i) (sym covers.births i)) ∙ why.2,
-)
-reason_more few many covers slot old new Memory (inl bytes) =
-    let more = covers.bytes in inl (omega (arith, bytes, more))
-reason_more few many covers slot old new Memory (inr (inl names)) =
-    let more = covers.names in inr (inl (omega (arith, names, more)))
-reason_more few many covers slot old new Memory (inr (inr (inl words))) =
-    inr (inr (inl (subst (λ (n : ℕ). 1 ≤ n) covers.words words.0, words.1)))
-reason_more few many covers slot old new Memory (inr (inr (inr rooms))) =
-    inr (inr (inr (more_rooms (rooms_of old.scratch) few.scratch many.scratch covers.scratch
-    rooms)))
 
 -- ---- turns
 
@@ -73,7 +31,7 @@ module _ (asks over_asks : Lent → Store → Asked) (turn over : Lent → Store
   pub record IsAlike (s : Store) : Type 0 where
     pub is : (machine : Machine) → after_turn trial.refused machine (turn l s)
         ≡ after_turn trial.refused machine (over l s)
-    pub needs : Covers (needs_in trial over_asks over l s) (needs_in trial asks turn l s)
+    pub needs : AreNeedsWithin (needs_in trial over_asks over l s) (needs_in trial asks turn l s)
 
   by_result : (result : Result Turned Reason) (s : Store) → IsAlike s
       → TurnsBy (needs_in trial over_asks over l s) trial result (over l s) s l new
@@ -86,8 +44,7 @@ module _ (asks over_asks : Lent → Store → Asked) (turn over : Lent → Store
           lasts = by.did.lasts;
           is = λ machine was address. alike.is machine ∙ by.did.is machine was address;
         };
-        logs = subst (λ (n : ℕ). KeepsLogsWithin n l.grants new.grants trial.slot)
-            alike.needs.records by.logs;
+        logs = logs_more _ _ l.grants new.grants trial.slot alike.needs.records by.logs;
       }
   by_result (Err reason) s alike by =
       record {
@@ -116,13 +73,13 @@ module _ (asks : Lent → Store → Asked) (turn : Lent → Store → Turn) (tri
     (result : Result Turned Reason) (l new : Lent) (command : Word) where
   -- what an error asks for, whatever else is asked
   error_covers : (error : ErrorName) (s : Store)
-      → Covers (needs_in trial nothing_more (error_turn error command) l s)
+      → AreNeedsWithin (needs_in trial nothing_more (error_turn error command) l s)
       (error_needs (asks l s).scratch (birth_at l.heap l.error_dictionary) (scene_of l s) error
       (meaning l command) (scene_of l s))
   error_covers error s = record {
     bytes = omega arith;
     names = omega arith;
-    records = refl;
+    records = omega arith;
     words = refl;
     births = refl;
     scratch = record { text = omega arith; sought = omega arith; words = omega arith };
@@ -133,7 +90,7 @@ module _ (asks : Lent → Store → Asked) (turn : Lent → Store → Turn) (tri
       → IsShown l s → IsAlike asks nothing_more turn (error_turn error command) trial l new s
   error_alike error is s shown = record {
     is = λ machine. ap (after_turn trial.refused machine) (is s shown);
-    needs = subst (λ (t : Turn). Covers
+    needs = subst (λ (t : Turn). AreNeedsWithin
         (needs_in trial nothing_more (error_turn error command) l s)
         (turn_needs trial.refused (asks l s) (birth_at l.heap l.error_dictionary)
         (scene_of l s) t)) (sym (is s shown)) (error_covers error s);
@@ -155,10 +112,10 @@ module _ (asks : Lent → Store → Asked) (turn : Lent → Store → Turn) (tri
             ap (after_turn trial.refused machine) lack.is
             ∙ (rw lack.lacking (ap (λ (ns : List (List ℕ)). erred machine VmError
             (meaning l command) (record (scene_of l s) { names = ns })) lack.names));
-        needs = subst (λ (t : Turn). Covers
+        needs = subst (λ (t : Turn). AreNeedsWithin
             (needs_in trial nothing_more (error_turn VmError command) l s)
             (turn_needs trial.refused (asks l s) birth (scene_of l s) t)) (sym lack.is)
-            (rw lack.lacking (subst (λ (ns : List (List ℕ)). Covers
+            (rw lack.lacking (subst (λ (ns : List (List ℕ)). AreNeedsWithin
             (needs_in trial nothing_more (error_turn VmError command) l s)
             (error_needs (asks l s).scratch birth (scene_of l s) VmError (meaning l command)
             (record (scene_of l s) { names = ns }))) (sym lack.names) (error_covers VmError s)));

@@ -8,15 +8,13 @@ use Rattle.ps_language.specs.StepValues.{Turn, goes, tries, breaks, errs, asks a
 use Rattle.ps_mem.specs.Heap.{birth_at}
 use Rattle.ps_ops.specs.declared.failure.NotMade.{NotMade as Reason}
 use Rattle.ps_ops.specs.declared.failure.NotMade.TheVariants.{LogFull, LogClosed, NeedSpace, Memory}
-use Rattle.ps_ops.specs.Does.{KeepsLogsWithin}
 use Rattle.ps_acts.specs.declared.lent.Trial.{Trial}
 use Rattle.ps_acts.specs.Lent.{Lent, scene_of, IsShown, IsGood}
 use Rattle.ps_acts.specs.Acts.{Asked, Needs, needs_between, IsReason}
 use Rattle.ps_acts.proofs.Forming.{formed_left}
-use Rattle.ps_acts.proofs.Meeting.{at_least-same}
+use Rattle.ps_acts.proofs.Meeting.{logs_more, AreNeedsWithin, reason_more, at_least-same}
 use Rattle.ps_turns.specs.declared.turned.Turned.{Turned}
 use Rattle.ps_turns.specs.Turns.{IsTurned, Turns, turn_needs, error_needs, needs_in}
-use Rattle.ps_tokens.proofs.Alike.{Covers, reason_more}
 
 module _ (l : Lent) (more names : List (List ℕ)) (are : names ≡ l.names ++ more) where
   abbrev pub formed : Lent
@@ -32,22 +30,22 @@ module _ (l : Lent) (more names : List (List ℕ)) (are : names ≡ l.names ++ m
       let size = ap length are ∙ length-append l.names more in omega (arith, size)
 
   module _ (refused : Bool) (asked : Asked) (birth : ℕ) (s : Store) where
-    abbrev CoversAll : Turn → Type 0
-    CoversAll turn = Covers (turn_needs refused asked birth (scene_of formed s) turn)
+    abbrev AreAllWithin : Turn → Type 0
+    AreAllWithin turn = AreNeedsWithin (turn_needs refused asked birth (scene_of formed s) turn)
         (turn_needs refused asked birth (scene_of l s) turn)
 
-    all_covered : (turn : Turn) → CoversAll turn
+    all_covered : (turn : Turn) → AreAllWithin turn
     all_covered (goes scene output) = record {
       bytes = omega arith;
       names = fewer scene.names;
-      records = refl;
+      records = omega arith;
       words = refl;
       births = refl;
       scratch = at_least-same _;
     }
     all_covered (tries command kept scene output) = by (lacks_room refused kept.store scene.store)
       where
-        by : (lacking : Bool) → Covers
+        by : (lacking : Bool) → AreNeedsWithin
             (if lacking then error_needs asked.scratch birth (scene_of formed s) VmError command
             (record kept { names = scene.names })
             else needs_between asked (scene_of formed s) scene output)
@@ -57,7 +55,7 @@ module _ (l : Lent) (more names : List (List ℕ)) (are : names ≡ l.names ++ m
         by true = record {
           bytes = omega arith;
           names = fewer scene.names;
-          records = refl;
+          records = omega arith;
           words = refl;
           births = refl;
           scratch = at_least-same _;
@@ -65,7 +63,7 @@ module _ (l : Lent) (more names : List (List ℕ)) (are : names ≡ l.names ++ m
         by false = record {
           bytes = omega arith;
           names = fewer scene.names;
-          records = refl;
+          records = omega arith;
           words = refl;
           births = refl;
           scratch = at_least-same _;
@@ -73,7 +71,7 @@ module _ (l : Lent) (more names : List (List ℕ)) (are : names ≡ l.names ++ m
     all_covered (breaks cause scene) = record {
       bytes = omega arith;
       names = omega arith;
-      records = refl;
+      records = omega arith;
       words = refl;
       births = refl;
       scratch = at_least-same _;
@@ -81,7 +79,7 @@ module _ (l : Lent) (more names : List (List ℕ)) (are : names ≡ l.names ++ m
     all_covered (errs error command kept) = record {
       bytes = omega arith;
       names = fewer kept.names;
-      records = refl;
+      records = omega arith;
       words = refl;
       births = refl;
       scratch = at_least-same _;
@@ -89,7 +87,7 @@ module _ (l : Lent) (more names : List (List ℕ)) (are : names ≡ l.names ++ m
     all_covered (leaves_to calling kept) = record {
       bytes = omega arith;
       names = omega arith;
-      records = refl;
+      records = omega arith;
       words = refl;
       births = refl;
       scratch = at_least-same _;
@@ -109,9 +107,9 @@ module _ (l : Lent) (more names : List (List ℕ)) (are : names ≡ l.names ++ m
       (same : (s : Store) → IsShown l s → over formed s ≡ turn l s)
       (asked : (s : Store) → IsShown l s → over_asks formed s ≡ asks l s) where
     covered : (s : Store) → IsShown l s
-        → Covers (needs_in trial over_asks over formed s) (needs_in trial asks turn l s)
+        → AreNeedsWithin (needs_in trial over_asks over formed s) (needs_in trial asks turn l s)
     covered s shown =
-        subst (λ (n : Needs). Covers n (needs_in trial asks turn l s))
+        subst (λ (n : Needs). AreNeedsWithin n (needs_in trial asks turn l s))
         (λ i. turn_needs trial.refused (sym (asked s shown) i)
         (birth_at l.heap l.error_dictionary) (scene_of formed s) (sym (same s shown) i))
         (all_covered trial.refused (asks l s) (birth_at l.heap l.error_dictionary) s (turn l s))
@@ -130,8 +128,7 @@ module _ (l : Lent) (more names : List (List ℕ)) (are : names ≡ l.names ++ m
           } in
           record {
             did = subst (λ (t : Turn). IsTurned trial.refused t turned s l new) (same s shown) did;
-            logs = subst (λ (n : ℕ). KeepsLogsWithin n l.grants new.grants trial.slot)
-                (covered s shown).records by.logs;
+            logs = logs_more _ _ l.grants new.grants trial.slot (covered s shown).records by.logs;
           };
       good = turns.good;
       keeps = turns.keeps;

@@ -4,6 +4,7 @@ pub mod Building
 pub mod Counting
 pub mod Doing
 pub mod Elements
+pub mod Few
 pub mod Formed
 pub mod FormedTurns
 pub mod Least

@@ -43,7 +43,8 @@ pub record IsNoted (error : ErrorName) (command : Word) (address : ℕ) (old new
         → IsWithin (birth_at old) names s command
         → Shows new names
         (with_error error (value_of (birth_at old) names command) (birth_at old address) s)
-        × Lasts s (with_error error (value_of (birth_at old) names command) (birth_at old address) s)
+        × Lasts s
+        (with_error error (value_of (birth_at old) names command) (birth_at old address) s)
 
 -- the log of a slot doesn't take so many records
 abbrev pub IsUnlogged : (count slot : ℕ) → (asked left : Grants) → Reason → Type 0

@@ -165,6 +165,7 @@ fn end_by_stop<M: Memory>(
 ///
 /// `LogFull`, `LogClosed`: that error's entry can't be logged. `Memory`: the output has no room for
 /// its line. Nothing has changed then.
+#[inline(never)]
 pub fn break_off<M: Memory>(
     cause: Cause,
     context: &mut Context,

@@ -26,6 +26,7 @@ use ps_word::words::Word;
 ///
 /// `LogFull`, `LogClosed`: the log of the slot doesn't take five records. `Memory`: the output has
 /// no room for the line. Nothing has changed then.
+#[inline(never)]
 pub fn raise<M: Memory>(
     error: ErrorName,
     command: Word,
@@ -70,6 +71,7 @@ fn operator_command(operator: Operator) -> Word
 /// An operator raises an error, with itself as the command.
 ///
 /// Not made, with nothing changed: as `raise`.
+#[inline(never)]
 pub fn raise_by<M: Memory>(
     operator: Operator,
     error: ErrorName,

@@ -1,2 +1,3 @@
 pub mod Executing
+pub mod Few
 pub mod Pushing

@@ -3,7 +3,7 @@
 ghost use Rattle.std.specs.Prelude.{◌≡◌, ◌<◌};
 ghost use Rattle.ps_language.specs.Effect.{Around, Scene};
 ghost use Rattle.ps_language.specs.declared.operators.Operator as names;
-ghost use Rattle.ps_acts.specs.Acts.{Asked};
+ghost use Rattle.ps_acts.specs.Acts.{Asked, AreFew};
 ghost use Rattle.ps_acts.specs.Lent.{lent, IsGood};
 ghost use Rattle.ps_turns.specs.Turns.{Turns};
 ghost use Rattle.ps_values.specs.Values.{operated_asks, operated_turn};
@@ -37,4 +37,7 @@ pub trait Operate {
         ensures { Turns (operated_asks asks operator) (operated_turn operator) trial result
             (lent (M.heap memory.old) (M.grants memory.old) context.old shared.old)
             (lent (M.heap memory.new) (M.grants memory.new) context.new shared.new) };
+
+    /// Every operator leaves a record to its step.
+    ghost few: { AreFew asks };
 }

@@ -19,7 +19,7 @@ use ps_word::words::Word;
 /// A value becomes an operand. Where 500 stand, `stackoverflow` is raised with the command.
 ///
 /// Not made, with nothing changed: as the note of an error.
-#[inline]
+#[inline(always)]
 pub fn push_value<M: Memory>(
     word: Word,
     command: Word,

@@ -25,7 +25,7 @@ use ps_word::words::Word;
 
 /// An executable value by its content: a name waits in a frame of its own, an operator acts, a null
 /// does nothing, a procedure is entered, a string is scanned, and all else becomes an operand.
-#[inline]
+#[inline(always)]
 fn execute_content<O: Operate, M: Memory>(
     content: Content,
     word: Word,
@@ -111,6 +111,7 @@ pub fn treat<O: Operate, M: Memory>(
 /// the way to it can't be read, and what `treat` raises.
 ///
 /// Not made, with nothing changed: as an operator, or the note of an error.
+#[inline(never)]
 pub fn execute_name<O: Operate, M: Memory>(
     word: Word,
     command: Word,
@@ -192,6 +193,7 @@ pub fn execute<O: Operate, M: Memory>(
 /// Does an element: a procedure becomes an operand, and everything else is executed.
 ///
 /// Raises and is not made as `execute`.
+#[inline(always)]
 pub fn do_element<O: Operate, M: Memory>(
     word: Word,
     command: Word,

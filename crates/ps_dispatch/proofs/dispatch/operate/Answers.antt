@@ -1,6 +1,6 @@
 -- Each operator by its name and by what its own contract says.
 use Rattle.std.proofs.Common.{refl}
-use Rattle.ps_operators.proofs.Asking.{array_made, end_array_made, string_made}
+use Rattle.ps_acts.proofs.Asking.{array_made, end_array_made, string_made}
 use Rattle.ps_acts.proofs.Lifts.{does_acts, operands_acts, observes_acts, controls_acts, ready, held, under_first}
 use Rattle.ps_acts.proofs.Changing.{makes_acts}
 use Rattle.ps_dispatch.proofs.Exiting.{exit_acts}
