@@ -1,3 +1,4 @@
-pub mod Taking
 pub mod Listing
 pub mod Scanning
+pub mod Taking
+pub mod WindowLaw

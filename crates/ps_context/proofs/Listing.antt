@@ -12,7 +12,8 @@ use Rattle.ps_acts.specs.Acts.{Asked, IsAtLeast}
 use Rattle.ps_acts.specs.Lent.{Lent, IsShown, scene_of}
 use Rattle.ps_turns.specs.declared.turned.Turned.{Turned}
 use Rattle.ps_turns.specs.Turns.{Turns, turn_needs}
-use Rattle.ps_tokens.proofs.Alike.{Covers, done_alike}
+use Rattle.ps_acts.proofs.Meeting.{AreNeedsWithin}
+use Rattle.ps_tokens.proofs.Alike.{done_alike}
 use Rattle.ps_context.specs.Texts.{unkept}
 
 -- ---- what every turn asks for beside
@@ -20,13 +21,13 @@ use Rattle.ps_context.specs.Texts.{unkept}
 module _ (refused : Bool) (birth : ℕ) (before : Scene) where
   module _ (few many : Asked) (records : few.records ≡ many.records)
       (rooms : IsAtLeast few.scratch many.scratch) where
-    between : (scene : Scene) (output : List ℕ) → Covers
+    between : (scene : Scene) (output : List ℕ) → AreNeedsWithin
         (turn_needs refused few birth before (goes scene output))
         (turn_needs refused many birth before (goes scene output))
     between scene output = record {
       bytes = omega arith;
       names = omega arith;
-      records = records;
+      records = let same = records in omega (arith, same);
       words = refl;
       births = refl;
       scratch = rooms;
@@ -34,26 +35,26 @@ module _ (refused : Bool) (birth : ℕ) (before : Scene) where
 
     -- whether it lacks room
     tried : (lacking : Bool) (command : _) (kept scene : Scene) (output : List ℕ)
-        → lacks_room refused kept.store scene.store ≡ lacking → Covers
+        → lacks_room refused kept.store scene.store ≡ lacking → AreNeedsWithin
         (turn_needs refused few birth before (tries command kept scene output))
         (turn_needs refused many birth before (tries command kept scene output))
     tried true command kept scene output is = rw is (record {
       bytes = omega arith;
       names = omega arith;
-      records = refl;
+      records = omega arith;
       words = refl;
       births = refl;
       scratch = rooms;
     })
     tried false command kept scene output is = rw is (between scene output)
 
-    broken : (cause : _) (scene : Scene) → Covers
+    broken : (cause : _) (scene : Scene) → AreNeedsWithin
         (turn_needs refused few birth before (breaks cause scene))
         (turn_needs refused many birth before (breaks cause scene))
     broken for_stop scene = rw records (record {
       bytes = omega arith;
       names = omega arith;
-      records = refl;
+      records = omega arith;
       words = refl;
       births = refl;
       scratch = rooms;
@@ -61,7 +62,7 @@ module _ (refused : Bool) (birth : ℕ) (before : Scene) where
     broken for_exit scene = record {
       bytes = omega arith;
       names = omega arith;
-      records = records;
+      records = let same = records in omega (arith, same);
       words = refl;
       births = refl;
       scratch = rooms;
@@ -69,14 +70,14 @@ module _ (refused : Bool) (birth : ℕ) (before : Scene) where
     broken for_quit scene = record {
       bytes = omega arith;
       names = omega arith;
-      records = records;
+      records = let same = records in omega (arith, same);
       words = refl;
       births = refl;
       scratch = rooms;
     }
 
     -- the same, and as much room or more
-    pub covers : (turn : Turn) → Covers (turn_needs refused few birth before turn)
+    pub covers : (turn : Turn) → AreNeedsWithin (turn_needs refused few birth before turn)
         (turn_needs refused many birth before turn)
     covers (goes scene output) = between scene output
     covers (tries command kept scene output) = tried _ command kept scene output refl
@@ -84,7 +85,7 @@ module _ (refused : Bool) (birth : ℕ) (before : Scene) where
     covers (errs error command kept) = record {
       bytes = omega arith;
       names = omega arith;
-      records = refl;
+      records = omega arith;
       words = refl;
       births = refl;
       scratch = rooms;
@@ -92,7 +93,7 @@ module _ (refused : Bool) (birth : ℕ) (before : Scene) where
     covers (leaves_to calling kept) = record {
       bytes = omega arith;
       names = omega arith;
-      records = refl;
+      records = omega arith;
       words = refl;
       births = refl;
       scratch = rooms;

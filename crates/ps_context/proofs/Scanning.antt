@@ -1,51 +1,41 @@
 -- What a text that was read says of the step.
-use Rattle.std.proofs.Common.{◌≡◌, ℕ, ◌+◌, ◌-◌, ◌<◌, ◌≤◌, arith, Bool, true, false, List, [], ◌∷◌, ◌++◌, take, drop, length, refl, sym, ap, subst, ◌∙◌, inl, inr}
-use Rattle.std.specs.Prelude.{slice_range, vec_capacity}
-use Rattle.std.proofs.lemmas.List.{drop-drop, length-drop, length-take-le}
+use Rattle.std.proofs.Common.{◌≡◌, Some, None, Ok, Err, Option, Result, ℕ, ◌+◌, ◌-◌, ◌<◌, ◌≤◌, arith, Bool, true, false, List, [], ◌∷◌, ◌++◌, take, drop, length, refl, sym, ap, subst, ◌∙◌, inl, inr}
+use Rattle.std.specs.Prelude.{⊤, IfOk, IfErr, IfSome, slice_range, vec_capacity}
+use Rattle.std.proofs.lemmas.List.{drop-drop}
 use Rattle.std.proofs.Math.Seq.{take-add}
-use Rattle.ps_language.specs.Access.{bytes, part_bytes}
+use Rattle.ps_language.specs.Access.{bytes}
 use Rattle.ps_language.specs.Readers.{null}
 use Rattle.ps_language.specs.Scan.{shifted, scan}
 use Rattle.ps_language.specs.StepFrames.{frame_turn, fault_name}
 use Rattle.ps_language.specs.StepValues.{leads}
+use Rattle.ps_language.specs.Token as language
 use Rattle.ps_language.specs.Token.{number_token, literal_name_token, executable_name_token, immediate_name_token, string_token, procedure_token, Scan, found, exhausted, faulty, ScanFault}
 use Rattle.ps_language.specs.Value.{Store}
 use Rattle.ps_language.specs.World as world
 use Rattle.ps_language.proofs.ScanSteps.{scan_shifted}
-use Rattle.ps_word.specs.declared.values.Part.{Part}
 use Rattle.ps_word.specs.declared.words.Word.{Word}
 use Rattle.ps_mem.specs.Heap.{birth_at}
-use Rattle.ps_mem.specs.Meaning.{part_of}
 use Rattle.ps_ops.specs.declared.failure.NotMade.TheVariants.{Memory}
 use Rattle.ps_control.specs.declared.frames.Source.{Source}
-use Rattle.ps_control.specs.declared.frames.Source.TheVariants.{Text as TextOf}
 use Rattle.ps_control.specs.declared.frames.Frame.{Frame}
 use Rattle.ps_control.specs.declared.frames.Frame.TheVariants.{Text}
 use Rattle.ps_acts.specs.declared.lent.Trial.{Trial}
 use Rattle.ps_acts.specs.Acts.{Asked, IsReason, IsAtLeast}
-use Rattle.ps_acts.specs.Lent.{Lent, scene_of, IsShown}
+use Rattle.ps_acts.specs.Lent.{Lent, scene_of}
 use Rattle.ps_acts.proofs.Meeting.{at_least-same}
-use Rattle.ps_scan.specs.Shown.{TakesMemory}
+use Rattle.ps_scan.specs.declared.tokens.ScanFault.{ScanFault as Fault}
+use Rattle.ps_scan.specs.declared.tokens.ScanFault.TheVariants.{Syntax, Limit, Memory as MemoryFault}
+use Rattle.ps_scan.specs.declared.tokens.Token.{Token}
+use Rattle.ps_scan.specs.Shown.{TakesMemory, IsFaultBy, scan_of, token_of}
+use Rattle.ps_seq.proofs.CompareLemmas.{length_part}
+use Rattle.ps_tokens.proofs.ShortLaw.{scanned_is_short}
 use Rattle.ps_turns.specs.Turns.{error_turn, needs_in}
 use Rattle.ps_turns.proofs.Composing.{restacked}
 use Rattle.ps_values.specs.Values.{meaning}
 use Rattle.ps_frames.specs.Steps.{running_turn}
-use Rattle.ps_context.specs.Texts.{bytes_of, scan_at, IsBehind, IsRead, unkept, takes_list, with_list, source_asks}
+use Rattle.ps_context.specs.Texts.{scan_at, IsScanned, Starves, IsTaken, unkept, takes_list, with_list, source_asks}
+use Rattle.ps_context.proofs.WindowLaw.{window_is_whole}
 use Rattle.ps_context.proofs.Listing.{rooms_needed, unkept_more}
-
--- ---- the scan of what is left is that of the whole, further on
-
-pub scan_read : (source : Source) (first at : ℕ) (text : List ℕ) (l : Lent)
-    → IsRead source first at text l → (s : Store) → IsShown l s
-    → scan_at source at l s ≡ shifted first (scan text (at - first))
-scan_read source first at text l read s shown =
-    let b = read.behind s shown in
-    let size = b.size in
-    let low = read.first_within in
-    let place : at ≡ length b.front + (at - first) = omega (arith, size, low) in
-    ap (λ (whole : List ℕ). scan whole at) b.is ∙ (ap (scan (b.front ++ text)) place
-    ∙ (scan_shifted b.front text (at - first)
-    ∙ ap (λ (n : ℕ). shifted n (scan text (at - first))) size))
 
 -- ---- by what is scanned
 
@@ -87,7 +77,7 @@ module _ (l : Lent) (asked : Asked) where
   pub unkept_lacks : vec_capacity l.scratch.text < (unkept asked).scratch.text
   unkept_lacks = omega (arith, l.scratch.text.ok.0)
 
-  pub source_lacks : (source : world.Source) (outcome : Scan) → TakesMemory outcome
+  pub source_lacks : (source : world.Source) (outcome : Scan) → Starves source outcome
       → vec_capacity l.scratch.text < (source_asks source outcome asked).scratch.text
   source_lacks world.from_program (found (string_token (byte ∷ bytes)) end) takes = unkept_lacks
   source_lacks world.from_program (found (procedure_token elements) end) takes = unkept_lacks
@@ -109,52 +99,117 @@ list_reason trial asks turn l new s lacks =
     (scene_of l s) (asks l s) (turn l s)) in
     inr (inr (inr (inl (omega (arith, lacks, is)))))
 
--- further on
-pub takes_further : (first : ℕ) (outcome : Scan) → TakesMemory outcome
-    → TakesMemory (shifted first outcome)
-takes_further first (found (string_token (byte ∷ bytes)) end) takes = takes
-takes_further first (found (procedure_token elements) end) takes = takes
-takes_further first (faulty fault) takes = takes
-takes_further first (found (number_token number) end) takes = absurd takes
-takes_further first (found (literal_name_token text) end) takes = absurd takes
-takes_further first (found (executable_name_token text) end) takes = absurd takes
-takes_further first (found (immediate_name_token text) end) takes = absurd takes
-takes_further first (found (string_token []) end) takes = absurd takes
-takes_further first exhausted takes = absurd takes
+-- ---- what is scanned
 
--- ---- what is left of a string
+module _ (text : List ℕ) where
+  -- what the scanner says of a text
+  pub answered : (at : ℕ) (result : Result (Option Token) Fault)
+      → IfOk result (λ token. scan text at ≡ scan_of text token)
+      → IfErr result (IsFaultBy text at)
+      → IsScanned (TakesMemory (scan text at)) text result (scan text at)
+  answered at (Ok token) answer fault = answer
+  answered at (Err Syntax) answer fault = fault
+  answered at (Err Limit) answer fault = fault
+  answered at (Err MemoryFault) answer fault = fault.0
 
-left_behind : (all : List ℕ) (offset count at : ℕ) → at ≤ count → offset + count ≤ length all
-    → IsBehind at (slice_range all (offset + at) ((offset + at) + (count - at)))
-    (slice_range all offset (offset + count))
-left_behind all offset count at low within =
-    let whole : (offset + count) - offset ≡ at + (count - at) = omega (arith, low) in
-    let rest : ((offset + at) + (count - at)) - (offset + at) ≡ count - at = omega arith in
-    let size = length-drop offset all in
-    let further : slice_range all (offset + at) ((offset + at) + (count - at))
-    ≡ take (count - at) (drop at (drop offset all)) =
-    ap (λ (n : ℕ). take n (drop (offset + at) all)) rest
-    ∙ ap (take (count - at)) (sym (drop-drop at offset all)) in
-    record {
-      front = take at (drop offset all);
-      size = length-take-le at (drop offset all) (omega (arith, size, low, within));
-      is = ap (λ (n : ℕ). take n (drop offset all)) whole
-          ∙ (take-add at (count - at) (drop offset all)
-          ∙ ap (λ (t : List ℕ). take at (drop offset all) ++ t) (sym further));
-    }
+  -- where memory may run out anywhere
+  pub answered_freely : (outcome : Scan) (starved : Type 0) (result : Result (Option Token) Fault)
+      → IsScanned starved text result outcome → IsScanned ⊤ text result outcome
+  answered_freely outcome starved (Ok token) scanned = scanned
+  answered_freely outcome starved (Err Syntax) scanned = scanned
+  answered_freely outcome starved (Err Limit) scanned = scanned
+  answered_freely outcome starved (Err MemoryFault) scanned = tt
 
--- a string that was read from a place on
-pub string_read : (part : Part) (at : ℕ) (text : List ℕ) (l : Lent) → at ≤ part.length
-    → ((s : Store) → IsShown l s
-    → part.offset + part.length ≤ length (bytes s (birth_at l.heap part.address)))
-    → ((s : Store) → IsShown l s → text ≡ part_bytes s (part_of (birth_at l.heap)
-    (record part { offset = part.offset + at; length = part.length - at })))
-    → IsRead (TextOf part) at at text l
-string_read part at text l low within is = record {
-  first_within = omega arith;
-  at_within = omega arith;
-  behind = λ s shown. subst (λ (t : List ℕ). IsBehind at t (bytes_of (TextOf part) l s))
-      (sym (is s shown))
-      (left_behind (bytes s (birth_at l.heap part.address)) part.offset part.length at low
-      (within s shown));
-}
+  pub taken : (at size : ℕ) (result : Result (Option Token) Fault) → length text ≤ size
+      → IfOk result (λ token. scan text at ≡ scan_of text token)
+      → IfOk result (λ token. IfSome token (λ t. (at < t.end) × (t.end ≤ length text)))
+      → IsTaken (λ end. end ≤ size) text result
+  taken at size (Ok None) fits answer place = tt
+  taken at size (Ok (Some token)) fits answer place = (
+    omega (arith, fits, place.1),
+    scanned_is_short text at (token_of text token.kind) token.end
+        answer,
+  )
+  taken at size (Err fault) fits answer place = tt
+
+  -- by what holds of the place
+  pub taken_at : (Holds More : ℕ → Type 0) (result : Result (Option Token) Fault)
+      → ((end : ℕ) → Holds end → More end) → IsTaken Holds text result → IsTaken More text result
+  taken_at Holds More (Ok None) more is = tt
+  taken_at Holds More (Ok (Some token)) more is = (more token.end is.0, is.1)
+  taken_at Holds More (Err fault) more is = tt
+
+-- a text that was read and scanned
+module _ (text slice : List ℕ) (is : slice ≡ text) (result : Result (Option Token) Fault)
+    (answer : IfOk result (λ token. scan slice 0 ≡ scan_of slice token)) where
+  pub read_scanned : (part : List ℕ) → text ≡ part → IfErr result (IsFaultBy slice 0)
+      → IsScanned ⊤ text result (scan part 0)
+  read_scanned part read fault =
+      subst (λ (t : List ℕ). IsScanned ⊤ text result (scan t 0)) read
+      (subst (λ (t : List ℕ). IsScanned ⊤ t result (scan t 0)) is
+      (answered_freely slice (scan slice 0) (TakesMemory (scan slice 0)) result
+      (answered slice 0 result answer fault)))
+
+  pub read_taken : (size : ℕ) → length text ≤ size
+      → IfOk result (λ token. IfSome token (λ t. (0 < t.end) × (t.end ≤ length slice)))
+      → IsTaken (λ end. end ≤ size) text result
+  read_taken size fits place =
+      subst (λ (t : List ℕ). IsTaken (λ end. end ≤ size) t result) is
+      (taken slice 0 size result (subst (λ (t : List ℕ). length t ≤ size) (sym is) fits) answer
+      place)
+
+-- a fault stays further on
+pub fault_further : (text : List ℕ) (at : ℕ) (outcome rest : Scan) → outcome ≡ shifted at rest
+    → (fault : Fault) → IsScanned ⊤ text (Err fault) rest → IsScanned ⊤ text (Err fault) outcome
+fault_further text at outcome rest is Syntax scanned = is ∙ ap (shifted at) scanned
+fault_further text at outcome rest is Limit scanned = is ∙ ap (shifted at) scanned
+fault_further text at outcome rest is MemoryFault scanned = tt
+
+-- ---- what is left of a string, and a window of it
+
+module _ (all : List ℕ) (offset count at : ℕ) (low : at ≤ count) where
+  window : List ℕ
+  window = slice_range all offset (offset + at)
+
+  rest : List ℕ
+  rest = slice_range all (offset + at) ((offset + at) + (count - at))
+
+  parted : slice_range all offset (offset + count) ≡ window ++ rest
+  unfolding window rest
+  parted =
+      let sized : (offset + count) - offset ≡ at + (count - at) = omega (arith, low) in
+      let front : at ≡ (offset + at) - offset = omega arith in
+      let back : count - at ≡ ((offset + at) + (count - at)) - (offset + at) = omega arith in
+      let behind : take (count - at) (drop at (drop offset all)) ≡ rest =
+      ap (take (count - at)) (drop-drop at offset all)
+      ∙ ap (λ (n : ℕ). take n (drop (offset + at) all)) back in
+      ap (λ (n : ℕ). take n (drop offset all)) sized
+      ∙ (take-add at (count - at) (drop offset all)
+      ∙ (ap (λ (n : ℕ). take n (drop offset all) ++ take (count - at) (drop at (drop offset all)))
+      front
+      ∙ ap (λ (t : List ℕ). window ++ t) behind))
+
+  module _ (within : offset + count ≤ length all) where
+    window_size : length window ≡ at
+    unfolding window
+    window_size = length_part all offset at (omega (arith, low, within))
+
+    -- the scan of what is left is that of the whole, further on
+    pub rest_scanned : scan (slice_range all offset (offset + count)) at ≡ shifted at
+        (scan (slice_range all (offset + at) ((offset + at) + (count - at))) 0)
+    unfolding window rest
+    rest_scanned =
+        let size = window_size in
+        let place : at ≡ length window + 0 = omega (arith, size) in
+        ap (λ (t : List ℕ). scan t at) parted ∙ (ap (scan (window ++ rest)) place
+        ∙ (scan_shifted window rest 0 ∙ ap (λ (n : ℕ). shifted n (scan rest 0)) size))
+
+    -- a token that ends in a window is that of the whole
+    pub window_scanned : (token : language.Token) (end : ℕ)
+        → scan (slice_range all offset (offset + at)) 0 ≡ found token end → end < at
+        → scan (slice_range all offset (offset + count)) 0 ≡ found token end
+    unfolding window rest
+    window_scanned token end is below =
+        let size = window_size in
+        ap (λ (t : List ℕ). scan t 0) parted
+        ∙ window_is_whole window rest 0 token end is (omega (arith, below, size))

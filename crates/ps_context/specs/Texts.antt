@@ -1,20 +1,26 @@
--- A step by a text, and what it asks for that the language does not say (PLRM2, 3.2, 3.5).
-use Rattle.std.specs.Prelude.{◌≡◌, ℕ, ◌+◌, ◌≤◌, ◌^◌, Bool, true, false, List, ◌∷◌, ◌++◌, length, max}
+-- A step by a text: what is scanned, and what it asks for that the language does not say (PLRM2,
+-- 3.2, 3.5).
+use Rattle.std.specs.Prelude.{◌≡◌, ℕ, ◌^◌, Bool, true, false, List, ◌∷◌, max, ⊤, Option, Result, Ok, Err, IfOk, IfSome}
 use Rattle.ps_language.specs.Control.{with_frames}
 use Rattle.ps_language.specs.Effect.{Around, Scene}
 use Rattle.ps_language.specs.Scan.{scan}
 use Rattle.ps_language.specs.StepFrames.{source_bytes}
-use Rattle.ps_language.specs.Token.{string_token, procedure_token, Scan, found, faulty}
+use Rattle.ps_language.specs.Token.{string_token, procedure_token, Scan, found, faulty, syntax_fault, limit_fault}
 use Rattle.ps_language.specs.Value.{Store}
 use Rattle.ps_language.specs.World as world
 use Rattle.ps_mem.specs.Heap.{birth_at}
+use Rattle.ps_scan.specs.declared.tokens.ScanFault.{ScanFault as Fault}
+use Rattle.ps_scan.specs.declared.tokens.ScanFault.TheVariants.{Syntax, Limit, Memory}
+use Rattle.ps_scan.specs.declared.tokens.Token.{Token}
+use Rattle.ps_scan.specs.Shown.{TakesMemory, scan_of, token_of}
 use Rattle.ps_control.specs.declared.frames.Source.{Source}
 use Rattle.ps_control.specs.declared.frames.Frame.{Frame}
 use Rattle.ps_control.specs.Frames.{source_of, frames_in}
 use Rattle.ps_acts.specs.Acts.{Asked}
-use Rattle.ps_acts.specs.Lent.{Lent, around_of, scene_of, IsShown}
+use Rattle.ps_acts.specs.Lent.{Lent, around_of, scene_of}
 use Rattle.ps_turns.specs.Turns.{none_asked}
 use Rattle.ps_values.specs.Values.{Asks}
+use Rattle.ps_tokens.specs.Short.{IsShort}
 use Rattle.ps_tokens.specs.Tokens.{doing_asks}
 
 -- ---- texts
@@ -28,17 +34,30 @@ bytes_of source l s =
 abbrev pub scan_at : Source → (at : ℕ) → Lent → Store → Scan
 scan_at source at l s = scan (bytes_of source l s) at
 
--- a text behind so many bytes of a whole
-pub record IsBehind (first : ℕ) (text whole : List ℕ) : Type 0 where
-  pub front : List ℕ
-  pub size : length front ≡ first
-  pub is : whole ≡ front ++ text
+-- ---- what was scanned
 
--- a text that was read: what is left of a source behind so many bytes, and a place in it
-pub record IsRead (source : Source) (first at : ℕ) (text : List ℕ) (l : Lent) : Type 0 where
-  pub first_within : first ≤ at
-  pub at_within : at ≤ first + length text
-  pub behind : (s : Store) → IsShown l s → IsBehind first text (bytes_of source l s)
+-- the outcome is that fault; where memory ran out, what is known is given
+abbrev pub IsFaulty : (starved : Type 0) → Fault → Scan → Type 0
+IsFaulty starved Syntax outcome = outcome ≡ faulty syntax_fault
+IsFaulty starved Limit outcome = outcome ≡ faulty limit_fault
+IsFaulty starved Memory outcome = starved
+
+-- the outcome is what was scanned of a text, or its fault
+abbrev pub IsScanned : (starved : Type 0) (text : List ℕ) → Result (Option Token) Fault → Scan
+    → Type 0
+IsScanned starved text (Ok token) outcome = outcome ≡ scan_of text token
+IsScanned starved text (Err fault) outcome = IsFaulty starved fault outcome
+
+-- where memory may run out: wherever a list is taken, and at every string
+abbrev pub Starves : world.Source → Scan → Type 0
+Starves world.from_program outcome = TakesMemory outcome
+Starves (world.from_string part) outcome = ⊤
+
+-- a token that was scanned ends at a place that holds, and is within its limits
+abbrev pub IsTaken : (Holds : ℕ → Type 0) (text : List ℕ) → Result (Option Token) Fault → Type 0
+IsTaken Holds text =
+    λ result. IfOk result (λ token. IfSome token (λ t. Holds t.end
+    × IsShort (token_of text t.kind)))
 
 -- ---- what is asked for beside, in a scene and what surrounds it
 

@@ -1,5 +1,6 @@
 //! A step of a context, by how far it is and by its topmost frame (PLRM2, 3.4, 3.5, 3.10).
 
+ghost use Rattle.ps_context.specs.Few.{own_few};
 ghost use Rattle.ps_context.specs.Steps.{own_asks};
 
 use crate::texts::text_turn;
@@ -26,6 +27,7 @@ impl<O: Operate> Interpret for Steps<O> {
 
     /// A token of a text, an element of a procedure, a value that waits, a turn of a loop, the end
     /// of `stopped` or of a monitor, a part of `bind`, or one frame of an unwinding.
+    #[inline(always)]
     fn step<M: Memory>(
         &mut self,
         unwinding: Option<Cause>,
@@ -54,4 +56,6 @@ impl<O: Operate> Interpret for Steps<O> {
             },
         }
     }
+
+    ghost few = { own_few O.asks O.few };
 }

@@ -3,15 +3,17 @@
 ghost use Rattle.std.specs.Prelude.{◌≡◌, ℕ, ◌<◌, ◌≤◌, ◌+◌, ◌-◌, ◌^◌, drop, length, Some};
 ghost use Rattle.ps_language.specs.Token.{found};
 ghost use Rattle.ps_acts.specs.Lent.{lent, IsGood, IsShown};
-ghost use Rattle.ps_control.specs.Frames.{IsSourceAt};
+ghost use Rattle.ps_control.specs.Frames.{IsSourceAt, source_of};
+ghost use Rattle.ps_mem.specs.Heap.{birth_at};
 ghost use Rattle.ps_language.specs.Value.{Store};
 ghost use Rattle.ps_scan.specs.Shown.{token_of};
 ghost use Rattle.ps_stacks.specs.Tops.{first_of};
 ghost use Rattle.ps_tokens.specs.Short.{IsShort};
 ghost use Rattle.ps_turns.specs.Turns.{Turns};
 ghost use Rattle.ps_frames.specs.Steps.{running_turn};
-ghost use Rattle.ps_context.specs.Texts.{IsRead, scan_at, scanned_asks, text_asks};
+ghost use Rattle.ps_context.specs.Texts.{IsFaulty, IsScanned, Starves, IsTaken, scan_at, scanned_asks, text_asks};
 
+use crate::windows::scan_string;
 use ps_acts::lent::{Context, Shared, Trial};
 use ps_control::frames::{Frame, Source, replace_top};
 use ps_frames::frames::drop_top;
@@ -19,15 +21,12 @@ use ps_language::errors::ErrorName;
 use ps_mem::{Memory, SLOTS};
 use ps_operands::plain;
 use ps_ops::failure::NotMade;
-use ps_scan::{ScanFault, TokenKind, next_token};
-use ps_seq::strings::append_bytes;
+use ps_scan::{ScanFault, Token, TokenKind, next_token};
 use ps_tokens::laws::scanned_is_short;
 use ps_tokens::tokens::do_token;
 use ps_turns::raises::raise;
 use ps_turns::turned::Turned;
 use ps_values::operates::Operate;
-use ps_word::values::Part;
-use std::alloc::AllocError;
 
 /// A token that was scanned is taken, and done.
 ///
@@ -71,16 +70,64 @@ fn take_token<O: Operate, M: Memory>(
     }
 }
 
-/// The next token of a text that was read is taken and done; with none left the frame goes. Raises
-/// `syntaxerror` and `limitcheck` with the command null where there is none, and what the token
-/// raises.
+/// A fault is raised, with the command null: `syntaxerror` or `limitcheck`.
 ///
-/// `Memory`: a growth was refused for a string or a procedure that is read. Not made, with nothing
-/// changed: also as the token, or the note of an error.
-fn scan_turn<O: Operate, M: Memory>(
+/// `Memory`: there was none to scan. Not made, with nothing changed: also as the note of an error.
+fn fault_turn<O: Operate, M: Memory>(
     source: Source,
     at: usize,
-    first: usize,
+    fault: ScanFault,
+    context: &mut Context,
+    shared: &mut Shared,
+    memory: &mut M,
+    trial: Trial,
+) -> Result<Turned, NotMade>
+    requires slot { trial.slot < SLOTS }
+    requires good { IsGood
+        (lent (M.heap memory.old) (M.grants memory.old) context.old shared.old) }
+    requires top { first_of context.old.frames ≡ Some (Frame.Text source at) }
+    requires fault { (s : Store) → IsShown
+        (lent (M.heap memory.old) (M.grants memory.old) context.old shared.old) s
+        → let outcome = scan_at source at
+        (lent (M.heap memory.old) (M.grants memory.old) context.old shared.old) s in
+        IsFaulty (Starves (source_of (birth_at (M.heap memory.old)) source) outcome) fault
+        outcome }
+    ensures { Turns (text_asks O.asks source at (drop 1 context.old.frames)) running_turn trial
+        result
+        (lent (M.heap memory.old) (M.grants memory.old) context.old shared.old)
+        (lent (M.heap memory.new) (M.grants memory.new) context.new shared.new) }
+{
+    match fault {
+        ScanFault::Syntax => raise(
+            ErrorName::SyntaxError,
+            plain::null(),
+            context,
+            shared,
+            memory,
+            trial,
+        ),
+        ScanFault::Limit => raise(
+            ErrorName::LimitCheck,
+            plain::null(),
+            context,
+            shared,
+            memory,
+            trial,
+        ),
+        ScanFault::Memory => Err(NotMade::Memory),
+    }
+}
+
+/// What was scanned of a text is taken: a token is done; with none left the frame goes. Raises
+/// `syntaxerror` and `limitcheck` with the command null where there is a fault, and what the token
+/// raises.
+///
+/// `Memory`: there was none to scan. Not made, with nothing changed: also as the token, or the note
+/// of an error.
+fn scanned_turn<O: Operate, M: Memory>(
+    source: Source,
+    at: usize,
+    scanned: Result<Option<Token>, ScanFault>,
     text: &[u8],
     operators: &O,
     context: &mut Context,
@@ -92,18 +139,20 @@ fn scan_turn<O: Operate, M: Memory>(
     requires good { IsGood
         (lent (M.heap memory.old) (M.grants memory.old) context.old shared.old) }
     requires top { first_of context.old.frames ≡ Some (Frame.Text source at) }
-    requires text { IsRead source first at text.now
-        (lent (M.heap memory.old) (M.grants memory.old) context.old shared.old) }
-    requires further { (end : ℕ) → end ≤ first + length text.now
-        → IsSourceAt (M.heap memory.old) (length shared.old.program.now) source end }
+    requires scanned { (s : Store) → IsShown
+        (lent (M.heap memory.old) (M.grants memory.old) context.old shared.old) s
+        → let outcome = scan_at source at
+        (lent (M.heap memory.old) (M.grants memory.old) context.old shared.old) s in
+        IsScanned (Starves (source_of (birth_at (M.heap memory.old)) source) outcome) text.now
+        scanned outcome }
+    requires token { IsTaken
+        (IsSourceAt (M.heap memory.old) (length shared.old.program.now) source) text.now scanned }
     ensures { Turns (text_asks O.asks source at (drop 1 context.old.frames)) running_turn trial
         result
         (lent (M.heap memory.old) (M.grants memory.old) context.old shared.old)
         (lent (M.heap memory.new) (M.grants memory.new) context.new shared.new) }
 {
-    scanned_is_short();
-    let alloc = *shared.printed.allocator();
-    match next_token(alloc, text, at - first) {
+    match scanned {
         Ok(None) => {
             drop_top(&mut context.frames);
             Ok(Turned::Goes)
@@ -111,7 +160,7 @@ fn scan_turn<O: Operate, M: Memory>(
         Ok(Some(token)) => take_token(
             source,
             at,
-            first + token.end,
+            token.end,
             &token.kind,
             text,
             operators,
@@ -120,42 +169,14 @@ fn scan_turn<O: Operate, M: Memory>(
             memory,
             trial,
         ),
-        Err(ScanFault::Syntax) => raise(
-            ErrorName::SyntaxError,
-            plain::null(),
-            context,
-            shared,
-            memory,
-            trial,
-        ),
-        Err(ScanFault::Limit) => raise(
-            ErrorName::LimitCheck,
-            plain::null(),
-            context,
-            shared,
-            memory,
-            trial,
-        ),
-        Err(ScanFault::Memory) => Err(NotMade::Memory),
-    }
-}
-
-/// The part of a string from a place on.
-fn rest_of(part: Part, at: usize) -> Part
-    requires within { at ≤ part.length }
-    requires end { part.offset + part.length < 2 ^ 16 }
-    ensures { result ≡ record part { offset = part.offset + at; length = part.length - at } }
-{
-    Part {
-        offset: part.offset + at as u16,
-        length: part.length - at as u16,
-        ..part
+        Err(fault) => fault_turn::<O, M>(source, at, fault, context, shared, memory, trial),
     }
 }
 
 /// A step by the topmost frame, a text: its next token is taken and done; with none left the frame
-/// goes. A string is read into the list as it stands now. Raises `syntaxerror` and `limitcheck`
-/// with the command null where the text breaks the grammar or a limit, and what the token raises.
+/// goes. A string is read into the list as it stands now, as far as the token takes. Raises
+/// `syntaxerror` and `limitcheck` with the command null where the text breaks the grammar or a
+/// limit, and what the token raises.
 ///
 /// `Memory`: a growth was refused, for the string, or for a string or a procedure that is read. Not
 /// made, with nothing changed: also as the token, or the note of an error.
@@ -178,23 +199,22 @@ pub fn text_turn<O: Operate, M: Memory>(
         (lent (M.heap memory.old) (M.grants memory.old) context.old shared.old)
         (lent (M.heap memory.new) (M.grants memory.new) context.new shared.new) }
 {
+    let alloc = *shared.printed.allocator();
     match source {
         Source::Program => {
+            scanned_is_short();
             let text = shared.program;
-            scan_turn(
-                source, at, 0, text, operators, context, shared, memory, trial,
+            let scanned = next_token(alloc, text, at);
+            scanned_turn(
+                source, at, scanned, text, operators, context, shared, memory, trial,
             )
         }
         Source::Text(part) => {
-            list.clear();
-            match append_bytes(memory, rest_of(part, at), list) {
-                Ok(()) => {}
-                Err(AllocError) => return Err(NotMade::Memory),
-            }
-            scan_turn(
+            let scanned = scan_string(memory, part, at, list, alloc);
+            scanned_turn(
                 source,
                 at,
-                at,
+                scanned,
                 list.as_slice(),
                 operators,
                 context,
