@@ -1,12 +1,15 @@
-//! `dpsrun`: runs a program in the PostScript language.
+//! `dpsrun`: runs a program in the PostScript language, by the whole language of one context.
 #![tactic(auto)]
 
 ghost use Rattle.std.specs.Prelude.{◌≤◌, IfOk, vec_len};
 
+use ps_context::steps::Steps;
+use ps_dispatch::operators::Operators;
 use ps_run::{FileSet, Flushed, MOST_PROGRAM_BYTES, ReadFault, WriteFault, drive};
 use std::alloc::Global;
 use std::env;
 use std::fs::{self, File};
+use std::hash::RandomState;
 use std::io::{self, Read};
 use std::process::ExitCode;
 
@@ -55,7 +58,8 @@ impl FileSet for SystemFiles<'_> {
     }
 }
 
-/// Runs the program that the command line names, and gives the exit status. Fails where the command line can't be had.
+/// Runs the program that the command line names, and gives the exit status. Fails where the command
+/// line, or the keys of the table of names, can't be had.
 fn run(rt: &HostRuntime) -> io::Result<u8> {
     let alloc = rt.alloc();
     let arguments: Vec<String> = env::args(rt)?.skip(1).collect(alloc)?;
@@ -64,8 +68,14 @@ fn run(rt: &HostRuntime) -> io::Result<u8> {
         rt,
         last_fault: None,
     };
+    let steps = Steps {
+        operators: Operators,
+        text: Vec::new(alloc),
+    };
     Ok(drive(
         alloc,
+        steps,
+        RandomState::new(rt)?,
         words.as_slice(),
         &mut files,
         &mut Flushed::new(rt.stdout()),
@@ -76,9 +86,13 @@ fn run(rt: &HostRuntime) -> io::Result<u8> {
 fn main(rt: HostRuntime) -> ExitCode {
     match run(&rt) {
         Ok(status) => ExitCode::from(status),
-        Err(_) => {
+        Err(error) if error.kind() == io::ErrorKind::OutOfMemory => {
             let _ = eprintln!(rt; "dpsrun: out of memory");
             ExitCode::from(5)
+        }
+        Err(error) => {
+            let _ = eprintln!(rt; "dpsrun: {error}");
+            ExitCode::from(2)
         }
     }
 }

@@ -1,4 +1,5 @@
-//! Runs the programs of its input, each with what it prints, and prints how many there are and which of them differ from what they say.
+//! Runs the programs of its input, each with what it prints, and prints how many there are and which
+//! of them differ from what they say.
 #![tactic(auto)]
 
 mod plays;
@@ -7,9 +8,12 @@ mod runs;
 
 use anyhow::{Result, bail};
 use rows::Verdict;
+use std::hash::RandomState;
 
-/// Runs each row in turn. Fails where a row wanted memory, when all have run.
+/// Runs each row in turn. Fails where the keys of the tables of names can't be had, and where a row
+/// wanted memory, when all have run.
 fn main(rt: HostRuntime) -> Result<()> {
+    let keys = RandomState::new(&rt)?;
     let mut count: u64 = 0;
     let mut wanting: u64 = 0;
     for line in rt.lines(rt.alloc()) {
@@ -18,7 +22,7 @@ fn main(rt: HostRuntime) -> Result<()> {
             continue;
         }
         count = count.wrapping_add(1);
-        match rows::verdict_of(rt.alloc(), row.as_str()) {
+        match rows::verdict_of(rt.alloc(), keys, row.as_str()) {
             Ok(Verdict::Same) => {}
             Ok(Verdict::Different) => println!(&rt; "differs: {row}")?,
             Ok(Verdict::WantsMemory) | Err(_) => wanting = wanting.wrapping_add(1),

@@ -1,19 +1,29 @@
 //! A context over a bounded memory, step by step.
 
-ghost use Rattle.std.specs.Prelude.{◌≡◌, ◌<◌, ◌^◌, IfOk};
-ghost use Rattle.ps_step.specs.Machine.{starting_machine};
+ghost use Rattle.std.specs.Prelude.{◌<◌, ◌^◌, IfOk};
+ghost use Rattle.ps_start.specs.Starts.{first_machine};
+ghost use Rattle.ps_interpreter.specs.Courses.{IsAt};
+ghost use Rattle.ps_rows.specs.Plays.{held_over};
 
 use anyhow::{Result, bail};
+use ps_acts::lent::Trial;
+use ps_context::steps::Steps;
+use ps_dispatch::operators::Operators;
+use ps_interpreter::interpreter::Interpreter;
 use ps_mem::Memory;
 use ps_mem::bounded::BoundedMemory;
 use ps_ops::failure::NotMade;
-use ps_step::interpreter::Interpreter;
+use ps_tests::fakes::steps_in;
 use std::alloc::{AllocError, Global};
+use std::hash::RandomState;
 use std::io::Write;
 use std::marker::Model;
 
 /// The slot of the steps.
 const SLOT: u32 = 0;
+
+/// The places of a log from which every record was taken.
+const DRAINED: u32 = 256;
 
 /// More steps than any row needs.
 const MOST_STEPS: u32 = 100000;
@@ -29,39 +39,56 @@ pub enum Log {
     Closed,
 }
 
-/// A context and its memory.
+/// A context, its memory, and who makes its steps.
 #[derive(Drop)]
-pub struct Play {
+pub struct Play<'a> {
     alloc: Global,
     memory: BoundedMemory,
-    context: Interpreter,
+    context: Interpreter<'a>,
+    steps: Steps<Operators>,
 }
 
-impl Model for Play {
-    ghost use Rattle.ps_step.specs.Machine.{Machine, IsGood};
+impl<'a> Model for Play<'a> {
+    ghost use Rattle.ps_interpreter.specs.Courses.{IsSteady};
+    ghost use Rattle.ps_rows.specs.Plays.{Playing, held_over};
 
-    ghost Value = { Machine };
+    ghost Value = { Playing };
 
-    ghost view = { λ p. p.context };
+    ghost view = { λ p. record { memory = p.memory; context = p.context } };
 
-    ghost invariant = { λ p. IsGood (⟦<BoundedMemory as Memory>⟧.heap p.memory) p.context };
+    ghost invariant = { λ p. IsSteady (held_over (⟦<BoundedMemory as Memory>⟧.heap p.memory)
+        (⟦<BoundedMemory as Memory>⟧.grants p.memory) p.context) };
 }
 
-impl Play {
-    /// A context before its first step, over a space of so many words.
-    pub fn new(alloc: Global, size: u32, program: &[u8]) -> Result<Play, AllocError>
+impl<'a> Play<'a> {
+    /// A context before its first step, over a space of so many words. Fails where that space, or
+    /// room in it for the first objects, can't be had.
+    pub fn new(
+        alloc: Global,
+        keys: RandomState,
+        size: u32,
+        program: &'a [u8],
+    ) -> Result<Play<'a>, AllocError>
         requires { size < 2 ^ 24 }
-        ensures { IfOk result (λ play. play ≡ starting_machine program.now) }
+        ensures { IfOk result (λ play. IsAt
+            (held_over (⟦<BoundedMemory as Memory>⟧.heap play.memory)
+            (⟦<BoundedMemory as Memory>⟧.grants play.memory) play.context)
+            (first_machine program.now)) }
     {
-        let memory = BoundedMemory::new(alloc, size)?;
-        let context = Interpreter::new(alloc, program)?;
+        let mut memory = BoundedMemory::new(alloc, size)?;
+        let Ok(context) = Interpreter::new(alloc, &mut memory, program, keys) else {
+            return Err(AllocError);
+        };
         Ok(Play {
             alloc,
             memory,
             context,
+            steps: steps_in(alloc),
         })
     }
+}
 
+impl Play<'_> {
     /// Opens a cycle, and fills or closes the log.
     fn begin(&mut self, log: Log) {
         match log {
@@ -77,22 +104,30 @@ impl Play {
         }
     }
 
-    /// Makes way for a step that was not made: the log gets a free place, or the cycle ends.
+    /// Makes way for a step that was not made: the log is drained, or the cycle ends.
     fn make_way(&mut self, reason: NotMade) {
         match reason {
-            NotMade::LogFull => self.memory.leave(SLOT, 1),
+            NotMade::LogFull => self.memory.leave(SLOT, DRAINED),
             NotMade::LogClosed => self.memory.end_cycle(),
             NotMade::NeedSpace(_) | NotMade::Memory => {}
         }
     }
 
-    /// Makes a step.
+    /// Makes a step, where there is one.
     fn step(&mut self, refused: bool) -> Result<(), NotMade> {
-        self.context.step(&mut self.memory, SLOT, refused)
+        if !self.context.has_steps() {
+            return Ok(());
+        }
+        let trial = Trial {
+            slot: SLOT,
+            refused,
+        };
+        self.context.step(&mut self.steps, &mut self.memory, trial)
     }
 
-    /// Makes steps to the end of the context. Tells why a step was not made, and makes it then: refused where it needs space, or when there is way for
-    /// its record; and what was printed comes last. Fails for want of memory.
+    /// Makes steps to the end of the context. Tells why a step was not made, and makes it then:
+    /// refused where it needs space, or when there is way for its records; and what was printed
+    /// comes last. Fails for want of memory.
     pub fn transcript(self, log: Log) -> Result<Vec<u8>> {
         let mut play = self;
         let mut told = Vec::new(play.alloc);

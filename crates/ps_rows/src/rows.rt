@@ -1,13 +1,17 @@
-//! Rows, one a line, of three fields with tabs between them: how it is run, the program, and what comes of it. `\n` is a newline, and `|` stands between the pieces of a
-//! program, of which `N*TEXT` is a text so many times.
+//! Rows, one a line, of three fields with tabs between them: how it is run, the program, and what
+//! comes of it. `\n` is a newline and `\b` a backslash. `|` stands between the pieces of a program,
+//! of which `N*TEXT` is a text so many times.
 //!
-//! `drive STATUS`: by the command line, with that exit status, and again under the schedule of its run. `bounded SIZE`, `full SIZE`, `closed SIZE`: step by
-//! step in a space of so many words, with no cycle open, with a full log, with a closed one; what comes of it begins with why steps were not made.
+//! `drive STATUS`: by the command line, with that exit status, and again under the schedule of its
+//! run. `bounded SIZE`, `full SIZE`, `closed SIZE`: step by step in a space of so many words, with no
+//! cycle open, with a full log, with a closed one; what comes of it begins with why steps were not
+//! made.
 
 use crate::plays::{Log, Play};
 use crate::runs::{driven, replayed};
 use anyhow::Result;
 use std::alloc::{AllocError, Global};
+use std::hash::RandomState;
 
 /// What a row came to.
 #[derive(Clone, Copy, Debug, PartialEq, Eq)]
@@ -38,23 +42,23 @@ pub fn is_remark(line: &str) -> bool {
 fn bytes_of(alloc: Global, field: &str) -> Result<Vec<u8>, AllocError> {
     let mut bytes = Vec::new(alloc);
     for (place, piece) in field.split('\\').enumerate() {
-        match piece.strip_prefix('n') {
-            Some(rest) if place > 0 => {
-                bytes.push(b'\n')?;
-                bytes.extend_from_slice(rest.as_bytes())?;
-            }
-            _ => {
-                if place > 0 {
-                    bytes.push(b'\\')?;
-                }
-                bytes.extend_from_slice(piece.as_bytes())?;
-            }
+        if place == 0 {
+            bytes.extend_from_slice(piece.as_bytes())?;
+            continue;
         }
+        let (escaped, rest) = match (piece.strip_prefix('n'), piece.strip_prefix('b')) {
+            (Some(rest), _) => (b'\n', rest),
+            (None, Some(rest)) => (b'\\', rest),
+            (None, None) => (b'\\', piece),
+        };
+        bytes.push(escaped)?;
+        bytes.extend_from_slice(rest.as_bytes())?;
     }
     Ok(bytes)
 }
 
-/// The program that a field writes: pieces with `|` between them, each perhaps behind `N*`, so many times.
+/// The program that a field writes: pieces with `|` between them, each perhaps behind `N*`, so many
+/// times.
 fn program_of(alloc: Global, field: &str) -> Result<Vec<u8>, AllocError> {
     let mut program = Vec::new(alloc);
     for piece in field.split('|') {
@@ -70,8 +74,8 @@ fn program_of(alloc: Global, field: &str) -> Result<Vec<u8>, AllocError> {
     Ok(program)
 }
 
-/// What comes of a row.
-pub fn verdict_of(alloc: Global, line: &str) -> Result<Verdict> {
+/// What comes of a row; the keys are for the tables of names alone.
+pub fn verdict_of(alloc: Global, keys: RandomState, line: &str) -> Result<Verdict> {
     let mut fields = line.split('\t');
     let (Some(place), Some(program), Some(wanted)) = (fields.next(), fields.next(), fields.next())
     else {
@@ -84,21 +88,23 @@ pub fn verdict_of(alloc: Global, line: &str) -> Result<Verdict> {
     let program = program_of(alloc, program)?;
     let wanted = bytes_of(alloc, wanted)?;
     let log = match name {
-        "drive" => return Ok(run(alloc, program.as_slice(), wanted.as_slice(), number)),
+        "drive" => {
+            return Ok(run(alloc, keys, program.as_slice(), wanted.as_slice(), number));
+        }
         "bounded" => Log::Idle,
         "full" => Log::Full,
         "closed" => Log::Closed,
         _ => return Ok(Verdict::Different),
     };
-    let play = Play::new(alloc, number % (1 << 24), program.as_slice())?;
+    let play = Play::new(alloc, keys, number % (1 << 24), program.as_slice())?;
     let transcript = play.transcript(log)?;
     Ok(Verdict::of(transcript.as_slice() == wanted.as_slice()))
 }
 
 /// What comes of a row that is run.
-fn run(alloc: Global, program: &[u8], printed: &[u8], status: u32) -> Verdict {
-    match driven(alloc, program, printed, (status % 256) as u8) {
-        Verdict::Same => replayed(alloc, program, printed),
+fn run(alloc: Global, keys: RandomState, program: &[u8], printed: &[u8], status: u32) -> Verdict {
+    match driven(alloc, keys, program, printed, (status % 256) as u8) {
+        Verdict::Same => replayed(alloc, keys, program, printed),
         other => other,
     }
 }

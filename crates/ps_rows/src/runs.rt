@@ -2,9 +2,10 @@
 
 use crate::rows::Verdict;
 use ps_run::{Flushed, drive};
-use ps_tests::fakes::{OneFile, Output};
+use ps_tests::fakes::{OneFile, Output, steps_in};
 use ps_vault::{Config, Outcome, Report, RunFault, replay, run_plain};
 use std::alloc::Global;
+use std::hash::RandomState;
 
 /// More writes than a run makes.
 const AMPLE: u32 = 1000;
@@ -21,7 +22,13 @@ const CONFIG: Config = Config {
 };
 
 /// Whether `drive` prints this, with this status and nothing told.
-pub fn driven(alloc: Global, program: &[u8], printed: &[u8], status: u8) -> Verdict {
+pub fn driven(
+    alloc: Global,
+    keys: RandomState,
+    program: &[u8],
+    printed: &[u8],
+    status: u8,
+) -> Verdict {
     let mut files = OneFile {
         bytes: Ok(program),
         last_fault: None,
@@ -32,7 +39,15 @@ pub fn driven(alloc: Global, program: &[u8], printed: &[u8], status: u8) -> Verd
     }
     let mut out = Flushed::new(output);
     let mut err = Output::new(alloc, AMPLE);
-    let given = drive(alloc, &["--plain", "f"], &mut files, &mut out, &mut err);
+    let given = drive(
+        alloc,
+        steps_in(alloc),
+        keys,
+        &["--plain", "f"],
+        &mut files,
+        &mut out,
+        &mut err,
+    );
     let Output { bytes: written, .. } = out.into_inner();
     if given == MEMORY {
         return if printed.starts_with(written.as_slice()) {
@@ -44,9 +59,10 @@ pub fn driven(alloc: Global, program: &[u8], printed: &[u8], status: u8) -> Verd
     Verdict::of(given == status && written.as_slice() == printed && err.bytes.is_empty())
 }
 
-/// Whether a run prints this, or a beginning of it where memory is wanted, and prints the same bytes again under its schedule.
-pub fn replayed(alloc: Global, program: &[u8], printed: &[u8]) -> Verdict {
-    match run_plain(alloc, program, CONFIG) {
+/// Whether a run prints this, or a beginning of it where memory is wanted, and prints the same bytes
+/// again under its schedule.
+pub fn replayed(alloc: Global, keys: RandomState, program: &[u8], printed: &[u8]) -> Verdict {
+    match run_plain(alloc, steps_in(alloc), program, CONFIG, keys) {
         Err(RunFault::Memory) => Verdict::WantsMemory,
         Err(RunFault::Config) => Verdict::Different,
         Ok(report) => {
@@ -54,7 +70,7 @@ pub fn replayed(alloc: Global, program: &[u8], printed: &[u8]) -> Verdict {
                 || (report.outcome == Outcome::Memory
                     && printed.starts_with(report.printed.as_slice()));
             if is_wanted {
-                again(alloc, program, &report)
+                again(alloc, keys, program, &report)
             } else {
                 Verdict::Different
             }
@@ -62,9 +78,11 @@ pub fn replayed(alloc: Global, program: &[u8], printed: &[u8]) -> Verdict {
     }
 }
 
-/// Whether the schedule of a report makes a run print the same bytes, or a beginning of them where memory is wanted then.
-fn again(alloc: Global, program: &[u8], report: &Report) -> Verdict {
-    let Ok(other) = replay(alloc, program, report.schedule.as_slice()) else {
+/// Whether the schedule of a report makes a run print the same bytes, or a beginning of them where
+/// memory is wanted then.
+fn again(alloc: Global, keys: RandomState, program: &[u8], report: &Report) -> Verdict {
+    let schedule = report.schedule.as_slice();
+    let Ok(other) = replay(alloc, steps_in(alloc), program, schedule, keys) else {
         return Verdict::WantsMemory;
     };
     let printed = report.printed.as_slice();

@@ -3,10 +3,17 @@ use Rattle.std.specs.Prelude.{◌≡◌, ◌<◌, ◌≤◌, ◌⊎◌, ◌++◌
 use Rattle.std.specs.Fmt.{decimal}
 use Rattle.std.specs.Io.KnownBytes.{Appends}
 use Rattle.ps_language.specs.declared.schedules.Entry.{Entry}
+use Rattle.ps_language.specs.Effect.{Around, Scene}
 use Rattle.ps_language.specs.Schedules.{count_of}
+use Rattle.ps_language.specs.World as world
+use Rattle.ps_acts.specs.Acts as acts
+use Rattle.ps_options.specs.declared.options.Options.{Options}
+use Rattle.ps_options.specs.CommandLine.{IsNumber, IsFlag, AreNumbers}
+use Rattle.clap.specs.Words.{Text}
+use Rattle.ps_vault.specs.declared.reports.Config.{Config}
 use Rattle.ps_vault.specs.declared.reports.Outcome.{Outcome}
 use Rattle.ps_vault.specs.declared.reports.Outcome.TheVariants.{Finished, Faulted, AllWaiting, StepsOut, Memory}
-use Rattle.ps_vault.specs.Reports.{IsRunOf}
+use Rattle.ps_vault.specs.Reports.{IsRunOf, IsWithin}
 use Rattle.ps_run.specs.declared.files.ReadFault.{ReadFault}
 use Rattle.ps_run.specs.declared.files.ReadFault.TheVariants as fault
 use Rattle.ps_run.specs.declared.driver.Status.{Status}
@@ -70,18 +77,44 @@ counts_of stats schedule = if stats then count_lines schedule else []
 
 -- ---- a run of a file
 
--- What the words ask for of a run
+-- what the words ask for of a run
 pub record Asked : Type 0 where
   pub steps : ℕ
   pub stats : Bool
 
--- a run of a file's bytes, as far as they are known, with a budget
-pub record IsFileRun (known : Option (List ℕ)) (steps : ℕ) (printed : List ℕ)
-    (schedule : List Entry) (outcome : Outcome) : Type 0 where
+abbrev pub AreAsked : List Text → Asked → Type 0
+AreAsked words asked = IsNumber (codes "steps") words asked.steps
+    × IsFlag (codes "stats") words asked.stats
+
+-- the numbers of a run among what the words ask for
+abbrev pub config_in : Options → Config
+config_in options = record {
+  space = options.space;
+  workers = options.workers;
+  quantum = options.quantum;
+  steps = options.steps;
+}
+
+-- the words' numbers are none of a run: the rules refuse such words
+pub record AreOutOfRange (words : List Text) : Type 0 where
+  pub config : Config
+  pub numbers : AreNumbers words (record {
+    space = config.space;
+    workers = config.workers;
+    quantum = config.quantum;
+    steps = config.steps;
+  })
+  pub outside : ¬ IsWithin config
+
+-- a run of a file's bytes, as far as they are known, with a budget; asks: what a step asks for that
+-- the language doesn't say
+pub record IsFileRun (asks : world.Status → Around → Scene → acts.Asked)
+    (known : Option (List ℕ)) (steps : ℕ) (printed : List ℕ) (schedule : List Entry)
+    (outcome : Outcome) : Type 0 where
   pub program : List ℕ
   pub is_file : IfSome known (λ bytes. program ≡ bytes)
   pub few : length program ≤ 16777215
-  pub run : IsRunOf program steps printed schedule outcome
+  pub run : IsRunOf asks program steps printed schedule outcome
 
 -- the bytes that outputs hold before and after, where they are known; flushed: whether the first
 -- was flushed after its last write
@@ -102,26 +135,26 @@ IsWritten stats printed schedule outcome told outputs =
     × AppendsPart outputs.err_old outputs.err_new (counts_of stats schedule ++ line_of told)
     × (outputs.flushed ≡ true))
 
--- a run that was written
-pub record IsRunWritten (known : Option (List ℕ)) (IsAsked : Asked → Type 0) (told : Status)
-    (outputs : Outputs) : Type 0 where
-  pub asked : Asked
-  pub is_asked : IsAsked asked
-  pub printed : List ℕ
-  pub schedule : List Entry
-  pub outcome : Outcome
-  pub run : IsFileRun known asked.steps printed schedule outcome
-  pub written : IsWritten asked.stats printed schedule outcome told outputs
-
 -- the file can't be read for what it holds
 abbrev pub IsTooLong : (known : Option (List ℕ)) → Type 0
 IsTooLong known = IfSome known (λ bytes. 16777215 < length bytes)
 
--- a fault of the words or the file, or want of memory before the run: nothing is written; else a
--- run. IsFault: of the words or the file
-abbrev pub IsDriven : (known : Option (List ℕ)) → (IsAsked : Asked → Type 0) → (IsFault : Type 0)
-    → (told : Status) → Outputs → Type 0
-IsDriven known IsAsked IsFault told outputs =
-    ((told ≡ status.Usage) × (outputs.out_new ≡ outputs.out_old) × IsFault)
-    ⊎ (((told ≡ status.Memory) × (outputs.out_new ≡ outputs.out_old))
-    ⊎ IsRunWritten known IsAsked told outputs)
+module _ (asks : world.Status → Around → Scene → acts.Asked) (known : Option (List ℕ))
+    (IsAsked : Asked → Type 0) where
+  -- a run that was written
+  pub record IsRunWritten (told : Status) (outputs : Outputs) : Type 0 where
+    pub asked : Asked
+    pub is_asked : IsAsked asked
+    pub printed : List ℕ
+    pub schedule : List Entry
+    pub outcome : Outcome
+    pub run : IsFileRun asks known asked.steps printed schedule outcome
+    pub written : IsWritten asked.stats printed schedule outcome told outputs
+
+  -- a fault of the words or the file, or want of memory before the run: nothing is written; else a
+  -- run. IsFault: of the words or the file
+  abbrev pub IsDriven : (IsFault : Type 0) → (told : Status) → Outputs → Type 0
+  IsDriven IsFault told outputs =
+      ((told ≡ status.Usage) × (outputs.out_new ≡ outputs.out_old) × IsFault)
+      ⊎ (((told ≡ status.Memory) × (outputs.out_new ≡ outputs.out_old))
+      ⊎ IsRunWritten told outputs)

@@ -1,2 +1,1 @@
-pub mod CommandLine
 pub mod Driving

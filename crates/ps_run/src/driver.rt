@@ -3,19 +3,23 @@
 ghost use Rattle.std.specs.Prelude.{◌≡◌, ◌≢◌, ◌++◌, ◌⊎◌, ◌-◌, ◌^◌, [], ℕ, min, map, OnOk, IfSome, None, length};
 ghost use Rattle.std.specs.Io.KnownBytes.{Appends};
 ghost use Rattle.ps_language.specs.Schedules.{count_of};
-ghost use Rattle.ps_run.specs.CommandLine.{command_line, file_in, AreAsked, AreOutOfRange};
+ghost use Rattle.ps_options.specs.CommandLine.{command_line, file_in};
+ghost use Rattle.clap.specs.Values.{kind_of};
 ghost use Rattle.clap.specs.Words.{fault_of};
 ghost use Rattle.ps_vault.specs.Reports.{IsWithin};
 ghost use Rattle.ps_run.specs.Driving as driving;
-ghost use Rattle.ps_run.specs.Driving.{AppendsPart, IsWritten, IsTooLong, IsDriven};
+ghost use Rattle.ps_run.specs.Driving.{AppendsPart, AreAsked, AreOutOfRange, IsWritten, IsTooLong, IsDriven, config_in};
 
 use crate::files::{FileSet, ReadFault};
-use crate::options::{Options, parse};
 use crate::outputs::Flushing;
 use crate::writing::{write_number, write_part};
+use clap::Error;
 use clap::error::ErrorKind;
-use ps_vault::{Entry, Outcome, Report, RunFault, run_plain};
+use ps_interpreter::interprets::Interpret;
+use ps_options::{Options, parse};
+use ps_vault::{Config, Entry, Outcome, Report, RunFault, run_plain};
 use std::alloc::Global;
+use std::hash::RandomState;
 use std::io::{self, Write};
 
 /// How the program ends, as an exit status.
@@ -30,18 +34,24 @@ enum Status {
     Memory,
 }
 
-/// Runs the program that the words name, writes what it printed to `out`, and statistics and faults
-/// to `err`. The words are without the program's name.
+/// Runs the program that the words name, by steps that `interpret` makes, writes what it printed to
+/// `out`, and statistics and faults to `err`. The words are without the program's name; the keys are
+/// for the table of names alone.
+///
+/// What is printed is what the definitions of the whole language print for the run's schedule, if no
+/// step of it is an operator on contexts or locks, `vmstatus` or `vmreclaim`: each of those raises
+/// `undefined` until there are contexts.
 ///
 /// The result is the exit status: 0 where every context finished, 1 where an error was printed too,
-/// 2 for a fault of the command line, of a file or of the output, 3
-/// where every context waits, which no program without contexts brings about, 4 where the steps are
-/// used up, 5 for want of memory, before the run or in it. With 2 the
-/// output has a beginning of what was printed, which is nothing where the words or the file were at
-/// fault. After a run whose output took everything the output is flushed. A write to `err` that
-/// fails changes nothing else.
-pub fn drive<F: FileSet, W: Flushing, X: Write>(
+/// 2 for a fault of the command line, of a file or of the output, 3 where every context waits, which
+/// no program without contexts brings about, 4 where the steps are used up, 5 for want of memory,
+/// before the run or in it. With 2 the output has a beginning of what was printed, which is nothing
+/// where the words or the file were at fault. After a run whose output took everything the output is
+/// flushed. A write to `err` that fails changes nothing else.
+pub fn drive<S: Interpret + Drop, F: FileSet, W: Flushing, X: Write>(
     alloc: Global,
+    interpret: S,
+    keys: RandomState,
     words: &[&str],
     files: &mut F,
     out: &mut W,
@@ -55,7 +65,7 @@ pub fn drive<F: FileSet, W: Flushing, X: Write>(
         → IfSome (F.last_fault files.new)
         (λ fault. result ≡ driving.number_of (driving.unread fault)) }
     ensures run { (told : Status) × (result ≡ driving.number_of told)
-        × IsDriven (F.contents files.old (file_in (map (λ word. word.now) words.now)))
+        × IsDriven S.asks (F.contents files.old (file_in (map (λ word. word.now) words.now)))
         (AreAsked (map (λ word. word.now) words.now))
         ((fault_of command_line (map (λ word. word.now) words.now) ≢ [])
         ⊎ (IsTooLong (F.contents files.old (file_in (map (λ word. word.now) words.now)))
@@ -69,15 +79,22 @@ pub fn drive<F: FileSet, W: Flushing, X: Write>(
           flushed = W.is_flushed out.new;
         }) }
 {
-    let status = match parse(alloc, words) {
-        Ok(options) => run(alloc, &options, files, out, err),
-        Err(error) if error.kind() == ErrorKind::OutOfMemory => end(err, Status::Memory),
-        Err(error) => {
-            let _ = write!(err, "{error}");
-            Status::Usage
-        }
-    };
-    number_of(status)
+    match parse(alloc, words) {
+        Ok(options) => number_of(run(alloc, interpret, keys, &options, files, out, err)),
+        Err(error) => number_of(refuse(&error, err)),
+    }
+}
+
+/// Tells why the words were not read: a fault of theirs, or want of memory.
+fn refuse<X: Write>(error: &Error, err: &mut X) -> Status
+    ensures { (result ≡ Status.Memory)
+        ⊎ ((result ≡ Status.Usage) × ¬ (kind_of error.now ≡ ErrorKind.OutOfMemory)) }
+{
+    if error.kind() == ErrorKind::OutOfMemory {
+        return end(err, Status::Memory);
+    }
+    let _ = write!(err, "{error}");
+    Status::Usage
 }
 
 /// The exit status as a number.
@@ -88,8 +105,10 @@ fn number_of(status: Status) -> u8
 }
 
 /// Reads the program, runs it and writes what it printed.
-fn run<F: FileSet, W: Flushing, X: Write>(
+fn run<S: Interpret + Drop, F: FileSet, W: Flushing, X: Write>(
     alloc: Global,
+    interpret: S,
+    keys: RandomState,
     options: &Options<'_>,
     files: &mut F,
     out: &mut W,
@@ -99,9 +118,10 @@ fn run<F: FileSet, W: Flushing, X: Write>(
     ensures files { F.contents files.new ≡ F.contents files.old }
     ensures unread { F.last_fault files.old ≡ None
         → IfSome (F.last_fault files.new) (λ fault. result ≡ driving.unread fault) }
-    ensures run { IsDriven (F.contents files.old options.now.file.now)
-        (λ asked. (asked.steps ≡ options.now.config.steps) × (asked.stats ≡ options.now.stats))
-        (IsTooLong (F.contents files.old options.now.file.now) ⊎ ¬ IsWithin options.now.config)
+    ensures run { IsDriven S.asks (F.contents files.old options.now.file.now)
+        (λ asked. (asked.steps ≡ options.now.steps) × (asked.stats ≡ options.now.stats))
+        (IsTooLong (F.contents files.old options.now.file.now)
+        ⊎ ¬ IsWithin (config_in options.now))
         result (record {
           out_old = W.contents out.old;
           out_new = W.contents out.new;
@@ -120,10 +140,28 @@ fn run<F: FileSet, W: Flushing, X: Write>(
             return Status::Usage;
         }
     };
-    match run_plain(alloc, program.as_slice(), options.config) {
+    match run_plain(
+        alloc,
+        interpret,
+        program.as_slice(),
+        config_of(options),
+        keys,
+    ) {
         Ok(report) => finish(&report, options.stats, out, err),
         Err(RunFault::Memory) => end(err, Status::Memory),
         Err(RunFault::Config) => Status::Usage,
+    }
+}
+
+/// The numbers of the run.
+fn config_of(options: &Options<'_>) -> Config
+    ensures { result ≡ config_in options.now }
+{
+    Config {
+        space: options.space,
+        workers: options.workers,
+        quantum: options.quantum,
+        steps: options.steps,
     }
 }
 

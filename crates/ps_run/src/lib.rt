@@ -4,7 +4,6 @@
 
 mod driver;
 mod files;
-mod options;
 mod outputs;
 mod writing;
 

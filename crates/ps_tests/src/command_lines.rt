@@ -1,8 +1,9 @@
 //! Rows of the command line: what is run, and what it gives.
 
-use crate::fakes::{OneFile, Output};
+use crate::fakes::{OneFile, Output, steps_in};
 use ps_run::{Flushed, ReadFault, drive};
-use std::alloc::Global;
+use std::hash::RandomState;
+use std::io;
 use std::test::Fail;
 
 /// Ample writes.
@@ -16,28 +17,38 @@ struct Given {
     err: Vec<u8>,
 }
 
-/// What a run of these bytes gave, with so many writes to each output.
+/// What a run of these bytes gave, with so many writes to each output. Fails where the keys of the
+/// table of names can't be had.
 fn driven(
-    alloc: Global,
+    rt: &HostRuntime,
     words: &[&str],
     bytes: Result<&[u8], ReadFault>,
     out_writes: u32,
     err_writes: u32,
-) -> Given {
+) -> io::Result<Given> {
+    let alloc = rt.alloc();
     let mut files = OneFile {
         bytes,
         last_fault: None,
     };
     let mut out = Flushed::new(Output::new(alloc, out_writes));
     let mut err = Output::new(alloc, err_writes);
-    let status = drive(alloc, words, &mut files, &mut out, &mut err);
+    let status = drive(
+        alloc,
+        steps_in(alloc),
+        RandomState::new(rt)?,
+        words,
+        &mut files,
+        &mut out,
+        &mut err,
+    );
     let Output { bytes: printed, .. } = out.into_inner();
     let Output { bytes: told, .. } = err;
-    Given {
+    Ok(Given {
         status,
         out: printed,
         err: told,
-    }
+    })
 }
 
 /// A command line over `1 2 add =`, what is printed, what is told and the status.
@@ -122,7 +133,7 @@ const LINES: [Line; 8] = [
 fn command_lines_are_read(rt: HostRuntime) -> Result<(), Fail> {
     for line in LINES {
         let words = line.words;
-        let given = driven(rt.alloc(), words, Ok(b"1 2 add ="), AMPLE, AMPLE);
+        let given = driven(&rt, words, Ok(b"1 2 add ="), AMPLE, AMPLE)?;
         assert_eq!(rt;
             given.out.as_slice(),
             line.printed.as_bytes(),
@@ -162,7 +173,7 @@ const REFUSED: [&[&str]; 17] = [
 #[test]
 fn bad_command_lines_are_told(rt: HostRuntime) -> Result<(), Fail> {
     for words in REFUSED {
-        let given = driven(rt.alloc(), words, Ok(b"1 2 add ="), AMPLE, AMPLE);
+        let given = driven(&rt, words, Ok(b"1 2 add ="), AMPLE, AMPLE)?;
         assert_eq!(rt; given.status, 2, "the status under {words:?}");
         assert_eq!(rt; given.out.len(), 0, "printed under {words:?}");
         assert!(rt; !given.err.is_empty(), "told under {words:?}");
@@ -178,13 +189,7 @@ fn files_that_are_not_read_are_told(rt: HostRuntime) -> Result<(), Fail> {
         (ReadFault::Memory, "dpsrun: out of memory\n", 5),
     ];
     for (fault, told, status) in faults {
-        let given = driven(
-            rt.alloc(),
-            &["--plain", "--stats", "f"],
-            Err(fault),
-            AMPLE,
-            AMPLE,
-        );
+        let given = driven(&rt, &["--plain", "--stats", "f"], Err(fault), AMPLE, AMPLE)?;
         assert_eq!(rt; given.status, status);
         assert_eq!(rt; given.err.as_slice(), told.as_bytes());
         assert_eq!(rt; given.out.len(), 0);
@@ -197,12 +202,12 @@ fn each_write_fails_in_turn(rt: HostRuntime) -> Result<(), Fail> {
     // Of `out` the write and the flush: the fault is told, and no statistics.
     for writes in 0..2u32 {
         let given = driven(
-            rt.alloc(),
+            &rt,
             &["--plain", "--stats", "f"],
             Ok(b"1 2 add ="),
             writes,
             AMPLE,
-        );
+        )?;
         assert_eq!(rt; given.status, 2);
         assert_eq!(rt;
             given.err.as_slice(),
@@ -212,23 +217,17 @@ fn each_write_fails_in_turn(rt: HostRuntime) -> Result<(), Fail> {
     // Of `err` each: nothing else changes.
     for writes in 0..12u32 {
         let given = driven(
-            rt.alloc(),
+            &rt,
             &["--plain", "--stats", "--steps", "4", "f"],
             Ok(b"1 2 add ="),
             AMPLE,
             writes,
-        );
+        )?;
         assert_eq!(rt; given.status, 4);
         assert_eq!(rt; given.out.as_slice(), b"3\n".as_slice());
     }
     // Both.
-    let given = driven(
-        rt.alloc(),
-        &["--plain", "--stats", "f"],
-        Ok(b"1 2 add ="),
-        0,
-        0,
-    );
+    let given = driven(&rt, &["--plain", "--stats", "f"], Ok(b"1 2 add ="), 0, 0)?;
     assert_eq!(rt; given.status, 2);
     Ok(())
 }

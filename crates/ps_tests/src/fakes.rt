@@ -1,13 +1,23 @@
-//! Files and outputs in memory.
+//! Files and outputs in memory, and who makes the steps of a run.
 
 ghost use Rattle.std.specs.Prelude.{◌≡◌, ◌≢◌, ◌+◌, ℕ, List, [], Some, Err, OnOk, OnErr, IsErr, IfOk, IfSome, length};
 ghost use Rattle.std.specs.Io.{WritesAtMost};
 ghost use Rattle.std.specs.Io.KnownBytes.{WriteAppends, Keeps};
 ghost use Rattle.ps_tests.specs.Fakes.{bytes_in};
 
+use ps_context::steps::Steps;
+use ps_dispatch::operators::Operators;
 use ps_run::{FileSet, MOST_PROGRAM_BYTES, ReadFault, WriteFault};
 use std::alloc::Global;
 use std::io::{self, ErrorKind, Write};
+
+/// Who makes the steps of a context by the whole language.
+pub fn steps_in(alloc: Global) -> Steps<Operators> {
+    Steps {
+        operators: Operators,
+        text: Vec::new(alloc),
+    }
+}
 
 /// One file that can be read, whatever its name, or a fault in its place; nothing can be written.
 #[derive(Drop)]

@@ -1,4 +1,5 @@
-//! Tests that cross crates: the rows of the command line, runs under a schedule, and each write failing in turn; and the files and outputs in memory that they are run on.
+//! Tests that cross crates: the rows of the command line, runs under a schedule, and each write
+//! failing in turn; and the files and outputs in memory that they are run on.
 #![tactic(auto)]
 
 #[cfg(test)]

@@ -1,6 +1,8 @@
 //! Runs under a schedule of their own and under one that is given.
 
-use ps_vault::{Config, Entry, Outcome, RunFault, replay, run_plain};
+use crate::fakes::steps_in;
+use ps_vault::{Config, Entry, Outcome, Report, RunFault, replay, run_plain};
+use std::hash::RandomState;
 use std::test::Fail;
 
 /// The numbers of a run with so many steps.
@@ -23,9 +25,29 @@ fn entry(context: u32, steps: u32, refused: bool) -> Entry {
     }
 }
 
+/// The report of a run under a schedule of its own. Fails where there is none.
+fn ran(rt: &HostRuntime, program: &[u8], config: Config) -> Result<Report, Fail> {
+    let alloc = rt.alloc();
+    let keys = RandomState::new(rt)?;
+    let report = run_plain(alloc, steps_in(alloc), program, config, keys)
+        .ok()
+        .ok_or("no report")?;
+    Ok(report)
+}
+
+/// The report of a run under a given schedule. Fails where there is none.
+fn followed(rt: &HostRuntime, program: &[u8], schedule: &[Entry]) -> Result<Report, Fail> {
+    let alloc = rt.alloc();
+    let keys = RandomState::new(rt)?;
+    let report = replay(alloc, steps_in(alloc), program, schedule, keys)
+        .ok()
+        .ok_or("no report")?;
+    Ok(report)
+}
+
 #[test]
 fn a_run_has_its_schedule(rt: HostRuntime) -> Result<(), Fail> {
-    let rows: [(&str, u32, &str, Outcome, u32); 9] = [
+    let rows: [(&str, u32, &str, Outcome, u32); 11] = [
         ("", 10, "", Outcome::Finished, 1),
         ("1 2 add =", 5, "3\n", Outcome::Finished, 5),
         ("1 2 add =", 4, "3\n", Outcome::StepsOut, 4),
@@ -52,6 +74,8 @@ fn a_run_has_its_schedule(rt: HostRuntime) -> Result<(), Fail> {
             Outcome::StepsOut,
             15,
         ),
+        ("2 {} repeat", 100, "", Outcome::Finished, 7),
+        ("{1 2 add} exec =", 100, "3\n", Outcome::Finished, 8),
         (
             "[1] {pop pop} forall",
             100,
@@ -61,9 +85,7 @@ fn a_run_has_its_schedule(rt: HostRuntime) -> Result<(), Fail> {
         ),
     ];
     for (program, steps, printed, outcome, made) in rows {
-        let report = run_plain(rt.alloc(), program.as_bytes(), config(steps))
-            .ok()
-            .ok_or("no report")?;
+        let report = ran(&rt, program.as_bytes(), config(steps))?;
         assert_eq!(rt;
             report.printed.as_slice(),
             printed.as_bytes(),
@@ -74,9 +96,7 @@ fn a_run_has_its_schedule(rt: HostRuntime) -> Result<(), Fail> {
             report.schedule.as_slice() == [entry(1, made, false)].as_slice(),
             "the schedule of {program}"
         );
-        let again = replay(rt.alloc(), program.as_bytes(), report.schedule.as_slice())
-            .ok()
-            .ok_or("no report")?;
+        let again = followed(&rt, program.as_bytes(), report.schedule.as_slice())?;
         assert_eq!(rt;
             again.printed.as_slice(),
             printed.as_bytes(),
@@ -97,16 +117,12 @@ fn a_given_schedule_is_followed(rt: HostRuntime) -> Result<(), Fail> {
         &[entry(7, 4294967295, false), entry(1, 5, false)],
     ];
     for schedule in schedules {
-        let report = replay(rt.alloc(), b"1 2 add =", schedule)
-            .ok()
-            .ok_or("no report")?;
+        let report = followed(&rt, b"1 2 add =", schedule)?;
         assert_eq!(rt; report.printed.as_slice(), b"3\n".as_slice());
         assert!(rt; report.outcome == Outcome::Finished);
         assert!(rt; report.schedule.as_slice() == schedule);
     }
-    let report = replay(rt.alloc(), b"1 2 add =", &[entry(1, 3, false)])
-        .ok()
-        .ok_or("no report")?;
+    let report = followed(&rt, b"1 2 add =", &[entry(1, 3, false)])?;
     assert!(rt; report.outcome == Outcome::StepsOut);
     Ok(())
 }
@@ -162,9 +178,7 @@ fn a_refused_step_makes_no_object(rt: HostRuntime) -> Result<(), Fail> {
         ),
     ];
     for (program, schedule, printed) in rows {
-        let report = replay(rt.alloc(), program.as_bytes(), schedule)
-            .ok()
-            .ok_or("no report")?;
+        let report = followed(&rt, program.as_bytes(), schedule)?;
         assert_eq!(rt;
             report.printed.as_slice(),
             printed.as_bytes(),
@@ -180,18 +194,17 @@ fn a_refused_step_makes_no_object(rt: HostRuntime) -> Result<(), Fail> {
 
 #[test]
 fn memory_ends_at_its_last_word(rt: HostRuntime) -> Result<(), Fail> {
-    // An array of 255, a procedure of 4, and 255 arrays of 65,533 leave 65,527 of the 16,777,215 words.
+    // The first objects take 528 of the 16,777,215 words. An array of 255, a procedure of 4, and 255
+    // arrays of 65,533 leave 64,999 of the others.
     let rows = [
-        ("65525 array length =", "65525\n", Outcome::Finished),
-        ("65525 array pop 0 array", "", Outcome::Memory),
+        ("64997 array length =", "64997\n", Outcome::Finished),
+        ("64997 array pop 0 array", "", Outcome::Memory),
     ];
     for (tail, printed, outcome) in rows {
         let mut program = Vec::from_slice(rt.alloc(), b"255 array {pop 65533 array pop} forall ")?;
         let tail: &str = tail;
         program.extend_from_slice(tail.as_bytes())?;
-        let report = run_plain(rt.alloc(), program.as_slice(), config(10000))
-            .ok()
-            .ok_or("no report")?;
+        let report = ran(&rt, program.as_slice(), config(10000))?;
         let printed: &str = printed;
         assert_eq!(rt;
             report.printed.as_slice(),
@@ -232,7 +245,10 @@ fn numbers_out_of_range_are_refused(rt: HostRuntime) -> Result<(), Fail> {
         },
         config(0),
     ] {
-        assert!(rt; matches!(run_plain(rt.alloc(), b"", wrong), Err(RunFault::Config)));
+        let alloc = rt.alloc();
+        let keys = RandomState::new(&rt)?;
+        let report = run_plain(alloc, steps_in(alloc), b"", wrong, keys);
+        assert!(rt; matches!(report, Err(RunFault::Config)));
     }
     Ok(())
 }

@@ -1,34 +1,31 @@
--- The world after the steps of entries.
+-- The machine after the steps of entries.
 use Rattle.std.proofs.Common.{◌≡◌, ℕ, zero, suc, ◌+◌, ◌<◌, ◌≤◌, Bool, true, false, None, List, [], ◌∷◌, ◌++◌, length, take, drop, get_or, refl, sym, ◌∙◌, ap, ap₂, subst, arith, add-one, append-nil, drop-cons, length-append}
 use Rattle.std.specs.Prelude.{◌==◌, ◌&&◌, not, replicate}
-use Rattle.std.proofs.lemmas.List.{length-replicate, replicate_more, take-append-drop, take_more, take_all, drop_all}
+use Rattle.std.proofs.lemmas.List.{length-replicate, take-append-drop, take_more, drop_all}
 use Rattle.std.proofs.lemmas.Bool.{true≢false}
 use Rattle.std.proofs.lemmas.Bool.Decides.{nat_tests}
 use Rattle.ps_language.specs.declared.schedules.Entry.{Entry}
 use Rattle.ps_language.specs.Schedules.{Move, plain_move, last_move, moves_of, moves, count_of, Begins}
-use Rattle.ps_language.specs.Small.{has_steps, starting_small_world, SmallWorld, is_small_ready, after_small_move, after_small_moves, small_world}
+use Rattle.ps_language.specs.Effect.{Around, Scene}
+use Rattle.ps_language.specs.Machines.{may_end}
+use Rattle.ps_language.specs.World.{Status, Machine}
+use Rattle.ps_acts.specs.Acts.{Asked}
+use Rattle.ps_start.specs.Starts.{first_machine}
+use Rattle.ps_interpreter.specs.Alone.{is_alone_ready, after_alone_move, after_alone_moves, alone_machine}
 use Rattle.ps_vault.specs.declared.reports.Outcome.{Outcome}
 use Rattle.ps_vault.specs.declared.reports.Outcome.TheVariants.{Finished, Faulted, AllWaiting, StepsOut, Memory}
 use Rattle.ps_vault.specs.Reports.{EndsAs, is_memory, is_over, IsStarved, is_first_refused, is_next_refused}
 use Rattle.ps_language.proofs.ScheduleLaws.{moves-single, moves-append, plain_entry, begins-part}
-use Rattle.ps_language.proofs.SmallLaws.{unready_move, after_small_moves-append, after_small_moves-single, small_world-append}
+use Rattle.ps_interpreter.proofs.Laws.{unready_move, after_alone_moves-append, after_alone_moves-single, alone_machine-append}
 
 -- nothing in this language shows the pair of a vmstatus, so a move is told by its context and
 -- whether it is refused
-pub same_move : (world : SmallWorld) (first second : Move) → first.context ≡ second.context
-    → first.refused ≡ second.refused → after_small_move world first ≡ after_small_move world second
-unfolding after_small_move
-same_move world first second context refused = rw (context, refused) refl
-
--- one ordinary step more
-pub after_more : (world : SmallWorld) (context n : ℕ)
-    → after_small_moves world (replicate (n + 1) (plain_move context)) ≡ after_small_move
-    (after_small_moves world (replicate n (plain_move context))) (plain_move context)
-after_more world context n =
-    ap (after_small_moves world) (sym (replicate_more n (plain_move context)))
-    ∙ (after_small_moves-append world (replicate n (plain_move context)) (plain_move context ∷ [])
-    ∙ after_small_moves-single (after_small_moves world (replicate n (plain_move context)))
-    (plain_move context))
+pub same_move : (program : List ℕ) (machine : Machine) (first second : Move) → first.context
+    ≡ second.context
+    → first.refused ≡ second.refused → after_alone_move program machine first
+    ≡ after_alone_move program machine second
+unfolding after_alone_move
+same_move program machine first second context refused = rw (context, refused) refl
 
 -- ---- the first steps of an entry
 
@@ -38,11 +35,6 @@ length_moves_of entry zero = refl
 length_moves_of entry (suc n) =
     length-append (replicate n (plain_move entry.context)) (last_move entry ∷ [])
     ∙ (ap (λ k. k + 1) (length-replicate n (plain_move entry.context)) ∙ add-one n)
-
--- all of them
-pub taken_all : (entry : Entry) (n : ℕ) → take n (moves_of entry n) ≡ moves_of entry n
-taken_all entry n = take_all n (moves_of entry n)
-    (let all = length_moves_of entry n in omega (arith, all))
 
 taken_before : (few many : ℕ) (move : Move) (rest : List Move) → few ≤ many
     → take few (replicate many move ++ rest) ≡ replicate few move
@@ -59,93 +51,105 @@ taken_part entry few (suc before) h =
     taken_before few before (plain_move entry.context) (last_move entry ∷ []) (omega arith)
 
 -- all of them, with the last
-pub after_last : (world : SmallWorld) (entry : Entry) (before : ℕ)
-    → after_small_moves world (moves_of entry (suc before)) ≡ after_small_move
-    (after_small_moves world (replicate before (plain_move entry.context))) (last_move entry)
-after_last world entry before =
-    after_small_moves-append world (replicate before (plain_move entry.context))
+pub after_last : (program : List ℕ) (machine : Machine) (entry : Entry) (before : ℕ)
+    → after_alone_moves program machine (moves_of entry (suc before)) ≡ after_alone_move program
+    (after_alone_moves program machine (replicate before (plain_move entry.context))) (last_move
+    entry)
+after_last program machine entry before =
+    after_alone_moves-append program machine (replicate before (plain_move entry.context))
     (last_move entry ∷ [])
-    ∙ after_small_moves-single
-    (after_small_moves world (replicate before (plain_move entry.context))) (last_move entry)
+    ∙ after_alone_moves-single program
+    (after_alone_moves program machine (replicate before (plain_move entry.context))) (last_move
+    entry)
 
 -- ---- steps of a context that isn't ready
 
-idle_steps : (world : SmallWorld) (entry : Entry) (before : ℕ)
-    → is_small_ready world entry.context ≡ false
-    → after_small_moves world (replicate before (plain_move entry.context) ++ last_move entry ∷ [])
-    ≡ world
-unfolding after_small_moves
-idle_steps world entry zero unready = unready_move world (last_move entry) unready
-idle_steps world entry (suc before) unready =
-    ap (λ (w : SmallWorld). after_small_moves w
+idle_steps : (program : List ℕ) (machine : Machine) (entry : Entry) (before : ℕ)
+    → is_alone_ready machine entry.context ≡ false
+    → after_alone_moves program machine (replicate before (plain_move entry.context) ++ last_move
+    entry ∷ [])
+    ≡ machine
+unfolding after_alone_moves
+idle_steps program machine entry zero unready =
+    unready_move program machine (last_move entry) unready
+idle_steps program machine entry (suc before) unready =
+    ap (λ (m : Machine). after_alone_moves program m
     (replicate before (plain_move entry.context) ++ last_move entry ∷ []))
-    (unready_move world (plain_move entry.context) unready)
-    ∙ idle_steps world entry before unready
+    (unready_move program machine (plain_move entry.context) unready)
+    ∙ idle_steps program machine entry before unready
 
-idle_behind : (world : SmallWorld) (entry : Entry) (made before : ℕ)
-    → is_small_ready world entry.context ≡ false
-    → after_small_moves world
-    (drop made (replicate before (plain_move entry.context) ++ last_move entry ∷ [])) ≡ world
-unfolding after_small_moves
-idle_behind world entry zero before unready = idle_steps world entry before unready
-idle_behind world entry (suc made) zero unready =
-    ap (after_small_moves world) (drop_all made [] (omega arith))
-idle_behind world entry (suc made) (suc before) unready =
-    idle_behind world entry made before unready
+idle_behind : (program : List ℕ) (machine : Machine) (entry : Entry) (made before : ℕ)
+    → is_alone_ready machine entry.context ≡ false
+    → after_alone_moves program machine
+    (drop made (replicate before (plain_move entry.context) ++ last_move entry ∷ [])) ≡ machine
+unfolding after_alone_moves
+idle_behind program machine entry zero before unready =
+    idle_steps program machine entry before unready
+idle_behind program machine entry (suc made) zero unready =
+    ap (after_alone_moves program machine) (drop_all made [] (omega arith))
+idle_behind program machine entry (suc made) (suc before) unready =
+    idle_behind program machine entry made before unready
 
-idle : (world : SmallWorld) (entry : Entry) (made n : ℕ)
-    → is_small_ready world entry.context ≡ false
-    → after_small_moves world (drop made (moves_of entry n)) ≡ world
-unfolding after_small_moves
-idle world entry made zero unready = ap (after_small_moves world) (drop_all made [] (omega arith))
-idle world entry made (suc before) unready = idle_behind world entry made before unready
+idle : (program : List ℕ) (machine : Machine) (entry : Entry) (made n : ℕ)
+    → is_alone_ready machine entry.context ≡ false
+    → after_alone_moves program machine (drop made (moves_of entry n)) ≡ machine
+unfolding after_alone_moves
+idle program machine entry made zero unready =
+    ap (after_alone_moves program machine) (drop_all made [] (omega arith))
+idle program machine entry made (suc before) unready =
+    idle_behind program machine entry made before unready
 
 -- so where it isn't ready after some, the others of the entry change nothing
-pub after_idle : (old new : SmallWorld) (entry : Entry) (made n : ℕ)
-    → new ≡ after_small_moves old (take made (moves_of entry n))
-    → is_small_ready new entry.context ≡ false
-    → new ≡ after_small_moves old (moves_of entry n)
-after_idle old new entry made n is unready =
-    sym (ap (after_small_moves old) (sym (take-append-drop made (moves_of entry n)))
-    ∙ (after_small_moves-append old (take made (moves_of entry n)) (drop made (moves_of entry n))
-    ∙ (ap (λ (w : SmallWorld). after_small_moves w (drop made (moves_of entry n))) (sym is)
-    ∙ idle new entry made n unready)))
+pub after_idle : (program : List ℕ) (old new : Machine) (entry : Entry) (made n : ℕ)
+    → new ≡ after_alone_moves program old (take made (moves_of entry n))
+    → is_alone_ready new entry.context ≡ false
+    → new ≡ after_alone_moves program old (moves_of entry n)
+after_idle program old new entry made n is unready =
+    sym (ap (after_alone_moves program old) (sym (take-append-drop made (moves_of entry n)))
+    ∙ (after_alone_moves-append program old (take made (moves_of entry n)) (drop made (moves_of
+    entry n))
+    ∙ (ap (λ (m : Machine). after_alone_moves program m (drop made (moves_of entry n))) (sym is)
+    ∙ idle program new entry made n unready)))
 
 -- the steps before were ordinary ones of the first context
-pub after_idle_part : (old new : SmallWorld) (entry : Entry) (made : ℕ) → made < entry.steps
-    → new ≡ after_small_moves old (replicate made (plain_move entry.context))
-    → is_small_ready new entry.context ≡ false
-    → new ≡ after_small_moves old (moves_of entry entry.steps)
-after_idle_part old new entry made less is unready =
-    after_idle old new entry made entry.steps
-    (is ∙ ap (after_small_moves old) (sym (taken_part entry made entry.steps less))) unready
+pub after_idle_part : (program : List ℕ) (old new : Machine) (entry : Entry) (made : ℕ)
+    → made < entry.steps
+    → new ≡ after_alone_moves program old (replicate made (plain_move entry.context))
+    → is_alone_ready new entry.context ≡ false
+    → new ≡ after_alone_moves program old (moves_of entry entry.steps)
+after_idle_part program old new entry made less is unready =
+    after_idle program old new entry made entry.steps
+    (is ∙ ap (after_alone_moves program old) (sym (taken_part entry made entry.steps less))) unready
 
 -- a context that isn't ready before the first step
-pub after_unready : (world : SmallWorld) (entry : Entry)
-    → is_small_ready world entry.context ≡ false
-    → world ≡ after_small_moves world (moves_of entry entry.steps)
-unfolding after_small_moves
-after_unready world entry unready = after_idle world world entry 0 entry.steps refl unready
+pub after_unready : (program : List ℕ) (machine : Machine) (entry : Entry)
+    → is_alone_ready machine entry.context ≡ false
+    → machine ≡ after_alone_moves program machine (moves_of entry entry.steps)
+unfolding after_alone_moves
+after_unready program machine entry unready =
+    after_idle program machine machine entry 0 entry.steps refl unready
 
 -- none
-pub after_nothing : (world : SmallWorld) (entry : Entry) → entry.steps ≡ 0
-    → world ≡ after_small_moves world (moves_of entry entry.steps)
-unfolding after_small_moves
-after_nothing world entry none = rw none refl
+pub after_nothing : (program : List ℕ) (machine : Machine) (entry : Entry) → entry.steps ≡ 0
+    → machine ≡ after_alone_moves program machine (moves_of entry entry.steps)
+unfolding after_alone_moves
+after_nothing program machine entry none = rw none refl
 
--- the last behind the others
-pub after_whole : (old so_far new : SmallWorld) (entry : Entry) (before : ℕ) (move : Move)
+-- the last behind program the others
+pub after_whole : (program : List ℕ) (old so_far new : Machine) (entry : Entry) (before : ℕ) (move
+    : Move)
     → entry.steps ≡ suc before
-    → so_far ≡ after_small_moves old (replicate before (plain_move entry.context))
-    → new ≡ after_small_move so_far move
+    → so_far ≡ after_alone_moves program old (replicate before (plain_move entry.context))
+    → new ≡ after_alone_move program so_far move
     → move.context ≡ entry.context → move.refused ≡ entry.refused
-    → new ≡ after_small_moves old (moves_of entry entry.steps)
-after_whole old so_far new entry before move count was is context refused =
-    is ∙ (ap (λ (w : SmallWorld). after_small_move w move) was
-    ∙ (same_move (after_small_moves old (replicate before (plain_move entry.context))) move
+    → new ≡ after_alone_moves program old (moves_of entry entry.steps)
+after_whole program old so_far new entry before move count was is context refused =
+    is ∙ (ap (λ (m : Machine). after_alone_move program m move) was
+    ∙ (same_move program (after_alone_moves program old (replicate before (plain_move
+    entry.context))) move
     (last_move entry) context refused
-    ∙ (sym (after_last old entry before)
-    ∙ ap (λ (n : ℕ). after_small_moves old (moves_of entry n)) (sym count))))
+    ∙ (sym (after_last program old entry before)
+    ∙ ap (λ (n : ℕ). after_alone_moves program old (moves_of entry n)) (sym count))))
 
 second_true : (a b : Bool) → (a && b) ≡ true → not b ≡ false
 second_true true true h = refl
@@ -153,64 +157,57 @@ second_true true false h = cc
 second_true false b h = cc
 
 -- a ready context isn't over
-pub ready_not_over : (world : SmallWorld) (context : ℕ) → is_small_ready world context ≡ true
-    → is_over world ≡ false
-unfolding is_small_ready
-ready_not_over world context ready = second_true (context == 1) (has_steps world.stage) ready
+pub ready_not_over : (machine : Machine) (context : ℕ) → is_alone_ready machine context ≡ true
+    → is_over machine ≡ false
+unfolding is_alone_ready
+ready_not_over machine context ready =
+    second_true (context == 1) (may_end machine.context.status) ready
 
 both_are : (a b : Bool) → (a && b) ≡ true → (a ≡ true) × (b ≡ true)
 both_are true b h = (refl, h)
 both_are false b h = cc
 
 -- and is the first
-pub ready_first : (world : SmallWorld) (context : ℕ) → is_small_ready world context ≡ true
+pub ready_first : (machine : Machine) (context : ℕ) → is_alone_ready machine context ≡ true
     → context ≡ 1
-unfolding is_small_ready
-ready_first world context ready = let same =
-    (both_are (context == 1) (has_steps world.stage) ready).0 in grind (arith, nat_tests)
+unfolding is_alone_ready
+ready_first machine context ready = let same =
+    (both_are (context == 1) (may_end machine.context.status) ready).0 in grind (arith, nat_tests)
 
 -- ordinary steps of the first context are those of an entry of a context that is ready
-pub behind : (old new : SmallWorld) (entry : Entry) (made : ℕ)
-    → is_small_ready old entry.context ≡ true
-    → new ≡ after_small_moves old (replicate made (plain_move 1))
-    → new ≡ after_small_moves old (replicate made (plain_move entry.context))
-behind old new entry made ready is =
-    is ∙ ap (λ n. after_small_moves old (replicate made (plain_move n)))
+pub behind : (program : List ℕ) (old new : Machine) (entry : Entry) (made : ℕ)
+    → is_alone_ready old entry.context ≡ true
+    → new ≡ after_alone_moves program old (replicate made (plain_move 1))
+    → new ≡ after_alone_moves program old (replicate made (plain_move entry.context))
+behind program old new entry made ready is =
+    is ∙ ap (λ n. after_alone_moves program old (replicate made (plain_move n)))
     (sym (ready_first old entry.context ready))
 
--- the world after the whole of the next entry
-pub after_next : (program : List ℕ) (given : List Entry) (i : ℕ) (d : Entry) (world : SmallWorld)
+-- the machine after the whole of the next entry
+pub after_next : (program : List ℕ) (given : List Entry) (i : ℕ) (d : Entry) (machine : Machine)
     → i < length given
-    → world ≡ after_small_moves (small_world program (take i given))
+    → machine ≡ after_alone_moves program (alone_machine program (take i given))
     (moves_of (get_or given i d) (get_or given i d).steps)
-    → world ≡ small_world program (take (i + 1) given)
-after_next program given i d world lt is =
+    → machine ≡ alone_machine program (take (i + 1) given)
+after_next program given i d machine lt is =
     let entry : Entry = get_or given i d in
-    is ∙ sym (ap (small_world program) (take_more given i d lt)
-    ∙ (small_world-append program (take i given) (entry ∷ [])
-    ∙ ap (after_small_moves (small_world program (take i given))) (moves-single entry)))
+    is ∙ sym (ap (alone_machine program) (take_more given i d lt)
+    ∙ (alone_machine-append program (take i given) (entry ∷ [])
+    ∙ ap (after_alone_moves program (alone_machine program (take i given))) (moves-single entry)))
 
--- the world after a part of the next entry
+-- the machine after a part of the next entry
 pub after_part : (program : List ℕ) (before schedule : List Entry) (few context : ℕ)
-    (old new : SmallWorld)
-    → old ≡ small_world program before
-    → new ≡ after_small_moves old (replicate few (plain_move context))
+    (old new : Machine)
+    → old ≡ alone_machine program before
+    → new ≡ after_alone_moves program old (replicate few (plain_move context))
     → moves schedule ≡ moves before ++ replicate few (plain_move context)
-    → new ≡ small_world program schedule
-unfolding small_world
+    → new ≡ alone_machine program schedule
+unfolding alone_machine
 after_part program before schedule few context old new was is steps =
-    is ∙ (ap (λ (w : SmallWorld). after_small_moves w (replicate few (plain_move context))) was
-    ∙ sym (ap (after_small_moves (starting_small_world program)) steps
-    ∙ after_small_moves-append (starting_small_world program) (moves before)
+    is ∙ (ap (λ (m : Machine). after_alone_moves program m (replicate few (plain_move context))) was
+    ∙ sym (ap (after_alone_moves program (first_machine program)) steps
+    ∙ after_alone_moves-append program (first_machine program) (moves before)
     (replicate few (plain_move context))))
-
--- entries are a beginning
-pub begins_front : (given : List Entry) (i : ℕ) → Begins (take i given) given
-begins_front given i = (
-  moves (drop i given),
-  sym (moves-append (take i given) (drop i given))
-      ∙ ap moves (take-append-drop i given),
-)
 
 -- and with a part of the next one
 pub begins_with_part : (given schedule : List Entry) (i few : ℕ) (d : Entry) → i < length given
@@ -231,7 +228,7 @@ begins_with_part given schedule i few d lt less steps =
     ∙ ap {B = List Move} (λ rest. moves (take i given) ++ rest) alone) in
     (p.0, ap {B = List Move} (λ front. front ++ p.0) same ∙ (p.1 ∙ ap moves cut))
 
--- the steps of the first entry and of those behind it
+-- the steps of the first entry and of those behind program it
 length_head : (entry : Entry) (rest : List Entry)
     → length (moves (entry ∷ rest)) ≡ entry.steps + length (moves rest)
 length_head entry rest =
@@ -241,7 +238,7 @@ length_head entry rest =
     (ap {B = ℕ} (λ (steps : List Move). length steps) (moves-single entry)
     ∙ length_moves_of entry entry.steps))
 
--- a part of an entry behind those before it has fewer steps than all
+-- a part of an entry behind program those before it has fewer steps than all
 pub fewer_with_part : (given schedule : List Entry) (i few : ℕ) (d : Entry) → i < length given
     → few < (get_or given i d).steps
     → moves schedule ≡ moves (take i given) ++ replicate few (plain_move (get_or given i d).context)
@@ -265,24 +262,27 @@ fewer_with_part given schedule i few d lt less steps =
     omega (arith, made, all, less)
 
 -- a run that used up its steps doesn't end for want of memory
-pub never_memory : (world : SmallWorld) (outcome : Outcome) → EndsAs world true false outcome
+pub never_memory : (asks : Status → Around → Scene → Asked) (program : List ℕ)
+    (machine : Machine) (outcome : Outcome) → EndsAs asks program machine true false outcome
     → is_memory outcome ≡ false
-never_memory world Finished ends = refl
-never_memory world Faulted ends = refl
-never_memory world AllWaiting ends = refl
-never_memory world StepsOut ends = refl
-never_memory world Memory ends = ends.0
+never_memory asks program machine Finished ends = refl
+never_memory asks program machine Faulted ends = refl
+never_memory asks program machine AllWaiting ends = refl
+never_memory asks program machine StepsOut ends = refl
+never_memory asks program machine Memory ends = ends.0
 
 -- and ends as it does whatever step would come next
-pub ends_used : (world : SmallWorld) (refused : Bool) (outcome : Outcome)
-    → EndsAs world true false outcome → EndsAs world (not (is_memory outcome)) refused outcome
-ends_used world refused Finished ends = ends
-ends_used world refused Faulted ends = ends
-ends_used world refused AllWaiting ends = ends
-ends_used world refused StepsOut ends = ends
-ends_used world refused Memory ends = absurd (true≢false ends.0)
+pub ends_used : (asks : Status → Around → Scene → Asked) (program : List ℕ)
+    (machine : Machine) (refused : Bool) (outcome : Outcome)
+    → EndsAs asks program machine true false outcome
+    → EndsAs asks program machine (not (is_memory outcome)) refused outcome
+ends_used asks program machine refused Finished ends = ends
+ends_used asks program machine refused Faulted ends = ends
+ends_used asks program machine refused AllWaiting ends = ends
+ends_used asks program machine refused StepsOut ends = ends
+ends_used asks program machine refused Memory ends = absurd (true≢false ends.0)
 
--- ---- the step behind those that were made
+-- ---- the step behind program those that were made
 
 and_false : (a b : Bool) → b ≡ false → false ≡ (a && b)
 and_false true b h = sym h
@@ -293,18 +293,22 @@ both_true true = refl
 both_true false = refl
 
 -- a step before the last is an ordinary one
-pub part_starved : (world : SmallWorld) (entry : Entry) (made : ℕ) → made + 1 < entry.steps
-    → IsStarved false world → IsStarved (entry.refused && (made + 1 == entry.steps)) world
-part_starved world entry made less starved =
-    subst (λ (b : Bool). IsStarved b world)
+pub part_starved : (asks : Status → Around → Scene → Asked) (program : List ℕ)
+    (machine : Machine) (entry : Entry) (made : ℕ) → made + 1 < entry.steps
+    → IsStarved asks program false machine
+    → IsStarved asks program (entry.refused && (made + 1 == entry.steps)) machine
+part_starved asks program machine entry made less starved =
+    subst (λ (b : Bool). IsStarved asks program b machine)
     (and_false entry.refused (made + 1 == entry.steps) (grind (arith, nat_tests))) starved
 
 -- the last is as the entry says
-pub last_starved : (world : SmallWorld) (entry : Entry) (made : ℕ) → made + 1 ≡ entry.steps
-    → IsStarved entry.refused world → IsStarved (entry.refused && (made + 1 == entry.steps)) world
-last_starved world entry made last starved =
+pub last_starved : (asks : Status → Around → Scene → Asked) (program : List ℕ)
+    (machine : Machine) (entry : Entry) (made : ℕ) → made + 1 ≡ entry.steps
+    → IsStarved asks program entry.refused machine
+    → IsStarved asks program (entry.refused && (made + 1 == entry.steps)) machine
+last_starved asks program machine entry made last starved =
     let test : (made + 1 == entry.steps) ≡ true = grind (arith, nat_tests) in
-    subst (λ (b : Bool). IsStarved b world)
+    subst (λ (b : Bool). IsStarved asks program b machine)
     (both_true entry.refused ∙ ap (λ (b : Bool). entry.refused && b) (sym test)) starved
 
 first_behind : (few before : ℕ) (move last : Move) (rest : List Move) → few ≤ before
@@ -344,7 +348,7 @@ moves_without old context made none = let zeroed : made ≡ 0 = omega arith in
 
 pub ruleset part_lemmas = (moves_with_part, moves_without)
 
--- the step behind a part of the next entry
+-- the step behind program a part of the next entry
 pub next_with_part : (given schedule : List Entry) (i few : ℕ) (d : Entry) → i < length given
     → few < (get_or given i d).steps
     → moves schedule ≡ moves (take i given) ++ replicate few (plain_move (get_or given i d).context)

@@ -1,204 +1,200 @@
 -- What a vault keeps, over its steps.
-use Rattle.std.proofs.Common.{◌≡◌, ◌≢◌, ℕ, ◌+◌, ◌≤◌, Bool, true, false, not, ◌&&◌, List, [], ◌∷◌, ◌++◌, subst, refl, sym, ◌∙◌, ap, arith}
-use Rattle.std.specs.Prelude.{◌==◌, ◌||◌, nat_le, IsTrue, Result, Ok, Err, OnErr, replicate}
+use Rattle.std.proofs.Common.{◌≡◌, ℕ, suc, ◌^◌, ◌<◌, ◌≤◌, Bool, true, false, not, ◌&&◌, List, [], ◌∷◌, ◌++◌, subst, refl, sym, ◌∙◌, ap, arith}
+use Rattle.std.specs.Prelude.{◌==◌, IsTrue, Result, Ok, Err, OnErr, replicate, if◌then◌else◌}
 use Rattle.std.proofs.lemmas.Bool.{true≢false}
 use Rattle.std.proofs.lemmas.Bool.Decides.{nat_tests}
 use Rattle.std.proofs.lemmas.List.{replicate_more}
 use Rattle.ps_language.specs.declared.schedules.Entry.{Entry}
+use Rattle.ps_language.specs.Effect.{Around, Scene}
+use Rattle.ps_language.specs.Machines as machines
+use Rattle.ps_language.specs.Machines.{may_end, own_step}
+use Rattle.ps_language.specs.Objects.{lacks_room}
 use Rattle.ps_language.specs.Schedules.{Move, added, moves, count_of, plain_move}
-use Rattle.ps_language.specs.Value.{Store}
-use Rattle.ps_language.specs.Objects.{made_between}
-use Rattle.ps_language.specs.Small as small
-use Rattle.ps_language.specs.Small.{SmallWorld, small_names, small_step, is_small_ready, small_world, small_printed, IsSmallProper}
+use Rattle.ps_language.specs.StepValues.{Turn, goes, tries, breaks, errs, asks as leaves_to}
+use Rattle.ps_language.specs.World.{for_stop, for_exit, for_quit, Status, Machine}
+use Rattle.ps_language.specs.Worlds.{IsProper}
 use Rattle.ps_language.proofs.ScheduleLaws.{moves-added, count_of-added, longest-added}
-use Rattle.ps_language.proofs.SmallLaws.{ready_move, small_world-nil, small_world-added, small_proper-nil, small_proper-added}
-use Rattle.ps_mem.specs.Heap.{Heap, Grants, empty_heap, birth_at, has_room}
-use Rattle.ps_mem.specs.Plain.{plain_space}
-use Rattle.ps_mem.proofs.EmptyLemmas.{Shows-empty}
+use Rattle.ps_mem.specs.Heap.{has_room}
 use Rattle.ps_ops.specs.declared.failure.NotMade.{NotMade}
 use Rattle.ps_ops.specs.declared.failure.NotMade.TheVariants.{LogFull, LogClosed, NeedSpace, Memory}
-use Rattle.ps_step.specs.declared.interpreter.Stage.{Stage}
-use Rattle.ps_step.specs.declared.interpreter.Stage.TheVariants.{Running, Unwinding, Finished}
-use Rattle.ps_step.specs.Machine as machines
-use Rattle.ps_step.specs.Machine.{Machine, world_of, starting_machine, stage_of, IsShown, IsGood}
-use Rattle.ps_operators.specs.Reasons.{Needs, IsReason}
-use Rattle.ps_step.specs.Goes.{Goes, GoesTo, IsHeldUp}
-use Rattle.ps_step.specs.Needs.{step_needs, wants_memory}
-use Rattle.ps_step.proofs.Sooner.{grows_without_room}
+use Rattle.ps_ops.specs.Does.{most_records}
+use Rattle.ps_acts.specs.declared.lent.Trial.{Trial}
+use Rattle.ps_acts.specs.Acts.{Asked, AreFew, Needs}
+use Rattle.ps_acts.specs.Lent.{Lent}
+use Rattle.ps_start.specs.Starts.{first_machine}
+use Rattle.ps_turns.specs.Turns.{calling_of}
+use Rattle.ps_interpreter.specs.declared.courses.Course.{Course}
+use Rattle.ps_interpreter.specs.declared.courses.Course.TheVariants.{Running, Unwinding, Calling, Finished}
+use Rattle.ps_interpreter.specs.Alone.{alone_step, is_alone_ready, alone_machine, alone_printed, IsAloneProper}
+use Rattle.ps_interpreter.specs.Courses.{Held, has_steps, IsAt, IsAtBy, IsSteady}
+use Rattle.ps_interpreter.specs.Needs.{alone_turn_needs, machine_turn, alone_needs, wants, wants_memory, IsHeldUp}
+use Rattle.ps_interpreter.specs.Steps.{Steps}
+use Rattle.ps_interpreter.proofs.Laws.{ready_move, alone_machine-nil, alone_machine-added, alone_proper-nil, alone_proper-added}
+use Rattle.ps_interpreter.proofs.Making.{may_at, ready_at}
+use Rattle.ps_interpreter.proofs.Owning.{printed_alone, ready_alone}
+use Rattle.ps_interpreter.proofs.Reached.{left_by}
 use Rattle.ps_vault.specs.declared.reports.Outcome.{Outcome}
-use Rattle.ps_vault.specs.Reports.{AreOrdinary, EndsAs, IsRunOf, IsStarved}
-use Rattle.ps_vault.specs.Stories.{Story, world_at, first_move, Keeps}
+use Rattle.ps_vault.specs.Reports.{AreOrdinary, EndsAs, IsOwn, IsRunOf, IsStarved, IsWorldRun, is_over}
+use Rattle.ps_vault.specs.Stories.{Story, machine_at, first_move, Keeps}
 
 -- ---- before the first step
 
-shown_start : (program : List ℕ)
-    → IsShown (empty_heap plain_space) (starting_machine program) (small_world program [])
-shown_start program =
-    subst (IsShown (empty_heap plain_space) (starting_machine program))
-    (sym (small_world-nil program))
-    (record { is = refl; shows = Shows-empty plain_space small_names; within = tt })
-
-pub keeps_start : (program : List ℕ) → IsGood (empty_heap plain_space) (starting_machine program)
-    → Keeps (empty_heap plain_space) (starting_machine program) []
-keeps_start program good = record {
-  good = good;
-  shows = shown_start program;
-  proper = small_proper-nil program;
+pub keeps_start : (h : Held) (program : List ℕ) → h.lent.program ≡ program → IsSteady h
+    → IsAt h (first_machine program) → Keeps h []
+keeps_start h program same steady at = record {
+  steady = steady;
+  at = subst (λ (p : List ℕ). IsAt h (alone_machine p [])) (sym same)
+      (subst (IsAt h) (sym (alone_machine-nil program)) at);
+  proper = alone_proper-nil h.lent.program;
   longest = refl;
 }
 
--- ---- a step that is held up
+-- ---- what is told of a machine
 
--- the logs are as closed after the asking as before
-as_left : (needs : Needs) (reason : NotMade) (h : Heap) (slot : ℕ) (asked left : Grants)
-    (before after : Store) → left.closed ≡ asked.closed
-    → IsReason needs reason h slot asked left before after
-    → IsReason needs reason h slot left left before after
-as_left needs LogFull h slot asked left before after closed why =
-    (ap (λ (c : ℕ → Bool). c slot) closed ∙ why.0, why.1)
-as_left needs LogClosed h slot asked left before after closed why =
-    (why.0, ap (λ (c : ℕ → Bool). c slot) closed ∙ why.1)
-as_left needs (NeedSpace words) h slot asked left before after closed why = why
-as_left needs Memory h slot asked left before after closed why = why
+-- the bytes that it printed
+printed_by : (course : Course) (l : Lent) (lines : ℕ) (machine : Machine)
+    → IsAtBy course l lines machine → machine.printed ≡ l.printed
+unfolding own_step
+printed_by Running l lines machine at = at.printed
+printed_by (Unwinding cause) l lines machine at = at.printed
+printed_by (Calling operator) l lines machine at =
+    ap (λ (m : Machine). m.printed)
+    (left_by false machine (machine_turn l.program machine) (calling_of operator) at.left
+    (at.leaves false)).is ∙ at.lent.printed
+printed_by Finished l lines machine at = at.printed
 
-stage_steps : (births : ℕ → ℕ) (program : List ℕ) (stage : Stage)
-    → small.has_steps (stage_of births program stage) ≡ machines.has_steps stage
-stage_steps births program Running = refl
-stage_steps births program (Unwinding error command) = refl
-stage_steps births program Finished = refl
+pub printed_at : (h : Held) (machine : Machine) → IsAt h machine
+    → machine.printed ≡ h.lent.printed
+printed_at h machine at = printed_by h.course h.lent h.error_lines machine at
 
--- whether the context of a world has another step
-pub steps_shown : (h : Heap) (m : Machine) (w : SmallWorld) → IsShown h m w
-    → small.has_steps w.stage ≡ machines.has_steps m.stage
-steps_shown h m w shown = ap (λ (v : SmallWorld). small.has_steps v.stage) shown.is
-    ∙ stage_steps (birth_at h) m.program m.stage
+-- whether it is over
+pub over_at : (h : Held) (machine : Machine) → IsAt h machine
+    → is_over machine ≡ not (has_steps h.course)
+over_at h machine at = ap not (may_at h.course h.lent h.error_lines machine at)
 
 -- ---- a step
 
--- the world after one more
-pub world_step : (program : List ℕ) (schedule : List Entry) (refused : Bool)
-    → is_small_ready (small_world program schedule) 1 ≡ true
-    → small_world program (added schedule (first_move refused)) ≡ small_step refused
-    (small_world program schedule)
-world_step program schedule refused ready =
-    small_world-added program schedule (first_move refused)
-    ∙ ready_move (small_world program schedule) (first_move refused) ready
+-- the machine after one more
+machine_step : (program : List ℕ) (schedule : List Entry) (refused : Bool)
+    → is_alone_ready (alone_machine program schedule) 1 ≡ true
+    → alone_machine program (added schedule (first_move refused))
+    ≡ alone_step program refused (alone_machine program schedule)
+machine_step program schedule refused ready =
+    alone_machine-added program schedule (first_move refused)
+    ∙ ready_move program (alone_machine program schedule) (first_move refused) ready
 
-module _ (old new : Heap) (before after : Machine) (schedule : List Entry) (slot : ℕ)
-    (asked left : Grants) (refused : Bool) (keeps : Keeps old before schedule) where
-  -- what the step says of the world that was shown
-  here : (result : Result Unit NotMade)
-      → Goes (step_needs before.room) (small_step refused) result slot asked left old new before
-      after
-      → GoesTo (step_needs before.room (world_of old before (small_world before.program
-      schedule).store))
-      (small_step refused (world_of old before (small_world before.program schedule).store))
-      result slot asked left old new before after (small_world before.program schedule).store
-  here result goes = goes.meets (small_world before.program schedule).store keeps.shows.shows
-      keeps.shows.within
+module _ (asks : Status → Around → Scene → Asked) (trial : Trial) (old new : Held)
+    (schedule : List Entry) (keeps : Keeps old schedule) where
+  abbrev here : Machine
+  here = alone_machine old.lent.program schedule
 
   -- one more
-  pub keeps_step : Goes (step_needs before.room) (small_step refused) (Ok (tt {0})) slot asked left
-      old new before
-      after → is_small_ready (small_world before.program schedule) 1 ≡ true
-      → Keeps new after (added schedule (first_move refused))
-  keeps_step goes ready =
-      let later : List Entry = added schedule (first_move refused) in
-      let same : before.program ≡ after.program = sym goes.program in
-      let next : IsShown new after (small_step refused (small_world before.program schedule)) =
-      subst (λ (w : SmallWorld). IsShown new after (small_step refused w)) (sym keeps.shows.is)
-      (here (Ok (tt {0})) goes) in
+  pub keeps_step : Steps asks trial (Ok (tt {0})) old new → is_alone_ready here 1 ≡ true
+      → Keeps new (added schedule (first_move trial.refused))
+  keeps_step steps ready =
+      let later : List Entry = added schedule (first_move trial.refused) in
+      let same : old.lent.program ≡ new.lent.program = sym steps.stays.program in
       record {
-        good = goes.good;
-        shows = subst (λ (p : List ℕ). IsShown new after (small_world p later)) same
-            (subst (IsShown new after) (sym (world_step before.program schedule refused ready))
-            next);
-        proper = subst (λ (p : List ℕ). IsSmallProper p later) same
-            (small_proper-added before.program schedule (first_move refused) keeps.proper ready);
-        longest = longest-added schedule (first_move refused) keeps.longest;
+        steady = steps.steady;
+        at = subst (λ (p : List ℕ). IsAt new (alone_machine p later)) same
+            (subst (IsAt new) (sym (machine_step old.lent.program schedule trial.refused ready))
+            (steps.meets here keeps.at).did);
+        proper = subst (λ (p : List ℕ). IsAloneProper p later) same
+            (alone_proper-added old.lent.program schedule (first_move trial.refused) keeps.proper
+            ready);
+        longest = longest-added schedule (first_move trial.refused) keeps.longest;
       }
 
-  -- or none
-  pub keeps_none : (reason : NotMade)
-      → Goes (step_needs before.room) (small_step refused) (Err reason) slot asked left old new
-      before after
-      → Keeps new after schedule
-  keeps_none reason goes =
-      let same = here (Err reason) goes in
-      subst (λ (m : Machine). Keeps new m schedule) (sym same.3)
-      (subst (λ (h : Heap). Keeps h before schedule) (sym same.2) keeps)
-
   -- which is held up
-  pub held_up : (reason : NotMade)
-      → Goes (step_needs before.room) (small_step refused) (Err reason) slot asked left old new
-      before after
-      → machines.has_steps before.stage ≡ true
-      → IsHeldUp refused reason slot left new after
-  held_up reason goes steps =
-      let same = here (Err reason) goes in
-      subst (λ (m : Machine). IsHeldUp refused reason slot left new m) (sym same.3)
-      (subst (λ (h : Heap). IsHeldUp refused reason slot left h before) (sym same.2) (record {
-        steps = steps;
-        why = λ store shows within. as_left (step_needs before.room (world_of old before store))
-            reason old slot
-            asked left store (small_step refused (world_of old before store)).store
-            goes.logs.closed (goes.meets store shows within).0;
-      }))
+  held_up : (reason : NotMade) → Steps asks trial (Err reason) old new
+      → IsHeldUp (alone_needs asks old.lent.program trial.refused here) trial.slot new.lent reason
+  held_up reason steps = (steps.meets here keeps.at).did.2
 
--- of two reasons, where the first of one is one of another
-either_way : (first second other : Bool) → (IsTrue first → IsTrue second) → IsTrue (first || other)
-    → IsTrue (second || other)
-either_way true second other turns is = rw (turns refl) refl
-either_way false true other turns is = refl
-either_way false false other turns is = is
+-- ---- want of memory
 
--- of a step that is held up over a memory that grows and keeps no log
-module _ (h : Heap) (m : Machine) (schedule : List Entry) (slot : ℕ) (grants : Grants)
-    (refused : Bool) (keeps : Keeps h m schedule)
-    (opened : grants.closed slot ≡ false) (free : grants.records slot ≢ 0)
-    (grows : h.space.grows ≡ true) where
-  abbrev here_shown : SmallWorld
-  here_shown = small_world m.program schedule
+-- no step asks for more records than any may put
+few_either : (lacks : Bool) (one other : Needs) → one.records ≤ most_records
+    → other.records ≤ most_records → (if lacks then one else other).records ≤ most_records
+few_either true one other h k = h
+few_either false one other h k = k
 
-  why_here : (reason : NotMade) → IsHeldUp refused reason slot grants h m
-      → IsReason (step_needs m.room (world_of h m here_shown.store)) reason h slot grants grants
-      here_shown.store (small_step refused (world_of h m here_shown.store)).store
-  why_here reason held = held.why here_shown.store keeps.shows.shows keeps.shows.within
+-- nor one more at the end of its context
+few_told : (told : Bool) (n : ℕ) → n < most_records → (if told then suc n else n) ≤ most_records
+few_told true n h = h
+few_told false n h = omega (arith, h)
+
+few_in : (refused : Bool) (asked : Asked) (birth : ℕ) (before : Scene) (turn : Turn)
+    → asked.records < most_records
+    → (alone_turn_needs refused asked birth before turn).records ≤ most_records
+few_in refused asked birth before (goes scene output) few = omega (arith, few)
+few_in refused asked birth before (tries command kept scene output) few =
+    few_either (lacks_room refused kept.store scene.store) _ _ (omega arith) (omega (arith, few))
+few_in refused asked birth before (breaks for_stop scene) few =
+    few_told _ asked.records few
+few_in refused asked birth before (breaks for_exit scene) few = omega (arith, few)
+few_in refused asked birth before (breaks for_quit scene) few = omega (arith, few)
+few_in refused asked birth before (errs error command kept) few = omega arith
+few_in refused asked birth before (leaves_to calling kept) few = omega arith
+
+-- a memory that grows and keeps no log
+pub record IsPlain (slot : ℕ) (l : Lent) : Type 0 where
+  pub opened : l.grants.closed slot ≡ false
+  pub free : most_records ≤ l.grants.records slot
+  pub grows : l.heap.space.grows ≡ true
+
+-- it takes as many records as are asked for
+pub many_free : most_records ≤ 2 ^ 64
+many_free = omega arith
+
+module _ (asks : Status → Around → Scene → Asked) (few : AreFew asks) (program : List ℕ)
+    (refused : Bool) (machine : Machine) (slot : ℕ) (l : Lent) (plain : IsPlain slot l) where
+  abbrev needs : Needs
+  needs = alone_needs asks program refused machine
+
+  few_here : needs.records ≤ most_records
+  few_here = few_in refused
+      (asks machine.context.status (machines.around_of program machine) (machines.scene_of machine))
+      machine.context.error_dictionary (machines.scene_of machine) (machine_turn program machine)
+      (few machine.context.status (machines.around_of program machine) (machines.scene_of machine))
 
   -- the reason is want of memory
-  pub only_memory : (reason : NotMade) → IsHeldUp refused reason slot grants h m → reason ≡ Memory
+  only_memory : (reason : NotMade) → IsHeldUp needs slot l reason → reason ≡ Memory
   unfolding has_room
-  only_memory LogFull held = let none : grants.records slot ≡ 0 =
-      omega (arith, (why_here LogFull held).1) in absurd (free none)
-  only_memory LogClosed held = absurd (true≢false (sym (why_here LogClosed held).1 ∙ opened))
-  only_memory (NeedSpace words) held = let none = (why_here (NeedSpace words) held).1 in
-      absurd (true≢false (rw grows at none))
+  only_memory LogFull held =
+      let most = few_here in
+      let free = plain.free in
+      let less = held.1 in
+      absurd (omega (arith, most, free, less))
+  only_memory LogClosed held = absurd (true≢false (sym held.1 ∙ plain.opened))
+  only_memory (NeedSpace words) held =
+      let none = held.2 in absurd (true≢false (rw plain.grows at none))
   only_memory Memory held = refl
 
-  wants : IsHeldUp refused Memory slot grants h m → IsTrue (wants_memory refused here_shown)
-  wants held =
-      let object : Bool = nat_le 1
-      (made_between here_shown.store
-      (small_step refused (world_of h m here_shown.store)).store) in
-      let why : IsTrue ((step_needs m.room (world_of h m here_shown.store)).growth || object) =
-      subst (λ (b : Bool). IsTrue
-      ((step_needs m.room (world_of h m here_shown.store)).growth || (b && object))) grows
-      (why_here Memory held) in
-      subst (λ (w : SmallWorld). IsTrue
-      ((step_needs 0 w).growth || nat_le 1
-      (made_between here_shown.store (small_step refused w).store))) (sym keeps.shows.is)
-      (either_way _ _ object (grows_without_room m.room (world_of h m here_shown.store)) why)
-
   -- which the step may want
-  pub starved : (reason : NotMade) → IsHeldUp refused reason slot grants h m
-      → IsStarved refused here_shown
+  pub starved : (reason : NotMade) → IsHeldUp needs slot l reason
+      → IsTrue (wants_memory asks program refused machine)
   starved reason held =
-      let memory : reason ≡ Memory = only_memory reason held in
-      let steps : small.has_steps here_shown.stage ≡ true = steps_shown h m here_shown keeps.shows
-      ∙ held.steps in (
-        ap not steps,
-        wants (subst (λ (why : NotMade). IsHeldUp refused why slot grants h m) memory
-            held),
+      let memory : IsHeldUp needs slot l Memory =
+      subst (λ (r : NotMade). IsHeldUp needs slot l r) (only_memory reason held) held in
+      subst (λ (b : Bool). IsTrue (wants b needs)) plain.grows memory
+
+-- of a step that is not made
+module _ (asks : Status → Around → Scene → Asked) (few : AreFew asks) (trial : Trial)
+    (old new : Held) (schedule : List Entry) (keeps : Keeps old schedule) (reason : NotMade)
+    (steps : Steps asks trial (Err reason) old new) (plain : IsPlain trial.slot new.lent) where
+  pub unmade_memory : reason ≡ Memory
+  unmade_memory =
+      only_memory asks few old.lent.program trial.refused
+      (alone_machine old.lent.program schedule) trial.slot new.lent plain reason
+      (held_up asks trial old new schedule keeps reason steps)
+
+  pub unmade_starved : is_alone_ready (alone_machine old.lent.program schedule) 1 ≡ true
+      → IsStarved asks old.lent.program trial.refused (alone_machine old.lent.program schedule)
+  unmade_starved ready =
+      let machine : Machine = alone_machine old.lent.program schedule in (
+        over_at old machine keeps.at ∙ ap not (sym (ready_at old machine keeps.at) ∙ ready),
+        starved asks few old.lent.program trial.refused machine trial.slot new.lent plain reason
+            (held_up asks trial old new schedule keeps reason steps),
       )
 
 pub on_err : {A E : Type 0} {P : Type 0} (r : Result A E) → P → OnErr r P
@@ -207,45 +203,31 @@ on_err (Err error) p = p
 
 -- ---- what is seen of a vault
 
--- the world of its story is shown
-pub shown_at : (h : Heap) (m : Machine) (schedule : List Entry) (capacity : ℕ) (story : Story)
-    → Keeps h m schedule
-    → record { program = m.program; schedule = schedule; capacity = capacity } ≡ story
-    → IsShown h m (world_at story)
-shown_at h m schedule capacity story keeps view =
-    subst (λ (s : Story). IsShown h m (world_at s)) view keeps.shows
+-- the machine of its story
+pub at_story : (h : Held) (schedule : List Entry) (capacity : ℕ) (story : Story)
+    → Keeps h schedule
+    → record { program = h.lent.program; schedule = schedule; capacity = capacity } ≡ story
+    → IsAt h (machine_at story)
+at_story h schedule capacity story keeps view =
+    subst (λ (s : Story). IsAt h (machine_at s)) view keeps.at
 
 -- whether the first context is ready
-pub ready_shown : (h : Heap) (m : Machine) (w : SmallWorld) (context : ℕ) → IsShown h m w
-    → context ≡ 1 → machines.has_steps m.stage ≡ is_small_ready w context
-unfolding is_small_ready
-ready_shown h m w context shown first = sym (steps_shown h m w shown)
-    ∙ ap (λ (n : ℕ). (n == 1) && small.has_steps w.stage) (sym first)
+pub ready_shown : (h : Held) (machine : Machine) (context : ℕ) → IsAt h machine → context ≡ 1
+    → has_steps h.course ≡ is_alone_ready machine context
+unfolding is_alone_ready
+ready_shown h machine context at first =
+    sym (ready_at h machine at) ∙ ap (λ (n : ℕ). is_alone_ready machine n) (sym first)
 
 false_first : (a b : Bool) → a ≡ false → a ≡ (a && b)
 false_first true b h = absurd (true≢false h)
 false_first false b h = refl
 
 -- no other is
-pub unready_other : (w : SmallWorld) (context : ℕ) → (context ≡ 1 → ⊥)
-    → (context == 1) ≡ is_small_ready w context
-unfolding is_small_ready
-unready_other w context other =
-    false_first (context == 1) (small.has_steps w.stage) (grind (arith, nat_tests))
-
--- its lines of errors, and the bytes that it printed
-pub lines_shown : (h : Heap) (m : Machine) (w : SmallWorld) → IsShown h m w
-    → w.error_lines ≡ m.error_lines
-lines_shown h m w shown = ap (λ (v : SmallWorld). v.error_lines) shown.is
-
-pub printed_shown : (h : Heap) (m : Machine) (w : SmallWorld) → IsShown h m w
-    → w.printed ≡ m.printed
-printed_shown h m w shown = ap (λ (v : SmallWorld). v.printed) shown.is
-
--- a step more is counted
-pub count_step : (schedule : List Entry) (refused : Bool)
-    → count_of (added schedule (first_move refused)) ≡ count_of schedule + 1
-count_step schedule refused = count_of-added schedule (first_move refused)
+pub unready_other : (machine : Machine) (context : ℕ) → (context ≡ 1 → ⊥)
+    → (context == 1) ≡ is_alone_ready machine context
+unfolding is_alone_ready
+unready_other machine context other =
+    false_first (context == 1) (may_end machine.context.status) (grind (arith, nat_tests))
 
 -- no step is refused where there is none
 pub ordinary_start : AreOrdinary []
@@ -262,29 +244,46 @@ ordinary_step schedule ordinary =
     ∙ ap (λ (n : ℕ). replicate n (plain_move 1))
     (sym (count_of-added schedule (first_move false)))))
 
+-- a run that leaves no operator to the world is one of the whole language
+pub world_run : (program printed : List ℕ) (schedule : List Entry)
+    → printed ≡ alone_printed program schedule → IsAloneProper program schedule
+    → IsOwn program schedule → IsWorldRun program printed schedule
+unfolding IsProper IsAloneProper
+world_run program printed schedule prints proper own = record {
+  prints = prints ∙ sym (printed_alone program schedule own);
+  proper = subst IsTrue (sym (ready_alone program schedule own)) proper;
+}
+
 -- a vault at the end is a run
-pub run_at_end : (h : Heap) (m : Machine) (schedule : List Entry) (capacity made steps : ℕ)
-    (story : Story) (printed : List ℕ) (outcome : Outcome)
-    → Keeps h m schedule → record { program = m.program; schedule = schedule; capacity = capacity }
-    ≡ story → count_of story.schedule ≡ made → made ≤ steps
-    → AreOrdinary story.schedule → printed ≡ m.printed
-    → EndsAs (world_at story) (made == steps) false outcome
-    → IsRunOf story.program steps printed schedule outcome
-unfolding small_printed
-run_at_end h m schedule capacity made steps story printed outcome keeps view counted few ordinary
+pub run_at_end : (asks : Status → Around → Scene → Asked) (h : Held) (schedule : List Entry)
+    (capacity made steps : ℕ) (story : Story) (printed : List ℕ) (outcome : Outcome)
+    → Keeps h schedule
+    → record { program = h.lent.program; schedule = schedule; capacity = capacity } ≡ story
+    → count_of story.schedule ≡ made → made ≤ steps → AreOrdinary story.schedule
+    → printed ≡ h.lent.printed
+    → EndsAs asks story.program (machine_at story) (made == steps) false outcome
+    → IsRunOf asks story.program steps printed schedule outcome
+unfolding alone_printed
+run_at_end asks h schedule capacity made steps story printed outcome keeps view counted few ordinary
     prints ends =
-    let same : m.program ≡ story.program = ap (λ (s : Story). s.program) view in
+    let same : h.lent.program ≡ story.program = ap (λ (s : Story). s.program) view in
     let steps_made : schedule ≡ story.schedule = ap (λ (s : Story). s.schedule) view in
-    let bytes : (small_world m.program schedule).printed ≡ m.printed =
-    printed_shown h m (small_world m.program schedule) keeps.shows in
+    let bytes : (alone_machine h.lent.program schedule).printed ≡ h.lent.printed =
+    printed_at h (alone_machine h.lent.program schedule) keeps.at in
+    let all : printed ≡ alone_printed story.program schedule =
+    prints ∙ (sym bytes ∙ ap (λ (p : List ℕ). (alone_machine p schedule).printed) same) in
+    let proper : IsAloneProper story.program schedule =
+    subst (λ (p : List ℕ). IsAloneProper p schedule) same keeps.proper in
     record {
-      prints = prints ∙ (sym bytes ∙ ap (λ (p : List ℕ). (small_world p schedule).printed) same);
-      proper = subst (λ (p : List ℕ). IsSmallProper p schedule) same keeps.proper;
+      prints = all;
+      world = world_run story.program printed schedule all proper;
+      proper = proper;
       ordinary = rw steps_made ordinary;
       longest = keeps.longest;
       within = rw (steps_made, counted) few;
-      ends = subst (λ (n : ℕ). EndsAs (small_world story.program schedule) (n == steps) false
-          outcome) (sym (ap count_of steps_made ∙ counted))
-          (subst (λ (entries : List Entry). EndsAs (small_world story.program entries)
-          (made == steps) false outcome) (sym steps_made) ends);
+      ends = subst (λ (n : ℕ). EndsAs asks story.program (alone_machine story.program schedule)
+          (n == steps) false outcome) (sym (ap count_of steps_made ∙ counted))
+          (subst (λ (entries : List Entry). EndsAs asks story.program
+          (alone_machine story.program entries) (made == steps) false outcome) (sym steps_made)
+          ends);
     }

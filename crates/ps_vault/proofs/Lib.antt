@@ -1,3 +1,4 @@
+pub mod Beginning
 pub mod Following
 pub mod Kept
 pub mod Notes

@@ -1,24 +1,26 @@
 -- Many steps at once are so many single ones.
-use Rattle.std.proofs.Common.{◌≡◌, ◌≢◌, ℕ, ℤ, zero, suc, ◌+◌, ◌-◌, ◌<◌, ◌≤◌, true, false, not, Option, Some, None, List, [], ◌∷◌, ◌++◌, refl, sym, ◌∙◌, ap, arith, append_assoc, subst}
-use Rattle.std.specs.Prelude.{is_none, Ok, IfSome, IfNone, replicate}
+use Rattle.std.proofs.Common.{◌≡◌, ℕ, ℤ, zero, suc, ◌+◌, ◌-◌, ◌<◌, ◌≤◌, true, false, not, Option, Some, None, List, [], ◌∷◌, ◌++◌, refl, sym, ◌∙◌, ap, arith, append_assoc, append-nil, subst}
+use Rattle.std.specs.Prelude.{is_none, IfSome, IfNone, IsTrue}
+use Rattle.std.proofs.lemmas.List.{replicate_more}
 use Rattle.std.proofs.lemmas.Bool.Decides.{nat_tests}
 use Rattle.ps_language.specs.declared.schedules.Entry.{Entry}
-use Rattle.ps_language.specs.Schedules.{Move, plain_move, added, joins, count_of, steps_limit}
-use Rattle.ps_language.proofs.ScheduleLaws.{added-last, count_of-added}
+use Rattle.ps_language.specs.Schedules.{Move, plain_move, moves, added, joins, count_of, is_longest, steps_limit}
+use Rattle.ps_language.proofs.ScheduleLaws.{moves-added, added-last, count_of-added, longest-added}
 use Rattle.std.proofs.lemmas.Bool.{true≢false}
+use Rattle.ps_language.specs.Effect.{Around, Scene}
+use Rattle.ps_language.specs.World.{Status, Machine}
 use Rattle.ps_ops.specs.declared.failure.NotMade.{NotMade}
+use Rattle.ps_acts.specs.Acts.{Asked, AreFew}
+use Rattle.ps_start.specs.Starts.{first_machine}
+use Rattle.ps_interpreter.specs.Alone.{after_alone_moves, all_alone_ready, alone_machine, IsAloneProper}
+use Rattle.ps_interpreter.specs.Courses.{Held, has_steps, IsAt}
+use Rattle.ps_interpreter.specs.Needs.{wants_memory}
+use Rattle.ps_interpreter.specs.Makes.{plain_moves, HasMade, HoldsUp}
+use Rattle.ps_interpreter.proofs.Laws.{after_alone_moves-append, all_alone_ready-append, and_true}
 use Rattle.ps_vault.specs.Reports.{AreOrdinary, IsStarved, is_over}
-use Rattle.ps_language.specs.Small.{SmallWorld, has_steps, small_step, is_small_ready, small_world, after_small_move, after_small_moves}
-use Rattle.ps_language.proofs.SmallLaws.{small_world-added}
-use Rattle.ps_mem.specs.Heap.{Heap, Grants}
-use Rattle.ps_step.specs.Goes.{Goes, IsHeldUp}
-use Rattle.ps_step.specs.Machine as machines
-use Rattle.ps_step.specs.Machine.{Machine}
-use Rattle.ps_step.specs.Needs.{step_needs}
 use Rattle.ps_vault.specs.Stories.{Keeps, first_move}
 use Rattle.ps_vault.specs.Turns.{added_times, plain_entry}
-use Rattle.ps_vault.proofs.Kept.{ordinary_step, keeps_step, ready_shown, steps_shown, starved}
-use Rattle.ps_vault.proofs.Following.{after_more}
+use Rattle.ps_vault.proofs.Kept.{IsPlain, ordinary_step, over_at, starved}
 
 none_shown : (shown : Option (ℤ × ℤ)) → is_none shown ≡ true → shown ≡ None
 none_shown None h = refl
@@ -145,58 +147,88 @@ pub ruleset turn_lemmas = (times_none, turn_joined, turn_crossing, times_apart, 
 
 -- ---- the steps of a turn
 
--- none so far
-pub keeps_start_times : (h : Heap) (m : Machine) (schedule : List Entry) → Keeps h m schedule
-    → Keeps h m (added_times 0 schedule (first_move false))
+moves_times : (n : ℕ) (schedule : List Entry)
+    → moves (added_times n schedule (first_move false)) ≡ moves schedule ++ plain_moves n
 unfolding added_times
-keeps_start_times h m schedule keeps = keeps
+moves_times zero schedule = sym (append-nil (moves schedule))
+moves_times (suc n) schedule =
+    let same : n + 1 ≡ suc n = omega arith in
+    moves-added (added_times n schedule (first_move false)) (first_move false)
+    ∙ (ap (λ (ms : List Move). ms ++ first_move false ∷ []) (moves_times n schedule)
+    ∙ (append_assoc (moves schedule) (plain_moves n) (first_move false ∷ [])
+    ∙ ap (λ (ms : List Move). moves schedule ++ ms)
+    (replicate_more n (plain_move 1) ∙ ap (λ k. plain_moves k) same)))
 
--- one more of a context that has some
-pub keeps_times : (old new : Heap) (before after : Machine) (schedule : List Entry) (n slot : ℕ)
-    (asked left : Grants)
-    → Keeps old before (added_times n schedule (first_move false))
-    → Goes (step_needs before.room) (small_step false) (Ok (tt {0})) slot asked left old new before
-    after
-    → machines.has_steps before.stage ≡ true
-    → Keeps new after (added_times (n + 1) schedule (first_move false))
+-- the machine after as many ordinary steps
+pub times_machine : (program : List ℕ) (n : ℕ) (schedule : List Entry)
+    → alone_machine program (added_times n schedule (first_move false))
+    ≡ after_alone_moves program (alone_machine program schedule) (plain_moves n)
+unfolding alone_machine
+times_machine program n schedule =
+    ap (after_alone_moves program (first_machine program)) (moves_times n schedule)
+    ∙ after_alone_moves-append program (first_machine program) (moves schedule) (plain_moves n)
+
+-- each is of a ready context
+proper_times : (program : List ℕ) (n : ℕ) (schedule : List Entry)
+    → IsAloneProper program schedule
+    → IsTrue (all_alone_ready program (alone_machine program schedule) (plain_moves n))
+    → IsAloneProper program (added_times n schedule (first_move false))
+unfolding IsAloneProper alone_machine
+proper_times program n schedule proper ready =
+    subst IsTrue (sym (ap (all_alone_ready program (first_machine program)) (moves_times n schedule)
+    ∙ all_alone_ready-append program (first_machine program) (moves schedule) (plain_moves n)))
+    (and_true (all_alone_ready program (first_machine program) (moves schedule)) _ proper ready)
+
+longest_times : (n : ℕ) (schedule : List Entry) → is_longest schedule ≡ true
+    → is_longest (added_times n schedule (first_move false)) ≡ true
 unfolding added_times
-keeps_times old new before after schedule n slot asked left keeps goes steps =
-    let so_far : List Entry = added_times n schedule (first_move false) in
-    let ready : is_small_ready (small_world before.program so_far) 1 ≡ true =
-    sym (ready_shown old before (small_world before.program so_far) 1 keeps.shows refl)
-    ∙ steps in
-    let same : suc n ≡ n + 1 = omega arith in
-    subst (λ k. Keeps new after (added_times k schedule (first_move false))) same
-    (keeps_step old new before after so_far slot asked left false keeps goes ready)
+longest_times zero schedule h = h
+longest_times (suc n) schedule h =
+    longest-added (added_times n schedule (first_move false)) (first_move false)
+    (longest_times n schedule h)
 
--- the world after as many ordinary steps
-pub times_world : (program : List ℕ) (n : ℕ) (schedule : List Entry)
-    → small_world program (added_times n schedule (first_move false)) ≡ after_small_moves
-    (small_world program schedule) (replicate n (plain_move 1))
-unfolding added_times after_small_moves
-times_world program zero schedule = refl
-times_world program (suc n) schedule =
-    let same : suc n ≡ n + 1 = omega arith in
-    small_world-added program (added_times n schedule (first_move false)) (first_move false)
-    ∙ (ap (λ (w : SmallWorld). after_small_move w (first_move false))
-    (times_world program n schedule)
-    ∙ (sym (after_more (small_world program schedule) 1 n)
-    ∙ ap (λ k. after_small_moves (small_world program schedule) (replicate k (plain_move 1)))
-    (sym same)))
+-- many more
+pub keeps_times : (old new : Held) (schedule : List Entry) (n : ℕ) → Keeps old schedule
+    → HasMade n old new → Keeps new (added_times n schedule (first_move false))
+keeps_times old new schedule n keeps made =
+    let machine : Machine = alone_machine old.lent.program schedule in
+    record {
+      steady = made.steady;
+      at = subst (λ (p : List ℕ). IsAt new
+          (alone_machine p (added_times n schedule (first_move false)))) (sym made.program)
+          (subst (IsAt new) (sym (times_machine old.lent.program n schedule))
+          (made.at machine keeps.at));
+      proper = subst (λ (p : List ℕ). IsAloneProper p (added_times n schedule (first_move false)))
+          (sym made.program)
+          (proper_times old.lent.program n schedule keeps.proper (made.ready machine keeps.at));
+      longest = longest_times n schedule keeps.longest;
+    }
 
 -- of fewer steps than were asked for the next is held up
-pub fewer_starved : (h : Heap) (m : Machine) (schedule : List Entry) (slot : ℕ) (grants : Grants)
-    (held : Option NotMade) (made most : ℕ) → Keeps h m schedule
-    → grants.closed slot ≡ false → grants.records slot ≢ 0 → h.space.grows ≡ true
-    → IfNone held (made < most → machines.has_steps m.stage ≡ false)
-    → IfSome held (λ reason. IsHeldUp false reason slot grants h m)
-    → made < most → is_over (small_world m.program schedule) ≡ false
-    → IsStarved false (small_world m.program schedule)
-fewer_starved h m schedule slot grants None made most keeps opened free grows ended held fewer going
+pub fewer_starved : (asks : Status → Around → Scene → Asked) (few : AreFew asks) (old new : Held)
+    (schedule : List Entry) (slot : ℕ) (held : Option NotMade) (made most : ℕ)
+    → Keeps old schedule → HasMade made old new → IsPlain slot new.lent
+    → IfNone held (made < most → has_steps new.course ≡ false)
+    → IfSome held (λ reason. HoldsUp asks slot made old new reason)
+    → made < most
+    → is_over (alone_machine old.lent.program (added_times made schedule (first_move false)))
+    ≡ false
+    → IsStarved asks old.lent.program false
+    (alone_machine old.lent.program (added_times made schedule (first_move false)))
+fewer_starved asks few old new schedule slot None made most keeps makes plain ended held fewer going
     =
-    let none : not (has_steps (small_world m.program schedule).stage) ≡ true =
-    ap not (steps_shown h m (small_world m.program schedule) keeps.shows ∙ ended fewer) in
-    absurd (true≢false (sym none ∙ going))
-fewer_starved h m schedule slot grants (Some reason) made most keeps opened free grows ended held
+    let kept = keeps_times old new schedule made keeps makes in
+    let over = subst (λ (p : List ℕ). is_over
+    (alone_machine p (added_times made schedule (first_move false))) ≡ true) makes.program
+    (over_at new _ kept.at ∙ ap not (ended fewer)) in
+    absurd (true≢false (sym over ∙ going))
+fewer_starved asks few old new schedule slot (Some reason) made most keeps makes plain ended held
     fewer going =
-    starved h m schedule slot grants false keeps opened free grows reason held
+    let machine : Machine = alone_machine old.lent.program schedule in (
+      going,
+      subst (λ (m : Machine). IsTrue (wants_memory asks old.lent.program false m))
+          (sym (times_machine old.lent.program made schedule))
+          (starved asks few old.lent.program false
+          (after_alone_moves old.lent.program machine (plain_moves made)) slot new.lent plain reason
+          (held machine keeps.at)),
+    )

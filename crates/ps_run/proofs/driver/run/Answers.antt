@@ -3,7 +3,7 @@ use Rattle.ps_run.proofs.driver.run.Goals as goal
 
 pub returns-in-Ok-run_plain-clause-run : goal.returns-in-Ok-run_plain-clause-run
 returns-in-Ok-run_plain-clause-run g c = inr (inr (record {
-  asked = record { steps = c.args.options.now.config.steps; stats = c.args.options.now.stats };
+  asked = record { steps = c.args.options.now.steps; stats = c.args.options.now.stats };
   is_asked = (refl, refl);
   printed = c.in-Ok-run_plain.report.printed.items;
   schedule = c.in-Ok-run_plain.report.schedule.items;
@@ -17,7 +17,7 @@ returns-in-Ok-run_plain-clause-run g c = inr (inr (record {
       c.as_slice.ensures.len,
       c.in-Ok.ensures.few,
     );
-    run = rw c.as_slice.ensures.value at c.in-Ok-run_plain.ensures.run;
+    run = rw (c.as_slice.ensures.value, c.config_of.ensures) at c.in-Ok-run_plain.ensures.run;
   };
   written = c.finish.ensures;
 }))

@@ -1,5 +1,7 @@
-use Rattle.ps_mem.specs.Bounded.{bounded_space}
+use Rattle.ps_mem.specs.Objects.{heap_in}
+use Rattle.ps_vault.proofs.Beginning.{nothing_stands}
 use Rattle.ps_rows.proofs.plays.Play.new.Goals as goal
 
-pub invariant_of-result : goal.invariant_of-result
-invariant_of-result c = rw c.in_ok-memory.ensures.empty (c.in_ok-context.ensures.good (bounded_space c.args.size))
+pub new-requires-2 : goal.new-requires-2
+unfolding heap_in
+new-requires-2 c = record { heap = nothing_stands _ _ c.in_ok-memory.ensures.empty }

@@ -1,4 +1,0 @@
-pub mod Counts
-pub mod Does
-pub mod Operates
-pub mod Reasons

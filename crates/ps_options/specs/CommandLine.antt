@@ -1,0 +1,84 @@
+-- The command line of the program, as rules of clap.
+use Rattle.std.specs.Prelude.{◌≡◌, ◌<◌, ◌^◌, ℕ, Bool, List, [], ◌∷◌, Option, Some, true, false, codes, unwrap_or}
+use Rattle.std.specs.Str.Parse.{IsNumeral, digits_value, without_leading_plus}
+use Rattle.clap.specs.Words.{App, Rule, Text, new_app, new_rule, with_rule, matches_of, first_of, one_of}
+use Rattle.clap.specs.declared.builder.action.ArgAction.TheVariants.{SetTrue}
+use Rattle.clap.specs.declared.builder.value_parser.ValueParser.TheVariants.{Unsigned}
+
+-- an option with a value, and its text where it is left out
+abbrev pub option_rule : Text → Text → Rule
+option_rule name default =
+    record (new_rule name) { long = Some name; value_names = 1; defaults = default ∷ [] }
+
+-- a number from least to most
+abbrev pub within : Rule → ℕ → ℕ → Rule
+within rule least most = record rule { parser = Some (Unsigned least most) }
+
+abbrev pub number_rule : Text → Text → ℕ → ℕ → Rule
+number_rule name default least most = within (option_rule name default) least most
+
+-- an option without a value
+abbrev pub flag_rule : Text → Rule
+flag_rule name = record (new_rule name) { long = Some name; action = Some SetTrue }
+
+-- the program's file, which must be there
+abbrev pub file_rule : Rule
+file_rule = record (new_rule (codes "FILE")) { required = true }
+
+-- the numbers of memory and threads
+abbrev pub with_sizes : App → App
+with_sizes app = with_rule
+    (with_rule app (number_rule (codes "space") (codes "65536") 4096 1048576))
+    (number_rule (codes "workers") (codes "4") 1 32)
+
+-- the numbers of steps
+abbrev pub with_limits : App → App
+with_limits app = with_rule
+    (with_rule app (number_rule (codes "quantum") (codes "100") 1 65535))
+    (number_rule (codes "steps") (codes "1000000000") 1 4294967295)
+
+abbrev pub with_flags : App → App
+with_flags app = with_rule (with_rule app (flag_rule (codes "plain"))) (flag_rule (codes "stats"))
+
+abbrev pub nameless : App → App
+nameless app = record app { top = record app.top { no_binary_name = true } }
+
+-- the whole: its words come without the program's name
+abbrev pub command_line : App
+command_line = with_rule (with_flags
+    (with_limits (with_sizes (nameless (new_app (codes "dpsrun")))))) file_rule
+
+-- the name of the program's file in such words
+abbrev pub file_in : List Text → Text
+file_in words = unwrap_or (first_of (codes "FILE") (matches_of command_line words)) []
+
+-- the text of a flag in such words
+abbrev pub flag_in : Text → List Text → Option Text
+flag_in name words = one_of name (matches_of command_line words)
+
+-- the number of an option in such words: that of its text, where it is one of 32 bits
+abbrev pub IsNumber : (name : Text) → List Text → ℕ → Type 0
+IsNumber name words number =
+    (text : Text) → one_of name (matches_of command_line words) ≡ Some text
+    → IsNumeral 10 (without_leading_plus text)
+    → digits_value 10 (without_leading_plus text) < 2 ^ 32
+    → number ≡ digits_value 10 (without_leading_plus text)
+
+-- the numbers of a run
+pub record Numbers : Type 0 where
+  pub space : ℕ
+  pub workers : ℕ
+  pub quantum : ℕ
+  pub steps : ℕ
+
+-- each is that of its option
+pub record AreNumbers (words : List Text) (numbers : Numbers) : Type 0 where
+  pub space : IsNumber (codes "space") words numbers.space
+  pub workers : IsNumber (codes "workers") words numbers.workers
+  pub quantum : IsNumber (codes "quantum") words numbers.quantum
+  pub steps : IsNumber (codes "steps") words numbers.steps
+
+-- whether a flag stands in such words, by its text
+pub record IsFlag (name : Text) (words : List Text) (truth : Bool) : Type 0 where
+  pub set : flag_in name words ≡ Some (codes "true") → truth ≡ true
+  pub unset : flag_in name words ≡ Some (codes "false") → truth ≡ false

@@ -1,0 +1,163 @@
+//! The command line.
+
+ghost use Rattle.std.specs.Prelude.{◌≡◌, Some, true, false, codes, map, IfOk};
+ghost use Rattle.clap.specs.Words.{app_of, rule_of, with_rule, fault_of, FailsBy};
+ghost use Rattle.ps_options.specs.CommandLine as spec;
+
+use clap::builder::ValueParser;
+use clap::{Arg, ArgAction, Command, Error};
+use std::alloc::{AllocError, Global};
+
+/// What the command line asks for.
+#[derive(Debug, Drop)]
+pub struct Options<'a> {
+    /// The words of a space of memory, from 4,096 to 1,048,576.
+    pub space: u32,
+    /// The threads that make steps, from 1 to 32.
+    pub workers: u32,
+    /// The most steps of a context's turn, from 1 to 65,535.
+    pub quantum: u32,
+    /// The most steps of the run, at least 1.
+    pub steps: u32,
+    /// Whether the counts are told at the end.
+    pub stats: bool,
+    /// The name of the program's file.
+    pub file: &'a str,
+}
+
+/// The command line's form. Numbers out of their ranges are refused; an option may be given once.
+fn command<'a>(alloc: Global) -> Result<Command<'a>, AllocError>
+    ensures { IfOk result (λ made. app_of made ≡ spec.command_line) }
+{
+    let command = Command::new(alloc, "dpsrun")
+        .about("Runs a program in the PostScript language.")
+        .no_binary_name(true);
+    with_file(
+        alloc,
+        with_flags(alloc, with_limits(alloc, with_sizes(alloc, command)?)?)?,
+    )
+}
+
+/// The numbers of memory and threads.
+fn with_sizes<'a>(alloc: Global, command: Command<'a>) -> Result<Command<'a>, AllocError>
+    ensures { IfOk result (λ made. app_of made ≡ spec.with_sizes (app_of command.entry)) }
+{
+    let space = number(
+        alloc,
+        "space",
+        "65536",
+        "words of a space of memory; no effect yet",
+    );
+    let workers = number(
+        alloc,
+        "workers",
+        "4",
+        "threads that make steps; no effect yet",
+    );
+    command
+        .arg(within(space, 4096, 1048576))?
+        .arg(within(workers, 1, 32))
+}
+
+/// The numbers of steps.
+fn with_limits<'a>(alloc: Global, command: Command<'a>) -> Result<Command<'a>, AllocError>
+    ensures { IfOk result (λ made. app_of made ≡ spec.with_limits (app_of command.entry)) }
+{
+    let quantum = number(
+        alloc,
+        "quantum",
+        "100",
+        "most steps of a turn; no effect yet",
+    );
+    let steps = number(alloc, "steps", "1000000000", "most steps of the run");
+    command
+        .arg(within(quantum, 1, 65535))?
+        .arg(within(steps, 1, 4294967295))
+}
+
+/// The options without a value.
+fn with_flags<'a>(alloc: Global, command: Command<'a>) -> Result<Command<'a>, AllocError>
+    ensures { IfOk result (λ made. app_of made ≡ spec.with_flags (app_of command.entry)) }
+{
+    command
+        .arg(flag(
+            alloc,
+            "plain",
+            "run over memory that is never collected, as every run does yet",
+        ))?
+        .arg(flag(
+            alloc,
+            "stats",
+            "tell flips, records taken and steps at the end",
+        ))
+}
+
+/// The program's file.
+fn with_file<'a>(alloc: Global, command: Command<'a>) -> Result<Command<'a>, AllocError>
+    ensures { IfOk result (λ made. app_of made ≡ with_rule (app_of command.entry) spec.file_rule) }
+{
+    command.arg(Arg::new(alloc, "FILE").help("the program").required(true))
+}
+
+/// An option with a number, of any range.
+fn number<'a>(alloc: Global, name: &'a str, default: &'a str, help: &'a str) -> Arg<'a>
+    ensures rule { rule_of result ≡ spec.option_rule name.entry.now default.entry.now }
+    ensures local { result.global ≡ false }
+{
+    Arg::new(alloc, name)
+        .long(name)
+        .value_name("N")
+        .default_value(default)
+        .help(help)
+}
+
+/// The option, with a number from `least` to `most`.
+fn within<'a>(option: Arg<'a>, least: u64, most: u64) -> Arg<'a>
+    ensures rule { rule_of result ≡ spec.within (rule_of option.entry) least most }
+    ensures local { result.global ≡ option.entry.global }
+{
+    option.value_parser(ValueParser::unsigned(least, most))
+}
+
+/// An option without a value.
+fn flag<'a>(alloc: Global, name: &'a str, help: &'a str) -> Arg<'a>
+    ensures rule { rule_of result ≡ spec.flag_rule name.entry.now }
+    ensures local { result.global ≡ false }
+{
+    Arg::new(alloc, name)
+        .long(name)
+        .action(ArgAction::SetTrue)
+        .help(help)
+}
+
+/// Reads the words of a command line, without the program's name. The error is the first fault of
+/// the words by the rules of the command line, or want of memory.
+pub fn parse<'a>(alloc: Global, words: &'a [&'a str]) -> Result<Options<'a>, Error>
+    ensures fault { FailsBy (fault_of spec.command_line (map (λ word. word.now) words.entry.now))
+        result }
+    ensures file { IfOk result
+        (λ options. options.file.now ≡ spec.file_in (map (λ word. word.now) words.entry.now)) }
+    ensures stats { IfOk result
+        (λ options. spec.flag_in (codes "stats") (map (λ word. word.now) words.entry.now) ≡ Some
+        (codes "true") → options.stats ≡ true) }
+    ensures no_stats { IfOk result
+        (λ options. spec.flag_in (codes "stats") (map (λ word. word.now) words.entry.now) ≡ Some
+        (codes "false") → options.stats ≡ false) }
+    ensures numbers { IfOk result
+        (λ options. spec.AreNumbers (map (λ word. word.now) words.entry.now) (record {
+          space = options.space;
+          workers = options.workers;
+          quantum = options.quantum;
+          steps = options.steps;
+        })) }
+{
+    let matches = command(alloc)?.try_get_matches_from(words)?;
+    Ok(Options {
+        space: matches.get_one::<u32>("space").unwrap_or(65536),
+        workers: matches.get_one::<u32>("workers").unwrap_or(4),
+        quantum: matches.get_one::<u32>("quantum").unwrap_or(100),
+        steps: matches.get_one::<u32>("steps").unwrap_or(1_000_000_000),
+        stats: matches.get_flag("stats"),
+        file: matches.get_str("FILE").unwrap_or(""),
+    })
+}

@@ -1,2 +1,0 @@
-pub mod Procedures
-pub mod Refused
