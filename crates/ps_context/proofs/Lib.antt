@@ -1,3 +1,5 @@
+pub mod Ahead
+mod Frugal
 pub mod Listing
 pub mod Scanning
 pub mod Taking

@@ -10,7 +10,7 @@ use Rattle.ps_values.specs.Values.{Asks}
 use Rattle.ps_values.proofs.Few.{none_few}
 use Rattle.ps_frames.proofs.Few.{top_few, unwound_few}
 use Rattle.ps_tokens.proofs.Few.{doing_few}
-use Rattle.ps_context.specs.Texts.{takes_list, with_list, source_asks, taking_asks, reading_asks}
+use Rattle.ps_context.specs.Texts.{takes_list, with_list, source_asks, taking_asks}
 use Rattle.ps_context.specs.Steps.{running_asks, own_asks}
 
 -- a list asks for no record

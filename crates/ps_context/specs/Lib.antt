@@ -1,3 +1,4 @@
+pub mod Elements
 pub mod Texts
 pub mod Steps
 pub mod Few

@@ -2,6 +2,7 @@
 //! (PLRM2, 3.4, 3.5, 3.10).
 #![tactic(auto)]
 
+mod elements;
 pub mod laws;
 pub mod steps;
 pub mod texts;

@@ -3,6 +3,7 @@
 ghost use Rattle.ps_context.specs.Few.{own_few};
 ghost use Rattle.ps_context.specs.Steps.{own_asks};
 
+use crate::elements::step_frame_ahead;
 use crate::texts::text_turn;
 use ps_acts::lent::{Context, Shared, Trial};
 use ps_control::frames::{Cause, Frame};
@@ -55,6 +56,26 @@ impl<O: Operate> Interpret for Steps<O> {
                 _ => frame_turn(top, &self.operators, context, shared, memory, trial),
             },
         }
+    }
+
+    /// Frame after frame, until one makes no step ahead.
+    #[inline(always)]
+    fn step_ahead<M: Memory>(
+        &self,
+        most: u32,
+        context: &mut Context,
+        shared: &Shared,
+        memory: &mut M,
+    ) -> u32 {
+        let mut made = 0;
+        while made < most {
+            let ahead = step_frame_ahead(most - made, &self.operators, context, shared, memory);
+            made += ahead.made;
+            if !ahead.goes_on {
+                return made;
+            }
+        }
+        made
     }
 
     ghost few = { own_few O.asks O.few };

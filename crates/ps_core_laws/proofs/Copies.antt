@@ -1,4 +1,5 @@
--- The words of the other space show the replicas, over every store; and after a flip they are the standing objects.
+-- The words of the other space show the replicas, over every store; and after a flip they are the
+-- standing objects.
 use Rattle.std.proofs.Common.{◌≡◌, ◌≢◌, ◌⊎◌, ℕ, zero, suc, ◌+◌, ◌<◌, ◌≤◌, Bool, true, false, nat_eq, List, [], ◌∷◌, length, Some, None, Option, refl, sym, ap, ◌∙◌, inl, inr, subst, arith, length-set, slice_index_or}
 use Rattle.std.specs.Prelude.{if◌then◌else◌, slice_set, slice_index, replicate}
 use Rattle.std.proofs.lemmas.List.{get_or-set_same, get_or-set_other, get_or-replicate, length-replicate}

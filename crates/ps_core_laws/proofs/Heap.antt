@@ -1,4 +1,5 @@
--- Objects and replicas by functions of addresses and fields, as a machine of its own: what the agreement of replicas rests on, with no word of the table in it.
+-- Objects and replicas by functions of addresses and fields, as a machine of its own: what the
+-- agreement of replicas rests on, with no word of the table in it.
 use Rattle.std.proofs.Common.{◌≡◌, ◌≢◌, ◌⊎◌, ℕ, ◌<◌, Bool, true, false, nat_eq, ◌&&◌, ◌||◌, not, List, [], ◌∷◌, ◌++◌, Option, Some, None}
 use Rattle.std.specs.Prelude.{if◌then◌else◌}
 use Rattle.ps_record.specs.declared.Record.{Record}

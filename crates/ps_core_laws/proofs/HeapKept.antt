@@ -9,7 +9,8 @@ use Rattle.ps_core_laws.proofs.Heap.Word.{Plain, Ref}
 use Rattle.ps_core_laws.proofs.Heap.Act.{Make, Store, Log, Open, Hand, Take, Copy, Fill, Join, Head, Flip}
 use Rattle.ps_core_laws.proofs.HeapTests.{bool_cases, and_parts, and_both, or_parts, clash, same_number, number_is, at_number, at_place, put_same, put_other, put2_same, put2_other, named_front, named_last, renamed_more, left_of-zero, left_named, loaded_named, with_load_left}
 
--- the word in the replica is the renamed one, and needs no later pair; or its place is still to be copied
+-- the word in the replica is the renamed one, and needs no later pair; or its place is still to be
+-- copied
 abbrev pub Agrees : Heap → ℕ → ℕ → Type 0
 Agrees s a i = ((s.copy a i ≡ renamed s.replica (s.field a i)) × IsCovered s.replica (s.field a i)) ⊎ (IsDue s a i ⊎ IsCopying s.copying a i)
 

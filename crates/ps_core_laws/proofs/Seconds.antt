@@ -1,4 +1,5 @@
--- The second headers: they lead from originals to replicas and back, and nowhere else in an open cycle.
+-- The second headers: they lead from originals to replicas and back, and nowhere else in an open
+-- cycle.
 use Rattle.std.proofs.Common.{◌≡◌, ◌≢◌, ℕ, ◌+◌, ◌^◌, ◌<◌, ◌≤◌, Bool, true, nat_eq, List, [], ◌∷◌, length, Some, None, Option, refl, sym, ap, ◌∙◌, inl, inr, subst, arith}
 use Rattle.std.specs.Prelude.{if◌then◌else◌, slice_set, slice_index, unwrap_or, MatchOption}
 use Rattle.std.specs.Option.{option_map}

@@ -1,4 +1,5 @@
--- The words of the current space show the standing objects, and those of the other space the replicas, over every store.
+-- The words of the current space show the standing objects, and those of the other space the
+-- replicas, over every store.
 use Rattle.std.proofs.Common.{◌≡◌, ◌≢◌, ◌⊎◌, ℕ, ◌+◌, ◌<◌, ◌≤◌, true, false, nat_eq, List, ◌∷◌, length, Some, None, Option, refl, sym, ap, ◌∙◌, inl, inr, subst, arith, length-set}
 use Rattle.std.specs.Prelude.{slice_set, slice_index, replicate}
 use Rattle.std.specs.Option.{option_map}

@@ -53,7 +53,8 @@ natural-word w n is word =
     let same : w.0 ≡ packed (value_in w.0) = sym word.exact in
     ap (λ (k : ℕ). record { 0 = k }) (same ∙ ap packed is)
 
--- the words of the index with a pair more are those before with the position in the place that was free
+-- the words of the index with a pair more are those before with the position in the place that was
+-- free
 pub index_words-more : (births : ℕ → ℕ) (capacity : ℕ) (pairs : List (Word × Word)) (k v : Word)
     (place : ℕ) (last : Word) → length pairs ≤ capacity → IsNatural last (length pairs)
     → IsWord last.0
@@ -119,7 +120,8 @@ append_words : (pairs : List (Word × Word)) (k v : Word) (rest : List Word) →
 append_words [] k v rest = refl
 append_words (pair ∷ pairs) k v rest = ap (λ zs. pair.0 ∷ pair.1 ∷ zs) (append_words pairs k v rest)
 
--- the words of a body with a pair more behind the pairs that there are, and another word behind both
+-- the words of a body with a pair more behind the pairs that there are, and another word behind
+-- both
 module _ (pairs : List (Word × Word)) (rest : List Word) (k v : Word) (far : ℕ) (last : Word) where
   abbrev pub body_more : List Word
   body_more = splice (splice (words_of_pairs pairs ++ rest) (2 * length pairs) (k ∷ v ∷ []))

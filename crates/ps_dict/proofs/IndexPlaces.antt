@@ -1,4 +1,5 @@
--- The places of an index: each position stands behind such as came before it, from the start of its hash number on, going round.
+-- The places of an index: each position stands behind such as came before it, from the start of its
+-- hash number on, going round.
 use Rattle.std.proofs.Common.{◌≡◌, ℕ, zero, suc, ◌+◌, ◌%◌, ◌<◌, ◌≤◌, ◌⊎◌, true, false, List, [], ◌∷◌, ◌++◌, length, map, take, drop, replicate, Option, Some, None, refl, sym, ap, ◌∙◌, arith, subst, inl, inr, length-append}
 use Rattle.std.specs.Prelude.{slice_get}
 use Rattle.std.specs.List.{AllByRecursion}
@@ -130,7 +131,8 @@ fuller-turned n xs ys f =
 
 -- ---- found behind such as came before
 
--- looked through in this order, a position comes behind others that came before it, and no free place stands in between
+-- looked through in this order, a position comes behind others that came before it, and no free
+-- place stands in between
 pub record IsFound (places : List (Option ℕ)) (position : ℕ) : Type 0 where
   pub front : List ℕ
   pub rest : List (Option ℕ)

@@ -183,7 +183,8 @@ found_at births capacity pairs key places index q p =
     ap (looked_up (same_at pairs key)) found.is
     ∙ looked_up-found (same_at pairs key) q here p.before found.front found.before found.rest
 
--- looking through the index from the start of a key on, going round, up to a free place, finds the place of the first pair with the key, or none
+-- looking through the index from the start of a key on, going round, up to a free place, finds the
+-- place of the first pair with the key, or none
 pub index-finds : (births : ℕ → ℕ) (capacity : ℕ) (pairs : List (Word × Word)) (key : Word)
     → length pairs ≤ capacity
     → looked_up (same_at pairs key)

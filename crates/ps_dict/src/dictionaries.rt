@@ -112,6 +112,7 @@ pub(crate) fn body<M: Memory>(memory: &mut M, address: u32) -> u32
 /// The place of the first pair whose key is the same, counted from 0 in the order of insertion. In
 /// a dictionary that
 /// is full, each pair is looked at in order; else the index is looked through.
+#[inline]
 pub fn position<M: Memory>(memory: &mut M, address: u32, key: Word) -> Option<u32>
     requires sound { IsSound (M.heap memory.old) }
     requires known { StandsAs (M.heap memory.old) Kind.Dictionary address 4 }
@@ -137,6 +138,7 @@ pub fn position<M: Memory>(memory: &mut M, address: u32, key: Word) -> Option<u3
 
 /// The same by the index, from the place of the key's hash number on: where places are free, a few
 /// looks tell that a key is absent.
+#[inline(always)]
 fn indexed_position<M: Memory>(
     memory: &mut M,
     address: u32,
@@ -173,6 +175,7 @@ fn indexed_position<M: Memory>(
 
 /// The same in the order of insertion: where no place of the index is free, this takes half the
 /// loads.
+#[inline(never)]
 fn ordered_position<M: Memory>(memory: &mut M, address: u32, count: u32, key: Word) -> Option<u32>
     requires count { count ≡ count_at (M.heap memory.old) address }
     requires sound { IsSound (M.heap memory.old) }
@@ -194,6 +197,7 @@ fn ordered_position<M: Memory>(memory: &mut M, address: u32, count: u32, key: Wo
 }
 
 /// The value of a key, where the dictionary has it.
+#[inline]
 pub fn value_of_key<M: Memory>(memory: &mut M, address: u32, key: Word) -> Option<Word>
     requires sound { IsSound (M.heap memory.old) }
     requires known { StandsAs (M.heap memory.old) Kind.Dictionary address 4 }

@@ -15,6 +15,7 @@ use ps_word::words::Word;
 
 /// The hash number of a key: of a reference by the birth number of what it names, which stays where
 /// that moves.
+#[inline(always)]
 pub fn hash_number<M: Memory>(memory: &mut M, key: Word) -> u64
     requires held { IsValue (M.heap memory.old) key }
     ensures heap { M.heap memory.new ≡ M.heap memory.old }
@@ -40,6 +41,7 @@ pub fn hash_number<M: Memory>(memory: &mut M, key: Word) -> u64
 }
 
 /// The place at which a key is looked for first, of so many.
+#[inline(always)]
 pub(crate) fn first_place<M: Memory>(memory: &mut M, key: Word, capacity: u32) -> u32
     requires held { IsValue (M.heap memory.old) key }
     requires some { 0 < capacity }
@@ -52,7 +54,7 @@ pub(crate) fn first_place<M: Memory>(memory: &mut M, key: Word, capacity: u32) -
 }
 
 /// The place so many behind another, going round.
-#[inline]
+#[inline(always)]
 pub(crate) fn place_behind(start: u32, behind: u32, capacity: u32) -> u32
     requires start { start < capacity }
     requires behind { behind < capacity }

@@ -1,4 +1,4 @@
-// Dictionaries in any memory.
+//! Dictionaries in any memory.
 #![tactic(auto)]
 
 mod appends;

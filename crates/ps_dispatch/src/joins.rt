@@ -43,8 +43,9 @@ pub fn get<M: Memory>(
 }
 
 /// `X k y put`: an element of an array, a byte of a string, or the value of a key, whose name is
-/// formed. Raises `stackunderflow`, `typecheck`, `invalidaccess`, `rangecheck`, and `limitcheck` and
-/// `VMerror` of a dictionary. Not made where the log takes no record, or for want of room or memory.
+/// formed. Raises `stackunderflow`, `typecheck`, `invalidaccess`, `rangecheck`, and `limitcheck`
+/// and `VMerror` of a dictionary. Not made where the log takes no record, or for want of room or
+/// memory.
 pub fn put<M: Memory>(
     context: &mut Context,
     shared: &mut Shared,

@@ -2,8 +2,10 @@
 //! (PLRM2, 3.5, 3.10, 8 'Operators').
 #![tactic(auto)]
 
+pub mod alone;
 pub mod dispatch;
 pub mod exits;
 pub mod joins;
+pub mod laws;
 pub mod operators;
 pub mod turns;

@@ -5,10 +5,12 @@ ghost use Rattle.ps_dispatch.specs.Few.{operator_few};
 ghost use Rattle.ps_dispatch.specs.Turns.{operator_asks};
 ghost use Rattle.ps_turns.specs.Turns as turns;
 
+use crate::alone::{is_alone, operate_alone};
 use crate::turns::operated;
 use ps_acts::lent::{Context, Shared, Trial};
 use ps_language::operators::Operator;
 use ps_mem::Memory;
+use ps_operands::Operands;
 use ps_ops::failure::NotMade;
 use ps_turns::turned::Turned;
 use ps_values::operates::Operate;
@@ -42,6 +44,18 @@ pub struct Operators;
 
 impl Operate for Operators {
     ghost asks = { operator_asks };
+
+    /// One on operands alone.
+    #[inline(always)]
+    fn operate_quickly(&self, operator: Operator, operands: &mut Operands) -> bool {
+        operate_alone(operator, operands)
+    }
+
+    /// Whether it is one of these.
+    #[inline(always)]
+    fn is_quick(&self, operator: Operator) -> bool {
+        is_alone(operator)
+    }
 
     /// One that is left to the world is handed up; every other one acts.
     #[inline(always)]

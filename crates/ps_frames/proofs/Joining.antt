@@ -17,7 +17,7 @@ use Rattle.ps_values.specs.Values.{Asks}
 use Rattle.ps_frames.specs.Steps.{running_turn, top_asks, frame_asks}
 
 -- by these frames
-abbrev framed_asks : Asks → Lent → List Frame → Store → Asked
+abbrev pub framed_asks : Asks → Lent → List Frame → Store → Asked
 framed_asks asks l frames s =
     top_asks asks (frames_in l.heap l.names frames) (around_of l) (scene_of l s)
 

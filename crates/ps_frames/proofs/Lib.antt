@@ -1,3 +1,4 @@
+pub mod GoingAhead
 pub mod Binding
 pub mod Few
 pub mod Framing

@@ -1,5 +1,5 @@
 -- A step by the topmost frame, and one of an unwinding, over what is lent (PLRM2, 3.4, 3.5, 3.10).
-use Rattle.std.specs.Prelude.{ℕ, ◌+◌, ◌-◌, Bool, true, false, List, [], ◌∷◌, drop, nat_lt, Result, Ok, Err, if◌then◌else◌}
+use Rattle.std.specs.Prelude.{◌≡◌, ℕ, ◌+◌, ◌-◌, Bool, true, false, List, [], ◌∷◌, drop, nat_lt, Result, Ok, Err, if◌then◌else◌}
 use Rattle.ps_language.specs.declared.errors.ErrorName.{ErrorName}
 use Rattle.ps_language.specs.declared.operators.Operator.{Operator}
 use Rattle.ps_language.specs.Access.{part_elements}
@@ -19,11 +19,12 @@ use Rattle.ps_control.specs.declared.frames.Cause.{Cause}
 use Rattle.ps_control.specs.declared.frames.Frame.{Frame}
 use Rattle.ps_control.specs.declared.frames.Frame.TheVariants.{Text, Procedure}
 use Rattle.ps_control.specs.Turns.{cause_of}
+use Rattle.ps_acts.specs.declared.lent.Trial.{Trial}
 use Rattle.ps_acts.specs.Acts.{Asked, no_rooms}
 use Rattle.ps_acts.specs.Lent.{Lent, scene_of, around_of}
 use Rattle.ps_turns.specs.declared.turned.Turned.{Turned}
-use Rattle.ps_turns.specs.declared.turned.Turned.TheVariants.{Breaks, Ends}
-use Rattle.ps_turns.specs.Turns.{is_told, none_asked, break_turn}
+use Rattle.ps_turns.specs.declared.turned.Turned.TheVariants.{Goes, Breaks, Ends}
+use Rattle.ps_turns.specs.Turns.{is_told, none_asked, break_turn, Turns}
 use Rattle.ps_values.specs.Values.{Asks, done_asks}
 use Rattle.ps_frames.specs.Binds.{replaces}
 
@@ -74,12 +75,16 @@ untold cause (frame ∷ frames) = Breaks cause
 
 -- ---- frames
 
--- once the first element of a procedure was taken: the last takes the frame with it
-abbrev pub rest_frames : Part → (below : List Frame) → List Frame
-rest_frames rest below =
-    if nat_lt 1 rest.length then
-    Procedure (record rest { offset = rest.offset + 1; length = rest.length - 1 }) ∷ below
+-- once so many elements of a procedure were taken: the last takes the frame with it
+abbrev pub frames_after : (count : ℕ) → Part → (below : List Frame) → List Frame
+frames_after count rest below =
+    if nat_lt count rest.length then
+    Procedure (record rest { offset = rest.offset + count; length = rest.length - count }) ∷ below
     else below
+
+-- once the first was
+abbrev pub rest_frames : Part → (below : List Frame) → List Frame
+rest_frames rest below = frames_after 1 rest below
 
 -- those by which steps are made here
 abbrev pub is_stepped : Frame → Bool
@@ -122,6 +127,13 @@ module _ (asks : Asks) where
   -- of a step of a running context, as it is lent
   abbrev pub frame_asks : Lent → Store → Asked
   frame_asks l s = top_asks (scene_of l s).frames (around_of l) (scene_of l s)
+
+-- the turn of the topmost frame goes on, whatever operators ask for and however it is tried; or
+-- nothing has changed
+abbrev pub GoesAhead : (goes : Bool) → (old new : Lent) → Type 0
+GoesAhead true old new = (asks : Asks) (trial : Trial)
+    → Turns (frame_asks asks) running_turn trial (Ok Goes) old new
+GoesAhead false old new = new ≡ old
 
 -- of bind, in what is lent
 abbrev pub bind_asks : (over : Part) → (at : ℕ) → Lent → Store → Asked

@@ -40,7 +40,7 @@ pub fn procedure_turn<O: Operate, M: Memory>(
         (lent (M.heap memory.new) (M.grants memory.new) context.new shared.new) }
 {
     let word = element(memory, rest, 0);
-    advance(&mut context.frames, rest);
+    advance(&mut context.frames, rest, 1);
     match do_element(word, word, operators, context, shared, memory, trial) {
         Ok(turned) => Ok(turned),
         Err(reason) => {

@@ -3,7 +3,7 @@
 ghost use Rattle.std.specs.Prelude.{◌≡◌, ◌∷◌, ◌+◌, ◌-◌, ◌<◌, ◌≤◌, ◌^◌, List, Some, drop, length};
 ghost use Rattle.ps_control.specs.declared.frames.Frame.{Frame as TheFrame};
 ghost use Rattle.ps_stacks.specs.Tops.{first_of};
-ghost use Rattle.ps_frames.specs.Steps.{rest_frames};
+ghost use Rattle.ps_frames.specs.Steps.{frames_after, rest_frames};
 
 use ps_control::frames::{Frame, Frames};
 use ps_word::values::Part;
@@ -19,31 +19,32 @@ pub fn drop_top(frames: &mut Frames)
     }
 }
 
-/// Goes one element further in the topmost frame, a procedure that has more, in place.
+/// Goes so many elements further in the topmost frame, a procedure that has more, in place.
 #[inline(always)]
-fn go_further(frames: &mut Frames, rest: Part)
+fn go_further(frames: &mut Frames, rest: Part, count: u16)
     requires top { first_of frames.old ≡ Some (Frame.Procedure rest) }
-    requires more { 1 < rest.length }
+    requires more { count < rest.length }
     requires end { rest.offset + rest.length < 2 ^ 16 }
     ensures { frames.new ≡ Frame.Procedure
-        (record rest { offset = rest.offset + 1; length = rest.length - 1 }) ∷ drop 1 frames.old }
+        (record rest { offset = rest.offset + count; length = rest.length - count })
+        ∷ drop 1 frames.old }
 {
     if let Frame::Procedure { rest } = frames.top_mut() {
-        rest.offset += 1;
-        rest.length -= 1;
+        rest.offset += count;
+        rest.length -= count;
     }
 }
 
-/// Takes the first element of the topmost frame, a procedure: the frame goes with the last.
+/// Takes the first elements of the topmost frame, a procedure: the frame goes with the last.
 #[inline(always)]
-pub fn advance(frames: &mut Frames, rest: Part)
+pub fn advance(frames: &mut Frames, rest: Part, count: u16)
     requires top { first_of frames.old ≡ Some (Frame.Procedure rest) }
     requires end { rest.offset + rest.length < 2 ^ 16 }
-    ensures frames { frames.new ≡ rest_frames rest (drop 1 frames.old) }
-    ensures room { rest.length ≤ 1 → length frames.new < 250 }
+    ensures frames { frames.new ≡ frames_after count rest (drop 1 frames.old) }
+    ensures room { rest.length ≤ count → length frames.new < 250 }
 {
-    if rest.length > 1 {
-        go_further(frames, rest);
+    if rest.length > count {
+        go_further(frames, rest, count);
     } else {
         drop_top(frames);
     }

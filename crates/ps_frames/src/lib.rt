@@ -1,6 +1,7 @@
 //! A step by the topmost frame, and one frame of an unwinding (PLRM2, 3.4, 3.5, 3.10).
 #![tactic(auto)]
 
+pub mod ahead;
 pub mod bindings;
 pub mod binds;
 pub mod elements;

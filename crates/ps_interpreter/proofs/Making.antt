@@ -1,20 +1,24 @@
 -- Many ordinary steps.
-use Rattle.std.proofs.Common.{◌≡◌, ℕ, ◌+◌, true, false, List, refl, sym, ◌∙◌, ap, subst, IsTrue, Ok}
-use Rattle.std.proofs.lemmas.List.{replicate_more}
+use Rattle.std.proofs.Common.{◌≡◌, ℕ, ◌+◌, ◌++◌, true, false, List, [], ◌∷◌, refl, sym, ◌∙◌, ap, subst, IsTrue, Ok, Err}
+use Rattle.std.proofs.lemmas.List.{replicate-append-replicate, replicate_more}
 use Rattle.ps_language.specs.Effect.{Around, Scene}
 use Rattle.ps_language.specs.Machines.{may_end}
 use Rattle.ps_language.specs.Schedules.{plain_move}
 use Rattle.ps_language.specs.World.{Status, Machine}
+use Rattle.ps_control.specs.declared.frames.Frame.{Frame}
+use Rattle.ps_ops.specs.declared.failure.NotMade.{NotMade as Reason}
 use Rattle.ps_acts.specs.declared.lent.Trial.{Trial}
 use Rattle.ps_acts.specs.Acts.{Asked}
 use Rattle.ps_acts.specs.Lent.{Lent}
+use Rattle.ps_turns.specs.declared.turned.Turned.TheVariants.{Goes}
 use Rattle.ps_interpreter.specs.declared.courses.Course.{Course}
 use Rattle.ps_interpreter.specs.declared.courses.Course.TheVariants.{Running, Unwinding, Calling, Finished}
 use Rattle.ps_interpreter.specs.Alone.{alone_step, is_alone_ready, after_alone_moves, all_alone_ready}
-use Rattle.ps_interpreter.specs.Courses.{Held, has_steps, IsAtBy, IsAt, IsSteady}
-use Rattle.ps_interpreter.specs.Makes.{plain_moves, HasMade}
+use Rattle.ps_interpreter.specs.Courses.{Held, held, going, has_steps, course_after, HasFrame, IsAtBy, IsAt, IsSteady}
+use Rattle.ps_interpreter.specs.Makes.{plain_moves, HasMade, HoldsUp}
+use Rattle.ps_interpreter.specs.Needs.{alone_needs, IsHeldUp}
 use Rattle.ps_interpreter.specs.Steps.{Steps}
-use Rattle.ps_interpreter.proofs.Laws.{ready_move, first_ready, after_more, ready_more}
+use Rattle.ps_interpreter.proofs.Laws.{ready_move, first_ready, after_alone_moves-append, all_alone_ready-append, and_true, after_more, ready_more}
 
 -- ---- whether there is another step
 
@@ -39,6 +43,54 @@ made_none h steady = record {
   steady = steady;
   program = refl;
 }
+
+-- some, and others from there on
+pub made_then : (first second : ℕ) (old mid new : Held) → HasMade first old mid
+    → HasMade second mid new → HasMade (first + second) old new
+made_then first second old mid new one other =
+    let program : List ℕ = old.lent.program in
+    let moves_are : plain_moves first ++ plain_moves second ≡ plain_moves (first + second) =
+    replicate-append-replicate first second (plain_move 1) in
+    record {
+      at = λ machine at.
+          subst (IsAt new)
+          (ap (λ (p : List ℕ). after_alone_moves p
+          (after_alone_moves program machine (plain_moves first)) (plain_moves second)) one.program
+          ∙ (sym (after_alone_moves-append program machine (plain_moves first) (plain_moves second))
+          ∙ ap (after_alone_moves program machine) moves_are))
+          (other.at (after_alone_moves program machine (plain_moves first)) (one.at machine at));
+      ready = λ machine at.
+          subst (λ ms. IsTrue (all_alone_ready program machine ms)) moves_are
+          (subst IsTrue
+          (sym (all_alone_ready-append program machine (plain_moves first) (plain_moves second)))
+          (and_true _ _ (one.ready machine at)
+          (subst (λ (p : List ℕ). IsTrue (all_alone_ready p
+          (after_alone_moves program machine (plain_moves first)) (plain_moves second))) one.program
+          (other.ready (after_alone_moves program machine (plain_moves first))
+          (one.at machine at)))));
+      steady = other.steady;
+      program = other.program ∙ one.program;
+    }
+
+-- what runs goes on
+pub runs_on : (l : Lent) (lines : ℕ) → IsSteady (held l Running lines)
+    → held l Running lines ≡ going l
+runs_on l lines steady = by l.frames refl
+  where
+    by : (frames : List Frame) → l.frames ≡ frames → held l Running lines ≡ going l
+    by [] none = absurd (subst (HasFrame Running) none steady.framed)
+    by (frame ∷ frames) some =
+        λ i. held l (course_after Goes (sym some i)) (steady.counted refl i)
+
+-- steps ahead of one that runs
+pub made_ahead : (count : ℕ) (old new : Lent) (lines : ℕ) → IsSteady (held old Running lines)
+    → HasMade count (going old) (going new)
+    → HasMade count (held old Running lines) (held new (course_after Goes new.frames) lines)
+made_ahead count old new lines steady makes =
+    subst (λ (h : Held). HasMade count h (held new (course_after Goes new.frames) lines))
+    (sym (runs_on old lines steady))
+    (subst (λ (n : ℕ). HasMade count (going old) (held new (course_after Goes new.frames) n))
+    (sym (steady.counted refl)) makes)
 
 module _ (asks : Status → Around → Scene → Asked) (slot made : ℕ) (old mid new : Held)
     (so_far : HasMade made old mid) (steps : has_steps mid.course ≡ true) where
@@ -73,3 +125,18 @@ module _ (asks : Status → Around → Scene → Asked) (slot made : ℕ) (old m
     steady = step.steady;
     program = step.stays.program ∙ so_far.program;
   }
+
+  -- the next is not made
+  pub made_until : (reason : Reason) → Steps asks trial (Err reason) mid new → HasMade made old new
+  made_until reason step = record {
+    at = λ machine at. (step.meets (reached machine) (so_far.at machine at)).did.0;
+    ready = so_far.ready;
+    steady = step.steady;
+    program = step.stays.program ∙ so_far.program;
+  }
+
+  pub held_after : (reason : Reason) → Steps asks trial (Err reason) mid new
+      → HoldsUp asks slot made old new reason
+  held_after reason step machine at =
+      subst (λ (p : List ℕ). IsHeldUp (alone_needs asks p false (reached machine)) slot new.lent
+      reason) so_far.program (step.meets (reached machine) (so_far.at machine at)).did.2

@@ -44,6 +44,10 @@ course_after (Calls operator) frames = Calling operator
 course_after (Breaks cause) frames = Unwinding cause
 course_after (Ends told) frames = Finished
 
+-- what goes on where a frame is left, and has ended where none is
+abbrev pub going : Lent → Held
+going l = held l (course_after Goes l.frames) 0
+
 -- ---- what it stands for
 
 -- what is lent is that of a machine in this status

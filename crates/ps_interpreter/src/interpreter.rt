@@ -1,6 +1,6 @@
 //! A context with what it prints, how far it is, and its steps (PLRM2, 3.5, 3.10).
 
-ghost use Rattle.std.specs.Prelude.{◌≡◌, ◌<◌, false, true, OnErr, IfOk, IfErr};
+ghost use Rattle.std.specs.Prelude.{◌≡◌, ◌<◌, ◌≤◌, false, true, OnErr, IfOk, IfErr};
 ghost use Rattle.ps_language.specs.Effect.{Around, Scene};
 ghost use Rattle.ps_language.specs.World.{Status};
 ghost use Rattle.ps_mem.specs.Heap.{SameLogs};
@@ -10,6 +10,7 @@ ghost use Rattle.ps_start.specs.Starts.{IsEmptyHeap, IsStartReason, first_machin
 ghost use Rattle.ps_turns.specs.Turns.{lines_after};
 ghost use Rattle.ps_interpreter.specs.Courses as courses;
 ghost use Rattle.ps_interpreter.specs.Courses.{held, IsAt, IsSteady};
+ghost use Rattle.ps_interpreter.specs.Makes.{HasMade};
 ghost use Rattle.ps_interpreter.specs.Steps.{Steps};
 
 use crate::courses::Course;
@@ -93,6 +94,33 @@ impl Interpreter<'_> {
         let Interpreter { shared, .. } = self;
         let Shared { printed, .. } = shared;
         printed
+    }
+
+    /// Makes ordinary steps of a context that runs, at most so many, as far as operands alone make
+    /// them, and tells how many.
+    #[inline(always)]
+    pub fn step_ahead<S: Interpret, M: Memory>(
+        &mut self,
+        interpret: &S,
+        memory: &mut M,
+        most: u32,
+    ) -> u32
+        requires steady { IsSteady
+            (held (lent (M.heap memory.old) (M.grants memory.old) self.old.context self.old.shared)
+            self.old.course self.old.error_lines) }
+        ensures within { result ≤ most }
+        ensures makes { HasMade result
+            (held (lent (M.heap memory.old) (M.grants memory.old) self.old.context self.old.shared)
+            self.old.course self.old.error_lines)
+            (held (lent (M.heap memory.new) (M.grants memory.new) self.new.context self.new.shared)
+            self.new.course self.new.error_lines) }
+    {
+        if self.course != Course::Running {
+            return 0;
+        }
+        let made = interpret.step_ahead(most, &mut self.context, &self.shared, memory);
+        self.settle(Turned::Goes);
+        made
     }
 
     /// One step over a memory, whose records go into the log of a slot. An operator that is left to

@@ -53,12 +53,14 @@ pub fn make_steps<S: Interpret, M: Memory>(
         slot,
         refused: false,
     };
-    for made in 0..most {
-        if !interpreter.has_steps() {
+    let mut made = 0;
+    while made < most {
+        made += interpreter.step_ahead(interpret, memory, most - made);
+        if made == most || !interpreter.has_steps() {
             return Turn { made, held: None };
         }
         match interpreter.step(interpret, memory, trial) {
-            Ok(()) => {}
+            Ok(()) => made += 1,
             Err(reason) => {
                 return Turn {
                     made,
@@ -67,8 +69,5 @@ pub fn make_steps<S: Interpret, M: Memory>(
             }
         }
     }
-    Turn {
-        made: most,
-        held: None,
-    }
+    Turn { made, held: None }
 }

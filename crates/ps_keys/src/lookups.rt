@@ -24,7 +24,7 @@ use ps_word::words::Word;
 
 /// The value of a key in a dictionary, where it has it. A name that was not met has no word, and no
 /// dictionary has it.
-#[inline]
+#[inline(always)]
 pub fn find_in<M: Memory>(memory: &mut M, address: u32, key: Option<Word>) -> Option<Word>
     requires sound { IsSound (M.heap memory.old) }
     requires known { StandsAs (M.heap memory.old) Kind.Dictionary address 4 }
@@ -48,7 +48,7 @@ pub fn find_in<M: Memory>(memory: &mut M, address: u32, key: Option<Word>) -> Op
 }
 
 /// Whether what stands on the dictionary stack may be read.
-#[inline]
+#[inline(always)]
 fn may_read<M: Memory>(memory: &mut M, dictionary: Word) -> bool
     requires sound { IsSound (M.heap memory.old) }
     requires held { IsValue (M.heap memory.old) dictionary }
@@ -64,6 +64,7 @@ fn may_read<M: Memory>(memory: &mut M, dictionary: Word) -> bool
 }
 
 /// The value of a key in what stands on the dictionary stack. Raises `invalidaccess`.
+#[inline(always)]
 fn look_in<M: Memory>(
     memory: &mut M,
     dictionary: Word,
@@ -94,6 +95,7 @@ fn look_in<M: Memory>(
 
 /// The topmost dictionary that has a key, and its value there. Raises `invalidaccess` where one
 /// that can't be read is come to first.
+#[inline(always)]
 pub fn look_up<M: Memory>(
     memory: &mut M,
     dictionaries: &Dictionaries,

@@ -1,4 +1,5 @@
--- Whole programs, computed: contexts, locks, conditions, memory and schedules. Each value is what the rules of the standard and of this profile say.
+-- Whole programs, computed: contexts, locks, conditions, memory and schedules. Each value is what
+-- the rules of the standard and of this profile say.
 use Rattle.std.specs.Prelude.{◌≡◌, true, false, None, Some, pos, negsuc, [], ◌∷◌, replicate, codes}
 use mathlib.Core.Path.{refl}
 use Rattle.ps_language.specs.declared.errors.ErrorName.TheVariants.{StackOverflow}
@@ -68,7 +69,8 @@ owned_again : printed (codes
 unfolding evaluation
 owned_again = refl
 
--- the roots of one context that waits: systemdict and userdict, its dictionary stack, the lock of its Monitor frame, $error, and the lock and the condition of its status
+-- the roots of one context that waits: systemdict and userdict, its dictionary stack, the lock of
+-- its Monitor frame, $error, and the lock and the condition of its status
 waiting_roots : roots (world (codes "lock dup {condition wait} monitor") (turns 1 6 ∷ [])) ≡ 0 ∷ 1
     ∷ 1 ∷ 0 ∷ 3 ∷ 2 ∷ 3 ∷ 5 ∷ []
 unfolding evaluation

@@ -1,4 +1,5 @@
--- Whole programs, computed: control, bind, access and errors. Each value is what the rules of the standard and of this profile say.
+-- Whole programs, computed: control, bind, access and errors. Each value is what the rules of the
+-- standard and of this profile say.
 use Rattle.std.specs.Prelude.{◌≡◌, Bool, true, false, [], ◌∷◌, codes}
 use mathlib.Core.Path.{refl}
 use Rattle.ps_language.specs.declared.errors.ErrorName.TheVariants.{LimitCheck}

@@ -1,4 +1,5 @@
--- The scanner without its counters, a step at a time: what a scanner that goes along the bytes is compared with.
+-- The scanner without its counters, a step at a time: what a scanner that goes along the bytes is
+-- compared with.
 use Rattle.std.specs.Prelude.{◌≡◌, refl, ℕ, zero, suc, ◌+◌, ◌-◌, ◌<◌, ◌≤◌, List, [], ◌∷◌, ◌++◌, length, drop, ⊤, ◌==◌, false}
 use mathlib.Core.Path.{ap, sym, ◌∙◌}
 use native.Mathlib.Omega.{arith}

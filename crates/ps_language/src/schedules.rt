@@ -1,3 +1,5 @@
+//! Entries of a schedule.
+
 /// Neighbouring steps of one context in a schedule.
 ///
 /// Only the last of the steps may be refused (a refused step that needs a new object raises

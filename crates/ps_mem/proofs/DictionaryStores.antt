@@ -1,4 +1,5 @@
--- What a change of a dictionary leaves sound and shown: other words in its fields and in its body, by any number of stores.
+-- What a change of a dictionary leaves sound and shown: other words in its fields and in its body,
+-- by any number of stores.
 use Rattle.std.proofs.Common.{◌≡◌, ◌≢◌, ℕ, ◌≤◌, ◌⊎◌, List, length, Some, refl, sym, ap, arith, ◌∙◌, subst, inl, inr, length-set}
 use Rattle.std.specs.Prelude.{slice_get, slice_set}
 use Rattle.std.proofs.lemmas.Bool.{cases_eq}
@@ -15,7 +16,8 @@ use Rattle.ps_mem.proofs.ShowsLemmas.{Shows-kept, body_values}
 use Rattle.ps_mem.proofs.SoundLemmas.{IsSound-kept}
 use Rattle.ps_mem.proofs.StoreLemmas.{body_or}
 
--- a dictionary at an address with a body at another have these fields now, and nothing else has changed
+-- a dictionary at an address with a body at another have these fields now, and nothing else has
+-- changed
 pub record ChangesDictionary (g h : Heap) (a b : ℕ) (old new : Standing)
     (old_body new_body : Standing) : Type 0 where
   pub was : object_at g a ≡ Some old

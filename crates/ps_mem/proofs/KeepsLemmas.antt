@@ -1,4 +1,5 @@
--- What a store, a new object and a new body keep; and that words keep their meaning where what stands is kept.
+-- What a store, a new object and a new body keep; and that words keep their meaning where what
+-- stands is kept.
 use Rattle.std.proofs.Common.{◌≡◌, ◌≢◌, ℕ, ◌+◌, ◌≤◌, List, [], ◌∷◌, length, map, take, Some, None, refl, sym, ap, arith, ◌∙◌, subst, inl, inr, ◌⊎◌}
 use Rattle.std.proofs.lemmas.Bool.Decides.{eqb_tells}
 use Rattle.ps_language.specs.declared.kinds.Kind.{Kind}

@@ -70,7 +70,8 @@ module _ (h : Heap) (a place : ℕ) (items : List Word) (o : Standing) (at : obj
     | inr (apart, there) ↦ there
   ]
 
-  -- a store is sound where the fields of the objects of its birth number are: of the object, and of the dictionary whose body it is
+  -- a store is sound where the fields of the objects of its birth number are: of the object, and of
+  -- the dictionary whose body it is
   pub IsSound-stored : ((b : ℕ) (p : Standing) → object_at now b ≡ Some p → p.birth ≡ o.birth → AreFields now p.kind p.birth p.fields) → IsSound now
   IsSound-stored new =
       IsSound-kept h now (Keeps-stored h a place items o at fits) sound single-stored below-stored

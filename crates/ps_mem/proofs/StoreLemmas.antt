@@ -86,13 +86,15 @@ module _ (h : Heap) (a place : ℕ) (items : List Word) (o : Standing) (at : obj
 
 -- ---- by kinds
 
--- an object of one kind stands alone at its birth number but for bodies; an array, a string, a lock and a condition have none
+-- an object of one kind stands alone at its birth number but for bodies; an array, a string, a lock
+-- and a condition have none
 module _ (h : Heap) (a place : ℕ) (items : List Word) (o : Standing) (at : object_at h a ≡ Some o)
     (fits : place + length items ≤ length o.fields) (sound : IsSound h) where
   abbrev stored_now : Heap
   stored_now = stored h a place items
 
-  -- what isn't a body and has the birth number of what was stored into, which isn't a body either, is that object
+  -- what isn't a body and has the birth number of what was stored into, which isn't a body either,
+  -- is that object
   pub alone : o.kind ≢ BodyKind → (b : ℕ) (p : Standing) → object_at stored_now b ≡ Some p
       → p.kind ≢ BodyKind → p.birth ≡ o.birth
       → p ≡ record o { fields = splice o.fields place items }

@@ -1,4 +1,5 @@
--- The store of the language that is shown after a store into an array, a string, a lock, a dictionary or a body.
+-- The store of the language that is shown after a store into an array, a string, a lock, a
+-- dictionary or a body.
 use Rattle.std.proofs.Common.{◌≡◌, ◌≢◌, ℕ, ◌+◌, ◌≤◌, List, [], ◌∷◌, length, map, Option, Some, refl, sym, ap, ◌∙◌, subst, inl, inr}
 use Rattle.std.specs.Prelude.{slice_get, slice_set}
 use Rattle.ps_language.specs.declared.kinds.Kind.TheVariants.{Array as ArrayKind, Text as TextKind, Dictionary as DictionaryKind, Lock as LockKind, Body as BodyKind}

@@ -1,4 +1,5 @@
--- How many words stand: the sizes of the objects that stand one after another are the words that they stand in.
+-- How many words stand: the sizes of the objects that stand one after another are the words that
+-- they stand in.
 use Rattle.std.proofs.Common.{◌≡◌, ℕ, zero, suc, ◌+◌, ◌-◌, ◌^◌, ◌<◌, ◌≤◌, List, [], ◌∷◌, length, take, drop, Option, None, ap, arith, ◌∙◌, length-drop}
 use Rattle.std.proofs.lemmas.List.{length-map, length-take-le}
 use Rattle.ps_word.specs.Headers.{fields_in}

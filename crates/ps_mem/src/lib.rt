@@ -1,4 +1,4 @@
-// The memory of the language: the contract that every memory keeps, and two memories that keep it.
+//! The memory of the language: the contract that every memory keeps, and two memories that keep it.
 #![tactic(auto)]
 
 ghost use Rattle.std.specs.Prelude.{◌≡◌, ℕ, ◌+◌, ◌^◌, ◌<◌, ◌≤◌, ◌↔◌, ◌≢◌, List, [], ◌∷◌, Bool, true, false, IsTrue, length, slice_get, Option, Some, None, OnOk, OnErr, IsOk, IsErr, IfSome, IsSome, slice_range};

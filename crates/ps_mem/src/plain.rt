@@ -1,4 +1,5 @@
-// A memory that grows and is never collected.
+//! A memory that grows and is never collected.
+
 ghost use Rattle.std.specs.Prelude.{◌≡◌, ◌+◌, ◌≤◌, [], length, IfOk, OnOk, OnErr};
 ghost use Rattle.ps_mem.specs.Heap.{Space, empty_heap};
 ghost use Rattle.ps_mem.specs.Objects.{heap_in};

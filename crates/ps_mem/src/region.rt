@@ -1,4 +1,5 @@
-// Words in which objects stand one after another, with blank words behind them.
+//! Words in which objects stand one after another, with blank words behind them.
+
 ghost use Rattle.std.specs.Prelude.{◌≡◌, ◌≢◌, ℕ, true, ◌+◌, ◌-◌, ◌^◌, ◌<◌, ◌≤◌, List, [], ◌∷◌, take, drop, replicate, length, slice_get, slice_range, Option, Some, None, OnOk, OnErr, IfOk, IfSome, IsSome};
 ghost use Rattle.ps_mem.specs.Objects.{wanting, all_headers, heap_in};
 ghost use Rattle.ps_mem.specs.Heap.{Space, object_at, fields_at, birth_at, stored, made, made_body, IsKind, standing_words};

@@ -16,6 +16,7 @@ use ps_language::errors::ErrorName;
 /// `typecheck`.
 #[inline]
 #[tactic(auto, using(crate::proofs::Meanings::readers))]
+#[inline(always)]
 pub fn two_integers(operands: &Operands) -> Result<(i32, i32), ErrorName>
     ensures read { Reads two_integers result operands.now }
     ensures two { OnOk result (2 ≤ length operands.now) }
@@ -52,6 +53,7 @@ fn one_integer(operands: &Operands) -> Result<i32, ErrorName>
 /// none.
 #[inline]
 #[tactic(auto, using(crate::proofs::Sources::sources))]
+#[inline(always)]
 fn put_number(operands: &mut Operands, count: usize, number: Option<i32>) -> Result<(), ErrorName>
     requires some { 1 ≤ count }
     requires within { count ≤ length operands.old }
@@ -69,6 +71,7 @@ fn put_number(operands: &mut Operands, count: usize, number: Option<i32>) -> Res
 /// fit 32 bits.
 #[inline]
 #[tactic(auto, using(crate::proofs::Sources::sources, crate::proofs::NumberRows::two_lemmas))]
+#[inline(always)]
 pub fn add(operands: &mut Operands) -> Result<(), ErrorName>
     ensures row { Does rows.add_row result operands.old operands.new }
     ensures kept { AreFrom operands.old operands.new }
@@ -81,6 +84,7 @@ pub fn add(operands: &mut Operands) -> Result<(), ErrorName>
 /// doesn't fit 32 bits.
 #[inline]
 #[tactic(auto, using(crate::proofs::Sources::sources, crate::proofs::NumberRows::two_lemmas))]
+#[inline(always)]
 pub fn sub(operands: &mut Operands) -> Result<(), ErrorName>
     ensures row { Does rows.sub_row result operands.old operands.new }
     ensures kept { AreFrom operands.old operands.new }
@@ -93,6 +97,7 @@ pub fn sub(operands: &mut Operands) -> Result<(), ErrorName>
 /// doesn't fit 32 bits.
 #[inline]
 #[tactic(auto, using(crate::proofs::Sources::sources, crate::proofs::NumberRows::two_lemmas))]
+#[inline(always)]
 pub fn mul(operands: &mut Operands) -> Result<(), ErrorName>
     ensures row { Does rows.mul_row result operands.old operands.new }
     ensures kept { AreFrom operands.old operands.new }

@@ -28,6 +28,7 @@ pub fn push(operands: &mut Operands, operand: Word) -> Result<(), ErrorName>
 
 /// `x pop`. Raises `stackunderflow`.
 #[tactic(auto, using(crate::proofs::Sources::sources))]
+#[inline]
 pub fn pop(operands: &mut Operands) -> Result<(), ErrorName>
     ensures row { Does rows.pop_row result operands.old operands.new }
     ensures kept { AreFrom operands.old operands.new }
@@ -41,6 +42,7 @@ pub fn pop(operands: &mut Operands) -> Result<(), ErrorName>
 
 /// `a b exch b a`. Raises `stackunderflow`.
 #[tactic(auto, using(crate::proofs::Sources::sources))]
+#[inline]
 pub fn exch(operands: &mut Operands) -> Result<(), ErrorName>
     ensures row { Does rows.exch_row result operands.old operands.new }
     ensures kept { AreFrom operands.old operands.new }
@@ -54,6 +56,7 @@ pub fn exch(operands: &mut Operands) -> Result<(), ErrorName>
 
 /// `x dup x x`. Raises `stackunderflow` and `stackoverflow`.
 #[tactic(auto, using(crate::proofs::Sources::sources, crate::proofs::StackRows::row_lemmas))]
+#[inline]
 pub fn dup(operands: &mut Operands) -> Result<(), ErrorName>
     ensures row { Does rows.dup_row result operands.old operands.new }
     ensures kept { AreFrom operands.old operands.new }
@@ -94,6 +97,7 @@ pub fn copy_count(operands: &mut Operands) -> Result<(), ErrorName>
 
 /// `xn .. x0 n index xn .. x0 xn`. Raises `stackunderflow`, `typecheck` and `rangecheck`.
 #[tactic(auto, using(crate::proofs::Sources::sources, crate::proofs::Meanings::readers))]
+#[inline]
 pub fn index(operands: &mut Operands) -> Result<(), ErrorName>
     ensures row { Does rows.index_row result operands.old operands.new }
     ensures kept { AreFrom operands.old operands.new }

@@ -1,4 +1,5 @@
-//! The words of a command line: their form, their faults, and what they ask for (the profile's own).
+//! The words of a command line: their form, their faults, and what they ask for (the profile's
+//! own).
 #![tactic(auto)]
 
 mod options;

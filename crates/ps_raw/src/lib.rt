@@ -1,4 +1,4 @@
-// A run of machine words, reached through raw pointers.
+//! A run of machine words, reached through raw pointers.
 #![tactic(auto)]
 
 ghost use Rattle.std.specs.Prelude.{◌≡◌, ◌+◌, ◌-◌, ◌<◌, ◌≤◌, ℕ, List, [], ◌++◌, length, slice_index, slice_set, slice_range, take, drop, replicate, IfOk, OnOk, OnErr, IsTrue, ◌↔◌};

@@ -1,5 +1,6 @@
-// Raw pointers that stay inside one small function each: signatures and clauses name slices and
-// numbers alone.
+//! Raw pointers that stay inside one small function each: signatures and clauses name slices and
+//! numbers alone.
+
 ghost use Rattle.std.specs.Prelude.{◌≡◌, ◌+◌, ◌<◌, ◌≤◌, ◌++◌, length, slice_index, slice_set, slice_range, take, drop};
 
 /// The word at an index.

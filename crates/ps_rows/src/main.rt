@@ -1,5 +1,5 @@
-//! Runs the programs of its input, each with what it prints, and prints how many there are and which
-//! of them differ from what they say.
+//! Runs the programs of its input, each with what it prints, and prints how many there are and
+//! which of them differ from what they say.
 #![tactic(auto)]
 
 mod plays;

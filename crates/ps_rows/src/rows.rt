@@ -3,9 +3,9 @@
 //! of which `N*TEXT` is a text so many times.
 //!
 //! `drive STATUS`: by the command line, with that exit status, and again under the schedule of its
-//! run. `bounded SIZE`, `full SIZE`, `closed SIZE`: step by step in a space of so many words, with no
-//! cycle open, with a full log, with a closed one; what comes of it begins with why steps were not
-//! made.
+//! run. `bounded SIZE`, `full SIZE`, `closed SIZE`: step by step in a space of so many words, with
+//! no cycle open, with a full log, with a closed one; what comes of it begins with why steps were
+//! not made.
 
 use crate::plays::{Log, Play};
 use crate::runs::{driven, replayed};

@@ -59,8 +59,8 @@ pub fn driven(
     Verdict::of(given == status && written.as_slice() == printed && err.bytes.is_empty())
 }
 
-/// Whether a run prints this, or a beginning of it where memory is wanted, and prints the same bytes
-/// again under its schedule.
+/// Whether a run prints this, or a beginning of it where memory is wanted, and prints the same
+/// bytes again under its schedule.
 pub fn replayed(alloc: Global, keys: RandomState, program: &[u8], printed: &[u8]) -> Verdict {
     match run_plain(alloc, steps_in(alloc), program, CONFIG, keys) {
         Err(RunFault::Memory) => Verdict::WantsMemory,

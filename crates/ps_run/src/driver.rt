@@ -35,19 +35,19 @@ enum Status {
 }
 
 /// Runs the program that the words name, by steps that `interpret` makes, writes what it printed to
-/// `out`, and statistics and faults to `err`. The words are without the program's name; the keys are
-/// for the table of names alone.
+/// `out`, and statistics and faults to `err`. The words are without the program's name; the keys
+/// are for the table of names alone.
 ///
-/// What is printed is what the definitions of the whole language print for the run's schedule, if no
-/// step of it is an operator on contexts or locks, `vmstatus` or `vmreclaim`: each of those raises
-/// `undefined` until there are contexts.
+/// What is printed is what the definitions of the whole language print for the run's schedule, if
+/// no step of it is an operator on contexts or locks, `vmstatus` or `vmreclaim`: each of those
+/// raises `undefined` until there are contexts.
 ///
 /// The result is the exit status: 0 where every context finished, 1 where an error was printed too,
-/// 2 for a fault of the command line, of a file or of the output, 3 where every context waits, which
-/// no program without contexts brings about, 4 where the steps are used up, 5 for want of memory,
-/// before the run or in it. With 2 the output has a beginning of what was printed, which is nothing
-/// where the words or the file were at fault. After a run whose output took everything the output is
-/// flushed. A write to `err` that fails changes nothing else.
+/// 2 for a fault of the command line, of a file or of the output, 3 where every context waits,
+/// which no program without contexts brings about, 4 where the steps are used up, 5 for want of
+/// memory, before the run or in it. With 2 the output has a beginning of what was printed, which is
+/// nothing where the words or the file were at fault. After a run whose output took everything the
+/// output is flushed. A write to `err` that fails changes nothing else.
 pub fn drive<S: Interpret + Drop, F: FileSet, W: Flushing, X: Write>(
     alloc: Global,
     interpret: S,

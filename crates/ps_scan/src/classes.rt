@@ -1,3 +1,5 @@
+//! Classes of bytes: white space, delimiters, digits (PLRM2, 3.2.1).
+
 ghost use Rattle.std.specs.Prelude.{◌≡◌, ◌≤◌};
 ghost use Rattle.ps_language.specs.Bytes.{is_white, is_comment_end, is_special, is_regular, digit_of, is_digit, is_sign, is_exponent_mark};
 

@@ -1,3 +1,5 @@
+//! Hexadecimal strings (PLRM2, 3.2.2).
+
 ghost use Rattle.std.specs.Prelude.{◌≡◌, ◌≢◌, ◌+◌, ◌-◌, ◌/◌, ◌<◌, ◌≤◌, length, drop, filter, slice_index, slice_range, IfOk};
 ghost use Rattle.ps_language.specs.Bytes.{is_hex, is_hex_or_white};
 ghost use Rattle.ps_language.specs.Reading.{pairs, sized_string};

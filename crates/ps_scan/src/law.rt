@@ -1,3 +1,5 @@
+//! The law that the scan is the grammar, as a public contract.
+
 ghost use Rattle.std.specs.Prelude.{ℕ, List, ◌↔◌, ◌≡◌, ◌+◌, ◌++◌, length};
 ghost use Rattle.ps_language.specs.Scan.{scan, shifted};
 ghost use Rattle.ps_language.specs.Syntax.{Reads, LiesAt};

@@ -1,3 +1,5 @@
+//! Procedures in braces, and the token that begins at a place (PLRM2, 3.2.2).
+
 ghost use Rattle.std.specs.Prelude.{◌≡◌, nat_lt, if◌then◌else◌, OnOk, [], ◌∷◌, ◌++◌, ◌+◌, ◌<◌, ◌≤◌, length, drop, slice_index, ⊤};
 ghost use Rattle.ps_language.specs.Reading.{enclosed};
 ghost use Rattle.ps_language.specs.Scan.{token_here, elements_from};

@@ -1,3 +1,5 @@
+//! The first token from a place on.
+
 ghost use Rattle.std.specs.Prelude.{◌≡◌, ◌<◌, ◌≤◌, IfOk, IfErr, IfSome, length};
 ghost use Rattle.ps_language.specs.Scan.{scan};
 ghost use Rattle.ps_scan.specs.Shown.{IsFaultBy, scan_of};

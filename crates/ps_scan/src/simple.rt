@@ -1,3 +1,5 @@
+//! Tokens that are neither strings nor procedures; they take no memory.
+
 ghost use Rattle.std.specs.Prelude.{◌≡◌, ◌≢◌, ◌+◌, ◌<◌, ◌^◌, length, drop, slice_index};
 ghost use Rattle.ps_language.specs.Scan.{after_angle};
 ghost use Rattle.ps_scan.specs.Shown.{IsAnswer, IsAtString, simple_at};

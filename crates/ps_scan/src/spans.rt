@@ -1,3 +1,5 @@
+//! Where white space, comments, regular bytes and digits end.
+
 ghost use Rattle.std.specs.Prelude.{◌≡◌, ◌≤◌, length, drop, false};
 ghost use Rattle.ps_language.specs.Bytes.{is_regular, is_digit};
 ghost use Rattle.ps_language.specs.Scan.{behind_blank, beyond};

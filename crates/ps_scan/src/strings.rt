@@ -1,3 +1,5 @@
+//! Strings in parentheses, with their escapes (PLRM2, 3.2.2).
+
 ghost use Rattle.std.specs.Prelude.{◌≡◌, ◌≢◌, ℕ, ◌+◌, ◌-◌, ◌*◌, ◌%◌, ◌<◌, ◌≤◌, ◌^◌, List, length, drop, slice_index, Some, IfOk, IfSome, IfNone, MatchOption, option_to_list, true, false};
 ghost use Rattle.ps_language.specs.Bytes.{value_in, digit_of, is_octal};
 ghost use Rattle.ps_language.specs.Reading.{string_end, unfinished, with_front, string_reading};

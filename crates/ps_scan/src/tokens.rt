@@ -1,3 +1,5 @@
+//! Tokens, their spans and their limits.
+
 ghost use Rattle.std.specs.Prelude.{◌≡◌, slice_range};
 
 use thiserror::Error;

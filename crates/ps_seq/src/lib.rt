@@ -1,4 +1,4 @@
-// Arrays and strings in any memory, as lists of values and of bytes.
+//! Arrays and strings in any memory, as lists of values and of bytes.
 #![tactic(auto)]
 
 pub mod arrays;

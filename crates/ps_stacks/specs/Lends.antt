@@ -1,5 +1,5 @@
 -- What a stack ends as, where a `&mut` to an item is returned.
-use Rattle.std.specs.Prelude.{ℕ, List, ◌∷◌, drop}
+use Rattle.std.specs.Prelude.{List, ◌∷◌, drop}
 use Rattle.std.specs.Borrow.{Lends, Fml, RattleType, MutBor}
 use Rattle.ps_stacks.specs.contracts.stack.Stack.{the_row}
 

@@ -1,3 +1,5 @@
+//! Stacks of a bounded depth.
+
 ghost use Rattle.std.specs.Prelude.{◌≡◌, ℕ, ◌+◌, ◌-◌, ◌<◌, ◌≤◌, ◌↔◌, IsTrue, List, [], ◌∷◌, ◌++◌, length, take, drop, slice_get, reverse, IfOk, IfSome, IfNone, OnOk, OnErr, Some, None, vec_len, vec_capacity, nat_le};
 ghost use Rattle.ps_stacks.specs.Tops.{first_of, first_two_of, first_three_of, rotated};
 ghost use Rattle.std.specs.Borrow.{sem};
@@ -205,5 +207,18 @@ fn rotate_from<T: Copy>(items: &mut [T], start: usize, places: usize)
     ensures { let rest = drop start items.old in let kept = length rest - places in
         items.new ≡ take start items.old ++ (drop kept rest ++ take kept rest) }
 {
-    items[start..].rotate_right(places);
+    turn(&mut items[start..], places);
+}
+
+/// Moves the last items of a group in front of the others: the whole is reversed, then each part.
+/// Groups are short, so that this costs less than a copy of one part.
+fn turn<T: Copy>(group: &mut [T], places: usize)
+    requires within { places ≤ length group.old }
+    ensures { let kept = length group.old - places in
+        group.new ≡ drop kept group.old ++ take kept group.old }
+{
+    group.reverse();
+    let (moved, others) = group.split_at_mut(places);
+    moved.reverse();
+    others.reverse();
 }

@@ -194,8 +194,8 @@ fn a_refused_step_makes_no_object(rt: HostRuntime) -> Result<(), Fail> {
 
 #[test]
 fn memory_ends_at_its_last_word(rt: HostRuntime) -> Result<(), Fail> {
-    // The first objects take 528 of the 16,777,215 words. An array of 255, a procedure of 4, and 255
-    // arrays of 65,533 leave 64,999 of the others.
+    // The first objects take 528 of the 16,777,215 words. An array of 255, a procedure of 4, and
+    // 255 arrays of 65,533 leave 64,999 of the others.
     let rows = [
         ("64997 array length =", "64997\n", Outcome::Finished),
         ("64997 array pop 0 array", "", Outcome::Memory),

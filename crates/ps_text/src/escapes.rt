@@ -1,4 +1,5 @@
-// Strings in parentheses, with escapes.
+//! Strings in parentheses, with escapes.
+
 ghost use Rattle.std.specs.Prelude.{◌≡◌, ◌<◌, ◌≤◌, ◌+◌, ◌++◌, ℕ, List, take, length, OnOk, OnErr, vec_capacity};
 ghost use Rattle.std.specs.List.{flat_map};
 ghost use Rattle.ps_language.specs.Access.{bytes, part_bytes};

@@ -19,6 +19,7 @@ use ps_word::words::Word;
 
 /// The access of an array, of a string, or of a dictionary's object, which all references to it
 /// share; nothing else has one.
+#[inline]
 pub fn access_of<M: Memory>(memory: &mut M, word: Word) -> Option<Access>
     requires sound { IsSound (M.heap memory.old) }
     requires held { IsValue (M.heap memory.old) word }

@@ -228,6 +228,16 @@ module _ (word : Word) (births : ℕ → ℕ) (names : List (List ℕ)) where
   unfolding is_procedure value_of
   name_unmade number content may = rw (may, content) refl
 
+  pub operator_unnamed : (operator : Named) → content_in word.0 ≡ Operator operator
+      → executable_in word.0 ≡ true → is_executable_name (value_of births names word) ≡ false
+  unfolding is_executable_name value_of
+  operator_unnamed operator content may = rw (may, content) refl
+
+  pub operator_unmade : (operator : Named) → content_in word.0 ≡ Operator operator
+      → executable_in word.0 ≡ true → is_procedure (value_of births names word) ≡ false
+  unfolding is_procedure value_of
+  operator_unmade operator content may = rw (may, content) refl
+
 -- what was looked up
 pub looked_as : (l : Lent) (word : Word) (result : Result (Option (Word × Word)) ErrorName) (s : Store)
     → look_up s (scene_of l s).dictionaries (meaning l word)

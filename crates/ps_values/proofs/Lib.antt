@@ -1,3 +1,4 @@
+pub mod Alone
 pub mod Executing
 pub mod Few
 pub mod Pushing

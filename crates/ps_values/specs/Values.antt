@@ -1,5 +1,5 @@
 -- Executing a value, and doing an element of a procedure, over what is lent (PLRM2, 3.5).
-use Rattle.std.specs.Prelude.{if◌then◌else◌}
+use Rattle.std.specs.Prelude.{◌≡◌, Bool, true, false, List, [], Ok, if◌then◌else◌}
 use Rattle.ps_language.specs.declared.errors.ErrorName.TheVariants.{InvalidAccess}
 use Rattle.ps_language.specs.declared.operators.Operator.{Operator}
 use Rattle.ps_language.specs.Access.{is_executable}
@@ -10,16 +10,18 @@ use Rattle.ps_language.specs.StepValues.{Turn, LookedUp, known, turned, operated
 use Rattle.ps_language.specs.Value.{What, operator_value, Value, Store}
 use Rattle.ps_word.specs.declared.values.Part.{Part}
 use Rattle.ps_word.specs.declared.words.Word.{Word}
-use Rattle.ps_mem.specs.Heap.{birth_at}
+use Rattle.ps_mem.specs.Heap.{Heap, birth_at}
 use Rattle.ps_mem.specs.Meaning.{value_of, part_of}
-use Rattle.ps_mem.specs.Shows.{IsValue, IsWithin}
+use Rattle.ps_mem.specs.Shows.{IsValue, AreValues, IsWithin}
 use Rattle.ps_control.specs.declared.frames.Frame.{Frame}
 use Rattle.ps_control.specs.declared.frames.Frame.TheVariants.{Text}
 use Rattle.ps_control.specs.declared.frames.Source.TheVariants.{Text as TextOf}
 use Rattle.ps_control.specs.Frames.{frame_of}
+use Rattle.ps_acts.specs.declared.lent.Trial.{Trial}
 use Rattle.ps_acts.specs.Acts.{Asked}
-use Rattle.ps_acts.specs.Lent.{Lent, scene_of, around_of, IsShown}
-use Rattle.ps_turns.specs.Turns.{none_asked}
+use Rattle.ps_acts.specs.Lent.{Lent, scene_of, around_of, IsShown, IsGood}
+use Rattle.ps_turns.specs.declared.turned.Turned.TheVariants.{Goes}
+use Rattle.ps_turns.specs.Turns.{TurnsWith, none_asked}
 
 -- ---- what is held
 
@@ -131,3 +133,25 @@ module _ (asks : Asks) where
   -- one that is executed
   abbrev pub executed_asks : Word → Lent → Store → Asked
   executed_asks word l s = done_asks (meaning l word) (around_of l) (scene_of l s)
+
+-- ---- by operands alone
+
+-- With these values in hand the turn goes on by operands alone, whatever else is lent in this
+-- setting and however it is tried; or nothing has changed
+abbrev pub GoesIn : (setting : Lent → Lent) → (words : List Word) → (asked : Lent → Store → Asked)
+    → (turn : Lent → Store → Turn) → (goes : Bool) → (old new : List Word) → Type 0
+GoesIn setting words asked turn true old new =
+    (l : Lent) (trial : Trial) → IsGood (record (setting l) { operands = old })
+    → AreValues (setting l).heap words
+    → TurnsWith words [] asked turn trial (Ok Goes) (record (setting l) { operands = old })
+    (record (setting l) { operands = new })
+GoesIn setting words asked turn false old new = new ≡ old
+
+-- in every setting
+abbrev pub GoesAlone : (words : List Word) → (asked : Lent → Store → Asked)
+    → (turn : Lent → Store → Turn) → (goes : Bool) → (old new : List Word) → Type 0
+GoesAlone words asked turn goes old new = GoesIn (λ l. l) words asked turn goes old new
+
+-- over this heap and by this dictionary stack
+abbrev pub among : Heap → (dictionaries : List Word) → Lent → Lent
+among heap dictionaries l = record l { heap = heap; dictionaries = dictionaries }

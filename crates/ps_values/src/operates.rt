@@ -1,16 +1,17 @@
 //! Who does the operators of a step.
 
-ghost use Rattle.std.specs.Prelude.{◌≡◌, ◌<◌};
+ghost use Rattle.std.specs.Prelude.{◌≡◌, ◌<◌, []};
 ghost use Rattle.ps_language.specs.Effect.{Around, Scene};
 ghost use Rattle.ps_language.specs.declared.operators.Operator as names;
 ghost use Rattle.ps_acts.specs.Acts.{Asked, AreFew};
 ghost use Rattle.ps_acts.specs.Lent.{lent, IsGood};
 ghost use Rattle.ps_turns.specs.Turns.{Turns};
-ghost use Rattle.ps_values.specs.Values.{operated_asks, operated_turn};
+ghost use Rattle.ps_values.specs.Values.{GoesAlone, operated_asks, operated_turn};
 
 use ps_acts::lent::{Context, Shared, Trial};
 use ps_language::operators::Operator;
 use ps_mem::{Memory, SLOTS};
+use ps_operands::Operands;
 use ps_ops::failure::NotMade;
 use ps_turns::turned::Turned;
 
@@ -18,6 +19,16 @@ use ps_turns::turned::Turned;
 pub trait Operate {
     /// What an operator asks for that the language doesn't say, in a scene and what surrounds it.
     ghost asks: { names.Operator → Around → Scene → Asked };
+
+    /// An operator on operands alone acts, where it raises no error. Else nothing has changed, and
+    /// the answer is no, as it is for every other operator.
+    fn operate_quickly(&self, operator: Operator, operands: &mut Operands) -> bool
+        ensures { GoesAlone [] (operated_asks asks operator) (operated_turn operator) result
+            operands.old operands.new };
+
+    /// Whether an operator is one on operands alone. This is a hint, of which nothing is promised:
+    /// the name of another one isn't looked up quickly, since it would be looked up again.
+    fn is_quick(&self, operator: Operator) -> bool;
 
     /// An operator acts: its effect comes about, or its error is raised with the operator as the
     /// command.

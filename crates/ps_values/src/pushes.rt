@@ -1,16 +1,18 @@
 //! A value becomes an operand, and a frame is pushed (PLRM2, 3.4, 3.5).
 
 ghost use Rattle.std.specs.Prelude.{◌≡◌, ◌<◌, ◌∷◌, [], length};
+ghost use Rattle.ps_word.specs.declared.words.Word.{Word as TheWord};
 ghost use Rattle.ps_mem.specs.Shows.{IsValue};
 ghost use Rattle.ps_control.specs.Frames.{IsFrame};
 ghost use Rattle.ps_acts.specs.Lent.{lent, IsGood};
 ghost use Rattle.ps_turns.specs.Turns.{TurnsWith, nothing_more};
-ghost use Rattle.ps_values.specs.Values.{framed_turn, pushed_turn};
+ghost use Rattle.ps_values.specs.Values.{GoesAlone, framed_turn, pushed_turn};
 
 use ps_acts::lent::{Context, Shared, Trial};
 use ps_control::frames::Frame;
 use ps_language::errors::ErrorName;
 use ps_mem::{Memory, SLOTS};
+use ps_operands::Operands;
 use ps_ops::failure::NotMade;
 use ps_turns::raises::raise;
 use ps_turns::turned::Turned;
@@ -50,6 +52,19 @@ pub fn push_value<M: Memory>(
     }
     context.operands.push_reserved(word);
     Ok(Turned::Goes)
+}
+
+/// A value becomes an operand where there is room. Else nothing has changed, and the answer is no.
+#[inline(always)]
+pub fn push_quickly(word: Word, operands: &mut Operands) -> bool
+    ensures { (command : TheWord) → GoesAlone (word ∷ command ∷ []) nothing_more
+        (pushed_turn command word) result operands.old operands.new }
+{
+    if operands.is_full() {
+        return false;
+    }
+    operands.push_reserved(word);
+    true
 }
 
 /// A frame is pushed. Where 250 stand, `execstackoverflow` is raised with the command.

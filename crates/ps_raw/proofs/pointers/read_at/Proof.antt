@@ -1,5 +1,6 @@
 -- `read_at` meets its contract: a walk of its MIR by hand.
--- A walk is a list of steps over a context, the things that are owned, which comments show as [first; second; ..].
+-- A walk is a list of steps over a context, the things that are owned, which comments show as
+-- [first; second; ..].
 use Rattle.std.proofs.Common.{ℕ, ◌*◌, ◌^◌, ◌<◌, List, [], ◌∷◌, length, get_or, sym, refl, arith, w64, Bor}
 use seplogic.Ra.Ura.{Ura}
 use mir.Syntax.{ty_int, named}

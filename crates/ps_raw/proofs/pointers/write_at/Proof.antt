@@ -1,5 +1,6 @@
 -- `write_at` meets its contract: a walk of its MIR by hand.
--- A walk is a list of steps over a context, the things that are owned, which comments show as [first; second; ..].
+-- A walk is a list of steps over a context, the things that are owned, which comments show as
+-- [first; second; ..].
 use Rattle.std.proofs.Common.{◌≡◌, ℕ, ◌+◌, ◌*◌, ◌^◌, ◌<◌, List, [], ◌∷◌, length, get_or, set, sym, refl, ap, subst, arith, length-set, w64, MutBor}
 use seplogic.Ra.Ura.{Ura}
 use base.Fraction.{full_share}
@@ -39,7 +40,8 @@ use Rattle.ps_raw.specs.contracts.pointers.write_at as write_at
 use Rattle.ps_raw.proofs.pointers.write_at.Statement as stated
 use Rattle.ps_raw.proofs.pointers.write_at.Code as code
 
--- what the function still has of each parameter when it returns: the slice, and nothing of the two numbers
+-- what the function still has of each parameter when it returns: the slice, and nothing of the two
+-- numbers
 abbrev stayed : Stays (write_at.ended).signature.params (write_at.ended).kept
 stayed = (stay_slice (0 ∷ []) tt (plain (λ _. u64)), (stay_dropped (plain (λ _. usize)) yes, (stay_dropped (plain (λ _. u64)) yes, tt)))
 
@@ -116,8 +118,8 @@ module _ {M : Type 1} {𝓤 : Ura M} (𝓛 : Logic 𝓤) (at_mem : Memory → SP
           move ! (1 ∷ []) $ fsplit ! $ fsplit ! $ drop ! $ fsplit ! $ move ! (3 ∷ []) $ split ! $ move ! (2 ∷ 3 ∷ 0 ∷ []) $
           -- [what γ is seen at; the borrow; the token of κ; ..]
           opens_slice ! tt u64 xs b o $ use1 𝓛 (‵ (fat full_share (ty_int w64) b (i * 8 + o) (vint w64 old)) ⊛ ‵ rest) (cell_out inside) $ split ! $
-          -- [the cell; the other elements; the open borrow; ..]. From here, one step for each statement of the MIR.
-          -- let start = words.as_mut_ptr();
+          -- [the cell; the other elements; the open borrow; ..]. From here, one step for each
+          -- statement of the MIR. let start = words.as_mut_ptr();
           sets ! (addr ! (from ! (fld ! refl (hop ! (look_in_at ! 1 (sub ! 0 refl (whole !))) (stop !))))) refl (tt, tt) $
           first ! $ blocks ! $
           -- let at = start.add(index);

@@ -1,4 +1,5 @@
--- Each byte takes the scanner on; where none is blank, or none is left, what is left is what was looked for.
+-- Each byte takes the scanner on; where none is blank, or none is left, what is left is what was
+-- looked for.
 use Rattle.std.proofs.Common.{◌+◌, drop, length, sym, ap, ◌∙◌, not}
 use Rattle.std.proofs.lemmas.List.{at_drop_all}
 use Rattle.ps_language.specs.Scan.{behind_blank}

@@ -1,4 +1,4 @@
-use Rattle.std.proofs.Common.{◌≡◌, ◌-◌, arith, length}
+use Rattle.std.proofs.Common.{◌-◌, arith}
 use Rattle.ps_stacks.proofs.Reversed.{reverse-set}
 use Rattle.ps_stacks.proofs.stack.Stack.set_top.Goals as goal
 

@@ -1,4 +1,4 @@
-use Rattle.std.proofs.Common.{rules, ◌≡◌, ◌-◌, ◌≤◌, refl, sym, ap, ◌∙◌, arith, length, reverse, Some}
+use Rattle.std.proofs.Common.{◌≡◌, ◌-◌, ◌≤◌, refl, sym, ap, ◌∙◌, arith, length, reverse, Some}
 use Rattle.std.proofs.lemmas.List.{length-reverse}
 use Rattle.ps_stacks.specs.Tops.{first_of}
 use Rattle.ps_stacks.proofs.Reversed.{reverse-set, first-last}

@@ -1,0 +1,27 @@
+-- Elements of a procedure that operands alone do (PLRM2, 3.5).
+use Rattle.std.specs.Prelude.{ℕ, List, ◌∷◌}
+use Rattle.ps_word.specs.declared.values.Part.{Part}
+use Rattle.ps_word.specs.declared.words.Word.{Word}
+use Rattle.ps_mem.specs.Heap.{Heap}
+use Rattle.ps_control.specs.declared.frames.Frame.{Frame}
+use Rattle.ps_control.specs.declared.frames.Frame.TheVariants.{Procedure}
+use Rattle.ps_acts.specs.Lent.{Lent}
+use Rattle.ps_frames.specs.Steps.{frames_after}
+use Rattle.ps_interpreter.specs.Courses.{going, IsSteady}
+use Rattle.ps_interpreter.specs.Makes.{HasMade}
+
+-- what is lent over a heap, with these stacks
+abbrev pub stacked : Heap → (dictionaries operands : List Word) → (frames : List Frame) → Lent
+    → Lent
+stacked heap dictionaries operands frames l =
+    record l { heap = heap; dictionaries = dictionaries; operands = operands; frames = frames }
+
+-- whatever else is lent, so many steps do the first elements of the procedure that is the topmost
+-- frame, and change operands alone
+abbrev pub DoesFirst : Heap → (dictionaries : List Word) → Part → (made : ℕ)
+    → (old new : List Word) → Type 0
+DoesFirst heap dictionaries rest made old new =
+    (l : Lent) (below : List Frame)
+    → IsSteady (going (stacked heap dictionaries old (Procedure rest ∷ below) l))
+    → HasMade made (going (stacked heap dictionaries old (Procedure rest ∷ below) l))
+    (going (stacked heap dictionaries new (frames_after made rest below) l))

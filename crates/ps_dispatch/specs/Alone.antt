@@ -1,0 +1,17 @@
+-- What an operator does to operands alone.
+use Rattle.std.specs.Prelude.{◌≡◌, Bool, true, false, List, Ok}
+use Rattle.ps_language.specs.declared.operators.Operator.{Operator}
+use Rattle.ps_word.specs.declared.words.Word.{Word}
+use Rattle.ps_acts.specs.declared.lent.Trial.{Trial}
+use Rattle.ps_acts.specs.Acts.{Acts}
+use Rattle.ps_acts.specs.Lent.{Lent, IsGood}
+use Rattle.ps_dispatch.specs.Operators.{asked_of, row_now}
+
+-- it acts and raises no error, whatever else is lent and however it is tried; or nothing has
+-- changed
+abbrev pub ActsAlone : Operator → (acts : Bool) → (old new : List Word) → Type 0
+ActsAlone operator true old new =
+    (l : Lent) (trial : Trial) → IsGood (record l { operands = old })
+    → Acts (asked_of operator) (row_now operator) trial (Ok tt) (record l { operands = old })
+    (record l { operands = new })
+ActsAlone operator false old new = new ≡ old

@@ -1,0 +1,11 @@
+-- The operators that take no memory: those of the operand stack but copy, of arithmetic, and
+-- relations (PLRM2, 8 'Operators').
+use Rattle.std.specs.Prelude.{List, [], ◌∷◌}
+use Rattle.ps_language.specs.declared.operators.Operator.{Operator}
+use Rattle.ps_language.specs.declared.operators.Operator.TheVariants.{Pop, Exch, Dup, Index, Roll, Clear, Count, Mark, ClearToMark, CountToMark, Add, Sub, Mul, Idiv, Mod, Neg, Abs, Eq, Ne, Gt, Ge, Lt, Le, And, Or, Xor, Not, Bitshift}
+
+abbrev pub frugal_operators : List Operator
+frugal_operators =
+    Pop ∷ Exch ∷ Dup ∷ Index ∷ Roll ∷ Clear ∷ Count ∷ Mark ∷ ClearToMark ∷ CountToMark ∷
+    Add ∷ Sub ∷ Mul ∷ Idiv ∷ Mod ∷ Neg ∷ Abs ∷
+    Eq ∷ Ne ∷ Gt ∷ Ge ∷ Lt ∷ Le ∷ And ∷ Or ∷ Xor ∷ Not ∷ Bitshift ∷ []

@@ -1,0 +1,73 @@
+//! Operators on operands alone, where they raise no error (PLRM2, 8 'Operators').
+
+ghost use Rattle.ps_dispatch.specs.Alone.{ActsAlone};
+
+use ps_language::operators::Operator;
+use ps_operands::{Operands, arithmetic, logic, stack_operators};
+
+/// An operator on operands alone acts, where it raises no error. Else nothing has changed, and the
+/// answer is no, as it is for every other operator.
+#[inline(always)]
+pub fn operate_alone(operator: Operator, operands: &mut Operands) -> bool
+    ensures { ActsAlone operator result operands.old operands.new }
+{
+    match operator {
+        Operator::Pop => stack_operators::pop(operands).is_ok(),
+        Operator::Exch => stack_operators::exch(operands).is_ok(),
+        Operator::Dup => stack_operators::dup(operands).is_ok(),
+        Operator::Index => stack_operators::index(operands).is_ok(),
+        Operator::Roll => stack_operators::roll(operands).is_ok(),
+        Operator::Clear => stack_operators::clear(operands).is_ok(),
+        Operator::Count => stack_operators::count(operands).is_ok(),
+        Operator::ClearToMark => stack_operators::cleartomark(operands).is_ok(),
+        Operator::CountToMark => stack_operators::counttomark(operands).is_ok(),
+        Operator::Add => arithmetic::add(operands).is_ok(),
+        Operator::Sub => arithmetic::sub(operands).is_ok(),
+        Operator::Mul => arithmetic::mul(operands).is_ok(),
+        Operator::Idiv => arithmetic::idiv(operands).is_ok(),
+        Operator::Mod => arithmetic::modulo(operands).is_ok(),
+        Operator::Neg => arithmetic::neg(operands).is_ok(),
+        Operator::Abs => arithmetic::abs(operands).is_ok(),
+        Operator::And => logic::and(operands).is_ok(),
+        Operator::Or => logic::or(operands).is_ok(),
+        Operator::Xor => logic::xor(operands).is_ok(),
+        Operator::Not => logic::not(operands).is_ok(),
+        Operator::Bitshift => arithmetic::bitshift(operands).is_ok(),
+        Operator::Mark | Operator::BeginArray | Operator::BeginDict => {
+            stack_operators::mark(operands).is_ok()
+        }
+        _ => false,
+    }
+}
+
+/// Whether an operator is one of these.
+#[inline(always)]
+pub fn is_alone(operator: Operator) -> bool {
+    match operator {
+        Operator::Pop
+        | Operator::Exch
+        | Operator::Dup
+        | Operator::Index
+        | Operator::Roll
+        | Operator::Clear
+        | Operator::Count
+        | Operator::ClearToMark
+        | Operator::CountToMark
+        | Operator::Add
+        | Operator::Sub
+        | Operator::Mul
+        | Operator::Idiv
+        | Operator::Mod
+        | Operator::Neg
+        | Operator::Abs
+        | Operator::And
+        | Operator::Or
+        | Operator::Xor
+        | Operator::Not
+        | Operator::Bitshift
+        | Operator::Mark
+        | Operator::BeginArray
+        | Operator::BeginDict => true,
+        _ => false,
+    }
+}
