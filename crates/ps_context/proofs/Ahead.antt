@@ -1,6 +1,6 @@
 -- One element more is done by operands alone.
-use Rattle.std.proofs.Common.{◌≡◌, ℕ, ◌+◌, ◌-◌, ◌<◌, ◌≤◌, arith, Bool, true, false, List, [], ◌∷◌, drop, Some, None, Ok, refl, sym, ap, subst, ◌∙◌}
-use Rattle.std.specs.Prelude.{nat_lt, slice_get, if◌then◌else◌}
+use Rattle.std.proofs.Common.{◌≡◌, ◌≢◌, ℕ, ◌+◌, ◌-◌, ◌<◌, ◌≤◌, arith, Bool, true, false, List, [], ◌∷◌, drop, Some, None, Ok, refl, sym, ap, subst, ◌∙◌}
+use Rattle.std.specs.Prelude.{Result, nat_lt, slice_get, if◌then◌else◌}
 use Rattle.std.proofs.lemmas.Bool.Decides.{nat_tests}
 use Rattle.ps_language.specs.Access.{elements}
 use Rattle.ps_language.specs.Value.{Store}
@@ -11,12 +11,14 @@ use Rattle.ps_mem.specs.Meaning.{value_of}
 use Rattle.ps_mem.specs.Shows.{AreValues, IsValue, IsWithin, Shows}
 use Rattle.ps_stacks.specs.Tops.{first_of}
 use Rattle.ps_ops.proofs.Operands.{first_split}
+use Rattle.ps_ops.specs.declared.failure.NotMade.{NotMade as Reason}
 use Rattle.ps_control.specs.declared.frames.Frame.{Frame}
 use Rattle.ps_control.specs.declared.frames.Frame.TheVariants.{Text, Procedure, Pending, Repeat, Loop, For, Forall, Stopped, Bind, Monitor}
 use Rattle.ps_control.specs.declared.frames.Source.{Source}
 use Rattle.ps_control.specs.Frames.{IsHeld}
 use Rattle.ps_acts.specs.declared.lent.Trial.{Trial}
 use Rattle.ps_acts.specs.Lent.{Lent, IsShown}
+use Rattle.ps_turns.specs.declared.turned.Turned.{Turned}
 use Rattle.ps_turns.specs.declared.turned.Turned.TheVariants.{Goes}
 use Rattle.ps_turns.specs.Turns.{IsShownWith, Turns}
 use Rattle.ps_turns.proofs.Composing.{turns_as, restacked_good, composes}
@@ -26,8 +28,8 @@ use Rattle.ps_frames.proofs.Taking.{rest_held, rest_some, rest_good, element_sho
 use Rattle.ps_interpreter.specs.declared.courses.Course.TheVariants.{Running}
 use Rattle.ps_interpreter.specs.Courses.{held, going, IsSteady}
 use Rattle.ps_interpreter.specs.Interprets.{asks_in, own_turn}
-use Rattle.ps_interpreter.specs.Makes.{HasMade}
-use Rattle.ps_interpreter.proofs.Making.{made_none, made_more}
+use Rattle.ps_interpreter.specs.Makes.{ordinary, HasMade, TurnsBehind}
+use Rattle.ps_interpreter.proofs.Making.{made_none, made_more, goes_framed}
 use Rattle.ps_interpreter.proofs.Turning.{steps_made}
 use Rattle.ps_context.specs.Elements.{stacked, DoesFirst}
 use Rattle.ps_context.specs.Steps.{own_asks}
@@ -203,3 +205,22 @@ module _ (asks : Asks) (l after : Lent) (top : Frame)
       steady)
       (subst (λ (frames : List Frame). GoesAhead true (record l { frames = frames }) after) split
       goes))
+
+-- ---- a step of the general way
+
+module _ (asks : Asks) (slot made : ℕ) (old mid new : Lent)
+    (so_far : HasMade made (going old) (going mid)) (framed : mid.frames ≢ []) where
+  -- behind steps that were made
+  pub made_and : Turns (asks_in (own_asks asks) None) (own_turn None) (ordinary slot) (Ok Goes) mid
+      new → HasMade (made + 1) (going old) (going new)
+  made_and turns =
+      let goes : going mid ≡ held mid Running 0 = goes_framed mid framed in
+      let here : HasMade made (going old) (held mid Running 0) =
+      subst (HasMade made (going old)) goes so_far in
+      made_more (own_asks asks) slot made (going old) (held mid Running 0) (going new) here refl
+      (steps_made (own_asks asks) None mid 0 (ordinary slot) new here.steady Goes tt turns)
+
+  pub turned_behind : (result : Result Turned Reason)
+      → Turns (asks_in (own_asks asks) None) (own_turn None) (ordinary slot) result mid new
+      → TurnsBehind (own_asks asks) slot made result old new
+  turned_behind result turns = record { mid = mid; makes = so_far; framed = framed; turns = turns }

@@ -123,3 +123,30 @@ pub fn step_frame_ahead<O: Operate, M: Memory>(
         }
     }
 }
+
+/// Makes steps ahead, at most so many, frame after frame, until one makes none, and tells how many.
+#[inline(always)]
+pub fn steps_ahead<O: Operate, M: Memory>(
+    most: u32,
+    operators: &O,
+    context: &mut Context,
+    shared: &Shared,
+    memory: &mut M,
+) -> u32
+    requires steady { IsSteady
+        (going (lent (M.heap memory.old) (M.grants memory.old) context.old shared.now)) }
+    ensures within { result ≤ most }
+    ensures makes { HasMade result
+        (going (lent (M.heap memory.old) (M.grants memory.old) context.old shared.now))
+        (going (lent (M.heap memory.new) (M.grants memory.new) context.new shared.now)) }
+{
+    let mut made = 0;
+    while made < most {
+        let ahead = step_frame_ahead(most - made, operators, context, shared, memory);
+        made += ahead.made;
+        if !ahead.goes_on {
+            return made;
+        }
+    }
+    made
+}

@@ -3,13 +3,13 @@
 ghost use Rattle.ps_context.specs.Few.{own_few};
 ghost use Rattle.ps_context.specs.Steps.{own_asks};
 
-use crate::elements::step_frame_ahead;
+use crate::elements::steps_ahead;
 use crate::texts::text_turn;
 use ps_acts::lent::{Context, Shared, Trial};
 use ps_control::frames::{Cause, Frame};
 use ps_frames::steps::frame_turn;
 use ps_frames::unwindings::unwind_turn;
-use ps_interpreter::interprets::Interpret;
+use ps_interpreter::interprets::{Interpret, Run};
 use ps_mem::Memory;
 use ps_ops::failure::NotMade;
 use ps_turns::turned::Turned;
@@ -58,24 +58,46 @@ impl<O: Operate> Interpret for Steps<O> {
         }
     }
 
-    /// Frame after frame, until one makes no step ahead.
+    /// Steps ahead as far as they go, and a step of the general way, again and again.
     #[inline(always)]
-    fn step_ahead<M: Memory>(
-        &self,
+    fn run<M: Memory>(
+        &mut self,
         most: u32,
+        slot: u32,
         context: &mut Context,
-        shared: &Shared,
+        shared: &mut Shared,
         memory: &mut M,
-    ) -> u32 {
+    ) -> Run {
+        let trial = Trial {
+            slot,
+            refused: false,
+        };
         let mut made = 0;
         while made < most {
-            let ahead = step_frame_ahead(most - made, &self.operators, context, shared, memory);
-            made += ahead.made;
-            if !ahead.goes_on {
-                return made;
+            made += steps_ahead(most - made, &self.operators, context, shared, memory);
+            if made == most || context.frames.len() == 0 {
+                return Run { made, next: None };
+            }
+            let turned = match self.step(None, context, shared, memory, trial) {
+                Ok(turned) => turned,
+                Err(reason) => {
+                    return Run {
+                        made,
+                        next: Some(Err(reason)),
+                    };
+                }
+            };
+            match turned {
+                Turned::Goes => made += 1,
+                _ => {
+                    return Run {
+                        made,
+                        next: Some(Ok(turned)),
+                    };
+                }
             }
         }
-        made
+        Run { made, next: None }
     }
 
     ghost few = { own_few O.asks O.few };

@@ -1,11 +1,13 @@
 -- The hash number of a key by its content, and the birth number that a header says.
-use Rattle.std.proofs.Common.{◌≡◌, ℕ, length, refl, sym, ap, ◌∙◌, subst}
+use Rattle.std.proofs.Common.{◌≡◌, ℕ, length, Some, refl, sym, ap, ◌∙◌, subst}
 use Rattle.std.specs.Prelude.{IsSome, IfSome}
 use Rattle.ps_language.specs.declared.kinds.Kind.{Kind}
 use Rattle.ps_word.specs.declared.words.Word.{Word}
 use Rattle.ps_word.specs.declared.headers.Header.{Header}
 use Rattle.ps_word.specs.declared.values.Content.{Content}
+use Rattle.ps_word.specs.declared.values.Content.TheVariants.{Null, Integer, Boolean, Mark, Name, Operator, Array, Text, Dictionary, Lock, Condition, Body}
 use Rattle.ps_word.specs.Format.{content_in, IsContent}
+use Rattle.ps_word.specs.Readers.{as_name}
 use Rattle.ps_word.proofs.Places.{IsContent-of_word}
 use Rattle.ps_mem.specs.Heap.{Heap, object_at, birth_of, birth_at}
 use Rattle.ps_mem.specs.References.{StandsAs, IsKnown, IsKnownContent}
@@ -39,3 +41,24 @@ birth-read h kind a n s header e =
     subst (λ x. IfSome x (λ o. header ≡ record
     { kind = o.kind; fields = length o.fields; birth = o.birth })) s.at e in
     ap (λ (x : Header). x.birth) is ∙ sym (ap birth_of s.at)
+
+-- a name's hash number is its number
+number_hash : (births : ℕ → ℕ) (content : Content) (number : ℕ) → Some number ≡ as_name content
+    → number ≡ hash_of_content births content
+number_hash births (Name _) number is = cc
+number_hash births Null number is = cc
+number_hash births (Integer _) number is = cc
+number_hash births (Boolean _) number is = cc
+number_hash births Mark number is = cc
+number_hash births (Operator _) number is = cc
+number_hash births (Array _) number is = cc
+number_hash births (Text _) number is = cc
+number_hash births (Dictionary _) number is = cc
+number_hash births (Lock _) number is = cc
+number_hash births (Condition _) number is = cc
+number_hash births (Body _) number is = cc
+
+pub name_hash : (births : ℕ → ℕ) (key : Word) (number : ℕ)
+    → Some number ≡ as_name (content_in key.0) → number ≡ hash_of births key
+unfolding hash_of
+name_hash births key number is = number_hash births (content_in key.0) number is

@@ -16,6 +16,7 @@ pub mod Revaluing
 pub mod Lengthening
 pub mod Planning
 pub mod Growing
+pub mod Fields
 pub mod Filling
 pub mod Making
 pub mod Indexing

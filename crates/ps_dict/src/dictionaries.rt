@@ -27,22 +27,29 @@ pub(crate) const ACCESS: u32 = 2;
 
 pub(crate) const BODY: u32 = 3;
 
-/// The natural number in a field.
-#[inline]
+/// The low 32 bits of a word are a natural number's.
+const NATURAL: u64 = 1 << 32;
+
+/// An address stands in 24 bits of a word, from bit 32 on.
+const ADDRESS: u64 = 1 << 32;
+
+const ADDRESSES: u64 = 1 << 24;
+
+/// The natural number in a field: in a sound memory it needs no test of its type.
+#[inline(always)]
 fn natural<M: Memory>(memory: &mut M, address: u32, place: u32) -> u32
-    requires place { place < length (fields_at (M.heap memory.old) address) }
+    requires sound { IsSound (M.heap memory.old) }
+    requires known { StandsAs (M.heap memory.old) Kind.Dictionary address 4 }
+    requires place { place < 3 }
     ensures heap { M.heap memory.new ≡ M.heap memory.old }
     ensures grants { M.grants memory.new ≡ M.grants memory.old }
     ensures value { result ≡ natural_in (fields_at (M.heap memory.old) address) place }
 {
-    match memory.load(address, place).as_integer() {
-        Some(number) => number.unsigned_abs(),
-        None => 0,
-    }
+    (memory.load(address, place).0 % NATURAL) as u32
 }
 
 /// How many pairs a dictionary has (PLRM2, 8 'length'). A sound memory has at most 2^31 - 1.
-#[inline]
+#[inline(always)]
 pub fn length<M: Memory>(memory: &mut M, address: u32) -> u32
     requires sound { IsSound (M.heap memory.old) }
     requires known { StandsAs (M.heap memory.old) Kind.Dictionary address 4 }
@@ -57,7 +64,7 @@ pub fn length<M: Memory>(memory: &mut M, address: u32) -> u32
 }
 
 /// How many pairs a dictionary has room for (PLRM2, 8 'maxlength').
-#[inline]
+#[inline(always)]
 pub fn capacity<M: Memory>(memory: &mut M, address: u32) -> u32
     requires sound { IsSound (M.heap memory.old) }
     requires known { StandsAs (M.heap memory.old) Kind.Dictionary address 4 }
@@ -71,7 +78,7 @@ pub fn capacity<M: Memory>(memory: &mut M, address: u32) -> u32
     natural(memory, address, CAPACITY)
 }
 
-#[inline]
+#[inline(always)]
 fn access_of(number: u32) -> Access
     ensures { result ≡ format.access_of number }
 {
@@ -84,7 +91,7 @@ fn access_of(number: u32) -> Access
 }
 
 /// The access of a dictionary, which all references to it share (PLRM2, 3.3.2).
-#[inline]
+#[inline(always)]
 pub fn access<M: Memory>(memory: &mut M, address: u32) -> Access
     requires sound { IsSound (M.heap memory.old) }
     requires known { StandsAs (M.heap memory.old) Kind.Dictionary address 4 }
@@ -98,7 +105,7 @@ pub fn access<M: Memory>(memory: &mut M, address: u32) -> Access
 }
 
 /// The address of a dictionary's body.
-#[inline]
+#[inline(always)]
 pub(crate) fn body<M: Memory>(memory: &mut M, address: u32) -> u32
     requires sound { IsSound (M.heap memory.old) }
     requires known { StandsAs (M.heap memory.old) Kind.Dictionary address 4 }
@@ -106,13 +113,12 @@ pub(crate) fn body<M: Memory>(memory: &mut M, address: u32) -> u32
     ensures grants { M.grants memory.new ≡ M.grants memory.old }
     ensures words { result ≡ body_at (M.heap memory.old) address }
 {
-    memory.load(address, BODY).as_body().unwrap_or(0)
+    ((memory.load(address, BODY).0 / ADDRESS) % ADDRESSES) as u32
 }
 
 /// The place of the first pair whose key is the same, counted from 0 in the order of insertion. In
-/// a dictionary that
-/// is full, each pair is looked at in order; else the index is looked through.
-#[inline]
+/// a dictionary that is full, each pair is looked at in order; else the index is looked through.
+#[inline(always)]
 pub fn position<M: Memory>(memory: &mut M, address: u32, key: Word) -> Option<u32>
     requires sound { IsSound (M.heap memory.old) }
     requires known { StandsAs (M.heap memory.old) Kind.Dictionary address 4 }
@@ -197,7 +203,7 @@ fn ordered_position<M: Memory>(memory: &mut M, address: u32, count: u32, key: Wo
 }
 
 /// The value of a key, where the dictionary has it.
-#[inline]
+#[inline(always)]
 pub fn value_of_key<M: Memory>(memory: &mut M, address: u32, key: Word) -> Option<Word>
     requires sound { IsSound (M.heap memory.old) }
     requires known { StandsAs (M.heap memory.old) Kind.Dictionary address 4 }

@@ -15,7 +15,7 @@ use ps_word::words::Word;
 
 /// The hash number of a key: of a reference by the birth number of what it names, which stays where
 /// that moves.
-#[inline(always)]
+#[inline(never)]
 pub fn hash_number<M: Memory>(memory: &mut M, key: Word) -> u64
     requires held { IsValue (M.heap memory.old) key }
     ensures heap { M.heap memory.new ≡ M.heap memory.old }
@@ -40,7 +40,8 @@ pub fn hash_number<M: Memory>(memory: &mut M, key: Word) -> u64
     }
 }
 
-/// The place at which a key is looked for first, of so many.
+/// The place at which a key is looked for first, of so many. A name's number is mostly the place
+/// itself.
 #[inline(always)]
 pub(crate) fn first_place<M: Memory>(memory: &mut M, key: Word, capacity: u32) -> u32
     requires held { IsValue (M.heap memory.old) key }
@@ -50,7 +51,15 @@ pub(crate) fn first_place<M: Memory>(memory: &mut M, key: Word, capacity: u32) -
     ensures answer { result ≡ hash_of (birth_at (M.heap memory.old)) key % capacity }
     ensures below { result < capacity }
 {
-    (hash_number(memory, key) % capacity as u64) as u32
+    let Some(name) = key.as_name() else {
+        return (hash_number(memory, key) % capacity as u64) as u32;
+    };
+    let number = name as u32;
+    if number < capacity {
+        number
+    } else {
+        number % capacity
+    }
 }
 
 /// The place so many behind another, going round.

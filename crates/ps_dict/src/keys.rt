@@ -16,7 +16,7 @@ const CONTENT: u64 = 1 << 57;
 /// Whether two words are the same key (PLRM2, 3.3.9 and 8 'eq'): values of one type, names by their
 /// numbers, arrays by object, place and length. Attribute and access don't matter, and a string is
 /// the same as nothing. The words are values': neither is a body.
-#[inline]
+#[inline(always)]
 pub fn is_same_key(left: Word, right: Word) -> bool
     requires left { IsWord left.0 }
     requires right { IsWord right.0 }

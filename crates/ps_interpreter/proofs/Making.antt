@@ -1,5 +1,6 @@
 -- Many ordinary steps.
-use Rattle.std.proofs.Common.{◌≡◌, ℕ, ◌+◌, ◌++◌, true, false, List, [], ◌∷◌, refl, sym, ◌∙◌, ap, subst, IsTrue, Ok, Err}
+use Rattle.std.proofs.Common.{◌≡◌, ◌≢◌, ℕ, ◌+◌, ◌++◌, true, false, Option, Some, None, List, [], ◌∷◌, refl, sym, ◌∙◌, ap, subst, IsTrue, Ok, Err}
+use Rattle.std.specs.Prelude.{Result}
 use Rattle.std.proofs.lemmas.List.{replicate-append-replicate, replicate_more}
 use Rattle.ps_language.specs.Effect.{Around, Scene}
 use Rattle.ps_language.specs.Machines.{may_end}
@@ -10,12 +11,15 @@ use Rattle.ps_ops.specs.declared.failure.NotMade.{NotMade as Reason}
 use Rattle.ps_acts.specs.declared.lent.Trial.{Trial}
 use Rattle.ps_acts.specs.Acts.{Asked}
 use Rattle.ps_acts.specs.Lent.{Lent}
+use Rattle.ps_turns.specs.declared.turned.Turned.{Turned}
 use Rattle.ps_turns.specs.declared.turned.Turned.TheVariants.{Goes}
+use Rattle.ps_turns.specs.Turns.{Turns}
 use Rattle.ps_interpreter.specs.declared.courses.Course.{Course}
 use Rattle.ps_interpreter.specs.declared.courses.Course.TheVariants.{Running, Unwinding, Calling, Finished}
 use Rattle.ps_interpreter.specs.Alone.{alone_step, is_alone_ready, after_alone_moves, all_alone_ready}
 use Rattle.ps_interpreter.specs.Courses.{Held, held, going, has_steps, course_after, HasFrame, IsAtBy, IsAt, IsSteady}
-use Rattle.ps_interpreter.specs.Makes.{plain_moves, HasMade, HoldsUp}
+use Rattle.ps_interpreter.specs.Interprets.{asks_in, own_turn}
+use Rattle.ps_interpreter.specs.Makes.{plain_moves, ordinary, HasMade, HoldsUp, TurnsBehind, StepsBehind, GoesOn}
 use Rattle.ps_interpreter.specs.Needs.{alone_needs, IsHeldUp}
 use Rattle.ps_interpreter.specs.Steps.{Steps}
 use Rattle.ps_interpreter.proofs.Laws.{ready_move, first_ready, after_alone_moves-append, all_alone_ready-append, and_true, after_more, ready_more}
@@ -92,6 +96,32 @@ made_ahead count old new lines steady makes =
     (subst (λ (n : ℕ). HasMade count (going old) (held new (course_after Goes new.frames) n))
     (sym (steady.counted refl)) makes)
 
+-- a frame is left
+pub goes_framed : (l : Lent) → l.frames ≢ [] → going l ≡ held l Running 0
+goes_framed l some = by l.frames refl
+  where
+    by : (frames : List Frame) → l.frames ≡ frames → going l ≡ held l Running 0
+    by [] none = absurd (some none)
+    by (frame ∷ frames) same = λ i. held l (course_after Goes (same i)) 0
+
+-- a turn behind steps of one that runs is a step behind them
+pub made_behind : (asks : Status → Around → Scene → Asked) (slot made : ℕ)
+    (next : Result Turned Reason) (result : Result Unit Reason) (old left : Lent) (new : Held)
+    (lines : ℕ) → IsSteady (held old Running lines) → TurnsBehind asks slot made next old left
+    → ((mid : Lent) → IsSteady (held mid Running 0)
+    → Turns (asks_in asks None) (own_turn None) (ordinary slot) next mid left
+    → Steps asks (ordinary slot) result (held mid Running 0) new)
+    → StepsBehind asks slot made result (held old Running lines) new
+made_behind asks slot made next result old left new lines steady behind finish =
+    let goes : going behind.mid ≡ held behind.mid Running 0 = goes_framed behind.mid behind.framed in
+    record {
+      mid = held behind.mid Running 0;
+      makes = subst (λ (h : Held). HasMade made h (held behind.mid Running 0))
+          (sym (runs_on old lines steady)) (subst (HasMade made (going old)) goes behind.makes);
+      going_on = refl;
+      steps = finish behind.mid (subst IsSteady goes behind.makes.steady) behind.turns;
+    }
+
 module _ (asks : Status → Around → Scene → Asked) (slot made : ℕ) (old mid new : Held)
     (so_far : HasMade made old mid) (steps : has_steps mid.course ≡ true) where
   abbrev trial : Trial
@@ -140,3 +170,36 @@ module _ (asks : Status → Around → Scene → Asked) (slot made : ℕ) (old m
   held_after reason step machine at =
       subst (λ (p : List ℕ). IsHeldUp (alone_needs asks p false (reached machine)) slot new.lent
       reason) so_far.program (step.meets (reached machine) (so_far.at machine at)).did.2
+
+-- others from there on, and the one behind them
+module _ (asks : Status → Around → Scene → Asked) (slot made more : ℕ) (old mid new : Held)
+    (next : Option (Result Unit Reason)) (so_far : HasMade made old mid)
+    (goes : GoesOn asks slot more next mid new) where
+  module _ (result : Result Unit Reason) (is : next ≡ Some result) where
+    behind : StepsBehind asks slot more result mid new
+    behind = subst (λ (n : Option (Result Unit Reason)). GoesOn asks slot more n mid new) is goes
+
+    so_many : HasMade (made + more) old behind.mid
+    so_many = made_then made more old mid behind.mid so_far behind.makes
+
+  pub made_with : next ≡ Some (Ok (tt {0})) → HasMade ((made + more) + 1) old new
+  made_with is =
+      made_more asks slot (made + more) old (behind (Ok tt) is).mid new (so_many (Ok tt) is)
+      (behind (Ok tt) is).going_on (behind (Ok tt) is).steps
+
+  pub made_but : (reason : Reason) → next ≡ Some (Err reason) → HasMade (made + more) old new
+  made_but reason is =
+      made_until asks slot (made + more) old (behind (Err reason) is).mid new
+      (so_many (Err reason) is) (behind (Err reason) is).going_on reason
+      (behind (Err reason) is).steps
+
+  pub held_behind : (reason : Reason) → next ≡ Some (Err reason)
+      → HoldsUp asks slot (made + more) old new reason
+  held_behind reason is =
+      held_after asks slot (made + more) old (behind (Err reason) is).mid new
+      (so_many (Err reason) is) (behind (Err reason) is).going_on reason
+      (behind (Err reason) is).steps
+
+  pub made_all : next ≡ None → HasMade (made + more) old new
+  made_all is = made_then made more old mid new so_far
+      (subst (λ (n : Option (Result Unit Reason)). GoesOn asks slot more n mid new) is goes)

@@ -43,7 +43,7 @@ may_in : (unwinding : Option Cause) → may_end (status_in unwinding) ≡ true
 may_in None = refl
 may_in (Some cause) = refl
 
-steps_in : (unwinding : Option Cause) → has_steps (course_in unwinding) ≡ true
+pub steps_in : (unwinding : Option Cause) → has_steps (course_in unwinding) ≡ true
 steps_in None = refl
 steps_in (Some cause) = refl
 

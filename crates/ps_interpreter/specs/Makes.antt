@@ -1,13 +1,19 @@
 -- When many ordinary steps of a context by itself went as the definitions say (PLRM2, 3.5).
-use Rattle.std.specs.Prelude.{◌≡◌, ℕ, false, IsTrue, List, replicate}
+use Rattle.std.specs.Prelude.{◌≡◌, ◌≢◌, ℕ, true, false, IsTrue, Option, Some, None, Result, List, [], replicate}
 use Rattle.ps_language.specs.Effect.{Around, Scene}
 use Rattle.ps_language.specs.Schedules.{Move, plain_move}
 use Rattle.ps_language.specs.World.{Status, Machine}
 use Rattle.ps_ops.specs.declared.failure.NotMade.{NotMade as Reason}
+use Rattle.ps_acts.specs.declared.lent.Trial.{Trial}
 use Rattle.ps_acts.specs.Acts.{Asked}
+use Rattle.ps_acts.specs.Lent.{Lent}
+use Rattle.ps_turns.specs.declared.turned.Turned.{Turned}
+use Rattle.ps_turns.specs.Turns.{Turns}
 use Rattle.ps_interpreter.specs.Alone.{after_alone_moves, all_alone_ready}
-use Rattle.ps_interpreter.specs.Courses.{Held, IsAt, IsSteady}
+use Rattle.ps_interpreter.specs.Courses.{Held, going, has_steps, IsAt, IsSteady}
+use Rattle.ps_interpreter.specs.Interprets.{asks_in, own_turn}
 use Rattle.ps_interpreter.specs.Needs.{alone_needs, IsHeldUp}
+use Rattle.ps_interpreter.specs.Steps.{Steps}
 
 -- so many ordinary steps of the first context
 abbrev pub plain_moves : (made : ℕ) → List Move
@@ -30,3 +36,36 @@ HoldsUp asks slot made old new reason =
     (machine : Machine) → IsAt old machine
     → IsHeldUp (alone_needs asks old.lent.program false
     (after_alone_moves old.lent.program machine (plain_moves made))) slot new.lent reason
+
+-- ---- steps, and what the one behind them came to
+
+-- an ordinary step, whose records go into the log of a slot
+abbrev pub ordinary : (slot : ℕ) → Trial
+ordinary slot = record { slot = slot; refused = false }
+
+-- so many were made, and the turn of the frame behind them came to this
+pub record TurnsBehind (asks : Status → Around → Scene → Asked) (slot made : ℕ)
+    (result : Result Turned Reason) (old new : Lent) : Type 0 where
+  pub mid : Lent
+  pub makes : HasMade made (going old) (going mid)
+  pub framed : mid.frames ≢ []
+  pub turns : Turns (asks_in asks None) (own_turn None) (ordinary slot) result mid new
+
+-- where no turn behind them is told, that is all
+abbrev pub Runs : (asks : Status → Around → Scene → Asked) → (slot made : ℕ)
+    → Option (Result Turned Reason) → (old new : Lent) → Type 0
+Runs asks slot made None old new = HasMade made (going old) (going new)
+Runs asks slot made (Some result) old new = TurnsBehind asks slot made result old new
+
+-- so many were made, and the step behind them came to this
+pub record StepsBehind (asks : Status → Around → Scene → Asked) (slot made : ℕ)
+    (result : Result Unit Reason) (old new : Held) : Type 0 where
+  pub mid : Held
+  pub makes : HasMade made old mid
+  pub going_on : has_steps mid.course ≡ true
+  pub steps : Steps asks (ordinary slot) result mid new
+
+abbrev pub GoesOn : (asks : Status → Around → Scene → Asked) → (slot made : ℕ)
+    → Option (Result Unit Reason) → (old new : Held) → Type 0
+GoesOn asks slot made None old new = HasMade made old new
+GoesOn asks slot made (Some result) old new = StepsBehind asks slot made result old new

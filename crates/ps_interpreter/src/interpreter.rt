@@ -1,16 +1,18 @@
 //! A context with what it prints, how far it is, and its steps (PLRM2, 3.5, 3.10).
 
-ghost use Rattle.std.specs.Prelude.{◌≡◌, ◌<◌, ◌≤◌, false, true, OnErr, IfOk, IfErr};
+ghost use Rattle.std.specs.Prelude.{◌≡◌, ◌<◌, ◌≤◌, false, true, Option, IsSome, IsNone, OnErr, IfOk, IfErr};
 ghost use Rattle.ps_language.specs.Effect.{Around, Scene};
 ghost use Rattle.ps_language.specs.World.{Status};
 ghost use Rattle.ps_mem.specs.Heap.{SameLogs};
 ghost use Rattle.ps_acts.specs.Acts.{Asked};
-ghost use Rattle.ps_acts.specs.Lent.{lent};
+ghost use Rattle.ps_acts.specs.Lent.{Lent, lent, IsGood};
 ghost use Rattle.ps_start.specs.Starts.{IsEmptyHeap, IsStartReason, first_machine};
-ghost use Rattle.ps_turns.specs.Turns.{lines_after};
+ghost use Rattle.ps_control.specs.declared.frames.Cause.{Cause as TheCause};
+ghost use Rattle.ps_turns.specs.Turns.{Turns, lines_after};
 ghost use Rattle.ps_interpreter.specs.Courses as courses;
 ghost use Rattle.ps_interpreter.specs.Courses.{held, IsAt, IsSteady};
-ghost use Rattle.ps_interpreter.specs.Makes.{HasMade};
+ghost use Rattle.ps_interpreter.specs.Interprets.{asks_in, own_turn};
+ghost use Rattle.ps_interpreter.specs.Makes.{GoesOn};
 ghost use Rattle.ps_interpreter.specs.Steps.{Steps};
 
 use crate::courses::Course;
@@ -35,6 +37,14 @@ pub struct Interpreter<'a> {
     pub course: Course,
     /// How many lines of errors were printed; at most one, at the end.
     pub error_lines: u32,
+}
+
+/// Steps that were made, and what the one behind them came to.
+#[derive(Clone, Copy, Debug, PartialEq, Eq)]
+pub struct Advance {
+    pub made: u32,
+    /// What the next one came to; none where as many were made as were asked for, or none is left.
+    pub next: Option<Result<(), NotMade>>,
 }
 
 impl<'a> Interpreter<'a> {
@@ -96,31 +106,56 @@ impl Interpreter<'_> {
         printed
     }
 
-    /// Makes ordinary steps of a context that runs, at most so many, as far as operands alone make
-    /// them, and tells how many.
+    /// Makes ordinary steps one after another, at most so many, as long as the context runs. Of one
+    /// that is unwinding, or whose operator is left to the world, it makes one.
     #[inline(always)]
-    pub fn step_ahead<S: Interpret, M: Memory>(
+    pub fn go_on<S: Interpret, M: Memory>(
         &mut self,
-        interpret: &S,
+        interpret: &mut S,
         memory: &mut M,
+        slot: u32,
         most: u32,
-    ) -> u32
+    ) -> Advance
+        requires slot { slot < SLOTS }
+        requires some { 1 ≤ most }
         requires steady { IsSteady
             (held (lent (M.heap memory.old) (M.grants memory.old) self.old.context self.old.shared)
             self.old.course self.old.error_lines) }
-        ensures within { result ≤ most }
-        ensures makes { HasMade result
+        requires going { courses.has_steps self.old.course ≡ true }
+        ensures within { result.made ≤ most }
+        ensures fewer { IsSome result.next → result.made < most }
+        ensures ended { IsNone result.next → result.made < most
+            → courses.has_steps self.new.course ≡ false }
+        ensures makes { GoesOn S.asks slot result.made result.next
             (held (lent (M.heap memory.old) (M.grants memory.old) self.old.context self.old.shared)
             self.old.course self.old.error_lines)
             (held (lent (M.heap memory.new) (M.grants memory.new) self.new.context self.new.shared)
             self.new.course self.new.error_lines) }
     {
-        if self.course != Course::Running {
-            return 0;
+        let trial = Trial {
+            slot,
+            refused: false,
+        };
+        match self.course {
+            Course::Running => {
+                let run = interpret.run(most, slot, &mut self.context, &mut self.shared, memory);
+                let Some(next) = run.next else {
+                    self.settle(Turned::Goes);
+                    return Advance {
+                        made: run.made,
+                        next: None,
+                    };
+                };
+                Advance {
+                    made: run.made,
+                    next: Some(self.finish(next, memory, trial)),
+                }
+            }
+            _ => Advance {
+                made: 0,
+                next: Some(self.step(interpret, memory, trial)),
+            },
         }
-        let made = interpret.step_ahead(most, &mut self.context, &self.shared, memory);
-        self.settle(Turned::Goes);
-        made
     }
 
     /// One step over a memory, whose records go into the log of a slot. An operator that is left to
@@ -238,13 +273,39 @@ impl Interpreter<'_> {
             (held (lent (M.heap memory.new) (M.grants memory.new) self.new.context self.new.shared)
             self.new.course self.new.error_lines) }
     {
-        let turned = match interpret.step(
+        let next = interpret.step(
             unwinding,
             &mut self.context,
             &mut self.shared,
             memory,
             trial,
-        ) {
+        );
+        self.finish(next, memory, trial)
+    }
+
+    /// Finishes a turn of a context that was running, or unwinding: it is settled how far the
+    /// context is, and an operator that is left to the world raises `undefined`.
+    #[inline(always)]
+    fn finish<M: Memory>(
+        &mut self,
+        next: Result<Turned, NotMade>,
+        memory: &mut M,
+        trial: Trial,
+    ) -> Result<(), NotMade>
+        requires slot { trial.slot < SLOTS }
+        requires lines { self.old.error_lines ≡ 0 }
+        requires good { IsGood
+            (lent (M.heap memory.old) (M.grants memory.old) self.old.context self.old.shared) }
+        ensures { (asks : Status → Around → Scene → Asked) (unwinding : Option TheCause)
+            (before : Lent) → IsSteady (held before (courses.course_in unwinding) 0)
+            → self.old.course ≡ courses.course_in unwinding
+            → Turns (asks_in asks unwinding) (own_turn unwinding) trial next before
+            (lent (M.heap memory.old) (M.grants memory.old) self.old.context self.old.shared)
+            → Steps asks trial result (held before (courses.course_in unwinding) 0)
+            (held (lent (M.heap memory.new) (M.grants memory.new) self.new.context self.new.shared)
+            self.new.course self.new.error_lines) }
+    {
+        let turned = match next {
             Ok(turned) => turned,
             Err(reason) => return Err(reason),
         };

@@ -1,6 +1,6 @@
 //! Who makes the steps of a context.
 
-ghost use Rattle.std.specs.Prelude.{◌≢◌, ◌<◌, ◌≤◌, []};
+ghost use Rattle.std.specs.Prelude.{◌≡◌, ◌≢◌, ◌<◌, ◌≤◌, [], IsSome, IsNone};
 ghost use Rattle.ps_language.specs.Effect.{Around, Scene};
 ghost use Rattle.ps_language.specs.World.{Status};
 ghost use Rattle.ps_acts.specs.Acts.{Asked, AreFew};
@@ -8,13 +8,23 @@ ghost use Rattle.ps_acts.specs.Lent.{lent, IsGood};
 ghost use Rattle.ps_turns.specs.Turns.{Turns};
 ghost use Rattle.ps_interpreter.specs.Courses.{going, IsSteady};
 ghost use Rattle.ps_interpreter.specs.Interprets.{asks_in, own_turn};
-ghost use Rattle.ps_interpreter.specs.Makes.{HasMade};
+ghost use Rattle.ps_interpreter.specs.Makes.{Runs};
 
 use ps_acts::lent::{Context, Shared, Trial};
 use ps_control::frames::Cause;
 use ps_mem::{Memory, SLOTS};
 use ps_ops::failure::NotMade;
 use ps_turns::turned::Turned;
+
+/// Steps that were made, and what the turn behind them came to.
+#[derive(Clone, Copy, Debug, PartialEq, Eq)]
+pub struct Run {
+    /// How many were made, each of which goes on.
+    pub made: u32,
+    /// What the next one came to; none where as many were made as were asked for, or no frame is
+    /// left.
+    pub next: Option<Result<Turned, NotMade>>,
+}
 
 /// Makes the steps of a context.
 pub trait Interpret {
@@ -41,21 +51,25 @@ pub trait Interpret {
             (lent (M.heap memory.old) (M.grants memory.old) context.old shared.old)
             (lent (M.heap memory.new) (M.grants memory.new) context.new shared.new) };
 
-    /// Makes ordinary steps of a running context, at most so many, as far as operands alone make
-    /// them, and tells how many. The memory stays as it is.
-    fn step_ahead<M: Memory>(
-        &self,
+    /// Makes ordinary steps of a running context one after another, at most so many, as long as it
+    /// goes on and has a frame. The records go into the log of a slot.
+    fn run<M: Memory>(
+        &mut self,
         most: u32,
+        slot: u32,
         context: &mut Context,
-        shared: &Shared,
+        shared: &mut Shared,
         memory: &mut M,
-    ) -> u32
+    ) -> Run
+        requires slot { slot < SLOTS }
         requires steady { IsSteady
-            (going (lent (M.heap memory.old) (M.grants memory.old) context.old shared.now)) }
-        ensures within { result ≤ most }
-        ensures makes { HasMade result
-            (going (lent (M.heap memory.old) (M.grants memory.old) context.old shared.now))
-            (going (lent (M.heap memory.new) (M.grants memory.new) context.new shared.now)) };
+            (going (lent (M.heap memory.old) (M.grants memory.old) context.old shared.old)) }
+        ensures within { result.made ≤ most }
+        ensures fewer { IsSome result.next → result.made < most }
+        ensures ended { IsNone result.next → result.made < most → context.new.frames ≡ [] }
+        ensures runs { Runs asks slot result.made result.next
+            (lent (M.heap memory.old) (M.grants memory.old) context.old shared.old)
+            (lent (M.heap memory.new) (M.grants memory.new) context.new shared.new) };
 
     /// Every step leaves a record to the end of its context.
     ghost few: { AreFew asks };

@@ -7,7 +7,6 @@ ghost use Rattle.ps_interpreter.specs.Makes.{HasMade, HoldsUp};
 
 use crate::interpreter::Interpreter;
 use crate::interprets::Interpret;
-use ps_acts::lent::Trial;
 use ps_mem::{Memory, SLOTS};
 use ps_ops::failure::NotMade;
 
@@ -49,17 +48,15 @@ pub fn make_steps<S: Interpret, M: Memory>(
         (held (lent (M.heap memory.new) (M.grants memory.new) interpreter.new.context
         interpreter.new.shared) interpreter.new.course interpreter.new.error_lines) reason) }
 {
-    let trial = Trial {
-        slot,
-        refused: false,
-    };
     let mut made = 0;
-    while made < most {
-        made += interpreter.step_ahead(interpret, memory, most - made);
-        if made == most || !interpreter.has_steps() {
-            return Turn { made, held: None };
-        }
-        match interpreter.step(interpret, memory, trial) {
+    while made < most && interpreter.has_steps() {
+        let advance = interpreter.go_on(interpret, memory, slot, most - made);
+        made += advance.made;
+        let next = match advance.next {
+            Some(next) => next,
+            None => return Turn { made, held: None },
+        };
+        match next {
             Ok(()) => made += 1,
             Err(reason) => {
                 return Turn {

@@ -1,7 +1,6 @@
-use Rattle.std.proofs.Common.{◌∙◌, arith}
-use Rattle.ps_mem.specs.Heap.{fields_at}
+use Rattle.std.proofs.Common.{arith}
 use Rattle.ps_dict.proofs.Shapes.{four}
-use Rattle.ps_dict.proofs.Reading.{body-loaded}
+use Rattle.ps_dict.proofs.Fields.{body_field}
 use Rattle.ps_dict.proofs.dictionaries.body.Goals as goal
 
 pub load-requires : goal.load-requires
@@ -9,4 +8,5 @@ load-requires g c = record { place = let fields = four (g.M.Memory.heap c.args.m
 
 pub returns-clause-words : goal.returns-clause-words
 returns-clause-words g c =
-    c.unwrap_or.ensures ∙ body-loaded (fields_at (g.M.Memory.heap c.args.memory.now) c.args.address) 3 c.load.result _ c.load.ensures.answer c.as_body.ensures
+    body_field (g.M.Memory.heap c.args.memory.now) c.args.address c.requires.known
+    c.requires.sound c.load.result c.load.ensures.answer

@@ -1,9 +1,6 @@
 use Rattle.std.proofs.Common.{◌∙◌, arith}
-use Rattle.ps_dict.proofs.Shapes.{four, small-count, count-shown}
+use Rattle.ps_dict.proofs.Shapes.{small-count, count-shown}
 use Rattle.ps_dict.proofs.dictionaries.length.Goals as goal
-
-pub natural-requires : goal.natural-requires
-natural-requires g c = record { place = let fields = four (g.M.Memory.heap c.args.memory.now) c.args.address c.requires.known c.requires.sound in omega (arith, fields) }
 
 pub returns-clause-below : goal.returns-clause-below
 returns-clause-below g c =

@@ -1,17 +1,16 @@
-use Rattle.std.proofs.Common.{◌∙◌, ap, rules, w32}
-use Rattle.std.specs.Prelude.{unsigned_abs}
-use Rattle.std.proofs.lemmas.Int.{to_z-of_z}
-use mir.Val.{SFits}
-use Rattle.ps_mem.specs.Heap.{fields_at}
-use Rattle.ps_dict.proofs.Reading.{natural-loaded}
+use Rattle.std.proofs.Common.{arith}
+use Rattle.ps_dict.proofs.Shapes.{four}
+use Rattle.ps_dict.proofs.Fields.{natural_field}
 use Rattle.ps_dict.proofs.dictionaries.natural.Goals as goal
 
-pub returns-in-Some-clause-value : goal.returns-in-Some-clause-value
-returns-in-Some-clause-value g c =
-    let fits : SFits w32 c.in-Some.number = search rules in
-    c.unsigned_abs.ensures.value ∙ (ap unsigned_abs (to_z-of_z w32 c.in-Some.number fits)
-    ∙ natural-loaded (fields_at (g.M.Memory.heap c.args.memory.now) c.args.address) c.args.place c.load.result _ c.load.ensures.answer c.in-Some.ensures)
+pub load-requires : goal.load-requires
+load-requires g c =
+    let fields = four (g.M.Memory.heap c.args.memory.now) c.args.address c.requires.known
+    c.requires.sound in
+    let below = c.requires.place in
+    record { place = omega (arith, fields, below) }
 
-pub returns-in-None-clause-value : goal.returns-in-None-clause-value
-returns-in-None-clause-value g c =
-    natural-loaded (fields_at (g.M.Memory.heap c.args.memory.now) c.args.address) c.args.place c.load.result _ c.load.ensures.answer c.in-None.ensures
+pub returns-clause-value : goal.returns-clause-value
+returns-clause-value g c =
+    natural_field (g.M.Memory.heap c.args.memory.now) c.args.address c.requires.known
+    c.requires.sound c.load.result c.args.place c.requires.place c.load.ensures.answer

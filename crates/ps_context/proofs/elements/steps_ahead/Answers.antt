@@ -1,7 +1,7 @@
 -- Frame after frame.
 use Rattle.std.proofs.Common.{arith}
 use Rattle.ps_interpreter.proofs.Making.{made_none, made_then}
-use Rattle.ps_context.proofs.steps.StepsInterpret.step_ahead.Goals as goal
+use Rattle.ps_context.proofs.elements.steps_ahead.Goals as goal
 
 pub loop-made-init : goal.loop-made-init
 loop-made-init g c = record { within = omega arith; makes = made_none _ c.requires.steady }

@@ -2,7 +2,7 @@ use Rattle.std.proofs.Common.{◌-◌, ◌≤◌}
 use Rattle.ps_acts.specs.Lent.{lent}
 use Rattle.ps_interpreter.specs.Courses.{going}
 use Rattle.ps_interpreter.specs.Makes.{HasMade}
-use Rattle.ps_context.proofs.steps.StepsInterpret.step_ahead.Given as goal
+use Rattle.ps_context.proofs.steps.StepsInterpret.run.Given as goal
 
 -- so many were made
 abbrev pub invariant-loop-made : goal.invariant-loop-made

@@ -1,0 +1,18 @@
+use Rattle.std.proofs.Common.{◌%◌, ◌∙◌, ap, sym}
+use Rattle.std.proofs.Math.Nat.{mod-eq_of_lt}
+use Rattle.ps_mem.specs.Heap.{birth_at}
+use Rattle.ps_dict.proofs.Hashing.{name_hash}
+use Rattle.ps_dict.proofs.index.first_place.Goals as goal
+
+pub returns-then-number-capacity-clause-answer : goal.returns-then-number-capacity-clause-answer
+returns-then-number-capacity-clause-answer g c =
+    let hash = name_hash (birth_at (g.M.Memory.heap c.args.memory.now)) c.args.key c.in-Some.name
+    c.in-Some.ensures in
+    sym (mod-eq_of_lt c.if-number-capacity.true)
+    ∙ ap (λ n. n % c.args.capacity) hash
+
+pub returns-else-number-capacity-clause-answer : goal.returns-else-number-capacity-clause-answer
+returns-else-number-capacity-clause-answer g c =
+    ap (λ n. n % c.args.capacity)
+    (name_hash (birth_at (g.M.Memory.heap c.args.memory.now)) c.args.key c.in-Some.name
+    c.in-Some.ensures)
