@@ -1,42 +1,45 @@
 -- One element more is done by operands alone.
-use Rattle.std.proofs.Common.{◌≡◌, ◌≢◌, ℕ, ◌+◌, ◌-◌, ◌<◌, ◌≤◌, arith, Bool, true, false, List, [], ◌∷◌, drop, Some, None, Ok, refl, sym, ap, subst, ◌∙◌}
+use Rattle.std.proofs.Common.{◌≡◌, ◌≢◌, ℕ, ◌+◌, ◌-◌, ◌<◌, ◌≤◌, arith, Bool, true, false, List, [], ◌∷◌, drop, Option, Some, None, Ok, refl, sym, ap, subst, ◌∙◌}
 use Rattle.std.specs.Prelude.{Result, nat_lt, slice_get, if◌then◌else◌}
 use Rattle.std.proofs.lemmas.Bool.Decides.{nat_tests}
 use Rattle.ps_language.specs.Access.{elements}
+use Rattle.ps_language.specs.Effect.{Around, Scene}
 use Rattle.ps_language.specs.Value.{Store}
+use Rattle.ps_language.specs.World.{Status}
 use Rattle.ps_word.specs.declared.values.Part.{Part}
 use Rattle.ps_word.specs.declared.words.Word.{Word}
 use Rattle.ps_mem.specs.Heap.{Heap, birth_at}
 use Rattle.ps_mem.specs.Meaning.{value_of}
-use Rattle.ps_mem.specs.Shows.{AreValues, IsValue, IsWithin, Shows}
+use Rattle.ps_mem.specs.Shows.{IsValue, IsWithin, Shows}
 use Rattle.ps_stacks.specs.Tops.{first_of}
 use Rattle.ps_ops.proofs.Operands.{first_split}
 use Rattle.ps_ops.specs.declared.failure.NotMade.{NotMade as Reason}
 use Rattle.ps_control.specs.declared.frames.Frame.{Frame}
 use Rattle.ps_control.specs.declared.frames.Frame.TheVariants.{Text, Procedure, Pending, Repeat, Loop, For, Forall, Stopped, Bind, Monitor}
 use Rattle.ps_control.specs.declared.frames.Source.{Source}
-use Rattle.ps_control.specs.Frames.{IsHeld}
 use Rattle.ps_acts.specs.declared.lent.Trial.{Trial}
-use Rattle.ps_acts.specs.Lent.{Lent, IsShown}
+use Rattle.ps_acts.specs.Acts.{Asked}
+use Rattle.ps_acts.specs.Lent.{Lent, IsShown, IsGood}
 use Rattle.ps_turns.specs.declared.turned.Turned.{Turned}
 use Rattle.ps_turns.specs.declared.turned.Turned.TheVariants.{Goes}
-use Rattle.ps_turns.specs.Turns.{IsShownWith, Turns}
-use Rattle.ps_turns.proofs.Composing.{turns_as, restacked_good, composes}
+use Rattle.ps_turns.specs.Turns.{Turns}
+use Rattle.ps_turns.proofs.Composing.{turns_as, restacked_good}
 use Rattle.ps_values.specs.Values.{meaning, GoesIn, among, done_turn, Asks, executed_asks}
-use Rattle.ps_frames.specs.Steps.{frames_after, rest_frames, running_turn, frame_asks, GoesAhead}
-use Rattle.ps_frames.proofs.Taking.{rest_held, rest_some, rest_good, element_shown, procedure_is, procedure_asks}
+use Rattle.ps_frames.specs.declared.elements.Element.{Element}
+use Rattle.ps_frames.specs.Steps.{frames_after, rest_frames, running_turn, frame_asks, GoesAhead, IsElement}
+use Rattle.ps_frames.proofs.Taking.{rest_some, rest_good, element_made}
 use Rattle.ps_interpreter.specs.declared.courses.Course.TheVariants.{Running}
 use Rattle.ps_interpreter.specs.Courses.{held, going, IsSteady}
 use Rattle.ps_interpreter.specs.Interprets.{asks_in, own_turn}
-use Rattle.ps_interpreter.specs.Makes.{ordinary, HasMade, TurnsBehind}
-use Rattle.ps_interpreter.proofs.Making.{made_none, made_more, goes_framed}
+use Rattle.ps_interpreter.specs.Makes.{ordinary, HasMade, TurnsBehind, Runs}
+use Rattle.ps_interpreter.proofs.Making.{made_none, made_more, made_then, goes_framed}
 use Rattle.ps_interpreter.proofs.Turning.{steps_made}
 use Rattle.ps_context.specs.Elements.{stacked, DoesFirst}
 use Rattle.ps_context.specs.Steps.{own_asks}
 
 module _ (rest : Part) (below : List Frame) where
   -- the rest of a procedure
-  abbrev rest_from : ℕ → Part
+  abbrev pub rest_from : ℕ → Part
   rest_from made =
       record rest { offset = rest.offset + made; length = rest.length - made }
 
@@ -108,12 +111,8 @@ module _ (heap : Heap) (dictionaries : List Word) (rest : Part) (old : List Word
           → Turns (frame_asks asks) running_turn trial (Ok Goes) mid after
       one_turn steady =
           let left = rest_from rest below made in
-          composes mid now (rest_frames left below) (frame_asks asks) (executed_asks asks word)
-          running_turn (done_turn word word) trial (IsShownWith (word ∷ word ∷ []) [])
-          (element_shown mid left below refl word element_read steady.good
-          (λ s shown. within l.names s shown.shows))
-          (procedure_is mid left below refl word element_read)
-          (procedure_asks mid left below refl word element_read asks) Goes after
+          element_made mid left below refl word element_read steady.good
+          (λ s shown. within l.names s shown.shows) asks trial Goes after
           (goes (record mid { frames = rest_frames left below }) trial
           (restacked_good mid now (rest_frames left below)
           (rest_good mid left below refl steady.good) steady.good)
@@ -138,79 +137,86 @@ module _ (heap : Heap) (dictionaries : List Word) (rest : Part) (old : List Word
         (going (stacked heap dictionaries now frames l))) (some_left rest below made some)
         (so_far l below steady)))
 
+-- the element at a place is the first of what is left
+pub element_first : (asks : Asks) (heap : Heap) (dictionaries : List Word) (rest : Part)
+    (below : List Frame) (made : ℕ) (element : Element)
+    → IsElement asks heap dictionaries rest made element
+    → IsElement asks heap dictionaries (rest_from rest below made) 0 element
+element_first asks heap dictionaries rest below made element is = record {
+  held = is.held;
+  reads = λ names s shows.
+      let place_is : (rest.offset + made) + 0 ≡ rest.offset + made = omega arith in
+      ap (slice_get (elements s (birth_at heap rest.address))) place_is ∙ is.reads names s shows;
+  within = is.within;
+  value_held = is.value_held;
+  treats = is.treats;
+}
+
 -- of what is lent
 module _ (l : Lent) (rest : Part) (top : Some (Procedure rest) ≡ first_of l.frames)
     (steady : IsSteady (going l)) where
   split : l.frames ≡ Procedure rest ∷ drop 1 l.frames
   split = first_split l.frames (Procedure rest) top
 
-  pub dictionaries_held : AreValues l.heap l.dictionaries
-  dictionaries_held = steady.good.dictionaries
-
-  pub top_held : IsHeld l.heap rest
-  top_held = rest_held l rest (drop 1 l.frames) split steady.good
+  abbrev pub left : (made : ℕ) (operands : List Word) → Lent
+  left made operands =
+      stacked l.heap l.dictionaries operands (frames_after made rest (drop 1 l.frames)) l
 
   pub made_first : (made : ℕ) (operands : List Word)
       → DoesFirst l.heap l.dictionaries rest made l.operands operands
-      → HasMade made (going l)
-      (going (stacked l.heap l.dictionaries operands (frames_after made rest (drop 1 l.frames)) l))
+      → HasMade made (going l) (going (left made operands))
   made_first made operands does =
       subst (λ (frames : List Frame). HasMade made (going (record l { frames = frames }))
-      (going (stacked l.heap l.dictionaries operands (frames_after made rest (drop 1 l.frames)) l))) (sym split)
+      (going (left made operands))) (sym split)
       (does l (drop 1 l.frames)
       (subst (λ (frames : List Frame). IsSteady (going (record l { frames = frames }))) split
       steady))
 
--- ---- a turn of a loop
+  pub left_top : (made : ℕ) (operands : List Word) → made < rest.length
+      → first_of (left made operands).frames
+      ≡ Some (Procedure (rest_from rest (drop 1 l.frames) made))
+  left_top made operands some = ap first_of (some_left rest (drop 1 l.frames) made some)
+
+-- ---- a turn of the general way
 
 -- what is no text asks by its frame alone
-frame_asked : (asks : Asks) (l : Lent) (top : Frame) (below : List Frame)
-    → ((source : Source) (at : ℕ) → top ≡ Text source at → ⊥) → (s : Store)
-    → frame_asks asks (record l { frames = top ∷ below }) s
-    ≡ asks_in (own_asks asks) None (record l { frames = top ∷ below }) s
-frame_asked asks l (Text source at) below other s = absurd (other source at refl)
-frame_asked asks l (Procedure rest) below other s = refl
-frame_asked asks l (Pending word) below other s = refl
-frame_asked asks l (Repeat count body) below other s = refl
-frame_asked asks l (Loop body) below other s = refl
-frame_asked asks l (For control increment limit body) below other s = refl
-frame_asked asks l (Forall over at body) below other s = refl
-frame_asked asks l Stopped below other s = refl
-frame_asked asks l (Bind over at depth) below other s = refl
-frame_asked asks l (Monitor lock) below other s = refl
-
-module _ (asks : Asks) (l after : Lent) (top : Frame)
+module _ (asks : Asks) (l : Lent) (top : Frame)
     (other : (source : Source) (at : ℕ) → top ≡ Text source at → ⊥) where
-  made_by_top : (below : List Frame) → IsSteady (going (record l { frames = top ∷ below }))
-      → GoesAhead true (record l { frames = top ∷ below }) after
-      → HasMade 1 (going (record l { frames = top ∷ below })) (going after)
-  made_by_top below steady goes =
-      let before : Lent = record l { frames = top ∷ below } in
-      let trial : Trial = record { slot = 0; refused = false } in
-      made_more (own_asks asks) 0 0 (held before Running 0) (held before Running 0) (going after)
-      (made_none (held before Running 0) steady) refl
-      (steps_made (own_asks asks) None before 0 trial after steady Goes tt
-      (turns_as (frame_asks asks) (asks_in (own_asks asks) None) running_turn (own_turn None) trial
-      (Ok Goes) before after (λ s shown. refl)
-      (λ s shown. frame_asked asks l top below other s) (goes asks trial)))
+  asked_by : (top : Frame) → ((source : Source) (at : ℕ) → top ≡ Text source at → ⊥)
+      → (below : List Frame) (s : Store) → frame_asks asks (record l { frames = top ∷ below }) s
+      ≡ asks_in (own_asks asks) None (record l { frames = top ∷ below }) s
+  asked_by (Text source at) other below s = absurd (other source at refl)
+  asked_by (Procedure rest) other below s = refl
+  asked_by (Pending word) other below s = refl
+  asked_by (Repeat count body) other below s = refl
+  asked_by (Loop body) other below s = refl
+  asked_by (For control increment limit body) other below s = refl
+  asked_by (Forall over at body) other below s = refl
+  asked_by Stopped other below s = refl
+  asked_by (Bind over at depth) other below s = refl
+  asked_by (Monitor lock) other below s = refl
 
-  pub made_turn : Some top ≡ first_of l.frames → IsSteady (going l) → GoesAhead true l after
-      → HasMade 1 (going l) (going after)
-  made_turn is steady goes =
-      let split : l.frames ≡ top ∷ drop 1 l.frames = first_split l.frames top is in
-      subst (λ (frames : List Frame). HasMade 1 (going (record l { frames = frames }))
-      (going after)) (sym split)
-      (made_by_top (drop 1 l.frames)
-      (subst (λ (frames : List Frame). IsSteady (going (record l { frames = frames }))) split
-      steady)
-      (subst (λ (frames : List Frame). GoesAhead true (record l { frames = frames }) after) split
-      goes))
+  module _ (is : first_of l.frames ≡ Some top) where
+    frames_split : l.frames ≡ top ∷ drop 1 l.frames
+    frames_split = first_split l.frames top (sym is)
 
--- ---- a step of the general way
+    pub framed_by : l.frames ≢ []
+    framed_by none = absurd (cc (none, is))
+
+    pub own_turns : (trial : Trial) (result : Result Turned Reason) (new : Lent)
+        → Turns (frame_asks asks) running_turn trial result l new
+        → Turns (asks_in (own_asks asks) None) (own_turn None) trial result l new
+    own_turns trial result new turns =
+        turns_as (frame_asks asks) (asks_in (own_asks asks) None) running_turn (own_turn None) trial
+        result l new (λ s shown. refl)
+        (λ s shown. subst (λ (frames : List Frame). frame_asks asks (record l { frames = frames }) s
+        ≡ asks_in (own_asks asks) None (record l { frames = frames }) s) (sym frames_split)
+        (asked_by top other (drop 1 l.frames) s)) turns
+
+-- ---- behind steps that were made
 
 module _ (asks : Asks) (slot made : ℕ) (old mid new : Lent)
     (so_far : HasMade made (going old) (going mid)) (framed : mid.frames ≢ []) where
-  -- behind steps that were made
   pub made_and : Turns (asks_in (own_asks asks) None) (own_turn None) (ordinary slot) (Ok Goes) mid
       new → HasMade (made + 1) (going old) (going new)
   made_and turns =
@@ -224,3 +230,62 @@ module _ (asks : Asks) (slot made : ℕ) (old mid new : Lent)
       → Turns (asks_in (own_asks asks) None) (own_turn None) (ordinary slot) result mid new
       → TurnsBehind (own_asks asks) slot made result old new
   turned_behind result turns = record { mid = mid; makes = so_far; framed = framed; turns = turns }
+
+-- a turn of the topmost frame that is no text
+pub top_behind : (asks : Asks) (slot made : ℕ) (old mid new : Lent)
+    → HasMade made (going old) (going mid) → (top : Frame)
+    → ((source : Source) (at : ℕ) → top ≡ Text source at → ⊥) → first_of mid.frames ≡ Some top
+    → (result : Result Turned Reason)
+    → Turns (frame_asks asks) running_turn (ordinary slot) result mid new
+    → TurnsBehind (own_asks asks) slot made result old new
+top_behind asks slot made old mid new so_far top other is result turns =
+    turned_behind asks slot made old mid new so_far (framed_by asks mid top other is) result
+    (own_turns asks mid top other is (ordinary slot) result new turns)
+
+-- of what is left of a procedure behind its first elements
+module _ (l : Lent) (rest : Part) (top : Some (Procedure rest) ≡ first_of l.frames)
+    (steady : IsSteady (going l)) (made : ℕ) (operands : List Word)
+    (does : DoesFirst l.heap l.dictionaries rest made l.operands operands) where
+  abbrev after_first : Lent
+  after_first = left l rest top steady made operands
+
+  pub left_good : IsGood after_first
+  left_good = (made_first l rest top steady made operands does).steady.good
+
+  pub left_behind : (asks : Asks) (slot : ℕ) → made < rest.length
+      → (result : Result Turned Reason) (new : Lent)
+      → Turns (frame_asks asks) running_turn (ordinary slot) result after_first new
+      → TurnsBehind (own_asks asks) slot made result l new
+  left_behind asks slot some result new turns =
+      top_behind asks slot made l after_first new (made_first l rest top steady made operands does)
+      (Procedure (rest_from rest (drop 1 l.frames) made)) (λ source at is. absurd (cc))
+      (left_top l rest top steady made operands some) result turns
+
+-- one behind them that goes on is a step
+pub goes_behind : (asks : Asks) (slot made : ℕ) (old new : Lent)
+    → TurnsBehind (own_asks asks) slot made (Ok Goes) old new
+    → HasMade (made + 1) (going old) (going new)
+goes_behind asks slot made old new behind =
+    made_and asks slot made old behind.mid new behind.makes behind.framed behind.turns
+
+-- a turn of a loop is a step
+pub made_turn : (asks : Asks) (l after : Lent) (top : Frame)
+    → ((source : Source) (at : ℕ) → top ≡ Text source at → ⊥) → first_of l.frames ≡ Some top
+    → IsSteady (going l) → GoesAhead true l after → HasMade 1 (going l) (going after)
+made_turn asks l after top other is steady goes =
+    made_and asks 0 0 l l after (made_none (going l) steady) (framed_by asks l top other is)
+    (own_turns asks l top other is (ordinary 0) (Ok Goes) after (goes asks (ordinary 0)))
+
+-- what comes behind steps that were made comes behind them and those before
+pub runs_then : (asks : Status → Around → Scene → Asked) (slot first second : ℕ)
+    (next : Option (Result Turned Reason)) (old mid new : Lent)
+    → HasMade first (going old) (going mid) → Runs asks slot second next mid new
+    → Runs asks slot (first + second) next old new
+runs_then asks slot first second None old mid new one makes =
+    made_then first second (going old) (going mid) (going new) one makes
+runs_then asks slot first second (Some result) old mid new one behind = record {
+  mid = behind.mid;
+  makes = made_then first second (going old) (going mid) (going behind.mid) one behind.makes;
+  framed = behind.framed;
+  turns = behind.turns;
+}

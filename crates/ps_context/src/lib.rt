@@ -4,6 +4,7 @@
 
 mod elements;
 pub mod laws;
+mod runs;
 pub mod steps;
 pub mod texts;
 mod windows;

@@ -3,11 +3,9 @@
 ghost use Rattle.ps_context.specs.Few.{own_few};
 ghost use Rattle.ps_context.specs.Steps.{own_asks};
 
-use crate::elements::steps_ahead;
-use crate::texts::text_turn;
+use crate::runs::{run_frame, turn_frame};
 use ps_acts::lent::{Context, Shared, Trial};
-use ps_control::frames::{Cause, Frame};
-use ps_frames::steps::frame_turn;
+use ps_control::frames::Cause;
 use ps_frames::unwindings::unwind_turn;
 use ps_interpreter::interprets::{Interpret, Run};
 use ps_mem::Memory;
@@ -42,23 +40,19 @@ impl<O: Operate> Interpret for Steps<O> {
         };
         match unwinding {
             Some(cause) => unwind_turn(cause, top, context, shared, memory, trial),
-            None => match top {
-                Frame::Text { source, at } => text_turn(
-                    source,
-                    at,
-                    &mut self.text,
-                    &self.operators,
-                    context,
-                    shared,
-                    memory,
-                    trial,
-                ),
-                _ => frame_turn(top, &self.operators, context, shared, memory, trial),
-            },
+            None => turn_frame(
+                top,
+                &mut self.text,
+                &self.operators,
+                context,
+                shared,
+                memory,
+                trial,
+            ),
         }
     }
 
-    /// Steps ahead as far as they go, and a step of the general way, again and again.
+    /// Steps of one frame after another.
     #[inline(always)]
     fn run<M: Memory>(
         &mut self,
@@ -68,32 +62,29 @@ impl<O: Operate> Interpret for Steps<O> {
         shared: &mut Shared,
         memory: &mut M,
     ) -> Run {
-        let trial = Trial {
-            slot,
-            refused: false,
-        };
+        let Steps { operators, text } = self;
         let mut made = 0;
-        while made < most {
-            made += steps_ahead(most - made, &self.operators, context, shared, memory);
-            if made == most || context.frames.len() == 0 {
-                return Run { made, next: None };
-            }
-            let turned = match self.step(None, context, shared, memory, trial) {
-                Ok(turned) => turned,
-                Err(reason) => {
-                    return Run {
-                        made,
-                        next: Some(Err(reason)),
-                    };
-                }
-            };
-            match turned {
-                Turned::Goes => made += 1,
-                _ => {
-                    return Run {
-                        made,
-                        next: Some(Ok(turned)),
-                    };
+        while made < most && context.frames.len() > 0 {
+            let run = run_frame(most - made, slot, text, operators, context, shared, memory);
+            made += run.made;
+            if let Some(next) = run.next {
+                let turned = match next {
+                    Ok(turned) => turned,
+                    Err(reason) => {
+                        return Run {
+                            made,
+                            next: Some(Err(reason)),
+                        };
+                    }
+                };
+                match turned {
+                    Turned::Goes => made += 1,
+                    _ => {
+                        return Run {
+                            made,
+                            next: Some(Ok(turned)),
+                        };
+                    }
                 }
             }
         }

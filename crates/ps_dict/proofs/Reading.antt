@@ -1,6 +1,6 @@
 -- What is read of a dictionary: its fields, and its pairs by their words.
-use Rattle.std.proofs.Common.{◌≡◌, ◌≢◌, ℕ, zero, suc, ◌+◌, ◌*◌, ◌<◌, ◌≤◌, true, false, List, [], ◌∷◌, length, map, take, Option, Some, None, refl, sym, ap, ◌∙◌, arith}
-use Rattle.std.specs.Prelude.{ℤ, slice_get, slice_index_or, unwrap_or}
+use Rattle.std.proofs.Common.{◌≡◌, ◌≢◌, ℕ, zero, suc, ◌+◌, ◌*◌, ◌<◌, ◌≤◌, true, false, List, [], ◌∷◌, length, map, take, Some, None, refl, sym, ap, ◌∙◌, arith}
+use Rattle.std.specs.Prelude.{slice_get}
 use Rattle.std.specs.List.{AllPairs}
 use Rattle.std.proofs.lemmas.List.{take_all}
 use Rattle.ps_language.specs.declared.kinds.Kind.TheVariants.{Dictionary as DictionaryKind}
@@ -8,41 +8,17 @@ use Rattle.ps_language.specs.Value.{Store}
 use Rattle.ps_language.specs.Access.{dictionary_at}
 use Rattle.ps_language.specs.Dictionaries.{find}
 use Rattle.ps_word.specs.declared.words.Word.{Word}
-use Rattle.ps_word.specs.Format.{content_in}
-use Rattle.ps_word.specs.Readers.{as_integer, as_body}
-use Rattle.ps_mem.specs.Heap.{Heap, birth_at, fields_at, zero_word}
+use Rattle.ps_mem.specs.Heap.{Heap, birth_at, fields_at}
 use Rattle.ps_mem.specs.References.{StandsAs}
 use Rattle.ps_mem.specs.Meaning.{value_of}
 use Rattle.ps_mem.specs.Shows.{IsValue, IsSound, IsWithin, Shows, pair_of}
 use Rattle.ps_mem.proofs.Lists.{all_at, slice_get-map}
 use Rattle.ps_dict.specs.Keys.{same_words}
-use Rattle.ps_dict.specs.Places.{natural_of, natural_in, body_in, count_at, body_at, pairs_at, place_of, first_place}
+use Rattle.ps_dict.specs.Places.{count_at, body_at, pairs_at, place_of, first_place}
 use Rattle.ps_mem.specs.Index.{pairs_of_words}
 use Rattle.ps_dict.proofs.KeyLemmas.{same_keys}
 use Rattle.ps_dict.proofs.Pairs.{slice_get_there, slice_get-take, slice_get-past, pair_here, place_found, place_not_yet, place_below, find_at, find_none, place-first, all_with}
 use Rattle.ps_dict.proofs.Shapes.{body-room, count-fits, body-values, length-pairs, pairs-values, pairs-within, pairs-shown}
-
-index-get : {A : Type 0} (xs : List A) (i : ℕ) (x d : A) → slice_get xs i ≡ Some x
-    → slice_index_or xs i d ≡ x
-index-get [] i x d e = cc
-index-get (y ∷ xs) zero x d e = cc
-index-get (y ∷ xs) (suc i) x d e = index-get xs i x d e
-
-pub natural-loaded : (fields : List Word) (place : ℕ) (w : Word) (o : Option ℤ)
-    → slice_get fields place ≡ Some w → o ≡ as_integer (content_in w.0)
-    → natural_of o ≡ natural_in fields place
-unfolding natural_in
-natural-loaded fields place w o read is = ap natural_of is
-    ∙ sym (ap (λ (x : Word). natural_of (as_integer (content_in x.0)))
-    (index-get fields place w zero_word read))
-
-pub body-loaded : (fields : List Word) (place : ℕ) (w : Word) (o : Option ℕ)
-    → slice_get fields place ≡ Some w → o ≡ as_body (content_in w.0)
-    → unwrap_or o 0 ≡ body_in fields place
-unfolding body_in
-body-loaded fields place w o read is = ap (λ x. unwrap_or x 0) is
-    ∙ sym (ap (λ (x : Word). unwrap_or (as_body (content_in x.0)) 0)
-    (index-get fields place w zero_word read))
 
 -- of the body of a heap that is the same
 pub loaded : (g h : Heap) (a b i : ℕ) (w : Word) → g ≡ h → b ≡ body_at h a

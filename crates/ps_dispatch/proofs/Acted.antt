@@ -5,16 +5,19 @@ use Rattle.ps_language.specs.declared.errors.ErrorName.{ErrorName}
 use Rattle.ps_language.specs.declared.operators.Operator.{Operator}
 use Rattle.ps_language.specs.declared.operators.Operator.TheVariants.{Mark, BeginArray, BeginDict}
 use Rattle.ps_language.specs.Outcome.{Outcome, leaves, fails}
-use Rattle.ps_language.specs.Rows.{Row, operand_row}
+use Rattle.ps_language.specs.Rows.{Row, operand_row, reading_row}
 use Rattle.ps_language.specs.RowsStack.{mark_row}
-use Rattle.ps_language.specs.Value.{Value}
+use Rattle.ps_language.specs.Value.{Value, Store}
 use Rattle.ps_language.specs.Effect.{Scene}
 use Rattle.ps_word.specs.declared.words.Word.{Word}
+use Rattle.ps_mem.specs.Heap.{Heap}
 use Rattle.ps_operands.specs.Does.{Does, Agrees, values_of}
 use Rattle.ps_operands.specs.Kept.{AreFrom}
 use Rattle.ps_acts.specs.Acts.{Asked, Acts, nothing_asked}
-use Rattle.ps_acts.specs.Lent.{IsShown}
-use Rattle.ps_acts.proofs.Lifts.{does_acts}
+use Rattle.ps_ops.specs.Does.{Observes}
+use Rattle.ps_ops.proofs.Ready.{ready_from}
+use Rattle.ps_acts.specs.Lent.{Lent, IsShown}
+use Rattle.ps_acts.proofs.Lifts.{does_acts, observes_acts, held}
 use Rattle.ps_turns.specs.declared.turned.Turned.TheVariants.{Goes}
 use Rattle.ps_turns.specs.Turns.{IsShownWith}
 use Rattle.ps_turns.proofs.Composing.{turns_over}
@@ -62,6 +65,29 @@ pub marked : {operator : Operator} {acts : Bool} {result : Result Unit ErrorName
 marked old new (inl is) = alone old new mark_row is refl refl
 marked old new (inr (inl is)) = alone old new mark_row is refl refl
 marked old new (inr (inr is)) = alone old new mark_row is refl refl
+
+-- ---- operators that read no memory here
+
+-- those that did their row whatever the memory
+pub alone_over : (old new : List Word) (row : Store → List Value → Outcome (List Value))
+    {operator which : Operator} {acts : Bool} → operator ≡ which → row_now which ≡ reading_row row
+    → asked_of which ≡ nothing_asked
+    → (acts ≡ true → (h : Heap) → Observes row (Ok tt) h old new) → (acts ≡ false → new ≡ old)
+    → AreFrom old new → ActsAlone operator acts old new
+alone_over old new row {operator} {which} {acts} same is none done kept from =
+    subst (λ (o : Operator). ActsAlone o acts old new) (sym same) (by acts done kept)
+  where
+    by : (acts : Bool) → (acts ≡ true → (h : Heap) → Observes row (Ok tt) h old new)
+        → (acts ≡ false → new ≡ old) → ActsAlone which acts old new
+    by true done kept = λ l trial good.
+        let before : Lent = record l { operands = old } in
+        subst (λ (r : Row). Acts (asked_of which) r trial (Ok tt) before
+        (record l { operands = new })) (sym is)
+        (subst (λ (asks : Scene → Asked). Acts asks (reading_row row) trial (Ok tt) before
+        (record l { operands = new })) (sym none)
+        (observes_acts before good trial row (Ok tt) l.heap l.grants new refl refl
+        (done refl l.heap) (ready_from l.heap old new (held good) from)))
+    by false done kept = kept refl
 
 -- ---- as a step
 

@@ -4,6 +4,8 @@ ghost use Rattle.ps_dispatch.specs.Alone.{ActsAlone};
 
 use ps_language::operators::Operator;
 use ps_operands::{Operands, arithmetic, logic, stack_operators};
+use ps_relation_operators::equality::equality_quickly;
+use ps_relation_operators::orders::{Relation, order_quickly};
 
 /// An operator on operands alone acts, where it raises no error. Else nothing has changed, and the
 /// answer is no, as it is for every other operator.
@@ -28,6 +30,12 @@ pub fn operate_alone(operator: Operator, operands: &mut Operands) -> bool
         Operator::Mod => arithmetic::modulo(operands).is_ok(),
         Operator::Neg => arithmetic::neg(operands).is_ok(),
         Operator::Abs => arithmetic::abs(operands).is_ok(),
+        Operator::Eq => equality_quickly(operands, true),
+        Operator::Ne => equality_quickly(operands, false),
+        Operator::Gt => order_quickly(operands, Relation::Greater),
+        Operator::Ge => order_quickly(operands, Relation::GreaterOrEqual),
+        Operator::Lt => order_quickly(operands, Relation::Less),
+        Operator::Le => order_quickly(operands, Relation::LessOrEqual),
         Operator::And => logic::and(operands).is_ok(),
         Operator::Or => logic::or(operands).is_ok(),
         Operator::Xor => logic::xor(operands).is_ok(),
@@ -36,38 +44,6 @@ pub fn operate_alone(operator: Operator, operands: &mut Operands) -> bool
         Operator::Mark | Operator::BeginArray | Operator::BeginDict => {
             stack_operators::mark(operands).is_ok()
         }
-        _ => false,
-    }
-}
-
-/// Whether an operator is one of these.
-#[inline(always)]
-pub fn is_alone(operator: Operator) -> bool {
-    match operator {
-        Operator::Pop
-        | Operator::Exch
-        | Operator::Dup
-        | Operator::Index
-        | Operator::Roll
-        | Operator::Clear
-        | Operator::Count
-        | Operator::ClearToMark
-        | Operator::CountToMark
-        | Operator::Add
-        | Operator::Sub
-        | Operator::Mul
-        | Operator::Idiv
-        | Operator::Mod
-        | Operator::Neg
-        | Operator::Abs
-        | Operator::And
-        | Operator::Or
-        | Operator::Xor
-        | Operator::Not
-        | Operator::Bitshift
-        | Operator::Mark
-        | Operator::BeginArray
-        | Operator::BeginDict => true,
         _ => false,
     }
 }

@@ -5,7 +5,7 @@ ghost use Rattle.ps_dispatch.specs.Few.{operator_few};
 ghost use Rattle.ps_dispatch.specs.Turns.{operator_asks};
 ghost use Rattle.ps_turns.specs.Turns as turns;
 
-use crate::alone::{is_alone, operate_alone};
+use crate::alone::operate_alone;
 use crate::turns::operated;
 use ps_acts::lent::{Context, Shared, Trial};
 use ps_language::operators::Operator;
@@ -49,12 +49,6 @@ impl Operate for Operators {
     #[inline(always)]
     fn operate_quickly(&self, operator: Operator, operands: &mut Operands) -> bool {
         operate_alone(operator, operands)
-    }
-
-    /// Whether it is one of these.
-    #[inline(always)]
-    fn is_quick(&self, operator: Operator) -> bool {
-        is_alone(operator)
     }
 
     /// One that is left to the world is handed up; every other one acts.

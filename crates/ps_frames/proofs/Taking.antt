@@ -1,7 +1,7 @@
 -- The turn of a procedure's first element, and of a value that waits, by their frames.
-use Rattle.std.proofs.Common.{◌≡◌, ℕ, ◌+◌, ◌-◌, ◌<◌, ◌≤◌, ◌^◌, arith, Bool, true, false, List, [], ◌∷◌, length, Some, refl, sym, ap, subst}
+use Rattle.std.proofs.Common.{◌≡◌, ℕ, ◌+◌, ◌-◌, ◌<◌, ◌≤◌, ◌^◌, arith, Bool, true, false, List, [], ◌∷◌, length, Some, Ok, Err, refl, sym, ap, subst}
 use Rattle.std.specs.List.{AllByRecursion}
-use Rattle.std.specs.Prelude.{nat_lt, slice_get, unwrap_or, if◌then◌else◌}
+use Rattle.std.specs.Prelude.{nat_lt, slice_get, unwrap_or, Result, if◌then◌else◌}
 use Rattle.std.proofs.lemmas.Bool.Decides.{nat_tests}
 use Rattle.ps_language.specs.declared.kinds.Kind.TheVariants.{Array as ArrayKind}
 use Rattle.ps_language.specs.Value.{Store}
@@ -19,10 +19,14 @@ use Rattle.ps_control.specs.declared.frames.Frame.{Frame}
 use Rattle.ps_control.specs.declared.frames.Frame.TheVariants.{Pending, Procedure}
 use Rattle.ps_control.specs.Frames.{IsHeld, frames_in, IsFrame, AreFrames, IsFrameWithin, AreFramesWithin}
 use Rattle.ps_acts.specs.Lent.{Lent, IsShown, IsGood}
-use Rattle.ps_turns.specs.Turns.{IsShownWith}
-use Rattle.ps_turns.proofs.Composing.{AreGood, restacked_shown}
+use Rattle.ps_ops.specs.declared.failure.NotMade.{NotMade as Reason}
+use Rattle.ps_acts.specs.declared.lent.Trial.{Trial}
+use Rattle.ps_turns.specs.declared.turned.Turned.{Turned}
+use Rattle.ps_turns.specs.Turns.{IsShownWith, Turns, TurnsWith}
+use Rattle.ps_turns.proofs.Composing.{AreGood, restacked_shown, composes}
 use Rattle.ps_values.specs.Values.{meaning, done_turn, executed_turn, Asks, executed_asks}
 use Rattle.ps_frames.specs.Steps.{running_turn, rest_frames, with_frames, frame_asks}
+use Rattle.ps_frames.proofs.Framing.{unmade_over}
 
 -- ---- procedures
 
@@ -92,13 +96,13 @@ module _ (l : Lent) (rest : Part) (below : List Frame) (top : l.frames ≡ Proce
           → element_at s (part_of (birth_at l.heap) rest) 0 ≡ meaning l word
       element_is s shown = ap (λ e. unwrap_or e null) (reads s shown)
 
-      pub procedure_is : (s : Store) → IsShown l s
+      procedure_is : (s : Store) → IsShown l s
           → done_turn word word (with_frames (rest_frames rest below) l) s ≡ running_turn l s
       unfolding frame_turn
       procedure_is s shown =
           rw (top, element_is s shown, sym (rest_shown l.heap l.names rest below)) refl
 
-      pub element_shown : IsGood l
+      element_shown : IsGood l
           → ((s : Store) → IsShown l s → IsWithin (birth_at l.heap) l.names s word) → (s : Store)
           → IsShown l s
           → IsShownWith (word ∷ word ∷ []) [] (with_frames (rest_frames rest below) l) s
@@ -108,10 +112,34 @@ module _ (l : Lent) (rest : Part) (below : List Frame) (top : l.frames ≡ Proce
         frames_within = tt;
       }
 
-      pub procedure_asks : (asks : Asks) (s : Store) → IsShown l s
+      procedure_asks : (asks : Asks) (s : Store) → IsShown l s
           → executed_asks asks word (with_frames (rest_frames rest below) l) s ≡ frame_asks asks l s
       procedure_asks asks s shown =
           rw (top, element_is s shown, sym (rest_shown l.heap l.names rest below)) refl
+
+      -- what doing it comes to, over the frames that are left, is the turn of the procedure
+      module _ (good : IsGood l)
+          (within : (s : Store) → IsShown l s → IsWithin (birth_at l.heap) l.names s word)
+          (asks : Asks) (trial : Trial) where
+        abbrev Does : Result Turned Reason → Lent → Type 0
+        Does result new = TurnsWith (word ∷ word ∷ []) [] (executed_asks asks word)
+            (done_turn word word) trial result (with_frames (rest_frames rest below) l) new
+
+        pub element_made : (turned : Turned) (new : Lent) → Does (Ok turned) new
+            → Turns (frame_asks asks) running_turn trial (Ok turned) l new
+        element_made turned new turns =
+            composes l l.operands (rest_frames rest below) (frame_asks asks)
+            (executed_asks asks word) running_turn (done_turn word word) trial
+            (IsShownWith (word ∷ word ∷ []) []) (element_shown good within) procedure_is
+            (procedure_asks asks) turned new turns
+
+        pub element_unmade : (reason : Reason) (new : Lent) → Does (Err reason) new
+            → Turns (frame_asks asks) running_turn trial (Err reason) l
+            (record new { frames = l.frames })
+        element_unmade reason new turns =
+            unmade_over l (rest_frames rest below) (frame_asks asks) (executed_asks asks word)
+            running_turn (done_turn word word) trial (IsShownWith (word ∷ word ∷ []) [])
+            (element_shown good within) procedure_is (procedure_asks asks) good reason new turns
 
 -- ---- a value that waits
 

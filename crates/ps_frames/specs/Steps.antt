@@ -1,8 +1,8 @@
 -- A step by the topmost frame, and one of an unwinding, over what is lent (PLRM2, 3.4, 3.5, 3.10).
-use Rattle.std.specs.Prelude.{◌≡◌, ℕ, ◌+◌, ◌-◌, Bool, true, false, List, [], ◌∷◌, drop, nat_lt, Result, Ok, Err, if◌then◌else◌}
+use Rattle.std.specs.Prelude.{◌≡◌, ℕ, ◌+◌, ◌-◌, Bool, true, false, List, [], ◌∷◌, drop, nat_lt, slice_get, Some, Result, Ok, Err, if◌then◌else◌}
 use Rattle.ps_language.specs.declared.errors.ErrorName.{ErrorName}
 use Rattle.ps_language.specs.declared.operators.Operator.{Operator}
-use Rattle.ps_language.specs.Access.{part_elements}
+use Rattle.ps_language.specs.Access.{elements, part_elements}
 use Rattle.ps_language.specs.Control as control
 use Rattle.ps_language.specs.Value.{Part as PartValue, Dictionary, Store}
 use Rattle.ps_language.specs.World as world
@@ -13,8 +13,10 @@ use Rattle.ps_language.specs.StepFrames as language
 use Rattle.ps_language.specs.StepFrames.{element_at, freed, stopped_turn}
 use Rattle.ps_language.specs.Machines.{turn_as}
 use Rattle.ps_word.specs.declared.values.Part.{Part}
-use Rattle.ps_mem.specs.Heap.{birth_at}
-use Rattle.ps_mem.specs.Meaning.{part_of}
+use Rattle.ps_word.specs.declared.words.Word.{Word}
+use Rattle.ps_mem.specs.Heap.{Heap, birth_at}
+use Rattle.ps_mem.specs.Meaning.{part_of, value_of}
+use Rattle.ps_mem.specs.Shows.{IsValue, IsWithin, Shows}
 use Rattle.ps_control.specs.declared.frames.Cause.{Cause}
 use Rattle.ps_control.specs.declared.frames.Frame.{Frame}
 use Rattle.ps_control.specs.declared.frames.Frame.TheVariants.{Text, Procedure}
@@ -25,7 +27,9 @@ use Rattle.ps_acts.specs.Lent.{Lent, scene_of, around_of}
 use Rattle.ps_turns.specs.declared.turned.Turned.{Turned}
 use Rattle.ps_turns.specs.declared.turned.Turned.TheVariants.{Goes, Breaks, Ends}
 use Rattle.ps_turns.specs.Turns.{is_told, none_asked, break_turn, Turns}
+use Rattle.ps_values.specs.Quick.{TreatsAs}
 use Rattle.ps_values.specs.Values.{Asks, done_asks}
+use Rattle.ps_frames.specs.declared.elements.Element.{Element}
 use Rattle.ps_frames.specs.Binds.{replaces}
 
 -- ---- turns
@@ -85,6 +89,19 @@ frames_after count rest below =
 -- once the first was
 abbrev pub rest_frames : Part → (below : List Frame) → List Frame
 rest_frames rest below = frames_after 1 rest below
+
+-- the element at a place of what is left of a procedure: its word, and the value as which it is
+-- treated over this heap and by this dictionary stack
+pub record IsElement (asks : Asks) (heap : Heap) (dictionaries : List Word) (rest : Part)
+    (place : ℕ) (element : Element) : Type 0 where
+  pub held : IsValue heap element.word
+  pub reads : (names : List (List ℕ)) (s : Store) → Shows heap names s
+      → slice_get (elements s (birth_at heap rest.address)) (rest.offset + place)
+      ≡ Some (value_of (birth_at heap) names element.word)
+  pub within : (names : List (List ℕ)) (s : Store) → Shows heap names s
+      → IsWithin (birth_at heap) names s element.word
+  pub value_held : IsValue heap element.value
+  pub treats : TreatsAs asks heap dictionaries element.word element.value
 
 -- those by which steps are made here
 abbrev pub is_stepped : Frame → Bool

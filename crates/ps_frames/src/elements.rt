@@ -4,7 +4,7 @@ ghost use Rattle.std.specs.Prelude.{◌≡◌, ◌<◌, Some};
 ghost use Rattle.ps_acts.specs.Lent.{lent, IsGood};
 ghost use Rattle.ps_stacks.specs.Tops.{first_of};
 ghost use Rattle.ps_turns.specs.Turns.{Turns};
-ghost use Rattle.ps_frames.specs.Steps.{frame_asks, running_turn};
+ghost use Rattle.ps_frames.specs.Steps.{frame_asks, running_turn, IsElement};
 
 use crate::frames::{advance, drop_top, put_back};
 use ps_acts::lent::{Context, Shared, Trial};
@@ -14,15 +14,22 @@ use ps_ops::failure::NotMade;
 use ps_seq::arrays::element;
 use ps_turns::turned::Turned;
 use ps_values::operates::Operate;
-use ps_values::values::{do_element, execute};
+use ps_values::values::{do_element, execute, treat};
 use ps_word::values::Part;
 use ps_word::words::Word;
+
+/// An element of a procedure, and the value as which it is treated.
+#[derive(Clone, Copy, Debug, PartialEq, Eq)]
+pub struct Element {
+    pub word: Word,
+    pub value: Word,
+}
 
 /// The first element that is left of a procedure is done, as it stands now; the frame goes with the
 /// last. Raises what the element raises, with the element as the command.
 ///
 /// Not made, with nothing changed: as the element.
-#[inline(always)]
+#[inline(never)]
 pub fn procedure_turn<O: Operate, M: Memory>(
     rest: Part,
     operators: &O,
@@ -42,6 +49,41 @@ pub fn procedure_turn<O: Operate, M: Memory>(
     let word = element(memory, rest, 0);
     advance(&mut context.frames, rest, 1);
     match do_element(word, word, operators, context, shared, memory, trial) {
+        Ok(turned) => Ok(turned),
+        Err(reason) => {
+            put_back(&mut context.frames, rest);
+            Err(reason)
+        }
+    }
+}
+
+/// The first element that is left of a procedure is done, as its value is treated; the frame goes
+/// with the last. Raises what the value raises, with the element as the command.
+///
+/// Not made, with nothing changed: as the value.
+#[inline(never)]
+pub fn element_turn<O: Operate, M: Memory>(
+    rest: Part,
+    element: Element,
+    operators: &O,
+    context: &mut Context,
+    shared: &mut Shared,
+    memory: &mut M,
+    trial: Trial,
+) -> Result<Turned, NotMade>
+    requires slot { trial.slot < SLOTS }
+    requires good { IsGood
+        (lent (M.heap memory.old) (M.grants memory.old) context.old shared.old) }
+    requires top { first_of context.old.frames ≡ Some (Frame.Procedure rest) }
+    requires element { IsElement O.asks (M.heap memory.old) context.old.dictionaries rest 0
+        element }
+    ensures { Turns (frame_asks O.asks) running_turn trial result
+        (lent (M.heap memory.old) (M.grants memory.old) context.old shared.old)
+        (lent (M.heap memory.new) (M.grants memory.new) context.new shared.new) }
+{
+    let Element { word, value } = element;
+    advance(&mut context.frames, rest, 1);
+    match treat(value, word, operators, context, shared, memory, trial) {
         Ok(turned) => Ok(turned),
         Err(reason) => {
             put_back(&mut context.frames, rest);

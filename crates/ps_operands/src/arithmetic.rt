@@ -14,7 +14,6 @@ use ps_language::errors::ErrorName;
 
 /// The two topmost operands as integers, the topmost second. Raises `stackunderflow` and
 /// `typecheck`.
-#[inline]
 #[tactic(auto, using(crate::proofs::Meanings::readers))]
 #[inline(always)]
 pub fn two_integers(operands: &Operands) -> Result<(i32, i32), ErrorName>
@@ -51,7 +50,6 @@ fn one_integer(operands: &Operands) -> Result<i32, ErrorName>
 
 /// Puts an integer in the place of the topmost operands. Raises `undefinedresult` where there is
 /// none.
-#[inline]
 #[tactic(auto, using(crate::proofs::Sources::sources))]
 #[inline(always)]
 fn put_number(operands: &mut Operands, count: usize, number: Option<i32>) -> Result<(), ErrorName>
@@ -69,7 +67,6 @@ fn put_number(operands: &mut Operands, count: usize, number: Option<i32>) -> Res
 
 /// `i j add k`. Raises `stackunderflow`, `typecheck`, and `undefinedresult` where the sum doesn't
 /// fit 32 bits.
-#[inline]
 #[tactic(auto, using(crate::proofs::Sources::sources, crate::proofs::NumberRows::two_lemmas))]
 #[inline(always)]
 pub fn add(operands: &mut Operands) -> Result<(), ErrorName>
@@ -82,7 +79,6 @@ pub fn add(operands: &mut Operands) -> Result<(), ErrorName>
 
 /// `i j sub k`. Raises `stackunderflow`, `typecheck`, and `undefinedresult` where the difference
 /// doesn't fit 32 bits.
-#[inline]
 #[tactic(auto, using(crate::proofs::Sources::sources, crate::proofs::NumberRows::two_lemmas))]
 #[inline(always)]
 pub fn sub(operands: &mut Operands) -> Result<(), ErrorName>
@@ -95,7 +91,6 @@ pub fn sub(operands: &mut Operands) -> Result<(), ErrorName>
 
 /// `i j mul k`. Raises `stackunderflow`, `typecheck`, and `undefinedresult` where the product
 /// doesn't fit 32 bits.
-#[inline]
 #[tactic(auto, using(crate::proofs::Sources::sources, crate::proofs::NumberRows::two_lemmas))]
 #[inline(always)]
 pub fn mul(operands: &mut Operands) -> Result<(), ErrorName>
@@ -109,6 +104,7 @@ pub fn mul(operands: &mut Operands) -> Result<(), ErrorName>
 /// `i j idiv k`. Toward zero. Raises `stackunderflow`, `typecheck`, and `undefinedresult` where `j`
 /// is zero or the quotient doesn't fit 32 bits.
 #[tactic(auto, using(crate::proofs::Sources::sources, crate::proofs::NumberRows::two_lemmas))]
+#[inline(always)]
 pub fn idiv(operands: &mut Operands) -> Result<(), ErrorName>
     ensures row { Does rows.idiv_row result operands.old operands.new }
     ensures kept { AreFrom operands.old operands.new }
@@ -120,6 +116,7 @@ pub fn idiv(operands: &mut Operands) -> Result<(), ErrorName>
 /// `i j mod k`. With the sign of `i`. Raises `stackunderflow`, `typecheck`, and `undefinedresult`
 /// where `j` is zero.
 #[tactic(auto, using(crate::proofs::Sources::sources, crate::proofs::NumberRows::two_lemmas))]
+#[inline(always)]
 pub fn modulo(operands: &mut Operands) -> Result<(), ErrorName>
     ensures row { Does rows.mod_row result operands.old operands.new }
     ensures kept { AreFrom operands.old operands.new }

@@ -1,14 +1,15 @@
 -- How two values compare.
 use Rattle.std.proofs.Common.{◌≡◌, ℤ, Bool, true, false, ◌&&◌, Some, None, refl, ap, ◌∙◌}
-use Rattle.std.specs.Ordering.{int_cmp, nat_cmp}
+use Rattle.std.specs.Ordering.{int_cmp, int_eq, nat_cmp}
 use Rattle.std.specs.Cmp.Lexicographic.{slice_cmp}
 use Rattle.ps_language.specs.declared.errors.ErrorName.TheVariants.{InvalidAccess, TypeCheck}
 use Rattle.ps_language.specs.Access.{is_readable, may_read_text, part_bytes}
+use Rattle.ps_language.specs.Equality.{key_of, same_key}
 use Rattle.ps_language.specs.Outcome.{leaves, fails, given_that}
 use Rattle.ps_language.specs.Readers.{integer_in, string_in, as_integer, as_string}
 use Rattle.ps_language.specs.RowsRelations.{compared, comparison}
 use Rattle.ps_language.specs.Value.{Part, What, null_value, mark_value, integer_value, boolean_value, name_value, operator_value, array_value, string_value, dictionary_value, lock_value, condition_value, Value, Store}
-use Rattle.ps_relation_operators.specs.Relations.{order}
+use Rattle.ps_relation_operators.specs.Relations.{equality, order}
 
 -- ---- what a value is
 
@@ -75,6 +76,12 @@ module _ (s : Store) where
         → order s a b ≡ leaves (int_cmp i j)
     unfolding as_integer comparison may_read_text
     order_integers i j is also =
+        rw (integer_what a.what i is, integer_what b.what j also) refl
+
+    pub equal_integers : (i j : ℤ) → as_integer a ≡ Some i → as_integer b ≡ Some j
+        → equality s a b ≡ leaves (int_eq i j)
+    unfolding as_integer may_read_text key_of same_key
+    equal_integers i j is also =
         rw (integer_what a.what i is, integer_what b.what j also) refl
 
     -- ---- two strings

@@ -1,5 +1,5 @@
 -- An operator leaves what a test says of what was found of its two operands.
-use Rattle.std.proofs.Common.{◌≡◌, ℕ, Bool, true, false, Option, Some, None, List, [], ◌∷◌, drop, Result, Ok, Err, refl, sym, ap, ◌∙◌}
+use Rattle.std.proofs.Common.{◌≡◌, ℕ, Bool, true, false, Option, Some, None, List, [], ◌∷◌, drop, Result, Ok, Err, refl, sym, ap, subst, ◌∙◌}
 use Rattle.std.specs.Prelude.{not, ◌&&◌}
 use Rattle.std.specs.Bool.{beq}
 use Rattle.std.specs.declared.cmp.Ordering.{Ordering}
@@ -15,12 +15,12 @@ use Rattle.ps_language.specs.RowsRelations.{comparison}
 use Rattle.ps_language.specs.Value.{Value, Store}
 use Rattle.ps_stacks.specs.Tops.{first_two_of}
 use Rattle.ps_word.specs.declared.words.Word.{Word}
-use Rattle.ps_mem.specs.Heap.{birth_at}
+use Rattle.ps_mem.specs.Heap.{Heap, birth_at}
 use Rattle.ps_mem.specs.Meaning.{value_of}
 use Rattle.ps_mem.specs.Shows.{IsValue, IsWithin}
 use Rattle.ps_operands.specs.Does.{outcome_of}
 use Rattle.ps_operands.specs.Plain.{IsPlain}
-use Rattle.ps_ops.specs.Does.{values_in}
+use Rattle.ps_ops.specs.Does.{values_in, ObservesAs, Observes}
 use Rattle.ps_ops.proofs.Held.{first_of_two_held, second_held, rest_held}
 use Rattle.ps_ops.proofs.Operands.{first_two_split}
 use Rattle.ps_ops.proofs.Ready.{plain_value, plain_within}
@@ -173,3 +173,35 @@ module _ {A : Type 0} (of : Store → (a b : Value) → Outcome A) (test : A →
             rest_held (IsWithin (birth_at l.heap) l.names store) l.operands shown.operands 2,
           );
         }
+
+-- by operands alone, whatever the memory
+module _ {A : Type 0} (of : Store → (a b : Value) → Outcome A) (test : A → Bool)
+    (row : Store → List Value → Outcome (List Value)) (tested : IsTested of test row)
+    (words : List Word) (right left : Word) (two : Some (right, left) ≡ first_two_of words)
+    (found : A) (finds : (births : ℕ → ℕ) (names : List (List ℕ)) (store : Store)
+    → of store (value_of births names left) (value_of births names right) ≡ leaves found)
+    (w : Word) (plain : IsPlain w) (means : (births : ℕ → ℕ) (names : List (List ℕ))
+    → value_of births names w ≡ boolean (test found)) where
+  row_found : (h : Heap) (names : List (List ℕ)) (store : Store)
+      → row store (values_in h names words)
+      ≡ leaves (boolean (test found) ∷ values_in h names (drop 2 words))
+  row_found h names store =
+      ap (λ (ws : List Word). row store (values_in h names ws)) (first_two_split words right left two)
+      ∙ (tested.two store (value_of (birth_at h) names right) (value_of (birth_at h) names left)
+      (values_in h names (drop 2 words))
+      ∙ ap (λ (outcome : Outcome A). and_then outcome
+      (λ found. leaves (boolean (test found) ∷ values_in h names (drop 2 words))))
+      (finds (birth_at h) names store))
+
+  pub tested_observes : (h : Heap) → Observes row (Ok tt) h words (w ∷ drop 2 words)
+  tested_observes h = record {
+    meets = λ names store shows within.
+        subst (λ (outcome : Outcome (List Value)). ObservesAs (Ok tt) outcome names store h words
+        (w ∷ drop 2 words)) (sym (row_found h names store)) (
+          ap (λ (v : Value). v ∷ values_in h names (drop 2 words)) (means (birth_at h) names),
+          (
+            plain_within (birth_at h) names store w plain,
+            rest_held (IsWithin (birth_at h) names store) words within 2,
+          ),
+        );
+  }

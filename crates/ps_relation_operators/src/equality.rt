@@ -1,16 +1,18 @@
 //! Equality of two values (PLRM2, 8 'eq'): of a string by its characters, as a name has them, and
 //! of everything else as keys are.
 
-ghost use Rattle.std.specs.Prelude.{◌≡◌, ◌≢◌, ℕ, List, None, AllPairs, IfOk, IfErr, is_ok};
+ghost use Rattle.std.specs.Prelude.{◌≡◌, ◌≢◌, ℕ, List, None, Ok, true, false, AllPairs, IfOk, IfErr, is_ok};
 ghost use Rattle.ps_language.specs.Access.{may_read_text};
 ghost use Rattle.ps_language.specs.Equality as language;
 ghost use Rattle.ps_language.specs.Rows.{reading_row};
 ghost use Rattle.ps_language.specs.Value.{Store};
 ghost use Rattle.ps_word.specs.Format.{content_in};
 ghost use Rattle.ps_word.specs.Readers as readers;
-ghost use Rattle.ps_mem.specs.Heap.{birth_at};
+ghost use Rattle.ps_mem.specs.Heap.{Heap, birth_at};
 ghost use Rattle.ps_mem.specs.Meaning.{value_of};
 ghost use Rattle.ps_mem.specs.Shows.{IsSound, IsValue, IsWithin, Shows};
+ghost use Rattle.ps_operands.specs.Kept.{AreFrom};
+ghost use Rattle.ps_ops.specs.Does.{Observes};
 ghost use Rattle.ps_acts.specs.Acts.{Acts, nothing_asked};
 ghost use Rattle.ps_acts.specs.Lent.{lent, IsGood};
 ghost use Rattle.ps_relation_operators.specs.Relations as relations;
@@ -23,8 +25,10 @@ use ps_keys::keys::read_key;
 use ps_language::errors::ErrorName;
 use ps_mem::Memory;
 use ps_names::Names;
+use ps_operands::Operands;
 use ps_operands::plain::boolean;
 use ps_ops::arrays::is_readable;
+use ps_ops::readers::integer_of;
 use ps_seq::strings::compare_bytes;
 use ps_strings::readers::string_of;
 use ps_word::values::Part;
@@ -120,4 +124,27 @@ pub fn equality<M: Memory>(
         }
         Err(error) => Err(Break::Raises(error)),
     }
+}
+
+/// `i j eq t` where `wanted`, else `i j ne t`, of two integers, by operands alone. Of everything
+/// else nothing changes, and the answer is no.
+#[inline(always)]
+pub fn equality_quickly(operands: &mut Operands, wanted: bool) -> bool
+    ensures done { result ≡ true → (h : Heap)
+        → Observes (relations.equality_row_as wanted) (Ok tt) h operands.old operands.new }
+    ensures same { result ≡ false → operands.new ≡ operands.old }
+    ensures kept { AreFrom operands.old operands.new }
+{
+    let Some((right, left)) = operands.top_two() else {
+        return false;
+    };
+    let Some(i) = integer_of(left) else {
+        return false;
+    };
+    let Some(j) = integer_of(right) else {
+        return false;
+    };
+    let equal = i.cmp(&j).is_eq();
+    operands.replace(2, boolean(equal == wanted));
+    true
 }

@@ -1,8 +1,11 @@
 //! The order of two integers, or of two strings by their bytes (PLRM2, 8 'gt').
 
-ghost use Rattle.std.specs.Prelude.{◌≡◌, ℕ, List};
+ghost use Rattle.std.specs.Prelude.{◌≡◌, ℕ, List, Ok, true, false};
 ghost use Rattle.ps_language.specs.Rows.{reading_row};
+ghost use Rattle.ps_mem.specs.Heap.{Heap};
 ghost use Rattle.ps_mem.specs.Shows.{IsSound, IsValue};
+ghost use Rattle.ps_operands.specs.Kept.{AreFrom};
+ghost use Rattle.ps_ops.specs.Does.{Observes};
 ghost use Rattle.ps_acts.specs.Acts.{Acts, nothing_asked};
 ghost use Rattle.ps_acts.specs.Lent.{lent, IsGood};
 ghost use Rattle.ps_relation_operators.specs.Relations as relations;
@@ -12,6 +15,7 @@ use ps_acts::breaks::Break;
 use ps_acts::lent::{Context, Shared, Trial};
 use ps_language::errors::ErrorName;
 use ps_mem::Memory;
+use ps_operands::Operands;
 use ps_operands::plain::boolean;
 use ps_ops::arrays::is_readable;
 use ps_ops::readers::integer_of;
@@ -31,6 +35,7 @@ pub enum Relation {
 
 impl Relation {
     /// Whether an order is what is asked.
+    #[inline(always)]
     fn holds(self, order: Ordering) -> bool
         ensures { result ≡ relations.holds self order }
     {
@@ -99,4 +104,26 @@ pub fn order<M: Memory>(
         }
         Err(error) => Err(Break::Raises(error)),
     }
+}
+
+/// `i j gt t`, `ge`, `lt` or `le` of two integers, by operands alone. Of everything else nothing
+/// changes, and the answer is no.
+#[inline(always)]
+pub fn order_quickly(operands: &mut Operands, relation: Relation) -> bool
+    ensures done { result ≡ true → (h : Heap)
+        → Observes (relations.order_row_as relation) (Ok tt) h operands.old operands.new }
+    ensures same { result ≡ false → operands.new ≡ operands.old }
+    ensures kept { AreFrom operands.old operands.new }
+{
+    let Some((right, left)) = operands.top_two() else {
+        return false;
+    };
+    let Some(i) = integer_of(left) else {
+        return false;
+    };
+    let Some(j) = integer_of(right) else {
+        return false;
+    };
+    operands.replace(2, boolean(relation.holds(i.cmp(&j))));
+    true
 }

@@ -1,10 +1,11 @@
 -- What executing a word comes to, by what was done.
 use Rattle.std.proofs.Common.{◌≡◌, ◌⊎◌, ℕ, Bool, true, false, List, [], ◌∷◌, Option, Some, None, Ok, Err, refl, sym, ap, subst, ◌∙◌, inl, inr}
-use Rattle.std.specs.Prelude.{ℤ, ◌&&◌, Result, IfOk, IfSome}
+use Rattle.std.specs.Prelude.{ℤ, ◌&&◌, Result, IfOk, IfSome, if◌then◌else◌}
 use Rattle.ps_language.specs.declared.errors.ErrorName.{ErrorName}
 use Rattle.ps_language.specs.declared.errors.ErrorName.TheVariants.{InvalidAccess, Undefined}
 use Rattle.ps_language.specs.declared.operators.Operator.{Operator as Named}
-use Rattle.ps_language.specs.Value.{null_value, Store}
+use Rattle.ps_language.specs.Effect.{Around, Scene}
+use Rattle.ps_language.specs.Value.{What, null_value, mark_value, integer_value, boolean_value, name_value, operator_value, array_value, string_value, dictionary_value, lock_value, condition_value, Value, Store}
 use Rattle.ps_language.specs.StepValues.{Turn, LookedUp, known, unknown, unreadable, seen, looked_up, name_in, is_array, is_executable_name, is_procedure, executed_what, executed, done}
 use Rattle.ps_language.specs.Dictionaries.{look_up}
 use Rattle.ps_word.specs.declared.values.Content.{Content}
@@ -27,8 +28,31 @@ use Rattle.ps_turns.specs.declared.turned.Turned.TheVariants.{Goes}
 use Rattle.ps_turns.specs.Turns.{IsShownWith, TurnsOver, Turns, TurnsWith, error_turn, none_asked, nothing_more}
 use Rattle.ps_turns.proofs.Composing.{turns_over}
 use Rattle.ps_keys.specs.Lookups.{found_of}
-use Rattle.ps_values.specs.Values.{meaning, pushed_turn, framed_turn, entered_turn, string_frame, scanned_turn, operated_turn, executed_what_turn, treated_turn, executed_turn, done_turn, Asks, what_asks, operated_asks, word_asks, treated_asks, executed_asks}
+use Rattle.ps_values.specs.Values.{meaning, pushed_turn, framed_turn, entered_turn, string_frame, scanned_turn, operated_turn, executed_what_turn, treated_turn, executed_turn, done_turn, Asks, what_asks, found_asks, done_asks, operated_asks, word_asks, treated_asks, executed_asks}
 use Rattle.ps_values.proofs.Pushing.{behind_first, goes_as}
+
+-- a procedure as an element asks for nothing
+procedure_asked : (asks : Asks) (value : Value) (around : Around) (scene : Scene)
+    → is_procedure value ≡ true → done_asks asks value around scene ≡ none_asked
+unfolding is_procedure is_executable_name
+procedure_asked asks value around scene made = by value.executable value.what made
+  where
+    by : (may : Bool) (what : What) → may && is_array what ≡ true
+        → (if may && name_in what then
+        found_asks asks (looked_up value scene.dictionaries scene.store) around scene
+        else (if may then what_asks asks what around scene else none_asked)) ≡ none_asked
+    by true (array_value part) made = refl
+    by true null_value made = absurd (cc)
+    by true mark_value made = absurd (cc)
+    by true (integer_value _) made = absurd (cc)
+    by true (boolean_value _) made = absurd (cc)
+    by true (name_value _) made = absurd (cc)
+    by true (operator_value _) made = absurd (cc)
+    by true (string_value _) made = absurd (cc)
+    by true (dictionary_value _) made = absurd (cc)
+    by true (lock_value _) made = absurd (cc)
+    by true (condition_value _) made = absurd (cc)
+    by false what made = absurd (cc)
 
 module _ (asks : Asks) (command word : Word) (l : Lent) (trial : Trial) where
   -- a store that is shown with both in hand
@@ -184,13 +208,13 @@ module _ (asks : Asks) (command word : Word) (l : Lent) (trial : Trial) where
     unfolding done
     done_executed other = comes_as _ _ _ _ (λ s held. rw other refl) (λ s held. refl)
 
-    pub procedure_pushed : (part : Part) → executable_in word.0 ≡ true
-        → content_in word.0 ≡ Array part
+    pub procedure_pushed : is_procedure (meaning l word) ≡ true
         → Comes nothing_more (pushed_turn command word)
         → Comes (executed_asks asks word) (done_turn command word)
-    unfolding done is_procedure is_executable_name value_of
-    procedure_pushed part may content =
-        comes_as _ _ _ _ (λ s held. rw (may, content) refl) (λ s held. rw (may, content) refl)
+    unfolding done
+    procedure_pushed made =
+        comes_as _ _ _ _ (λ s held. rw made refl)
+        (λ s held. procedure_asked asks (meaning l word) (around_of l) (scene_of l s) made)
 
   -- ---- a null
 
@@ -237,6 +261,11 @@ module _ (word : Word) (births : ℕ → ℕ) (names : List (List ℕ)) where
       → executable_in word.0 ≡ true → is_procedure (value_of births names word) ≡ false
   unfolding is_procedure value_of
   operator_unmade operator content may = rw (may, content) refl
+
+  pub made : (part : Part) → executable_in word.0 ≡ true → content_in word.0 ≡ Array part
+      → is_procedure (value_of births names word) ≡ true
+  unfolding is_procedure value_of
+  made part may content = rw (may, content) refl
 
 -- what was looked up
 pub looked_as : (l : Lent) (word : Word) (result : Result (Option (Word × Word)) ErrorName) (s : Store)

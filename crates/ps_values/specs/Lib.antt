@@ -1,2 +1,3 @@
 pub mod Values
 pub mod Frugal
+pub mod Quick

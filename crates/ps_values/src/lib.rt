@@ -4,4 +4,5 @@
 pub mod enters;
 pub mod operates;
 pub mod pushes;
+pub mod quick;
 pub mod values;

@@ -26,10 +26,6 @@ pub trait Operate {
         ensures { GoesAlone [] (operated_asks asks operator) (operated_turn operator) result
             operands.old operands.new };
 
-    /// Whether an operator is one on operands alone. This is a hint, of which nothing is promised:
-    /// the name of another one isn't looked up quickly, since it would be looked up again.
-    fn is_quick(&self, operator: Operator) -> bool;
-
     /// An operator acts: its effect comes about, or its error is raised with the operator as the
     /// command.
     ///

@@ -4,24 +4,22 @@ ghost use Rattle.std.specs.Prelude.{◌≡◌, ◌<◌, ◌∷◌, [], ℕ, List
 ghost use Rattle.ps_language.specs.StepValues.{is_executable_name};
 ghost use Rattle.ps_word.specs.Format.{content_in};
 ghost use Rattle.ps_mem.specs.Meaning.{value_of};
-ghost use Rattle.ps_mem.specs.Shows.{AreValues, IsSound, IsValue};
+ghost use Rattle.ps_mem.specs.Shows.{IsValue};
 ghost use Rattle.ps_acts.specs.Lent.{lent, IsGood};
 ghost use Rattle.ps_turns.specs.Turns.{TurnsWith};
-ghost use Rattle.ps_values.specs.Values.{GoesAlone, GoesIn, among, done_turn, executed_asks, executed_turn, executed_what_turn, treated_asks, treated_turn, word_asks};
+ghost use Rattle.ps_values.specs.Values.{done_turn, executed_asks, executed_turn, executed_what_turn, treated_asks, treated_turn, word_asks};
 
 use crate::enters::{enter, scan_string};
 use crate::operates::Operate;
-use crate::pushes::{push_frame, push_quickly, push_value};
-use ps_acts::lent::{Context, Dictionaries, Shared, Trial};
+use crate::pushes::{push_frame, push_value};
+use ps_acts::lent::{Context, Shared, Trial};
 use ps_control::frames::Frame;
 use ps_keys::lookups::look_up;
 use ps_language::errors::ErrorName;
 use ps_mem::{Memory, SLOTS};
-use ps_operands::Operands;
 use ps_ops::failure::NotMade;
 use ps_turns::raises::raise;
 use ps_turns::turned::Turned;
-use ps_word::operators::operator_of;
 use ps_word::values::Content;
 use ps_word::words::Word;
 
@@ -79,6 +77,7 @@ fn execute_content<O: Operate, M: Memory>(
 /// procedure or a string can't be executed; or what an operator raises.
 ///
 /// Not made, with nothing changed: as an operator, or the note of an error.
+#[inline(always)]
 pub fn treat<O: Operate, M: Memory>(
     word: Word,
     command: Word,
@@ -189,98 +188,6 @@ pub fn execute<O: Operate, M: Memory>(
         content => execute_content(
             content, word, command, operators, context, shared, memory, trial,
         ),
-    }
-}
-
-/// Treats a value by operands alone, where that raises no error: a literal one becomes an operand,
-/// and an operator acts quickly. Else nothing has changed, and the answer is no.
-#[inline(always)]
-fn treat_quickly<O: Operate>(
-    word: Word,
-    command: Word,
-    operators: &O,
-    operands: &mut Operands,
-) -> bool
-    ensures { GoesAlone (word ∷ command ∷ []) (treated_asks O.asks word)
-        (treated_turn command word) result operands.old operands.new }
-{
-    if !word.is_executable() {
-        return push_quickly(word, operands);
-    }
-    match word.content() {
-        Content::Operator(operator) => operators.operate_quickly(operator, operands),
-        _ => false,
-    }
-}
-
-/// Whether a name is at first that of an operator that doesn't act quickly: those of the operators
-/// are the first names. A hint, of which nothing is promised.
-#[inline(always)]
-fn is_slow<O: Operate>(number: u16, operators: &O) -> bool {
-    number < 99 && !operators.is_quick(operator_of(number as u8))
-}
-
-/// Looks an executable name up, and treats its value by operands alone, where neither raises an
-/// error. Else nothing has changed, and the answer is no. The memory stays as it is.
-#[inline(always)]
-fn execute_name_quickly<O: Operate, M: Memory>(
-    word: Word,
-    command: Word,
-    operators: &O,
-    dictionaries: &Dictionaries,
-    operands: &mut Operands,
-    memory: &mut M,
-) -> bool
-    requires sound { IsSound (M.heap memory.old) }
-    requires dictionaries { AreValues (M.heap memory.old) dictionaries.now }
-    requires word { IsValue (M.heap memory.old) word }
-    requires name { (births : ℕ → ℕ) (names : List (List ℕ))
-        → is_executable_name (value_of births names word) ≡ true }
-    ensures heap { M.heap memory.new ≡ M.heap memory.old }
-    ensures grants { M.grants memory.new ≡ M.grants memory.old }
-    ensures goes { GoesIn (among (M.heap memory.old) dictionaries.now) (word ∷ command ∷ [])
-        (executed_asks O.asks word) (executed_turn command word) result operands.old
-        operands.new }
-{
-    match look_up(memory, dictionaries, Some(word)) {
-        Ok(Some(found)) => treat_quickly(found.1, command, operators, operands),
-        _ => false,
-    }
-}
-
-/// Does an element by operands alone, where that raises no error: a literal value or a procedure
-/// becomes an operand, an operator acts quickly, and a name is looked up for either. Else nothing
-/// has changed, and the answer is no. The memory stays as it is.
-#[inline(always)]
-pub fn do_quickly<O: Operate, M: Memory>(
-    word: Word,
-    command: Word,
-    operators: &O,
-    dictionaries: &Dictionaries,
-    operands: &mut Operands,
-    memory: &mut M,
-) -> bool
-    requires sound { IsSound (M.heap memory.old) }
-    requires dictionaries { AreValues (M.heap memory.old) dictionaries.now }
-    requires word { IsValue (M.heap memory.old) word }
-    ensures heap { M.heap memory.new ≡ M.heap memory.old }
-    ensures grants { M.grants memory.new ≡ M.grants memory.old }
-    ensures goes { GoesIn (among (M.heap memory.old) dictionaries.now) (word ∷ command ∷ [])
-        (executed_asks O.asks word) (done_turn command word) result operands.old operands.new }
-{
-    if !word.is_executable() {
-        return push_quickly(word, operands);
-    }
-    match word.content() {
-        Content::Operator(operator) => operators.operate_quickly(operator, operands),
-        Content::Array(_) => push_quickly(word, operands),
-        Content::Name(number) => {
-            if is_slow(number, operators) {
-                return false;
-            }
-            execute_name_quickly(word, command, operators, dictionaries, operands, memory)
-        }
-        _ => false,
     }
 }
 

@@ -3,10 +3,10 @@ use Rattle.ps_context.specs.Elements.{DoesFirst}
 use Rattle.ps_context.proofs.elements.do_first.Given as goal
 
 -- so many are done, and the memory stays
-abbrev pub invariant-loop-made : goal.invariant-loop-made
-invariant-loop-made g l = record {
+abbrev pub invariant-loop-done : goal.invariant-loop-done
+invariant-loop-done g l = record {
   heap : g.M.Memory.heap l.memory ≡ g.M.Memory.heap l.initial.memory;
   grants : g.M.Memory.grants l.memory ≡ g.M.Memory.grants l.initial.memory;
-  does : DoesFirst (g.M.Memory.heap l.initial.memory) l.dictionaries l.rest l.made
+  does : DoesFirst (g.M.Memory.heap l.initial.memory) l.dictionaries l.rest l.done
       l.initial.operands l.operands;
 }

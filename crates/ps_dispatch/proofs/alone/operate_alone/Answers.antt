@@ -1,6 +1,6 @@
 -- Each operator by its name and by what its own contract says.
 use Rattle.std.proofs.Common.{refl}
-use Rattle.ps_dispatch.proofs.Acted.{alone, marked}
+use Rattle.ps_dispatch.proofs.Acted.{alone, alone_over, marked}
 use Rattle.ps_dispatch.proofs.alone.operate_alone.Goals as goal
 
 pub returns-in-Pop : goal.returns-in-Pop
@@ -66,6 +66,36 @@ returns-in-Neg c =
 pub returns-in-Abs : goal.returns-in-Abs
 returns-in-Abs c =
     alone _ _ _ c.in-Abs.is refl refl c.is_ok-in-Abs.ensures.value c.abs.ensures.row c.abs.ensures.kept
+
+pub returns-in-Eq : goal.returns-in-Eq
+returns-in-Eq c =
+    alone_over _ _ _ c.in-Eq.is refl refl c.equality_quickly.ensures.done c.equality_quickly.ensures.same
+    c.equality_quickly.ensures.kept
+
+pub returns-in-Ne : goal.returns-in-Ne
+returns-in-Ne c =
+    alone_over _ _ _ c.in-Ne.is refl refl c.equality_quickly-in-Ne.ensures.done c.equality_quickly-in-Ne.ensures.same
+    c.equality_quickly-in-Ne.ensures.kept
+
+pub returns-in-Gt : goal.returns-in-Gt
+returns-in-Gt c =
+    alone_over _ _ _ c.in-Gt.is refl refl c.order_quickly.ensures.done c.order_quickly.ensures.same
+    c.order_quickly.ensures.kept
+
+pub returns-in-Ge : goal.returns-in-Ge
+returns-in-Ge c =
+    alone_over _ _ _ c.in-Ge.is refl refl c.order_quickly-in-Ge.ensures.done c.order_quickly-in-Ge.ensures.same
+    c.order_quickly-in-Ge.ensures.kept
+
+pub returns-in-Lt : goal.returns-in-Lt
+returns-in-Lt c =
+    alone_over _ _ _ c.in-Lt.is refl refl c.order_quickly-in-Lt.ensures.done c.order_quickly-in-Lt.ensures.same
+    c.order_quickly-in-Lt.ensures.kept
+
+pub returns-in-Le : goal.returns-in-Le
+returns-in-Le c =
+    alone_over _ _ _ c.in-Le.is refl refl c.order_quickly-in-Le.ensures.done c.order_quickly-in-Le.ensures.same
+    c.order_quickly-in-Le.ensures.kept
 
 pub returns-in-And : goal.returns-in-And
 returns-in-And c =

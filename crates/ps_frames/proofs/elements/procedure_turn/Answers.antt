@@ -1,14 +1,11 @@
 -- The element is done over the frames that are left, which are put back where it is not made.
-use Rattle.std.proofs.Common.{◌≡◌, [], ◌∷◌, drop, sym, ◌∙◌}
+use Rattle.std.proofs.Common.{◌≡◌, ◌∷◌, drop, sym, ◌∙◌}
 use Rattle.ps_ops.proofs.Operands.{first_split}
 use Rattle.ps_control.specs.declared.frames.Frame.TheVariants.{Procedure}
 use Rattle.ps_acts.specs.Lent.{Lent, lent}
-use Rattle.ps_turns.specs.Turns.{IsShownWith}
-use Rattle.ps_turns.proofs.Composing.{restacked_good, composes}
-use Rattle.ps_values.specs.Values.{done_turn, executed_asks}
-use Rattle.ps_frames.specs.Steps.{running_turn, rest_frames, frame_asks}
-use Rattle.ps_frames.proofs.Framing.{unmade_over}
-use Rattle.ps_frames.proofs.Taking.{rest_good, element_shown, procedure_is, procedure_asks}
+use Rattle.ps_turns.proofs.Composing.{restacked_good}
+use Rattle.ps_frames.specs.Steps.{rest_frames}
+use Rattle.ps_frames.proofs.Taking.{rest_good, element_made, element_unmade}
 use Rattle.ps_frames.proofs.elements.procedure_turn.Goals as goal
 
 pub do_element-requires-clause-good : goal.do_element-requires-clause-good
@@ -25,20 +22,10 @@ pub returns-in-Ok : goal.returns-in-Ok
 returns-in-Ok g c =
     let l : Lent = lent (g.M.Memory.heap c.args.memory.now) (g.M.Memory.grants c.args.memory.now)
     c.args.context.now c.args.shared.now in
-    let top : l.frames ≡ Procedure c.args.rest ∷ drop 1 l.frames =
-    first_split _ _ (sym c.requires.top) in
-    composes l l.operands (rest_frames c.args.rest (drop 1 l.frames))
-    (frame_asks g.O.Operate.asks) (executed_asks g.O.Operate.asks c.element-word.result)
-    running_turn (done_turn c.element-word.result c.element-word.result) c.args.trial
-    (IsShownWith (c.element-word.result ∷ c.element-word.result ∷ []) [])
-    (element_shown l c.args.rest (drop 1 l.frames) top c.element-word.result
-    (λ s shown. c.element-word.ensures.value l.names s shown.shows) c.requires.good
-    (λ s shown. c.element-word.ensures.within l.names s shown.shows))
-    (procedure_is l c.args.rest (drop 1 l.frames) top c.element-word.result
-    (λ s shown. c.element-word.ensures.value l.names s shown.shows))
-    (procedure_asks l c.args.rest (drop 1 l.frames) top c.element-word.result
-    (λ s shown. c.element-word.ensures.value l.names s shown.shows) g.O.Operate.asks)
-    c.in-Ok.turned _
+    element_made l c.args.rest (drop 1 l.frames) (first_split _ _ (sym c.requires.top))
+    c.element-word.result (λ s shown. c.element-word.ensures.value l.names s shown.shows)
+    c.requires.good (λ s shown. c.element-word.ensures.within l.names s shown.shows)
+    g.O.Operate.asks c.args.trial c.in-Ok.turned _
     (rw (
       c.element-word.ensures.heap,
       c.element-word.ensures.grants,
@@ -59,15 +46,7 @@ returns-in-Err g c =
       c.in-Err.is,
     ) at c.do_element.ensures in
     rw (c.put_back.ensures (drop 1 l.frames) turns.framed ∙ sym top)
-    (unmade_over l (rest_frames c.args.rest (drop 1 l.frames))
-    (frame_asks g.O.Operate.asks) (executed_asks g.O.Operate.asks c.element-word.result)
-    running_turn (done_turn c.element-word.result c.element-word.result) c.args.trial
-    (IsShownWith (c.element-word.result ∷ c.element-word.result ∷ []) [])
-    (element_shown l c.args.rest (drop 1 l.frames) top c.element-word.result
+    (element_unmade l c.args.rest (drop 1 l.frames) top c.element-word.result
     (λ s shown. c.element-word.ensures.value l.names s shown.shows) c.requires.good
-    (λ s shown. c.element-word.ensures.within l.names s shown.shows))
-    (procedure_is l c.args.rest (drop 1 l.frames) top c.element-word.result
-    (λ s shown. c.element-word.ensures.value l.names s shown.shows))
-    (procedure_asks l c.args.rest (drop 1 l.frames) top c.element-word.result
-    (λ s shown. c.element-word.ensures.value l.names s shown.shows) g.O.Operate.asks)
-    c.requires.good c.in-Err.reason _ turns)
+    (λ s shown. c.element-word.ensures.within l.names s shown.shows) g.O.Operate.asks c.args.trial
+    c.in-Err.reason _ turns)

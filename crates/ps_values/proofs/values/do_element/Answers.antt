@@ -1,6 +1,6 @@
 -- A procedure is pushed, and all else is executed.
 use Rattle.std.proofs.Common.{sym, ◌∙◌}
-use Rattle.ps_values.proofs.Executing.{treated_literal, treated_executable, executed_treated, done_executed, procedure_pushed, literal_unnamed, literal_unmade, named, name_unmade, unnamed, unmade}
+use Rattle.ps_values.proofs.Executing.{treated_literal, treated_executable, executed_treated, done_executed, procedure_pushed, literal_unnamed, literal_unmade, named, name_unmade, made, unnamed, unmade}
 use Rattle.ps_values.proofs.values.do_element.Goals as goal
 
 pub execute_name-requires-clause-name : goal.execute_name-requires-clause-name
@@ -28,9 +28,9 @@ returns-in-Name g c =
 
 pub returns-in-Array : goal.returns-in-Array
 returns-in-Array g c =
-    procedure_pushed g.O.Operate.asks c.args.command c.args.word _ c.args.trial _ _ _
-    (sym c.is_executable.ensures ∙ c.if-not-is_executable.false)
-    (sym c.content.ensures ∙ c.in-Array.is) c.push_value-in-Array.ensures
+    procedure_pushed g.O.Operate.asks c.args.command c.args.word _ c.args.trial _ _
+    (made c.args.word _ _ _ (sym c.is_executable.ensures ∙ c.if-not-is_executable.false)
+    (sym c.content.ensures ∙ c.in-Array.is)) c.push_value-in-Array.ensures
 
 pub returns-in_default : goal.returns-in_default
 returns-in_default g c =

@@ -1,46 +1,51 @@
--- Steps ahead, and one of the general way, again and again.
-use Rattle.std.proofs.Common.{◌≢◌, [], ap, length, Ok, Err, arith, ◌∙◌}
-use Rattle.std.proofs.lemmas.Bool.Decides.{nat_tests}
-use Rattle.ps_interpreter.proofs.Making.{made_none, made_then}
-use Rattle.ps_context.proofs.Ahead.{made_and, turned_behind}
+-- Steps of one frame after another.
+use Rattle.std.proofs.Common.{◌+◌, ◌<◌, ◌-◌, arith, Some, None, Ok, Err, refl}
+use Rattle.std.proofs.lemmas.Bool.{true≢false}
+use Rattle.ps_turns.specs.declared.turned.Turned.TheVariants.{Goes}
+use Rattle.ps_interpreter.proofs.Making.{made_none}
+use Rattle.ps_context.specs.Steps.{own_asks}
+use Rattle.ps_context.proofs.Ahead.{goes_behind, runs_then}
 use Rattle.ps_context.proofs.steps.StepsInterpret.run.Goals as goal
 
 pub loop-made-init : goal.loop-made-init
 loop-made-init g c = record { within = omega arith; makes = made_none _ c.requires.steady }
 
-pub returns-then-made-most-clause-runs : goal.returns-then-made-most-clause-runs
-returns-then-made-most-clause-runs g c =
-    made_then _ _ _ _ _ c.loop-made.invariant.makes c.steps_ahead-made.ensures.makes
-
-pub loop-made-preserved : goal.loop-made-preserved
-loop-made-preserved g c =
-    let framed : c.steps_ahead-made.new.context.frames ≢ [] =
-    λ none. c.if-len-eq0.false (c.len.ensures.count ∙ ap length none) in
-    record {
-      within = grind (
-        arith,
-        nat_tests,
-        c.loop-made.invariant.within,
-        c.steps_ahead-made.ensures.within,
-        c.if-made-most.false,
-      );
-      makes = made_and g.O.Operate.asks c.args.slot _ _ _ _
-          (made_then _ _ _ _ _ c.loop-made.invariant.makes c.steps_ahead-made.ensures.makes) framed
-          (rw (c.in-Ok.is, c.in-Goes.is) at c.step.ensures);
-    }
-
-pub returns-in_default-clause-runs : goal.returns-in_default-clause-runs
-returns-in_default-clause-runs g c =
-    let framed : c.steps_ahead-made.new.context.frames ≢ [] =
-    λ none. c.if-len-eq0.false (c.len.ensures.count ∙ ap length none) in
-    turned_behind g.O.Operate.asks c.args.slot _ _ _ _
-    (made_then _ _ _ _ _ c.loop-made.invariant.makes c.steps_ahead-made.ensures.makes) framed
-    (Ok c.in-Ok.turned) (rw c.in-Ok.is at c.step.ensures)
-
 pub returns-in-Err-clause-runs : goal.returns-in-Err-clause-runs
 returns-in-Err-clause-runs g c =
-    let framed : c.steps_ahead-made.new.context.frames ≢ [] =
-    λ none. c.if-len-eq0.false (c.len.ensures.count ∙ ap length none) in
-    turned_behind g.O.Operate.asks c.args.slot _ _ _ _
-    (made_then _ _ _ _ _ c.loop-made.invariant.makes c.steps_ahead-made.ensures.makes) framed
-    (Err c.in-Err.reason) (rw c.in-Err.is at c.step.ensures)
+    runs_then (own_asks g.O.Operate.asks) c.args.slot c.loop-made.made c.run_frame-run.result.made
+    (Some (Err c.in-Err.reason)) _ _ _ c.loop-made.invariant.makes
+    (rw (c.in-Some.is, c.in-Err.is) at c.run_frame-run.ensures.runs)
+
+pub loop-made-preserved-in-Goes : goal.loop-made-preserved-in-Goes
+loop-made-preserved-in-Goes g c =
+    let fewer : c.run_frame-run.result.made < c.args.most - c.loop-made.made =
+    (rw c.in-Some.is at c.run_frame-run.ensures.fewer) refl in
+    record {
+      within = omega (arith, c.loop-made.invariant.within, fewer);
+      makes = goes_behind g.O.Operate.asks c.args.slot
+          (c.loop-made.made + c.run_frame-run.result.made) _ _
+          (runs_then (own_asks g.O.Operate.asks) c.args.slot c.loop-made.made
+          c.run_frame-run.result.made (Some (Ok Goes)) _ _ _ c.loop-made.invariant.makes
+          (rw (c.in-Some.is, c.in-Ok.is, c.in-Goes.is) at c.run_frame-run.ensures.runs));
+    }
+
+pub returns-in_default-turned : goal.returns-in_default-turned
+returns-in_default-turned g c =
+    let fewer : c.run_frame-run.result.made < c.args.most - c.loop-made.made =
+    (rw c.in-Some.is at c.run_frame-run.ensures.fewer) refl in
+    record {
+      within = omega (arith, c.loop-made.invariant.within, c.run_frame-run.ensures.within);
+      fewer = λ some. omega (arith, c.loop-made.invariant.within, fewer);
+      ended = λ none. absurd (true≢false none);
+      runs = runs_then (own_asks g.O.Operate.asks) c.args.slot c.loop-made.made
+          c.run_frame-run.result.made (Some (Ok c.in-Ok.turned)) _ _ _ c.loop-made.invariant.makes
+          (rw (c.in-Some.is, c.in-Ok.is) at c.run_frame-run.ensures.runs);
+    }
+
+pub loop-made-preserved : goal.loop-made-preserved
+loop-made-preserved g c = record {
+  within = omega (arith, c.loop-made.invariant.within, c.run_frame-run.ensures.within);
+  makes = runs_then (own_asks g.O.Operate.asks) c.args.slot c.loop-made.made
+      c.run_frame-run.result.made None _ _ _ c.loop-made.invariant.makes
+      (rw c.in_default.is at c.run_frame-run.ensures.runs);
+}

@@ -1,0 +1,34 @@
+-- What an element of a procedure comes to by operands alone (PLRM2, 3.5).
+use Rattle.std.specs.Prelude.{◌≡◌, true, List, [], ◌∷◌}
+use Rattle.ps_language.specs.Value.{Store}
+use Rattle.ps_word.specs.declared.words.Word.{Word}
+use Rattle.ps_mem.specs.Heap.{Heap, birth_at}
+use Rattle.ps_mem.specs.Shows.{IsValue, IsWithin}
+use Rattle.ps_acts.specs.Lent.{Lent, IsGood}
+use Rattle.ps_turns.specs.Turns.{IsShownWith}
+use Rattle.ps_values.specs.declared.quick.Quick.{Quick}
+use Rattle.ps_values.specs.declared.quick.Quick.TheVariants.{Done, Treats, Left}
+use Rattle.ps_values.specs.Values.{Asks, done_turn, executed_asks, treated_turn, treated_asks, among, GoesIn}
+
+-- doing an element, with itself as the command, is treating this value
+pub record IsTreated (asks : Asks) (word value : Word) (l : Lent) (s : Store) : Type 0 where
+  pub within : IsWithin (birth_at l.heap) l.names s value
+  pub turn : done_turn word word l s ≡ treated_turn word value l s
+  pub asked : executed_asks asks word l s ≡ treated_asks asks value l s
+
+-- whatever else is lent over this heap and by this dictionary stack
+abbrev pub TreatsAs : Asks → Heap → (dictionaries : List Word) → (word value : Word) → Type 0
+TreatsAs asks heap dictionaries word value =
+    (l : Lent) (s : Store) → IsGood (among heap dictionaries l)
+    → IsShownWith (word ∷ word ∷ []) [] (among heap dictionaries l) s
+    → IsTreated asks word value (among heap dictionaries l) s
+
+-- the element is done, or nothing has changed
+abbrev pub ComesTo : Asks → Heap → (dictionaries : List Word) → Word → Quick
+    → (old new : List Word) → Type 0
+ComesTo asks heap dictionaries word Done old new =
+    GoesIn (among heap dictionaries) (word ∷ word ∷ []) (executed_asks asks word)
+    (done_turn word word) true old new
+ComesTo asks heap dictionaries word (Treats value) old new =
+    (new ≡ old) × (IsValue heap value × TreatsAs asks heap dictionaries word value)
+ComesTo asks heap dictionaries word Left old new = new ≡ old
