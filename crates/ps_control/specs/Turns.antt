@@ -2,11 +2,10 @@
 use Rattle.std.specs.Prelude.{◌≡◌, ℕ, Bool, true, false, List, [], ◌∷◌, drop, Option, option_map, IfSome, Result, Ok, Err}
 use Rattle.ps_language.specs.declared.errors.ErrorName.{ErrorName}
 use Rattle.ps_language.specs.declared.operators.Operator.{Operator}
-use Rattle.ps_language.specs.declared.operators.Operator.TheVariants.{Stopped as StoppedOperator}
 use Rattle.ps_language.specs.Value.{Value, Store}
 use Rattle.ps_language.specs.World as world
 use Rattle.ps_language.specs.Effect.{Around}
-use Rattle.ps_language.specs.StepValues.{Turn, goes, breaks, errs, command_of}
+use Rattle.ps_language.specs.StepValues.{Turn, goes, errs, command_of}
 use Rattle.ps_language.specs.StepFrames.{loop_turn, forall_operands}
 use Rattle.ps_language.specs.Machines.{turn_as}
 use Rattle.ps_word.specs.declared.words.Word.{Word}
@@ -71,30 +70,6 @@ ends_at_stopped cause frame = false
 abbrev pub is_monitor : Frame → Bool
 is_monitor (Monitor lock) = true
 is_monitor frame = false
-
--- true: it ends here and the context runs; false: it goes on
-abbrev pub UnwindsAs : (cause : Cause) → Result Bool ErrorName → Turn → Heap
-    → (names : List (List ℕ)) → Store → (dictionaries : List Value) → (after : Stacks) → Type 0
-UnwindsAs cause (Ok true) (goes scene output) h names store dictionaries after =
-    (scene_of h names store dictionaries after ≡ scene) × (output ≡ [])
-UnwindsAs cause (Ok false) (breaks on scene) h names store dictionaries after =
-    (on ≡ cause_of cause) × (scene_of h names store dictionaries after ≡ scene)
-UnwindsAs cause (Err error) (errs raised command kept) h names store dictionaries after =
-    (error ≡ raised) × (command ≡ command_of StoppedOperator)
-    × (kept ≡ scene_of h names store dictionaries after)
-UnwindsAs cause result turn h names store dictionaries after = ⊥
-
--- for every store that the memory shows, a step of an unwinding by its topmost frame
-pub record Unwinds (cause : Cause) (result : Result Bool ErrorName) (h : Heap) (size : ℕ)
-    (before after : Stacks) : Type 0 where
-  pub meets : (around : Around) (names : List (List ℕ)) (store : Store) (dictionaries : List Value)
-      → Shows h names store → IsWithinBoth h names store before →
-      UnwindsAs cause result (turn_as around (world.unwinding (cause_of cause))
-      (scene_of h names store dictionaries before).frames
-      (scene_of h names store dictionaries before)) h names store dictionaries after
-  pub within : (names : List (List ℕ)) (store : Store) → Shows h names store
-      → IsWithinBoth h names store before → IsWithinBoth h names store after
-  pub ready : IsReadyFor h size after
 
 -- ---- loops
 

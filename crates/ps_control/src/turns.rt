@@ -1,4 +1,4 @@
-//! The turns of loops, the end of `stopped`, and unwinding (PLRM2, 3.4, 8 'Operators': Control).
+//! The turns of loops (PLRM2, 3.4, 8 'Operators': Control).
 
 ghost use Rattle.std.specs.Prelude.{◌≡◌, ℕ, ◌+◌, ◌++◌, ◌≤◌, ◌<◌, ◌^◌, Some, OnErr, List, drop, length};
 ghost use Rattle.std.specs.Prelude.{FitsSigned};
@@ -233,20 +233,4 @@ pub fn forall_turn(
         body,
     };
     go_on(operands, frames, pushed, left, body)
-}
-
-/// The frame of `stopped` goes, and a boolean is pushed. Raises `stackoverflow` where there is no
-/// room for it; the frame goes then too.
-pub fn stopped_turn(operands: &mut Operands, frames: &mut Frames) -> Result<(), ErrorName>
-    requires top { first_of frames.old ≡ Some Frame.Stopped }
-    ensures turns { (h : Heap) (size : ℕ) → IsReadyFor h size (stacks operands.old frames.old)
-        → Turns Operator.Stopped result h size (stacks operands.old frames.old)
-        (stacks operands.new frames.new) }
-{
-    leave(frames);
-    if operands.is_full() {
-        return Err(ErrorName::StackOverflow);
-    }
-    push_within(operands, plain::boolean(false));
-    Ok(())
 }

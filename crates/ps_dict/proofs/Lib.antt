@@ -25,6 +25,7 @@ pub mod Removing
 pub mod Taking
 pub mod Fresh
 pub mod Several
+pub mod Appended
 pub mod Granted
 pub mod Entering
 pub mod Errors

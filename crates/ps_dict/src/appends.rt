@@ -3,11 +3,11 @@
 ghost use Rattle.std.specs.Prelude.{◌≡◌, ◌≢◌, ℕ, ◌+◌, ◌*◌, ◌/◌, ◌++◌, ◌≤◌, List, length, map};
 ghost use Rattle.ps_language.specs.Value.{Store};
 ghost use Rattle.ps_language.specs.Access.{dictionary_at, with_dictionary};
-ghost use Rattle.ps_mem.specs.Heap.{birth_at, object_at, stored};
+ghost use Rattle.ps_mem.specs.Heap.{Heap, birth_at, object_at, stored};
 ghost use Rattle.ps_mem.specs.Index.{pairs_of_words, index_words};
 ghost use Rattle.ps_mem.specs.Keeps.{Keeps};
 ghost use Rattle.ps_mem.specs.References.{StandsAs};
-ghost use Rattle.ps_mem.specs.Shows.{AreValues, IsSound, AreWithin, Shows, pair_of};
+ghost use Rattle.ps_mem.specs.Shows.{AreValues, AreWithin, IsNatural, IsSound, IsValue, Shows, pair_of};
 ghost use Rattle.ps_dict.specs.Places.{count_at, capacity_at, body_at, pairs_at};
 ghost use Rattle.ps_dict.specs.Puts.{AfterChange};
 
@@ -45,6 +45,15 @@ fn index_pairs<M: Memory>(memory: &mut M, slot: u32, address: u32, words: &[Word
     }
 }
 
+/// The word of a number of pairs with some more, given by their words.
+fn count_with(count: u32, words: &[Word]) -> Word
+    requires { count + length words.now / 2 ≤ 21845 }
+    ensures value { IsNatural result (count + length words.now / 2) }
+    ensures held { (h : Heap) → IsValue h result }
+{
+    natural_word(count + (words.len() / 2) as u32)
+}
+
 /// Puts new pairs, given by their words, key before value, behind those of a dictionary that has
 /// room for them: in a cycle one record for each position in the index, one for the pairs, and one
 /// for their number.
@@ -76,7 +85,7 @@ pub(crate) fn append_pairs<M: Memory>(memory: &mut M, slot: u32, address: u32, w
 {
     let count = length(memory, address);
     let body = body(memory, address);
-    let more = natural_word(count + (words.len() / 2) as u32);
+    let more = count_with(count, words);
     index_pairs(memory, slot, address, words);
     memory.store(slot, body, 2 * count, words);
     memory.store(slot, address, COUNT, &[more]);

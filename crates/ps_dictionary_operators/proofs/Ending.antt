@@ -1,5 +1,5 @@
 -- What `>>` comes to.
-use Rattle.std.proofs.Common.{◌≡◌, ◌≢◌, ℕ, zero, suc, ◌+◌, ◌-◌, ◌≤◌, ◌++◌, arith, inl, inr, AllPairs, length-append, Bool, true, false, List, [], ◌∷◌, drop, take, length, Option, Some, None, Err, refl, sym, ap, subst, ◌∙◌, append-nil}
+use Rattle.std.proofs.Common.{◌≡◌, ◌≢◌, ℕ, ◌+◌, ◌-◌, ◌≤◌, ◌++◌, arith, inl, inr, AllPairs, length-append, Bool, true, false, List, [], ◌∷◌, drop, take, length, Option, Some, None, Err, refl, sym, ap, subst, ◌∙◌, append-nil}
 use Rattle.std.specs.Prelude.{nat_le, reverse}
 use Rattle.std.proofs.lemmas.Bool.Decides.{nat_tests}
 use Rattle.ps_language.specs.declared.errors.ErrorName.{ErrorName}
@@ -21,20 +21,19 @@ use Rattle.ps_mem.specs.Heap.{Grants, birth_at}
 use Rattle.ps_mem.specs.Shows.{AreWithin, Shows}
 use Rattle.ps_operands.specs.Marks.{IsMarkAt}
 use Rattle.ps_ops.specs.declared.failure.NotMade.{NotMade as Reason}
-use Rattle.ps_ops.specs.declared.failure.NotMade.TheVariants.{LogFull, LogClosed, NeedSpace, Memory}
-use Rattle.ps_ops.specs.Does.{KeepsLogsWithin, most_records, values_in}
+use Rattle.ps_ops.specs.Does.{KeepsLogsWithin, values_in}
 use Rattle.ps_ops.proofs.Tops.{top_elements, top_within}
 use Rattle.ps_acts.specs.declared.breaks.Break.{Break}
 use Rattle.ps_acts.specs.declared.breaks.Break.TheVariants.{Unwinds, Raises, NotMade}
 use Rattle.ps_acts.specs.declared.lent.Trial.{Trial}
-use Rattle.ps_acts.specs.Lent.{Lent, Rooms, scene_of, IsShown, IsGood}
-use Rattle.ps_acts.specs.Acts.{needs_of_refused, IsReason, effect_in, Acts}
+use Rattle.ps_acts.specs.Lent.{Lent, scene_of, IsShown, IsGood}
+use Rattle.ps_acts.specs.Acts.{effect_in, Acts}
 use Rattle.ps_acts.proofs.Acting.{naming_acts, raised_acts}
 use Rattle.ps_acts.proofs.Forming.{Lacks, formed_good, refused_acts, unnoted_acts, cut_names}
 use Rattle.ps_acts.proofs.Meeting.{at_least-same, logs-same}
 use Rattle.ps_dictionary_operators.specs.Asks.{end_dict_asks}
-use Rattle.ps_dictionary_operators.specs.Puts.{IsLack, IsRefusal}
-use Rattle.ps_dictionary_operators.proofs.Putting.{lacks_some}
+use Rattle.ps_dictionary_operators.specs.Puts.{IsRefusal}
+use Rattle.ps_dictionary_operators.proofs.Putting.{lacks_some, note_lack}
 use Rattle.ps_dictionary_operators.specs.Literals.{IsNamesFault, making_pairs, met_among, tested}
 
 -- ---- the row by its tests
@@ -68,17 +67,6 @@ end_row_is names store operands above rest split =
 none_of : (ns : List (List ℕ)) → length ns ≡ 0 → ns ≡ []
 none_of [] none = refl
 none_of (n ∷ ns) none = absurd (omega (arith, none))
-
-note_lack : (l : Lent) (trial : Trial) (grants : Grants) (scratch : Rooms) (n : ℕ) → 1 ≤ n
-    → (reason : Reason) → IsLack most_records 0 trial.slot l.heap l.grants grants reason
-    → IsReason (needs_of_refused scratch n) trial.slot l (record l { grants = grants }) reason
-note_lack l trial grants scratch zero some reason why = absurd (omega (arith, some))
-note_lack l trial grants scratch (suc n) some LogFull why = why
-note_lack l trial grants scratch (suc n) some LogClosed why = why
-note_lack l trial grants scratch (suc n) some (NeedSpace words) why =
-    let none = why.1 in absurd (omega (arith, none))
-note_lack l trial grants scratch (suc n) some Memory why =
-    let none = why.0 in absurd (omega (arith, none))
 
 module _ (l : Lent) (depth : ℕ) (mark : IsMarkAt l.operands depth) (elements : List Word)
     (are : elements ≡ reverse (take depth l.operands)) where

@@ -1,5 +1,5 @@
 -- What a put leaves, and what it lacks.
-use Rattle.std.proofs.Common.{◌≡◌, ◌≢◌, ℕ, ◌-◌, ◌≤◌, ◌<◌, arith, Bool, true, false, [], drop, length, Option, Some, None, Ok, Err, refl, sym, ap, subst, ◌∙◌, inl, inr, append-nil}
+use Rattle.std.proofs.Common.{◌≡◌, ◌≢◌, ℕ, zero, suc, ◌-◌, ◌≤◌, ◌<◌, arith, Bool, true, false, [], drop, length, Option, Some, None, Ok, Err, refl, sym, ap, subst, ◌∙◌, inl, inr, append-nil}
 use Rattle.std.specs.Prelude.{IsTrue, not, ◌&&◌, ◌==◌}
 use Rattle.std.proofs.lemmas.Bool.Decides.{nat_tests}
 use Rattle.std.proofs.lemmas.List.{drop-map, length-set}
@@ -31,11 +31,11 @@ use Rattle.ps_ops.specs.Does.{KeepsLogsWithin, most_records, values_in}
 use Rattle.ps_ops.proofs.Held.{rest_held}
 use Rattle.ps_acts.specs.declared.breaks.Break.TheVariants.{NotMade}
 use Rattle.ps_acts.specs.declared.lent.Trial.{Trial}
-use Rattle.ps_acts.specs.Lent.{Lent, scene_of, IsShown, IsGood}
-use Rattle.ps_acts.specs.Acts.{effect_in, needs_between, IsReason, Lasts, Acts, over}
+use Rattle.ps_acts.specs.Lent.{Lent, Rooms, scene_of, IsShown, IsGood}
+use Rattle.ps_acts.specs.Acts.{effect_in, needs_between, needs_of_refused, IsReason, Lasts, Acts, over}
 use Rattle.ps_acts.proofs.Acting.{left_acts, wanting_acts}
 use Rattle.ps_acts.proofs.Lifts.{changed_good, changed_left}
-use Rattle.ps_acts.proofs.Meeting.{at_least-same, stays_as}
+use Rattle.ps_acts.proofs.Meeting.{at_least-same, logs_more, stays_as}
 use Rattle.ps_dictionary_operators.specs.Puts.{putting, putting_asks, IsLack}
 use Rattle.ps_dictionary_operators.proofs.Growths.{put_room}
 
@@ -67,21 +67,6 @@ few_records Append = omega arith
 few_records (Grow capacity) = omega arith
 few_records Full = omega arith
 
-more_records : (few most : ℕ) (old new : Grants) (slot : ℕ) → few ≤ most
-    → KeepsLogsWithin few old new slot → KeepsLogsWithin most old new slot
-more_records few most old new slot more logs =
-    let used = logs.used in
-    let put = logs.put in
-    record {
-      cycle_open = logs.cycle_open;
-      closed = logs.closed;
-      others = logs.others;
-      used = omega (arith, used, more);
-      kept = logs.kept;
-      put = omega (arith, put, more);
-      put_no_other = logs.put_no_other;
-    }
-
 pub enough_room : (refused : Bool) (words : ℕ) → (IsTrue refused → words ≡ 0)
     → refused && not (words == 0) ≡ false
 enough_room true words none = rw (none refl) refl
@@ -92,6 +77,20 @@ pub lacks_some : (refused : Bool) (words : ℕ) → refused ≡ true → 0 < wor
 lacks_some true words is some =
     let asks : (words == 0) ≡ false = grind (arith, nat_tests, some) in rw asks refl
 lacks_some false words is some = absurd (cc)
+
+-- ---- the note of a refused step
+
+-- the log lacks its records
+pub note_lack : (l : Lent) (trial : Trial) (grants : Grants) (scratch : Rooms) (n : ℕ) → 1 ≤ n
+    → (reason : Reason) → IsLack most_records 0 trial.slot l.heap l.grants grants reason
+    → IsReason (needs_of_refused scratch n) trial.slot l (record l { grants = grants }) reason
+note_lack l trial grants scratch zero some reason why = absurd (omega (arith, some))
+note_lack l trial grants scratch (suc n) some LogFull why = why
+note_lack l trial grants scratch (suc n) some LogClosed why = why
+note_lack l trial grants scratch (suc n) some (NeedSpace words) why =
+    let none = why.1 in absurd (omega (arith, none))
+note_lack l trial grants scratch (suc n) some Memory why =
+    let none = why.0 in absurd (omega (arith, none))
 
 -- ---- a pair is put
 
@@ -243,7 +242,7 @@ module _ (l : Lent) (good : IsGood l) (a : ℕ) (k x : Word) (count : ℕ) (plan
         (changed_good l good new left words keeps
         (record { sound = sound; values = AreValues-kept l.heap new keeps words held }))
         keeps (stays_as l _ refl refl refl (omega arith) (at_least-same _))
-        (more_records _ most_records l.grants left trial.slot (few_records plan) logs)
+        (logs_more _ most_records l.grants left trial.slot (few_records plan) logs)
         λ store shown.
         let is_left = changed_left l good new left words keeps store (left_store store shown)
         (lasts store shown) shown (shows store shown _ (held_then store shown).1)

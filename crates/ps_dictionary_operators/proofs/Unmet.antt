@@ -32,8 +32,7 @@ use Rattle.ps_dict.proofs.Probing.{few-places}
 use Rattle.ps_dict.proofs.Shapes.{count-fits, count-shown}
 use Rattle.ps_names.specs.Names.{AreNames}
 use Rattle.ps_ops.specs.declared.failure.NotMade.{NotMade as Reason}
-use Rattle.ps_ops.specs.declared.failure.NotMade.TheVariants.{LogFull, LogClosed, NeedSpace, Memory}
-use Rattle.ps_ops.specs.Does.{KeepsLogsWithin, most_records, values_in}
+use Rattle.ps_ops.specs.Does.{KeepsLogsWithin, values_in}
 use Rattle.ps_control.specs.declared.frames.Cause.{Cause}
 use Rattle.ps_acts.specs.declared.breaks.Break.{Break}
 use Rattle.ps_acts.specs.declared.breaks.Break.TheVariants.{Unwinds, Raises, NotMade}
@@ -48,9 +47,9 @@ use Rattle.ps_keys.specs.declared.keys.Key.TheVariants.{Met, Unmet, TooLong}
 use Rattle.ps_keys.specs.Keys.{IsNameOf, IsNamed, IsKeyIn, IsKeyWord, IsKeyOf, IsForming, names_with, word_in}
 use Rattle.ps_keys.proofs.Formed.{key_forms, formed_is, unformed_is}
 use Rattle.ps_keys.proofs.Keying.{unmet_missing, last_named, named_value, named_within}
-use Rattle.ps_dictionary_operators.specs.Puts.{IsLack, IsRefusal, putting, putting_asks, putting_key, putting_key_asks}
+use Rattle.ps_dictionary_operators.specs.Puts.{IsRefusal, putting, putting_asks, putting_key, putting_key_asks}
 use Rattle.ps_dictionary_operators.proofs.Keyed.{keyed_effects, keyed_asks}
-use Rattle.ps_dictionary_operators.proofs.Putting.{left_scene, effect_is, lacking}
+use Rattle.ps_dictionary_operators.proofs.Putting.{left_scene, effect_is, lacking, note_lack}
 
 -- ---- places and plans
 
@@ -393,15 +392,6 @@ module _ (l : Lent) (good : IsGood l) (a : ℕ) (k x : Word) (count : ℕ)
                     inside_formed store there refused some;
               }
 
-          note_lack : (reason : Reason)
-              → IsLack most_records 0 trial.slot l.heap l.grants grants reason
-              → IsReason (needs_of_refused no_rooms 1) trial.slot l (record l { grants = grants })
-              reason
-          note_lack LogFull why = why
-          note_lack LogClosed why = why
-          note_lack (NeedSpace words) why = let none = why.1 in absurd (omega (arith, none))
-          note_lack Memory why = let none = why.0 in absurd (omega (arith, none))
-
           one_more : length names - length l.names ≡ 1
           one_more =
               let size = ap length named.are ∙ length-append l.names more in omega (arith, size)
@@ -425,5 +415,6 @@ module _ (l : Lent) (good : IsGood l) (a : ℕ) (k x : Word) (count : ℕ)
               (record l { grants = grants; names = ns })) (sym same)
               (unnoted_acts l more names named.are row trial grants asks good logs reason lacks
               (λ store. subst (λ (n : ℕ). IsReason (needs_of_refused no_rooms n) trial.slot l
-              (record l { grants = grants }) reason) (sym one_more) (note_lack reason it.1)))
+              (record l { grants = grants }) reason) (sym one_more)
+              (note_lack l trial grants no_rooms 1 (omega arith) reason it.1)))
           unmet_refused after place place_is (Unwinds cause) it = absurd it

@@ -25,13 +25,10 @@ use ps_language::kinds::Kind;
 use ps_mem::{Memory, SLOTS};
 use ps_names::Names;
 use ps_ops::arrays::is_writable;
-use ps_ops::changes::permitted;
+use ps_ops::changes::{MOST_RECORDS, permitted};
 use ps_ops::failure::NotMade;
 use ps_ops::makes::granted;
 use ps_word::words::Word;
-
-/// The records that the note of an error asks for at most.
-const NOTE_RECORDS: u32 = 5;
 
 /// A pair that is put into the dictionary at an address, and how many operands go.
 #[derive(Clone, Copy)]
@@ -165,7 +162,7 @@ pub(crate) fn refuse<M: Memory>(names: &mut Names, memory: &mut M, slot: u32, co
     ensures refused { IsRefusal slot (M.heap memory.old) names.old names.new count
         (M.grants memory.old) (M.grants memory.new) result }
 {
-    match asked(memory, slot, NOTE_RECORDS, 0) {
+    match asked(memory, slot, MOST_RECORDS, 0) {
         Ok(()) => Break::Raises(ErrorName::VmError),
         Err(reason) => {
             names.truncate(count);

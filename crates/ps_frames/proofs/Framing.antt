@@ -1,7 +1,7 @@
 -- Turns over other frames, which are put back where the step is not made.
-use Rattle.std.proofs.Common.{◌≡◌, ℕ, Bool, List, drop, length, Ok, Err, refl, sym, ap, subst, ◌∙◌}
+use Rattle.std.proofs.Common.{◌≡◌, ℕ, List, drop, length, Ok, Err, refl, sym, ap, subst, ◌∙◌}
 use Rattle.ps_language.specs.Value.{Store}
-use Rattle.ps_language.specs.StepValues.{Turn, goes, tries, breaks, errs, asks as leaves_to, leads}
+use Rattle.ps_language.specs.StepValues.{Turn, leads}
 use Rattle.ps_mem.specs.Heap.{birth_at}
 use Rattle.ps_ops.specs.declared.failure.NotMade.{NotMade as Reason}
 use Rattle.ps_ops.specs.declared.failure.NotMade.TheVariants.{LogFull, LogClosed, NeedSpace, Memory}
@@ -14,7 +14,7 @@ use Rattle.ps_acts.specs.Acts.{Asked, Needs, IsReason}
 use Rattle.ps_acts.proofs.Kept.{frames-good}
 use Rattle.ps_turns.specs.declared.turned.Turned.TheVariants.{Goes}
 use Rattle.ps_turns.specs.Turns.{TurnsOver, Turns, turn_needs, needs_in, nothing_more}
-use Rattle.ps_turns.proofs.Composing.{AreGood, goes_on}
+use Rattle.ps_turns.proofs.Composing.{AreGood, here_good, needs_same, goes_on}
 
 -- ---- frames below the topmost
 
@@ -33,12 +33,8 @@ below_good l good = record {
 pub goes_here : (l : Lent) → IsGood l → (turn : Lent → Store → Turn) (trial : Trial)
     → ((s : Store) → IsShown l s → turn l s ≡ leads (scene_of l s))
     → Turns nothing_more turn trial (Ok Goes) l l
-goes_here l good turn trial is = goes_on l l.operands l.frames nothing_more turn trial (record {
-  operands_held = good.operands;
-  frames_held = good.frames;
-  operands_within = λ s shown. shown.operands;
-  frames_within = λ s shown. shown.frames;
-}) is good
+goes_here l good turn trial is =
+    goes_on l l.operands l.frames nothing_more turn trial (here_good l good) is good
 
 -- ---- a turn over other frames
 
@@ -50,15 +46,6 @@ module _ (l : Lent) (frames : List Frame) where
   reason_as needs slot new LogClosed why = why
   reason_as needs slot new (NeedSpace words) why = why
   reason_as needs slot new Memory why = why
-
-  needs_as : (refused : Bool) (asked : Asked) (birth : ℕ) (s : Store) (turn : Turn)
-      → turn_needs refused asked birth (scene_of (record l { frames = frames }) s) turn
-      ≡ turn_needs refused asked birth (scene_of l s) turn
-  needs_as refused asked birth s (goes scene output) = refl
-  needs_as refused asked birth s (tries command kept scene output) = refl
-  needs_as refused asked birth s (breaks cause scene) = refl
-  needs_as refused asked birth s (errs error command kept) = refl
-  needs_as refused asked birth s (leaves_to calling kept) = refl
 
   -- not made; the frames are put back
   pub unmade_over : (asks over_asks : Lent → Store → Asked) (turn over : Lent → Store → Turn)
@@ -75,7 +62,7 @@ module _ (l : Lent) (frames : List Frame) where
         let birth : ℕ = birth_at l.heap l.error_dictionary in
         let needs : needs_in trial over_asks over (record l { frames = frames }) s
         ≡ needs_in trial asks turn l s =
-        needs_as trial.refused (over_asks (record l { frames = frames }) s) birth s
+        needs_same l l.operands frames trial.refused (over_asks (record l { frames = frames }) s) birth s
         (over (record l { frames = frames }) s)
         ∙ (λ i. turn_needs trial.refused (asked s shown i) birth (scene_of l s)
         (same s shown i)) in

@@ -1,5 +1,5 @@
 -- A store where a lock is freed, and the step that frees it.
-use Rattle.std.proofs.Common.{◌≡◌, ℕ, ◌≤◌, arith, List, [], ◌∷◌, drop, length, Option, Some, None, Ok, Err, refl, sym, ap, subst, ◌∙◌, inl, inr}
+use Rattle.std.proofs.Common.{◌≡◌, ℕ, arith, List, [], ◌∷◌, drop, length, Option, Some, None, Ok, Err, refl, sym, ap, subst, ◌∙◌, inl, inr}
 use Rattle.std.specs.Prelude.{slice_get, slice_set}
 use Rattle.std.proofs.lemmas.Bool.Decides.{eqb_tells}
 use Rattle.ps_language.specs.Value.{Object, lock_object, Store}
@@ -14,21 +14,21 @@ use Rattle.ps_mem.specs.Keeps.{Keeps}
 use Rattle.ps_mem.specs.Shows.{IsSound, Shows}
 use Rattle.ps_mem.proofs.Lists.{slice_get-set_same, slice_get-set_other}
 use Rattle.ps_ops.specs.declared.failure.NotMade.{NotMade as Reason}
-use Rattle.ps_ops.specs.declared.failure.NotMade.TheVariants.{LogFull, LogClosed, NeedSpace, Memory}
 use Rattle.ps_ops.specs.Does.{KeepsLogsWithin, most_records}
 use Rattle.ps_control.specs.declared.frames.Frame.TheVariants.{Monitor}
 use Rattle.ps_control.specs.Frames.{frames_in, IsFrame, AreFrames}
 use Rattle.ps_acts.specs.declared.lent.Trial.{Trial}
-use Rattle.ps_acts.specs.Acts.{Lasts, Needs, IsReason}
+use Rattle.ps_acts.specs.Acts.{Lasts}
 use Rattle.ps_acts.specs.Lent.{Lent, scene_of, around_of, IsGood}
 use Rattle.ps_acts.proofs.Meeting.{at_least-same, logs_more}
 use Rattle.ps_turns.specs.declared.turned.Turned.TheVariants.{Goes}
 use Rattle.ps_turns.specs.Turns.{IsUnlogged, Turns, turn_needs, needs_in}
+use Rattle.ps_turns.proofs.Unlogged.{unlogged_reason}
 use Rattle.ps_frames.specs.Steps.{running_turn, lock_asks}
 use Rattle.ps_frames.proofs.Framing.{below_good}
 use Rattle.ps_frames.proofs.Locking.{lock_shown}
 use Rattle.ps_frames.proofs.Rooming.{not_turned}
-use Rattle.ps_frames.proofs.Storing.{goes_as, stored_on}
+use Rattle.ps_turns.proofs.Storing.{goes_as, stored_on}
 
 -- ---- the store
 
@@ -80,14 +80,6 @@ module _ (l : Lent) (good : IsGood l) (lock : ℕ)
       ap (λ (t : Turn). (turn_needs trial.refused (lock_asks l s)
       (birth_at l.heap l.error_dictionary) (scene_of l s) t).records) (monitor_is s)
 
-  pub unlogged : (grants : Grants) (reason : Reason)
-      → IsUnlogged 1 trial.slot l.grants grants reason → (needs : Needs) → 1 ≤ needs.records
-      → IsReason needs trial.slot l (record l { grants = grants }) reason
-  unlogged grants LogFull why needs is = let less = why.1 in (why.0, omega (arith, less, is))
-  unlogged grants LogClosed why needs is = (is, why)
-  unlogged grants (NeedSpace words) why needs is = absurd why
-  unlogged grants Memory why needs is = absurd why
-
   pub monitor_unmade : (grants : Grants) → KeepsLogsWithin 0 l.grants grants trial.slot
       → (reason : Reason) → IsUnlogged 1 trial.slot l.grants grants reason
       → Turns lock_asks running_turn trial (Err reason) l (record l { grants = grants })
@@ -95,7 +87,9 @@ module _ (l : Lent) (good : IsGood l) (lock : ℕ)
       not_turned l l.scratch good.empty (at_least-same _) good grants l.room
       (omega arith) lock_asks running_turn trial
       reason logs λ s shown.
-      unlogged grants reason why _ (let one = monitor_records s in omega (arith, one))
+      unlogged_reason trial.slot 1 (omega arith) l (record l { grants = grants }) reason why
+      (needs_in trial lock_asks running_turn l s)
+      (let one = monitor_records s in omega (arith, one))
 
   pub monitor_goes : (heap : Heap) (grants : Grants) → Keeps l.heap heap → IsSound heap
       → KeepsLogsWithin 1 l.grants grants trial.slot

@@ -1,62 +1,27 @@
 -- Unwindings, by the frame that goes.
-use Rattle.std.proofs.Common.{◌≡◌, ℕ, Bool, true, false, List, ◌∷◌, drop, length, Some, Ok, refl, sym, ap, subst, ◌∙◌}
+use Rattle.std.proofs.Common.{◌≡◌, ℕ, Bool, true, false, List, ◌∷◌, drop, Some, Ok, refl, sym, ap, subst, ◌∙◌}
 use Rattle.std.specs.Prelude.{Result}
-use Rattle.ps_language.specs.Value.{Value, Store}
-use Rattle.ps_language.specs.World as world
-use Rattle.ps_language.specs.Effect.{Scene}
-use Rattle.ps_language.specs.StepValues.{Turn, goes, tries, breaks, errs, asks as leaves_to, leads}
-use Rattle.ps_language.specs.StepFrames.{unwound_turn, stopped_turn}
+use Rattle.ps_language.specs.Value.{Store}
+use Rattle.ps_language.specs.StepValues.{Turn}
+use Rattle.ps_language.specs.StepFrames.{unwound_turn}
 use Rattle.ps_stacks.specs.Tops.{first_of}
-use Rattle.ps_mem.specs.Heap.{Heap, birth_at}
+use Rattle.ps_mem.specs.Heap.{birth_at}
 use Rattle.ps_ops.specs.declared.failure.NotMade.{NotMade as Reason}
-use Rattle.ps_ops.specs.Does.{values_in}
 use Rattle.ps_ops.proofs.Operands.{first_split}
 use Rattle.ps_control.specs.declared.frames.Frame.{Frame}
 use Rattle.ps_control.specs.declared.frames.Frame.TheVariants.{Text, Procedure, Pending, Repeat, Loop, For, Forall, Stopped, Monitor, Bind}
 use Rattle.ps_control.specs.declared.frames.Cause.{Cause}
-use Rattle.ps_control.specs.declared.frames.Cause.TheVariants.{Stop}
 use Rattle.ps_control.specs.Frames.{frame_of, frames_in}
-use Rattle.ps_control.specs.Controls as controls
-use Rattle.ps_control.specs.Turns.{cause_of, ends_at_loop, ends_at_stopped, is_monitor, UnwindsAs}
-use Rattle.ps_control.proofs.FramesLeft.{unwinds_ended, unwinds_left}
+use Rattle.ps_control.specs.Turns.{cause_of, ends_at_loop, ends_at_stopped, is_monitor}
+use Rattle.ps_control.proofs.FramesLeft.{left, ended, stopped_ended}
 use Rattle.ps_acts.specs.declared.lent.Trial.{Trial}
-use Rattle.ps_acts.specs.Lent.{Lent, scene_of, around_of, IsShown, IsGood}
-use Rattle.ps_acts.proofs.Lifts.{ready}
+use Rattle.ps_acts.specs.Lent.{Lent, scene_of, IsShown, IsGood}
 use Rattle.ps_turns.specs.declared.turned.Turned.{Turned}
 use Rattle.ps_turns.specs.declared.turned.Turned.TheVariants.{Goes}
 use Rattle.ps_turns.specs.Turns.{Turns, break_turn, nothing_more}
 use Rattle.ps_frames.specs.Steps.{unwinding_turn, gone_turn, truth_turn, unwinding_asks, unwound_asks, with_frames}
 use Rattle.ps_turns.proofs.Composing.{turns_as}
 use Rattle.ps_frames.proofs.Framing.{goes_here}
-
--- ---- by what operands and frames came to
-
-module _ (cause : Cause) (h : Heap) (names : List (List ℕ)) (store : Store)
-    (dictionaries : List Value) (after : controls.Stacks) where
-  ended_as : (turn : Turn) → UnwindsAs cause (Ok true) turn h names store dictionaries after
-      → leads (controls.scene_of h names store dictionaries after) ≡ turn
-  ended_as (goes scene output) did = λ i. goes (did.0 i) (sym did.1 i)
-  ended_as (tries command kept scene output) did = absurd did
-  ended_as (breaks on scene) did = absurd did
-  ended_as (errs error command kept) did = absurd did
-  ended_as (leaves_to calling kept) did = absurd did
-
-  left_as : (turn : Turn) → UnwindsAs cause (Ok false) turn h names store dictionaries after
-      → breaks (cause_of cause) (controls.scene_of h names store dictionaries after) ≡ turn
-  left_as (breaks on scene) did = λ i. breaks (sym did.0 i) (did.1 i)
-  left_as (goes scene output) did = absurd did
-  left_as (tries command kept scene output) did = absurd did
-  left_as (errs error command kept) did = absurd did
-  left_as (leaves_to calling kept) did = absurd did
-
--- the frame of stopped ends one for stop
-stopped_ended : (births : ℕ → ℕ) (names : List (List ℕ)) (below : List world.Frame) (scene : Scene)
-    (cause : Cause) (frame : Frame) → ends_at_stopped cause frame ≡ true
-    → stopped_turn true below scene
-    ≡ unwound_turn (cause_of cause) (frame_of births names frame) below scene
-unfolding unwound_turn
-stopped_ended births names below scene Stop Stopped is = refl
-stopped_ended births names below scene cause frame is = cc
 
 module _ (l : Lent) (good : IsGood l) (cause : Cause) (top : Frame)
     (is : Some top ≡ first_of l.frames) where
@@ -75,21 +40,15 @@ module _ (l : Lent) (good : IsGood l) (cause : Cause) (top : Frame)
           → gone_turn loop stopped cause (with_frames (drop 1 l.frames) l) s
           ≡ unwinding_turn cause l s
       by true stopped loop_is stopped_is =
-          ended_as cause l.heap l.names s (values_in l.heap l.names l.dictionaries)
-          (controls.stacks l.operands (drop 1 l.frames)) (unwinding_turn cause l s)
-          ((unwinds_ended l.heap (length l.program) l.operands l.frames (ready good) cause top is
-          loop_is).meets (around_of l) l.names s (values_in l.heap l.names l.dictionaries)
-          shown.shows (record { operands = shown.operands; frames = shown.frames }))
+          sym (ended (birth_at l.heap) l.names (frames_in l.heap l.names (drop 1 l.frames))
+          (scene_of l s) cause top loop_is) ∙ unwound_is s
       by false true loop_is stopped_is =
-          stopped_ended (birth_at l.heap) l.names (frames_in l.heap l.names (drop 1 l.frames))
-          (scene_of l s) cause top stopped_is ∙ unwound_is s
+          sym (stopped_ended (birth_at l.heap) l.names
+          (frames_in l.heap l.names (drop 1 l.frames)) (scene_of l s) cause top stopped_is)
+          ∙ unwound_is s
       by false false loop_is stopped_is =
-          left_as cause l.heap l.names s (values_in l.heap l.names l.dictionaries)
-          (controls.stacks l.operands (drop 1 l.frames)) (unwinding_turn cause l s)
-          ((unwinds_left l.heap (length l.program) l.operands l.frames (ready good) cause top is
-          free loop_is stopped_is).meets (around_of l) l.names s
-          (values_in l.heap l.names l.dictionaries) shown.shows
-          (record { operands = shown.operands; frames = shown.frames }))
+          sym (left (birth_at l.heap) l.names (frames_in l.heap l.names (drop 1 l.frames))
+          (scene_of l s) cause top free loop_is stopped_is) ∙ unwound_is s
 
 -- ---- once the frame has gone
 

@@ -13,7 +13,6 @@ pub mod Rewriting
 pub mod Rooming
 pub mod Settling
 pub mod Stepping
-pub mod Storing
 pub mod Taking
 pub mod Telling
 pub mod Unchanged

@@ -19,7 +19,6 @@ use Rattle.ps_mem.specs.References.{StandsAs}
 use Rattle.ps_mem.specs.Shows.{IsSound, Shows}
 use Rattle.ps_language.specs.declared.kinds.Kind.TheVariants.{Lock as LockKind}
 use Rattle.ps_ops.specs.declared.failure.NotMade.{NotMade as Reason}
-use Rattle.ps_ops.specs.declared.failure.NotMade.TheVariants.{LogFull, LogClosed, NeedSpace, Memory}
 use Rattle.ps_ops.specs.Does.{KeepsLogsWithin, most_records}
 use Rattle.ps_control.specs.declared.frames.Cause.{Cause}
 use Rattle.ps_control.specs.declared.frames.Cause.TheVariants.{Stop, Exit, Quit}
@@ -28,17 +27,17 @@ use Rattle.ps_control.specs.declared.frames.Frame.TheVariants.{Monitor}
 use Rattle.ps_control.specs.Frames.{frames_in}
 use Rattle.ps_control.specs.Turns.{cause_of}
 use Rattle.ps_acts.specs.declared.lent.Trial.{Trial}
-use Rattle.ps_acts.specs.Acts.{Needs, IsReason}
 use Rattle.ps_acts.specs.Lent.{Lent, scene_of, around_of, IsShown, IsGood}
 use Rattle.ps_acts.proofs.Meeting.{at_least-same, logs_more}
 use Rattle.ps_turns.specs.Turns.{IsUnlogged, IsUnderWay, Turns, is_told, needs_in, reached_by, status_of, lines_after}
 use Rattle.ps_turns.proofs.Breaking.{ended, quits, exits, stops_untold}
-use Rattle.ps_turns.proofs.Composing.{AreGood}
+use Rattle.ps_turns.proofs.Composing.{here_good}
+use Rattle.ps_turns.proofs.Unlogged.{unlogged_reason}
 use Rattle.ps_frames.specs.Steps.{lock_asks, releasing_turn, tells, unwinding_turn, unwinding_asks, unwound_asks, untold, with_frames}
 use Rattle.ps_frames.proofs.Freeing.{free, bytes_free, dictionary_free, lasts_free}
 use Rattle.ps_frames.proofs.Locking.{lock_shown}
 use Rattle.ps_frames.proofs.Rooming.{not_turned}
-use Rattle.ps_frames.proofs.Storing.{stored_on}
+use Rattle.ps_turns.proofs.Storing.{stored_on}
 
 -- ---- the machine
 
@@ -153,24 +152,6 @@ module _ (l : Lent) (good : IsGood l) (lock : ℕ) (known : StandsAs l.heap Lock
   release_records Exit s b is = ap (λ (c : Bool). if c then 2 else 1) is
   release_records Quit s b is = ap (λ (c : Bool). if c then 2 else 1) is
 
-  reason_of : (count : ℕ) → 1 ≤ count → (grants : Grants) (reason : Reason)
-      → IsUnlogged count trial.slot l.grants grants reason → (needs : Needs)
-      → count ≤ needs.records
-      → IsReason needs trial.slot l (record l { grants = grants }) reason
-  reason_of count some grants LogFull why needs is =
-      let less = why.1 in (why.0, omega (arith, less, is))
-  reason_of count some grants LogClosed why needs is = (omega (arith, some, is), why)
-  reason_of count some grants (NeedSpace words) why needs is = absurd why
-  reason_of count some grants Memory why needs is = absurd why
-
-  pub here_good : AreGood l l.operands l.frames
-  here_good = record {
-    operands_held = good.operands;
-    frames_held = good.frames;
-    operands_within = λ s shown. shown.operands;
-    frames_within = λ s shown. shown.frames;
-  }
-
   module _ (cause : Cause) (b : Bool) (is : (s : Store) → IsShown l s
       → tells (cause_of cause) (scene_of l s).frames (dictionary_at s birth) ≡ b) where
     is_freed : (s : Store) → IsShown l s
@@ -194,7 +175,8 @@ module _ (l : Lent) (good : IsGood l) (lock : ℕ) (known : StandsAs l.heap Lock
         not_turned l l.scratch good.empty (at_least-same _) good grants l.room
         (omega arith) lock_asks
         (releasing_turn cause lock) trial reason logs λ s shown.
-        reason_of count some grants reason why _
+        unlogged_reason trial.slot count some l (record l { grants = grants }) reason why
+        (needs_in trial lock_asks (releasing_turn cause lock) l s)
         (let asked = asked_records s shown in omega (arith, asked, all))
 
   -- nothing is told
@@ -207,7 +189,7 @@ module _ (l : Lent) (good : IsGood l) (lock : ℕ) (known : StandsAs l.heap Lock
       → Turns lock_asks (releasing_turn cause lock) trial (Ok (untold cause l.frames)) l
       (record l { heap = heap; grants = grants })
   released cause is heap grants keeps sound logs shows =
-      stored_on l good l.frames here_good heap grants l.scratch l.printed l.room keeps sound
+      stored_on l good l.frames (here_good l good) heap grants l.scratch l.printed l.room keeps sound
       good.empty (at_least-same _) (omega arith) lock_asks (releasing_turn cause lock) trial
       (untold cause l.frames) (untold_goes cause l.frames)
       (logs_more 1 most_records l.grants grants trial.slot (omega arith) logs) λ s shown.

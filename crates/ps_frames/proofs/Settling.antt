@@ -1,20 +1,19 @@
 -- Turns over operands and frames alone, with the error that they raise.
-use Rattle.std.proofs.Common.{◌≡◌, ◌<◌, ◌≤◌, ℕ, arith, true, false, List, ◌∷◌, length, Ok, Err, refl, sym, subst, ◌∙◌}
+use Rattle.std.proofs.Common.{◌≡◌, ◌<◌, ◌≤◌, ℕ, false, List, ◌∷◌, length, Ok, Err, refl, sym, subst, ◌∙◌}
 use Rattle.std.specs.Prelude.{Result, Bool, OnOk, OnErr}
-use Rattle.std.proofs.lemmas.Bool.Decides.{nat_tests}
-use Rattle.std.proofs.lemmas.List.{length-map}
 use Rattle.ps_language.specs.declared.errors.ErrorName.{ErrorName}
 use Rattle.ps_language.specs.declared.errors.ErrorName.TheVariants.{StackOverflow}
 use Rattle.ps_language.specs.declared.operators.Operator.{Operator}
 use Rattle.ps_language.specs.declared.operators.Operator.TheVariants.{Stopped as StoppedOperator}
 use Rattle.ps_language.specs.Value.{Value, Store}
-use Rattle.ps_language.specs.Readers.{boolean, is_full}
+use Rattle.ps_language.specs.Readers.{boolean}
 use Rattle.ps_language.specs.StepValues.{Turn, goes, tries, breaks, errs, asks as leaves_to}
 use Rattle.ps_language.specs.StepFrames.{frame_turn}
 use Rattle.ps_word.specs.declared.words.Word.{Word}
 use Rattle.ps_mem.specs.Heap.{Heap, birth_at}
 use Rattle.ps_mem.specs.Meaning.{value_of}
 use Rattle.ps_operands.specs.Plain.{IsPlain}
+use Rattle.ps_operands.proofs.StackRows.{not_full as free_operands, full as full_operands}
 use Rattle.ps_ops.specs.declared.failure.NotMade.{NotMade as Reason}
 use Rattle.ps_ops.specs.Does.{values_in}
 use Rattle.ps_ops.proofs.Ready.{plain_value, plain_within}
@@ -112,17 +111,6 @@ module _ (l : Lent) (good : IsGood l) (trial : Trial) (operator : Operator) wher
 
 -- ---- the boolean that stopped leaves
 
-module _ (h : Heap) (names : List (List ℕ)) (operands : List Word) where
-  full_operands : 500 ≤ length operands → is_full (values_in h names operands) ≡ true
-  unfolding is_full
-  full_operands many =
-      rw (length-map operands (value_of (birth_at h) names)) (grind (arith, nat_tests))
-
-  free_operands : length operands < 500 → is_full (values_in h names operands) ≡ false
-  unfolding is_full
-  free_operands few =
-      rw (length-map operands (value_of (birth_at h) names)) (grind (arith, nat_tests))
-
 module _ (l : Lent) (trial : Trial) (truth : Bool) where
   pub truth_full : 500 ≤ length l.operands → (result : Result Turned Reason) (new : Lent)
       → Turns nothing_more (operator_error StoppedOperator StackOverflow) trial result l new
@@ -130,7 +118,8 @@ module _ (l : Lent) (trial : Trial) (truth : Bool) where
   truth_full many result new turns =
       turns_as nothing_more nothing_more (operator_error StoppedOperator StackOverflow)
       (truth_turn truth) trial result l new
-      (λ s shown. rw (full_operands l.heap l.names l.operands many) refl) (λ s shown. refl) turns
+      (λ s shown. rw (full_operands l.operands (birth_at l.heap) l.names many) refl)
+      (λ s shown. refl) turns
 
   pub truth_pushed : IsGood l → length l.operands < 500 → (w : Word)
       → ((births : ℕ → ℕ) (names : List (List ℕ)) → value_of births names w ≡ boolean truth)
@@ -146,8 +135,10 @@ module _ (l : Lent) (trial : Trial) (truth : Bool) where
             (plain_within (birth_at l.heap) l.names s w plain, shown.operands);
         frames_within = λ s shown. shown.frames;
       })
-      (λ s shown. rw (free_operands l.heap l.names l.operands few, means (birth_at l.heap) l.names)
-      refl) good
+      (λ s shown. rw (
+        free_operands l.operands (birth_at l.heap) l.names few,
+        means (birth_at l.heap) l.names,
+      ) refl) good
 
 -- the end of stopped, over the frames below
 pub stopped_is : (l : Lent) (below : List Frame) → l.frames ≡ Stopped ∷ below → (s : Store)

@@ -15,24 +15,25 @@ use Rattle.ps_mem.specs.Shows.{IsSound, AreWithin, Shows}
 use Rattle.ps_mem.proofs.StoreShows.{array-shown}
 use Rattle.ps_seq.proofs.ArrayLemmas.{birth-array}
 use Rattle.ps_ops.specs.declared.failure.NotMade.{NotMade as Reason}
-use Rattle.ps_ops.specs.declared.failure.NotMade.TheVariants.{LogFull, LogClosed, NeedSpace, Memory}
+use Rattle.ps_ops.specs.declared.failure.NotMade.TheVariants.{Memory}
 use Rattle.ps_ops.specs.Does.{KeepsLogsWithin, values_in, most_records}
 use Rattle.ps_control.specs.declared.frames.Frame.TheVariants.{Bind}
 use Rattle.ps_control.specs.Frames.{IsHeld}
 use Rattle.ps_acts.specs.declared.lent.Scratch.{Scratch}
 use Rattle.ps_acts.specs.declared.lent.Trial.{Trial}
-use Rattle.ps_acts.specs.Acts.{Needs, Lasts, IsAtLeast, IsReason}
+use Rattle.ps_acts.specs.Acts.{Lasts, IsAtLeast}
 use Rattle.ps_acts.specs.Lent.{Lent, Rooms, rooms_of, IsEmpty, scene_of, IsShown, IsGood}
 use Rattle.ps_acts.proofs.Changing.{elements_last}
 use Rattle.ps_acts.proofs.Meeting.{logs-same, logs_more, AreNeedsWithin}
 use Rattle.ps_turns.specs.declared.turned.Turned.{Turned}
 use Rattle.ps_turns.specs.declared.turned.Turned.TheVariants.{Goes}
 use Rattle.ps_turns.specs.Turns.{IsUnlogged, Turns, turn_needs, needs_in, nothing_more, operator_error}
+use Rattle.ps_turns.proofs.Unlogged.{unlogged_reason}
 use Rattle.ps_frames.specs.declared.binds.Bindings.{Bindings}
 use Rattle.ps_frames.specs.Binds.{BindsAll, within_limits, bind_frames}
 use Rattle.ps_frames.specs.Steps.{running_turn, bind_asks}
 use Rattle.ps_frames.proofs.Rooming.{roomy, over_roomy, not_turned}
-use Rattle.ps_frames.proofs.Storing.{goes_as, stored_on}
+use Rattle.ps_turns.proofs.Storing.{goes_as, stored_on}
 use Rattle.ps_frames.proofs.Rewriting.{bind_held, bind_needs, bind_errs, bind_leaves, left_as, bind_records, later_good}
 
 -- where an array stands there is no string
@@ -112,20 +113,15 @@ module _ (l : Lent) (good : IsGood l) (over : Part) (at depth : ℕ)
         → IsUnlogged 1 trial.slot l.grants grants reason
         → Steps (Err reason) (record (roomy l scratch empty least) { grants = grants })
     bind_unlogged changed grants logs reason why =
-        not_turned l scratch empty least good grants l.room (omega arith) (bind_asks over at) running_turn trial reason
-        logs λ s shown. by reason why _ (leads_records s shown ∙ one bindings.changed changed)
+        not_turned l scratch empty least good grants l.room (omega arith) (bind_asks over at)
+        running_turn trial reason logs λ s shown. unlogged_reason trial.slot 1 (omega arith) l
+        (record (roomy l scratch empty least) { grants = grants }) reason why
+        (needs_in trial (bind_asks over at) running_turn l s)
+        (let is = leads_records s shown ∙ one bindings.changed changed in omega (arith, is))
       where
         one : (b : Bool) → IsTrue b → ◌≡◌ {A = ℕ} (if b then 1 else 0) 1
         one true is = refl
         one false is = cc
-
-        by : (reason : Reason) → IsUnlogged 1 trial.slot l.grants grants reason → (needs : Needs)
-            → needs.records ≡ 1 → IsReason needs trial.slot l
-            (record (roomy l scratch empty least) { grants = grants }) reason
-        by LogFull why needs is = let less = why.1 in (why.0, omega (arith, less, is))
-        by LogClosed why needs is = (omega (arith, is), why)
-        by (NeedSpace words) why needs is = absurd why
-        by Memory why needs is = absurd why
 
     -- the elements are stored where one was replaced
     pub bind_stored : (heap : Heap) (grants : Grants) → Keeps l.heap heap → IsSound heap

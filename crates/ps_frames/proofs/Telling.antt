@@ -30,9 +30,10 @@ use Rattle.ps_turns.proofs.Breaking.{ended, stops_told}
 use Rattle.ps_frames.specs.Steps.{lock_asks, releasing_turn, tells}
 use Rattle.ps_frames.proofs.Freeing.{lasts_free}
 use Rattle.ps_frames.proofs.Locking.{lock_shown}
-use Rattle.ps_frames.proofs.Releasing.{told_here, same_dictionary, freed_store, asked_records, here_good, line_free, dictionary_apart}
+use Rattle.ps_frames.proofs.Releasing.{told_here, same_dictionary, freed_store, asked_records, line_free, dictionary_apart}
 use Rattle.ps_frames.proofs.Rooming.{not_turned}
-use Rattle.ps_frames.proofs.Storing.{stored_on}
+use Rattle.ps_turns.proofs.Composing.{here_good}
+use Rattle.ps_turns.proofs.Storing.{stored_on}
 
 -- what stands apart from a lock
 free_apart : (t : Store) (i j : ℕ) → i ≢ j → slice_get (with_owner t i None) j ≡ slice_get t j
@@ -118,7 +119,7 @@ module _ (l : Lent) (good : IsGood l) (lock : ℕ) (known : StandsAs l.heap Lock
       → Turns lock_asks (releasing_turn Stop lock) trial (Ok (Ends true)) l
       (record l { heap = heap; grants = grants; printed = printed; room = room })
   told_release heap grants printed room keeps sound capacity logs lined shows =
-      stored_on l good l.frames (here_good l good lock known trial) heap grants l.scratch printed
+      stored_on l good l.frames (here_good l good) heap grants l.scratch printed
       room keeps sound good.empty (at_least-same _) capacity lock_asks (releasing_turn Stop lock)
       trial (Ends true) tt
       (logs_more 2 most_records l.grants grants trial.slot (omega arith) logs) λ s shown.

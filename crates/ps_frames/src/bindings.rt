@@ -21,9 +21,9 @@ use ps_control::frames::{Frame, Frames};
 use ps_language::errors::ErrorName;
 use ps_language::operators::Operator;
 use ps_mem::{Memory, SLOTS};
-use ps_ops::changes::permitted;
 use ps_ops::failure::NotMade;
 use ps_seq::arrays::set_elements;
+use ps_turns::breaks::permit_records;
 use ps_turns::raises::raise_by;
 use ps_turns::turned::Turned;
 use ps_word::values::Part;
@@ -92,10 +92,7 @@ fn store_bound<M: Memory>(
     if !changed {
         return Ok(());
     }
-    match permitted(memory, slot, 1) {
-        Ok(()) => {}
-        Err(reason) => return Err(reason),
-    }
+    permit_records(memory, slot, 1)?;
     set_elements(memory, slot, over, at, words);
     Ok(())
 }

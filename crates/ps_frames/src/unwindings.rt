@@ -12,37 +12,11 @@ use crate::loops::push_truth;
 use crate::releases::unwind_monitor;
 use ps_acts::lent::{Context, Shared, Trial};
 use ps_control::frames::{Cause, Frame, push_frame};
+use ps_control::unwinding::{ends_at_loop, ends_at_stopped};
 use ps_mem::{Memory, SLOTS};
 use ps_ops::failure::NotMade;
 use ps_turns::breaks::break_off;
 use ps_turns::turned::Turned;
-
-/// Whether an unwinding ends at a loop.
-fn ends_at_loop(cause: Cause, frame: Frame) -> bool
-    ensures { result ≡ control.ends_at_loop cause frame }
-{
-    match frame {
-        Frame::Repeat { .. } | Frame::Loop { .. } | Frame::For { .. } | Frame::Forall { .. } =>
-            match cause {
-                Cause::Exit => true,
-                Cause::Stop | Cause::Quit => false,
-            },
-        _ => false,
-    }
-}
-
-/// Whether an unwinding ends at the frame of `stopped`.
-fn ends_at_stopped(cause: Cause, frame: Frame) -> bool
-    ensures { result ≡ control.ends_at_stopped cause frame }
-{
-    match frame {
-        Frame::Stopped => match cause {
-            Cause::Stop => true,
-            Cause::Exit | Cause::Quit => false,
-        },
-        _ => false,
-    }
-}
 
 /// An unwinding once its topmost frame has gone: the context runs, a boolean is pushed, or it goes
 /// on, and where no frame is left the context ends. Raises `stackoverflow` with `stopped` as the

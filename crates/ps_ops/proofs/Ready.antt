@@ -1,5 +1,5 @@
 -- A memory stays ready under operands that an operator on operands alone left.
-use Rattle.std.proofs.Common.{◌≡◌, ℕ, List, [], ◌∷◌, drop, sym, subst}
+use Rattle.std.proofs.Common.{ℕ, List, drop}
 use Rattle.ps_language.specs.Value.{Store}
 use Rattle.ps_word.specs.declared.words.Word.{Word}
 use Rattle.ps_word.specs.declared.values.Content.{Content}
@@ -7,8 +7,7 @@ use Rattle.ps_operands.specs.Plain.{IsPlainContent, plain_null as null_content, 
 use Rattle.ps_operands.specs.Kept.{AreFrom}
 use Rattle.ps_operands.proofs.Sources.{have_from}
 use Rattle.ps_mem.specs.Heap.{Heap}
-use Rattle.ps_mem.specs.Shows.{IsValue, AreValues, IsSound, IsReady, IsWithin}
-use Rattle.ps_mem.proofs.EmptyLemmas.{IsSound-empty}
+use Rattle.ps_mem.specs.Shows.{IsValue, IsReady, IsWithin}
 use Rattle.ps_ops.proofs.Held.{rest_held}
 use Rattle.ps_mem.proofs.ValueLemmas.{IsPlain, plain_null, plain_mark, plain_integer, plain_boolean, IsValue-plain, IsWithin-plain}
 
@@ -31,19 +30,5 @@ pub ruleset plain_lemmas = (plain_value, plain_within)
 pub ready_from : (h : Heap) (old new : List Word) → IsReady h old → AreFrom old new → IsReady h new
 ready_from h old new ready from = record { sound = ready.sound; values = have_from (IsValue h) old new (plain_value h) ready.values from }
 
-pub ready_push : (h : Heap) (old : List Word) (w : Word) → IsReady h old → IsValue h w → IsReady h (w ∷ old)
-ready_push h old w ready held = record { sound = ready.sound; values = (held, ready.values) }
-
 pub ready_drop : (h : Heap) (old : List Word) (n : ℕ) → IsReady h old → IsReady h (drop n old)
 ready_drop h old n ready = record { sound = ready.sound; values = rest_held (IsValue h) old ready.values n }
-
-pub ruleset ready_lemmas = (plain_value, ready_from, ready_push, ready_drop)
-
--- an empty memory is ready under no operands
-pub ready_empty : (h : Heap) (words : List Word) → IsSound h → words ≡ [] → IsReady h words
-ready_empty h words sound none = record { sound = sound; values = subst (AreValues h) (sym none) tt }
-
-pub ready_same : (g h : Heap) (words : List Word) → h ≡ g → IsReady g words → IsReady h words
-ready_same g h words same ready = subst (λ (k : Heap). IsReady k words) (sym same) ready
-
-pub ruleset empty_lemmas = (plain_value, ready_from, ready_push, ready_drop, ready_empty, ready_same, IsSound-empty)

@@ -25,6 +25,10 @@ use ps_mem::{Memory, Permit, SLOTS};
 use ps_seq::arrays::{copy_elements, interval, set_element};
 use ps_word::values::Part;
 
+/// The most records that a step puts into the log of its slot; the note of an error asks for as many
+/// at once.
+pub const MOST_RECORDS: u32 = 5;
+
 /// Asks for so many records in the log of a slot; nothing that was granted is lost. `LogFull`:
 /// fewer can be put. `LogClosed`: one at least is asked for, and the log is closed.
 pub fn permitted<M: Memory>(memory: &mut M, slot: u32, count: u32) -> Result<(), NotMade>

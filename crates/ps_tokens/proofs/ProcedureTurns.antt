@@ -23,7 +23,7 @@ use Rattle.ps_turns.specs.declared.turned.Turned.{Turned}
 use Rattle.ps_turns.specs.Turns.{Turns, error_turn, nothing_more}
 use Rattle.ps_turns.proofs.Composing.{turns_as}
 use Rattle.ps_values.specs.Values.{meaning}
-use Rattle.ps_values.proofs.Pushing.{full_operands, free_operands}
+use Rattle.ps_operands.proofs.StackRows.{not_full as free_operands, full as full_operands}
 use Rattle.ps_tokens.specs.Fitting.{IsAmong}
 use Rattle.ps_tokens.specs.Made.{AreMet, formed_asks, formed_turn, named_asks, named_turn, whole_made}
 use Rattle.ps_tokens.specs.Missing.{missing_turn}
@@ -108,7 +108,7 @@ module _ (l : Lent) (content : Tokens) where
       → (s : Store) → token_turn (procedure_token content) l s ≡ error_turn StackOverflow w l s
   unfolding token_done
   procedure_overflows many w means s =
-      rw (full_operands l.heap l.names l.operands many, means) refl
+      rw (full_operands l.operands (birth_at l.heap) l.names many, means) refl
 
   module _ (few : length l.operands < 500) where
     -- an error asks for no list
@@ -130,12 +130,12 @@ module _ (l : Lent) (content : Tokens) where
         → token_turn (procedure_token content) l s ≡ missing_turn missing.error missing.text l s
     unfolding token_done
     procedure_missing s missing is =
-        rw (free_operands l.heap l.names l.operands few, is) refl
+        rw (free_operands l.operands (birth_at l.heap) l.names few, is) refl
 
     procedure_named : (s : Store) → missing_in (look_in (scene_of l s)) content ≡ None
         → token_turn (procedure_token content) l s ≡ named_turn content l s
     unfolding token_done
-    procedure_named s is = rw (free_operands l.heap l.names l.operands few, is) refl
+    procedure_named s is = rw (free_operands l.operands (birth_at l.heap) l.names few, is) refl
 
     module _ (trial : Trial) (result : Result Turned Reason) (new : Lent) where
       pub missing_done : (missing : Missing)

@@ -25,7 +25,7 @@ use Rattle.ps_acts.specs.declared.lent.Trial.{Trial}
 use Rattle.ps_acts.specs.Lent.{Lent, scene_of, IsShown, IsGood}
 use Rattle.ps_turns.specs.Turns.{error_turn, nothing_more}
 use Rattle.ps_values.specs.Values.{meaning}
-use Rattle.ps_values.proofs.Pushing.{full_operands, free_operands}
+use Rattle.ps_operands.proofs.StackRows.{not_full as free_operands, full as full_operands}
 use Rattle.ps_tokens.specs.Tokens.{token_turn}
 use Rattle.ps_tokens.proofs.Alike.{LacksRoom}
 use Rattle.ps_tokens.proofs.Makes.{lacks_made, Wants, Makes}
@@ -38,7 +38,7 @@ module _ (l : Lent) (text : List ℕ) (command : Word) (means : meaning l comman
   pub string_overflows : 500 ≤ length l.operands → (s : Store)
       → token_turn (string_token text) l s ≡ error_turn StackOverflow command l s
   unfolding token_done
-  string_overflows many s = rw (full_operands l.heap l.names l.operands many, means) refl
+  string_overflows many s = rw (full_operands l.operands (birth_at l.heap) l.names many, means) refl
 
   module _ (few : length l.operands < 500) where
     abbrev grown : Store → Store
@@ -54,7 +54,7 @@ module _ (l : Lent) (text : List ℕ) (command : Word) (means : meaning l comman
     string_tries : (s : Store)
         → token_turn (string_token text) l s ≡ tries null (scene_of l s) (scene s) []
     unfolding token_done
-    string_tries s = rw (free_operands l.heap l.names l.operands few) refl
+    string_tries s = rw (free_operands l.operands (birth_at l.heap) l.names few) refl
 
     some_words : (s : Store) → 1 ≤ made_between s (grown s)
     some_words s = let size = made-new s (string_object text) in omega (arith, size)

@@ -12,7 +12,6 @@ use Rattle.ps_mem.specs.Heap.{Heap, Grants, birth_at}
 use Rattle.ps_mem.specs.Keeps.{Keeps}
 use Rattle.ps_mem.specs.Shows.{IsSound, Shows}
 use Rattle.ps_ops.specs.declared.failure.NotMade.{NotMade as Reason}
-use Rattle.ps_ops.specs.declared.failure.NotMade.TheVariants.{LogFull, LogClosed, NeedSpace, Memory}
 use Rattle.ps_ops.specs.Does.{KeepsLogsWithin, most_records}
 use Rattle.ps_control.specs.declared.frames.Frame.{Frame}
 use Rattle.ps_control.specs.Frames.{frames_in}
@@ -25,7 +24,9 @@ use Rattle.ps_acts.proofs.Meeting.{keeps-same, lasts-same, logs-same, logs_more,
 use Rattle.ps_turns.specs.declared.turned.Turned.TheVariants.{Ends}
 use Rattle.ps_turns.specs.Turns.{IsUnlogged, Turns, break_needs, break_turn, is_told, last_line, none_asked, nothing_more}
 use Rattle.ps_turns.proofs.Ending.{ends_as, finished_as}
-use Rattle.ps_turns.proofs.Finishing.{EndsIn, ends_turns}
+use Rattle.ps_turns.proofs.Composing.{here_good}
+use Rattle.ps_turns.proofs.Unlogged.{unlogged_reason}
+use Rattle.ps_turns.proofs.Storing.{LeavesStore, stored_on}
 
 pub no_frames : (frames : List Frame) → length frames ≤ 0 → frames ≡ []
 no_frames [] none = refl
@@ -112,10 +113,10 @@ module _ (trial : Trial) (l : Lent) (good : IsGood l) (last : l.frames ≡ []) w
       → Ended (scene_of l s) (none s) trial.refused machine cause s machine.printed
       machine.error_lines)
       → (s : Store) → IsShown l s
-      → EndsIn (break_turn cause) trial false l good l.heap l.grants l.printed l.room
-      (keeps-same l.heap) s
+      → LeavesStore l good l.frames (here_good l good) l.heap l.grants l.scratch l.printed l.room
+      (keeps-same l.heap) nothing_more (break_turn cause) trial (Ends false) s
   untold_in cause ends s shown = record {
-    after = s;
+    later = s;
     shows = shown.shows;
     lasts = lasts-same s;
     is = λ machine was address.
@@ -132,8 +133,9 @@ module _ (trial : Trial) (l : Lent) (good : IsGood l) (last : l.frames ≡ []) w
       machine.error_lines)
       → Turns nothing_more (break_turn cause) trial (Ok (Ends false)) l l
   untold_turns cause ends =
-      ends_turns (break_turn cause) trial false l good l.heap l.grants l.printed l.room
-      (keeps-same l.heap) IsShown (λ s shown. shown) good.sound (omega arith) (logs-same _ l.grants trial.slot)
+      stored_on l good l.frames (here_good l good) l.heap l.grants l.scratch l.printed l.room
+      (keeps-same l.heap) good.sound good.empty (at_least-same _) (omega arith) nothing_more
+      (break_turn cause) trial (Ends false) tt (logs-same _ l.grants trial.slot)
       (untold_in cause ends)
 
   pub quits_turns : Turns nothing_more (break_turn for_quit) trial (Ok (Ends false)) l l
@@ -180,10 +182,11 @@ module _ (trial : Trial) (l : Lent) (good : IsGood l) (last : l.frames ≡ []) w
         → Turns nothing_more (break_turn for_stop) trial (Ok (Ends true)) l
         (record l { heap = heap; grants = grants; printed = printed; room = room })
     told_turns heap grants printed room keeps sound capacity logs lined shows =
-        ends_turns (break_turn for_stop) trial true l good heap grants printed room keeps IsShown
-        (λ s shown. shown) sound capacity (logs_more 1 most_records l.grants grants trial.slot (omega arith) logs)
-        λ s shown. record {
-          after = with_dictionary s birth (told (dictionary_at s birth));
+        stored_on l good l.frames (here_good l good) heap grants l.scratch printed room keeps sound
+        good.empty (at_least-same _) capacity nothing_more (break_turn for_stop) trial (Ends true)
+        tt (logs_more 1 most_records l.grants grants trial.slot (omega arith) logs) λ s shown.
+        record {
+          later = with_dictionary s birth (told (dictionary_at s birth));
           shows = shows s shown;
           lasts = with-lengths s birth (dictionary_at s birth) _
               (there l.heap l.error_dictionary good.error_stands.stands good.sound l.names s
@@ -201,10 +204,9 @@ module _ (trial : Trial) (l : Lent) (good : IsGood l) (last : l.frames ≡ []) w
     pub unlogged : (grants : Grants) (s : Store) (reason : Reason)
         → IsUnlogged 1 trial.slot l.grants grants reason
         → IsReason (asked s) trial.slot l (record l { grants = grants }) reason
-    unlogged grants s LogFull why = why
-    unlogged grants s LogClosed why = (omega arith, why)
-    unlogged grants s (NeedSpace words) why = absurd why
-    unlogged grants s Memory why = absurd why
+    unlogged grants s reason why =
+        unlogged_reason trial.slot 1 (omega arith) l (record l { grants = grants }) reason why
+        (asked s) (omega arith)
 
     -- it is not made
     pub untold_reason : (grants : Grants) (room : ℕ) (reason : Reason)

@@ -1,6 +1,6 @@
 -- What steps are composed of: a turn that is said otherwise, stacks that are changed, and a turn
 -- over changed stacks.
-use Rattle.std.proofs.Common.{◌≡◌, ℕ, arith, Bool, List, length, Ok, Err, refl, sym, ap, subst, ◌∙◌, append-nil}
+use Rattle.std.proofs.Common.{◌≡◌, ℕ, arith, Bool, List, length, Ok, refl, sym, subst, ◌∙◌, append-nil}
 use Rattle.std.specs.Prelude.{Result}
 use Rattle.ps_language.specs.Value.{Store}
 use Rattle.ps_language.specs.World.{running}
@@ -9,16 +9,13 @@ use Rattle.ps_language.specs.Machines.{with_scene, settled, reaches}
 use Rattle.ps_word.specs.declared.words.Word.{Word}
 use Rattle.ps_mem.specs.Heap.{birth_at}
 use Rattle.ps_mem.specs.Shows.{AreValues, AreWithin}
-use Rattle.ps_mem.proofs.KeepsLemmas.{AreValues-kept}
 use Rattle.ps_ops.specs.declared.failure.NotMade.{NotMade as Reason}
-use Rattle.ps_ops.specs.declared.failure.NotMade.TheVariants.{LogFull, LogClosed, NeedSpace, Memory}
 use Rattle.ps_ops.specs.Does.{KeepsLogsWithin}
 use Rattle.ps_control.specs.declared.frames.Frame.{Frame}
 use Rattle.ps_control.specs.Frames.{AreFrames, AreFramesWithin}
 use Rattle.ps_acts.specs.declared.lent.Trial.{Trial}
 use Rattle.ps_acts.specs.Lent.{Lent, scene_of, IsShown, IsGood}
-use Rattle.ps_acts.specs.Acts.{Asked, Needs, IsReason, Stays}
-use Rattle.ps_acts.proofs.Kept.{frames-good}
+use Rattle.ps_acts.specs.Acts.{Asked, Needs, Stays}
 use Rattle.ps_acts.proofs.Meeting.{keeps-same, lasts-same, logs-same, stays_as, at_least-same}
 use Rattle.ps_turns.specs.declared.turned.Turned.{Turned}
 use Rattle.ps_turns.specs.declared.turned.Turned.TheVariants.{Goes}
@@ -88,17 +85,21 @@ module _ (l : Lent) (operands : List Word) (frames : List Frame) where
     pub operands_within : (s : Store) → IsShown l s → AreWithin l.heap l.names s operands
     pub frames_within : (s : Store) → IsShown l s → AreFramesWithin l.heap l.names s frames
 
-  pub restacked_good : AreGood → IsGood l → IsGood restacked
-  restacked_good are good = record {
+  pub held_good : AreValues l.heap operands → AreFrames l.heap (length l.program) frames → IsGood l
+      → IsGood restacked
+  held_good operands_held frames_held good = record {
     sound = good.sound;
-    operands = are.operands_held;
+    operands = operands_held;
     dictionaries = good.dictionaries;
-    frames = are.frames_held;
+    frames = frames_held;
     error_stands = good.error_stands;
     names = good.names;
     first = good.first;
     empty = good.empty;
   }
+
+  pub restacked_good : AreGood → IsGood l → IsGood restacked
+  restacked_good are good = held_good are.operands_held are.frames_held good
 
   pub restacked_shown : AreGood → (s : Store) → IsShown l s → IsShown restacked s
   restacked_shown are s shown = record {
@@ -148,7 +149,7 @@ module _ (l : Lent) (operands : List Word) (frames : List Frame) where
 
   -- ---- a turn over them
 
-  needs_same : (refused : Bool) (asked : Asked) (birth : ℕ) (s : Store) (turn : Turn)
+  pub needs_same : (refused : Bool) (asked : Asked) (birth : ℕ) (s : Store) (turn : Turn)
       → turn_needs refused asked birth (scene_of restacked s) turn
       ≡ turn_needs refused asked birth (scene_of l s) turn
   needs_same refused asked birth s (goes scene output) = refl
@@ -156,14 +157,6 @@ module _ (l : Lent) (operands : List Word) (frames : List Frame) where
   needs_same refused asked birth s (breaks cause scene) = refl
   needs_same refused asked birth s (errs error command kept) = refl
   needs_same refused asked birth s (leaves_to calling kept) = refl
-
-  reason_same : (needs : Needs) (slot : ℕ) (new : Lent) (reason : Reason)
-      → IsReason needs slot restacked new reason
-      → IsReason needs slot l (record new { operands = l.operands; frames = l.frames }) reason
-  reason_same needs slot new LogFull why = why
-  reason_same needs slot new LogClosed why = why
-  reason_same needs slot new (NeedSpace words) why = why
-  reason_same needs slot new Memory why = why
 
   module _ (asks over_asks : Lent → Store → Asked) (turn over : Lent → Store → Turn)
       (trial : Trial) (stores : Lent → Store → Type 0)
@@ -213,45 +206,12 @@ module _ (l : Lent) (operands : List Word) (frames : List Frame) where
       under_way = turns.under_way;
     }
 
-    -- not made; the stacks are put back
-    pub composes_unmade : IsGood l → (reason : Reason) (new : Lent)
-        → TurnsOver stores over_asks over trial (Err reason) restacked new
-        → Turns asks turn trial (Err reason) l
-        (record new { operands = l.operands; frames = l.frames })
-    composes_unmade good reason new turns = record {
-      meets = λ s shown.
-          let by = turns.meets s (shows s shown) in
-          record {
-            did = (
-              subst (λ (n : Needs). IsReason n trial.slot l
-                  (record new { operands = l.operands; frames = l.frames }) reason)
-                  (same_needs s shown) (reason_same _ trial.slot new reason by.did.0),
-              ap (λ (n : Lent). record n { operands = l.operands; frames = l.frames }) by.did.1,
-            );
-            logs = by.logs;
-          };
-      good = record {
-        sound = turns.good.sound;
-        operands = AreValues-kept l.heap new.heap turns.keeps l.operands good.operands;
-        dictionaries = turns.good.dictionaries;
-        frames = subst (λ (program : List ℕ). AreFrames new.heap (length program) l.frames)
-            (sym turns.stays.program)
-            (frames-good l.heap new.heap turns.keeps (length l.program) l.frames good.frames);
-        error_stands = turns.good.error_stands;
-        names = turns.good.names;
-        first = turns.good.first;
-        empty = turns.good.empty;
-      };
-      keeps = turns.keeps;
-      stays = let stays = stays_over new turns.stays in record {
-        program = stays.program;
-        error_dictionary = stays.error_dictionary;
-        formed = stays.formed;
-        names = stays.names;
-        capacity = stays.capacity;
-        scratch = stays.scratch;
-      };
-      logs = turns.logs;
-      framed = refl;
-      under_way = tt;
-    }
+-- ---- the stacks as they are
+
+pub here_good : (l : Lent) → IsGood l → AreGood l l.operands l.frames
+here_good l good = record {
+  operands_held = good.operands;
+  frames_held = good.frames;
+  operands_within = λ s shown. shown.operands;
+  frames_within = λ s shown. shown.frames;
+}

@@ -31,7 +31,8 @@ use Rattle.ps_turns.specs.Entries.{entries_with}
 use Rattle.ps_turns.specs.Turns.{IsShownWith, TurnsWith, error_turn, lines_after, nothing_more}
 use Rattle.ps_turns.proofs.Telling.{plan}
 use Rattle.ps_turns.proofs.Ending.{after_end, asked_line, ends_by}
-use Rattle.ps_turns.proofs.Finishing.{EndsIn, ends_turns}
+use Rattle.ps_turns.proofs.Composing.{here_good}
+use Rattle.ps_turns.proofs.Storing.{LeavesStore, stored_over}
 
 module _ (error : ErrorName) (command : Word) (trial : Trial) (l : Lent) (good : IsGood l)
     (last : l.frames ≡ []) where
@@ -77,12 +78,12 @@ module _ (error : ErrorName) (command : Word) (trial : Trial) (l : Lent) (good :
           (with_entries (entries_with false error value) (dictionary_at s birth))))
           (logs : KeepsLogsWithin most_records l.grants grants trial.slot) where
         ends_in : (s : Store) → Held s
-            → EndsIn (error_turn error command) trial (newerror_stands entries) l good heap grants
-            printed room keeps s
+            → LeavesStore l good l.frames (here_good l good) heap grants l.scratch printed room keeps
+            nothing_more (error_turn error command) trial (Ends (newerror_stands entries)) s
         ends_in s held =
             let at = standing s held.shown in
             record {
-              after = after_end error value (scene_of l s) birth (none s) at;
+              later = after_end error value (scene_of l s) birth (none s) at;
               shows = shows s held;
               lasts = with-lengths s birth (dictionary_at s birth) _ at;
               is = λ machine was address.
@@ -104,9 +105,10 @@ module _ (error : ErrorName) (command : Word) (trial : Trial) (l : Lent) (good :
         ended_on sound capacity told is =
             subst (λ t. TurnsTo (Ok (Ends t))
             (record l { heap = heap; grants = grants; printed = printed; room = room })) (sym is)
-            (ends_turns (error_turn error command) trial (newerror_stands entries) l good heap
-            grants printed room keeps (IsShownWith (command ∷ []) []) (λ s held. held.shown) sound
-            capacity logs ends_in)
+            (stored_over l good l.frames (here_good l good) heap grants l.scratch printed room keeps
+            sound good.empty (at_least-same _) capacity nothing_more (error_turn error command)
+            trial (Ends (newerror_stands entries)) tt logs (IsShownWith (command ∷ []) [])
+            (λ s held. held.shown) ends_in)
 
       -- its line had no room
       pub not_ended : (grants : Grants) (room : ℕ)

@@ -3,11 +3,12 @@ pub mod Breaking
 pub mod Ended
 pub mod Ending
 pub mod Entered
-pub mod Finishing
 pub mod Lines
 pub mod Noting
 pub mod Raising
+pub mod Storing
 pub mod Telling
 pub mod Told
 pub mod Truths
+pub mod Unlogged
 pub mod Valued

@@ -20,13 +20,10 @@ use ps_language::errors::ErrorName;
 use ps_language::kinds::Kind;
 use ps_mem::{Memory, SLOTS};
 use ps_operands::plain;
-use ps_ops::changes::permitted;
+use ps_ops::changes::{MOST_RECORDS, permitted};
 use ps_ops::failure::NotMade;
 use ps_word::values::Content;
 use ps_word::words::Word;
-
-/// The most records that a note puts.
-const NOTE_RECORDS: u32 = 5;
 
 /// The number of `dictstackoverflow` among the names that every run has met at its start; the other
 /// errors follow it by the letter.
@@ -106,7 +103,7 @@ pub fn permit_note<M: Memory>(memory: &mut M, slot: u32) -> Result<(), NotMade>
         → Notes error command slot address (Err reason) (M.heap memory.old) (M.heap memory.new)
         (M.grants memory.old) (M.grants memory.new)) }
 {
-    permitted(memory, slot, NOTE_RECORDS)
+    permitted(memory, slot, MOST_RECORDS)
 }
 
 /// Puts the entries of an error into the `$error` at an address: up to three values or pairs, which

@@ -1,6 +1,5 @@
 pub mod Accesses
 pub mod Attributed
 pub mod Reduced
-pub mod Rows
 pub mod Typed
 pub mod First

@@ -1,28 +1,24 @@
 -- What a push comes to, where a stack has room and where it is full.
-use Rattle.std.proofs.Common.{◌≡◌, ℕ, ◌<◌, ◌≤◌, arith, true, false, List, [], ◌∷◌, length, Ok, refl, sym}
+use Rattle.std.proofs.Common.{◌≡◌, ◌<◌, ◌≤◌, arith, [], ◌∷◌, length, Ok, refl, sym}
 use Rattle.std.specs.Prelude.{Result}
-use Rattle.std.proofs.lemmas.Bool.Decides.{nat_tests}
-use Rattle.std.proofs.lemmas.List.{length-map}
 use Rattle.ps_language.specs.declared.errors.ErrorName.{ErrorName}
 use Rattle.ps_language.specs.declared.errors.ErrorName.TheVariants.{StackOverflow, ExecStackOverflow}
 use Rattle.ps_language.specs.Value.{Store}
-use Rattle.ps_language.specs.Readers.{is_full}
 use Rattle.ps_language.specs.StepValues.{Turn, leads}
 use Rattle.ps_word.specs.declared.words.Word.{Word}
-use Rattle.ps_mem.specs.Heap.{Heap, birth_at}
-use Rattle.ps_mem.specs.Meaning.{value_of}
-use Rattle.ps_mem.specs.Shows.{IsValue, AreValues}
+use Rattle.ps_operands.proofs.StackRows.{not_full as free_operands, full as full_operands}
+use Rattle.ps_mem.specs.Heap.{birth_at}
+use Rattle.ps_mem.specs.Shows.{IsValue}
 use Rattle.ps_ops.specs.declared.failure.NotMade.{NotMade as Reason}
-use Rattle.ps_ops.specs.Does.{values_in}
 use Rattle.ps_control.specs.declared.frames.Frame.{Frame}
-use Rattle.ps_control.specs.Frames.{frame_of, IsFrame, AreFrames}
+use Rattle.ps_control.specs.Frames.{frame_of, IsFrame}
 use Rattle.ps_control.proofs.Rooms.{fits, full}
 use Rattle.ps_acts.specs.declared.lent.Trial.{Trial}
 use Rattle.ps_acts.specs.Lent.{Lent, scene_of, IsShown, IsGood}
 use Rattle.ps_turns.specs.declared.turned.Turned.{Turned}
 use Rattle.ps_turns.specs.declared.turned.Turned.TheVariants.{Goes}
 use Rattle.ps_turns.specs.Turns.{IsShownWith, TurnsOver, TurnsWith, error_turn, nothing_more}
-use Rattle.ps_turns.proofs.Composing.{restacked, turns_over, goes_over}
+use Rattle.ps_turns.proofs.Composing.{held_good, turns_over, goes_over}
 use Rattle.ps_values.specs.Values.{pushed_turn, framed_turn}
 
 -- ---- what is in hand
@@ -35,33 +31,7 @@ behind_first l word command s held = record {
   frames_within = tt;
 }
 
--- ---- stacks that are held
-
-held_good : (l : Lent) (operands : List Word) (frames : List Frame) → AreValues l.heap operands
-    → AreFrames l.heap (length l.program) frames → IsGood l → IsGood (restacked l operands frames)
-held_good l operands frames operands_held frames_held good = record {
-  sound = good.sound;
-  operands = operands_held;
-  dictionaries = good.dictionaries;
-  frames = frames_held;
-  error_stands = good.error_stands;
-  names = good.names;
-  first = good.first;
-  empty = good.empty;
-}
-
 -- ---- operands
-
-module _ (h : Heap) (names : List (List ℕ)) (operands : List Word) where
-  pub full_operands : 500 ≤ length operands → is_full (values_in h names operands) ≡ true
-  unfolding is_full
-  full_operands many =
-      rw (length-map operands (value_of (birth_at h) names)) (grind (arith, nat_tests))
-
-  pub free_operands : length operands < 500 → is_full (values_in h names operands) ≡ false
-  unfolding is_full
-  free_operands few =
-      rw (length-map operands (value_of (birth_at h) names)) (grind (arith, nat_tests))
 
 module _ (command : Word) (l : Lent) (trial : Trial) where
   -- nothing is done
@@ -86,7 +56,7 @@ module _ (command : Word) (l : Lent) (trial : Trial) where
         dictionaries = held.shown.dictionaries;
         frames = held.shown.frames;
       })
-      (λ s held. rw (free_operands l.heap l.names l.operands few) refl)
+      (λ s held. rw (free_operands l.operands (birth_at l.heap) l.names few) refl)
       (held_good l (word ∷ l.operands) l.frames (value, good.operands) good.frames good)
 
   pub framed_goes : (frame : Frame) → IsGood l → IsFrame l.heap (length l.program) frame
@@ -121,7 +91,8 @@ module _ (command : Word) (l : Lent) (trial : Trial) where
         turns_over (IsShownWith (command ∷ []) []) (IsShownWith (word ∷ command ∷ []) [])
         nothing_more nothing_more (error_turn StackOverflow command) (pushed_turn command word)
         trial result l new (λ s held. behind_first l word command s held)
-        (λ s held. sym (rw (full_operands l.heap l.names l.operands many) refl)) (λ s held. refl)
+        (λ s held. sym (rw (full_operands l.operands (birth_at l.heap) l.names many) refl))
+        (λ s held. refl)
 
     pub framed_full : (frame : Frame) → 250 ≤ length l.frames → Raises ExecStackOverflow
         → TurnsWith (command ∷ []) (frame ∷ []) nothing_more (framed_turn command frame) trial

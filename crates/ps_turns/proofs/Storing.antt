@@ -1,4 +1,4 @@
--- A step that leaves other frames, and a store that makes no object.
+-- A turn that leaves other frames, and a store that makes no object; it may end the context.
 use Rattle.std.proofs.Common.{◌≡◌, ℕ, ◌+◌, ◌≤◌, Bool, List, length, Ok, refl, sym, ap, ◌∙◌, append-nil}
 use Rattle.ps_language.specs.Value.{Store}
 use Rattle.ps_language.specs.World.{running, Machine}
@@ -17,7 +17,7 @@ use Rattle.ps_acts.specs.Acts.{Asked, IsAtLeast, Lasts}
 use Rattle.ps_acts.proofs.Meeting.{stays_as}
 use Rattle.ps_turns.specs.declared.turned.Turned.{Turned}
 use Rattle.ps_turns.specs.declared.turned.Turned.TheVariants.{Goes}
-use Rattle.ps_turns.specs.Turns.{IsTurned, IsUnderWay, Turns, needs_in, reached_by, status_of, lines_after}
+use Rattle.ps_turns.specs.Turns.{IsTurned, IsUnderWay, TurnsOver, Turns, needs_in, reached_by, status_of, lines_after}
 use Rattle.ps_turns.proofs.Composing.{AreGood, restacked, restacked_good, restacked_shown}
 use Rattle.ps_turns.proofs.Raising.{left_over, good_over}
 
@@ -71,38 +71,46 @@ module _ (l : Lent) (good : IsGood l) (frames : List Frame) (are : AreGood l l.o
             { printed = printed; error_lines = lines_after turned machine.error_lines }));
       }
 
-  pub stored_on : IsSound heap → IsEmpty scratch
-      → IsAtLeast (rooms_of l.scratch) (rooms_of scratch)
-      → length l.printed + l.room ≤ length printed + room → (asks : Lent → Store → Asked)
-      (turn : Lent → Store → Turn) (trial : Trial) (turned : Turned) → IsUnderWay turned frames
-      → KeepsLogsWithin most_records l.grants grants trial.slot
-      → ((s : Store) → IsShown l s → LeavesStore asks turn trial turned s)
-      → Turns asks turn trial (Ok turned) l later_lent
-  stored_on sound empty least capacity asks turn trial turned under_way logs leaves =
-      let over : Lent = restacked l l.operands frames in
-      let well = good_over over (restacked_good l l.operands frames are good) heap grants keeps
-      sound in
-      record {
-        meets = λ s shown. record {
-          did = left_turned asks turn trial turned s shown (leaves s shown);
-          logs = (leaves s shown).logs;
-        };
-        good = record {
-          sound = well.sound;
-          operands = well.operands;
-          dictionaries = well.dictionaries;
-          frames = well.frames;
-          error_stands = well.error_stands;
-          names = well.names;
-          first = well.first;
-          empty = empty;
-        };
-        keeps = keeps;
-        stays = stays_as l later_lent refl refl refl capacity least;
-        logs = logs;
-        framed = tt;
-        under_way = under_way;
-      }
+  module _ (sound : IsSound heap) (empty : IsEmpty scratch)
+      (least : IsAtLeast (rooms_of l.scratch) (rooms_of scratch))
+      (capacity : length l.printed + l.room ≤ length printed + room)
+      (asks : Lent → Store → Asked) (turn : Lent → Store → Turn) (trial : Trial) (turned : Turned)
+      (under_way : IsUnderWay turned frames)
+      (logs : KeepsLogsWithin most_records l.grants grants trial.slot) where
+    -- for some of the stores that are shown
+    pub stored_over : (stores : Lent → Store → Type 0) → ((s : Store) → stores l s → IsShown l s)
+        → ((s : Store) → stores l s → LeavesStore asks turn trial turned s)
+        → TurnsOver stores asks turn trial (Ok turned) l later_lent
+    stored_over stores shows leaves =
+        let over : Lent = restacked l l.operands frames in
+        let well = good_over over (restacked_good l l.operands frames are good) heap grants keeps
+        sound in
+        record {
+          meets = λ s held. record {
+            did = left_turned asks turn trial turned s (shows s held) (leaves s held);
+            logs = (leaves s held).logs;
+          };
+          good = record {
+            sound = well.sound;
+            operands = well.operands;
+            dictionaries = well.dictionaries;
+            frames = well.frames;
+            error_stands = well.error_stands;
+            names = well.names;
+            first = well.first;
+            empty = empty;
+          };
+          keeps = keeps;
+          stays = stays_as l later_lent refl refl refl capacity least;
+          logs = logs;
+          framed = tt;
+          under_way = under_way;
+        }
+
+    -- for each
+    pub stored_on : ((s : Store) → IsShown l s → LeavesStore asks turn trial turned s)
+        → Turns asks turn trial (Ok turned) l later_lent
+    stored_on = stored_over IsShown (λ s shown. shown)
 
 -- a turn that goes on and prints nothing
 pub goes_as : (refused : Bool) (turn : Turn) (scene : Scene) → turn ≡ leads scene
