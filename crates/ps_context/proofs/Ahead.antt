@@ -28,12 +28,10 @@ use Rattle.ps_values.specs.Values.{meaning, GoesIn, among, done_turn, Asks, exec
 use Rattle.ps_frames.specs.declared.elements.Element.{Element}
 use Rattle.ps_frames.specs.Steps.{frames_after, rest_frames, running_turn, frame_asks, GoesAhead, IsElement}
 use Rattle.ps_frames.proofs.Taking.{rest_some, rest_good, element_made}
-use Rattle.ps_interpreter.specs.declared.courses.Course.TheVariants.{Running}
-use Rattle.ps_interpreter.specs.Courses.{held, going, IsSteady}
 use Rattle.ps_interpreter.specs.Interprets.{asks_in, own_turn}
-use Rattle.ps_interpreter.specs.Makes.{ordinary, HasMade, TurnsBehind, Runs}
-use Rattle.ps_interpreter.proofs.Making.{made_none, made_more, made_then, goes_framed}
-use Rattle.ps_interpreter.proofs.Turning.{steps_made}
+use Rattle.ps_interpreter.specs.Makes.{ordinary, TurnsBehind, Runs}
+use Rattle.ps_interpreter.specs.OwnSteps.{HasRun}
+use Rattle.ps_interpreter.proofs.Running.{run_none, run_more, run_then}
 use Rattle.ps_context.specs.Elements.{stacked, DoesFirst}
 use Rattle.ps_context.specs.Steps.{own_asks}
 
@@ -70,12 +68,11 @@ module _ (rest : Part) (below : List Frame) where
 
 module _ (heap : Heap) (dictionaries : List Word) (rest : Part) (old : List Word) where
   pub does_none : DoesFirst heap dictionaries rest 0 old old
-  does_none l below steady =
+  does_none l below good =
       let before : Lent = stacked heap dictionaries old (Procedure rest ∷ below) l in
-      subst (λ (frames : List Frame). HasMade 0 (going before)
-      (going (stacked heap dictionaries old frames l)))
-      (sym (none_taken rest below (rest_some before rest below refl steady.good)))
-      (made_none (going before) steady)
+      subst (λ (frames : List Frame). HasRun 0 before (stacked heap dictionaries old frames l))
+      (sym (none_taken rest below (rest_some before rest below refl good)))
+      (run_none before good)
 
   module _ (asks : Asks) (made : ℕ) (now next : List Word) (word : Word)
       (some : made < rest.length) (value : IsValue heap word)
@@ -107,35 +104,31 @@ module _ (heap : Heap) (dictionaries : List Word) (rest : Part) (old : List Word
           ap (slice_get (elements s (birth_at heap rest.address))) place_is
           ∙ reads l.names s shown.shows
 
-      one_turn : IsSteady (held mid Running 0)
-          → Turns (frame_asks asks) running_turn trial (Ok Goes) mid after
-      one_turn steady =
+      one_turn : IsGood mid → Turns (frame_asks asks) running_turn trial (Ok Goes) mid after
+      one_turn good =
           let left = rest_from rest below made in
-          element_made mid left below refl word element_read steady.good
+          element_made mid left below refl word element_read good
           (λ s shown. within l.names s shown.shows) asks trial Goes after
           (goes (record mid { frames = rest_frames left below }) trial
           (restacked_good mid now (rest_frames left below)
-          (rest_good mid left below refl steady.good) steady.good)
+          (rest_good mid left below refl good) good)
           (value, (value, tt)))
 
-      made_one : HasMade made (going before) (held mid Running 0)
-          → HasMade (made + 1) (going before) (going after)
+      made_one : HasRun made before mid → HasRun (made + 1) before after
       made_one so_far =
-          made_more (own_asks asks) 0 made (going before) (held mid Running 0) (going after) so_far
-          refl
-          (steps_made (own_asks asks) None mid 0 trial after so_far.steady Goes tt
+          run_more (own_asks asks) 0 made before mid after so_far (λ none. absurd (cc))
           (turns_as (frame_asks asks) (asks_in (own_asks asks) None) running_turn (own_turn None)
           trial (Ok Goes) mid after (λ s shown. refl) (λ s shown. refl)
-          (one_turn so_far.steady)))
+          (one_turn so_far.good))
 
     pub does_more : DoesFirst heap dictionaries rest made old now → DoesFirst heap dictionaries rest (made + 1) old next
-    does_more so_far l below steady =
-        subst (λ (frames : List Frame). HasMade (made + 1) (going (before l below))
-        (going (stacked heap dictionaries next frames l))) (one_taken rest below made some)
+    does_more so_far l below good =
+        subst (λ (frames : List Frame). HasRun (made + 1) (before l below)
+        (stacked heap dictionaries next frames l)) (one_taken rest below made some)
         (made_one l below
-        (subst (λ (frames : List Frame). HasMade made (going (before l below))
-        (going (stacked heap dictionaries now frames l))) (some_left rest below made some)
-        (so_far l below steady)))
+        (subst (λ (frames : List Frame). HasRun made (before l below)
+        (stacked heap dictionaries now frames l)) (some_left rest below made some)
+        (so_far l below good)))
 
 -- the element at a place is the first of what is left
 pub element_first : (asks : Asks) (heap : Heap) (dictionaries : List Word) (rest : Part)
@@ -154,7 +147,7 @@ element_first asks heap dictionaries rest below made element is = record {
 
 -- of what is lent
 module _ (l : Lent) (rest : Part) (top : Some (Procedure rest) ≡ first_of l.frames)
-    (steady : IsSteady (going l)) where
+    (good : IsGood l) where
   split : l.frames ≡ Procedure rest ∷ drop 1 l.frames
   split = first_split l.frames (Procedure rest) top
 
@@ -164,13 +157,12 @@ module _ (l : Lent) (rest : Part) (top : Some (Procedure rest) ≡ first_of l.fr
 
   pub made_first : (made : ℕ) (operands : List Word)
       → DoesFirst l.heap l.dictionaries rest made l.operands operands
-      → HasMade made (going l) (going (left made operands))
+      → HasRun made l (left made operands)
   made_first made operands does =
-      subst (λ (frames : List Frame). HasMade made (going (record l { frames = frames }))
-      (going (left made operands))) (sym split)
+      subst (λ (frames : List Frame). HasRun made (record l { frames = frames })
+      (left made operands)) (sym split)
       (does l (drop 1 l.frames)
-      (subst (λ (frames : List Frame). IsSteady (going (record l { frames = frames }))) split
-      steady))
+      (subst (λ (frames : List Frame). IsGood (record l { frames = frames })) split good))
 
   pub left_top : (made : ℕ) (operands : List Word) → made < rest.length
       → first_of (left made operands).frames
@@ -216,16 +208,7 @@ module _ (asks : Asks) (l : Lent) (top : Frame)
 -- ---- behind steps that were made
 
 module _ (asks : Asks) (slot made : ℕ) (old mid new : Lent)
-    (so_far : HasMade made (going old) (going mid)) (framed : mid.frames ≢ []) where
-  pub made_and : Turns (asks_in (own_asks asks) None) (own_turn None) (ordinary slot) (Ok Goes) mid
-      new → HasMade (made + 1) (going old) (going new)
-  made_and turns =
-      let goes : going mid ≡ held mid Running 0 = goes_framed mid framed in
-      let here : HasMade made (going old) (held mid Running 0) =
-      subst (HasMade made (going old)) goes so_far in
-      made_more (own_asks asks) slot made (going old) (held mid Running 0) (going new) here refl
-      (steps_made (own_asks asks) None mid 0 (ordinary slot) new here.steady Goes tt turns)
-
+    (so_far : HasRun made old mid) (framed : mid.frames ≢ []) where
   pub turned_behind : (result : Result Turned Reason)
       → Turns (asks_in (own_asks asks) None) (own_turn None) (ordinary slot) result mid new
       → TurnsBehind (own_asks asks) slot made result old new
@@ -233,7 +216,7 @@ module _ (asks : Asks) (slot made : ℕ) (old mid new : Lent)
 
 -- a turn of the topmost frame that is no text
 pub top_behind : (asks : Asks) (slot made : ℕ) (old mid new : Lent)
-    → HasMade made (going old) (going mid) → (top : Frame)
+    → HasRun made old mid → (top : Frame)
     → ((source : Source) (at : ℕ) → top ≡ Text source at → ⊥) → first_of mid.frames ≡ Some top
     → (result : Result Turned Reason)
     → Turns (frame_asks asks) running_turn (ordinary slot) result mid new
@@ -244,48 +227,48 @@ top_behind asks slot made old mid new so_far top other is result turns =
 
 -- of what is left of a procedure behind its first elements
 module _ (l : Lent) (rest : Part) (top : Some (Procedure rest) ≡ first_of l.frames)
-    (steady : IsSteady (going l)) (made : ℕ) (operands : List Word)
+    (good : IsGood l) (made : ℕ) (operands : List Word)
     (does : DoesFirst l.heap l.dictionaries rest made l.operands operands) where
   abbrev after_first : Lent
-  after_first = left l rest top steady made operands
+  after_first = left l rest top good made operands
 
   pub left_good : IsGood after_first
-  left_good = (made_first l rest top steady made operands does).steady.good
+  left_good = (made_first l rest top good made operands does).good
 
   pub left_behind : (asks : Asks) (slot : ℕ) → made < rest.length
       → (result : Result Turned Reason) (new : Lent)
       → Turns (frame_asks asks) running_turn (ordinary slot) result after_first new
       → TurnsBehind (own_asks asks) slot made result l new
   left_behind asks slot some result new turns =
-      top_behind asks slot made l after_first new (made_first l rest top steady made operands does)
+      top_behind asks slot made l after_first new (made_first l rest top good made operands does)
       (Procedure (rest_from rest (drop 1 l.frames) made)) (λ source at is. absurd (cc))
-      (left_top l rest top steady made operands some) result turns
+      (left_top l rest top good made operands some) result turns
 
 -- one behind them that goes on is a step
 pub goes_behind : (asks : Asks) (slot made : ℕ) (old new : Lent)
     → TurnsBehind (own_asks asks) slot made (Ok Goes) old new
-    → HasMade (made + 1) (going old) (going new)
+    → HasRun (made + 1) old new
 goes_behind asks slot made old new behind =
-    made_and asks slot made old behind.mid new behind.makes behind.framed behind.turns
+    run_more (own_asks asks) slot made old behind.mid new behind.makes behind.framed behind.turns
 
 -- a turn of a loop is a step
 pub made_turn : (asks : Asks) (l after : Lent) (top : Frame)
     → ((source : Source) (at : ℕ) → top ≡ Text source at → ⊥) → first_of l.frames ≡ Some top
-    → IsSteady (going l) → GoesAhead true l after → HasMade 1 (going l) (going after)
-made_turn asks l after top other is steady goes =
-    made_and asks 0 0 l l after (made_none (going l) steady) (framed_by asks l top other is)
+    → IsGood l → GoesAhead true l after → HasRun 1 l after
+made_turn asks l after top other is good goes =
+    run_more (own_asks asks) 0 0 l l after (run_none l good) (framed_by asks l top other is)
     (own_turns asks l top other is (ordinary 0) (Ok Goes) after (goes asks (ordinary 0)))
 
 -- what comes behind steps that were made comes behind them and those before
 pub runs_then : (asks : Status → Around → Scene → Asked) (slot first second : ℕ)
     (next : Option (Result Turned Reason)) (old mid new : Lent)
-    → HasMade first (going old) (going mid) → Runs asks slot second next mid new
+    → HasRun first old mid → Runs asks slot second next mid new
     → Runs asks slot (first + second) next old new
 runs_then asks slot first second None old mid new one makes =
-    made_then first second (going old) (going mid) (going new) one makes
+    run_then first second old mid new one makes
 runs_then asks slot first second (Some result) old mid new one behind = record {
   mid = behind.mid;
-  makes = made_then first second (going old) (going mid) (going behind.mid) one behind.makes;
+  makes = run_then first second old mid behind.mid one behind.makes;
   framed = behind.framed;
   turns = behind.turns;
 }

@@ -5,10 +5,9 @@ use Rattle.ps_word.specs.declared.words.Word.{Word}
 use Rattle.ps_mem.specs.Heap.{Heap}
 use Rattle.ps_control.specs.declared.frames.Frame.{Frame}
 use Rattle.ps_control.specs.declared.frames.Frame.TheVariants.{Procedure}
-use Rattle.ps_acts.specs.Lent.{Lent}
+use Rattle.ps_acts.specs.Lent.{Lent, IsGood}
 use Rattle.ps_frames.specs.Steps.{frames_after}
-use Rattle.ps_interpreter.specs.Courses.{going, IsSteady}
-use Rattle.ps_interpreter.specs.Makes.{HasMade}
+use Rattle.ps_interpreter.specs.OwnSteps.{HasRun}
 
 -- what is lent over a heap, with these stacks
 abbrev pub stacked : Heap → (dictionaries operands : List Word) → (frames : List Frame) → Lent
@@ -22,6 +21,6 @@ abbrev pub DoesFirst : Heap → (dictionaries : List Word) → Part → (made : 
     → (old new : List Word) → Type 0
 DoesFirst heap dictionaries rest made old new =
     (l : Lent) (below : List Frame)
-    → IsSteady (going (stacked heap dictionaries old (Procedure rest ∷ below) l))
-    → HasMade made (going (stacked heap dictionaries old (Procedure rest ∷ below) l))
-    (going (stacked heap dictionaries new (frames_after made rest below) l))
+    → IsGood (stacked heap dictionaries old (Procedure rest ∷ below) l)
+    → HasRun made (stacked heap dictionaries old (Procedure rest ∷ below) l)
+    (stacked heap dictionaries new (frames_after made rest below) l)

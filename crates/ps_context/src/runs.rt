@@ -4,7 +4,6 @@ ghost use Rattle.std.specs.Prelude.{◌≡◌, ◌≢◌, ◌+◌, ◌-◌, ◌<
 ghost use Rattle.ps_stacks.specs.Tops.{first_of};
 ghost use Rattle.ps_acts.specs.Lent.{lent, IsGood};
 ghost use Rattle.ps_turns.specs.Turns.{Turns};
-ghost use Rattle.ps_interpreter.specs.Courses.{going, IsSteady};
 ghost use Rattle.ps_interpreter.specs.Interprets.{asks_in, own_turn};
 ghost use Rattle.ps_interpreter.specs.Makes.{Runs};
 ghost use Rattle.ps_context.specs.Steps.{own_asks};
@@ -80,8 +79,8 @@ fn run_procedure<O: Operate, M: Memory>(
     slot: u32,
 ) -> Run
     requires slot { slot < SLOTS }
-    requires steady { IsSteady
-        (going (lent (M.heap memory.old) (M.grants memory.old) context.old shared.old)) }
+    requires good { IsGood
+        (lent (M.heap memory.old) (M.grants memory.old) context.old shared.old) }
     requires some { 1 ≤ most }
     requires most { most ≤ rest.length }
     requires top { first_of context.old.frames ≡ Some (Frame.Procedure rest) }
@@ -145,8 +144,8 @@ pub fn run_frame<O: Operate, M: Memory>(
     memory: &mut M,
 ) -> Run
     requires slot { slot < SLOTS }
-    requires steady { IsSteady
-        (going (lent (M.heap memory.old) (M.grants memory.old) context.old shared.old)) }
+    requires good { IsGood
+        (lent (M.heap memory.old) (M.grants memory.old) context.old shared.old) }
     requires some { 1 ≤ most }
     requires framed { context.old.frames ≢ [] }
     ensures within { result.made ≤ most }

@@ -5,6 +5,7 @@ pub mod Undefining
 pub mod Turning
 pub mod Beginning
 pub mod Laws
+pub mod Running
 pub mod Making
 pub mod Owning
 mod AloneExamples

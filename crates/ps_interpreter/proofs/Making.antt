@@ -22,6 +22,8 @@ use Rattle.ps_interpreter.specs.Interprets.{asks_in, own_turn}
 use Rattle.ps_interpreter.specs.Makes.{plain_moves, ordinary, HasMade, HoldsUp, TurnsBehind, StepsBehind, GoesOn}
 use Rattle.ps_interpreter.specs.Needs.{alone_needs, IsHeldUp}
 use Rattle.ps_interpreter.specs.Steps.{Steps}
+use Rattle.ps_interpreter.specs.OwnSteps.{HasRun}
+use Rattle.ps_interpreter.proofs.Running.{made_by}
 use Rattle.ps_interpreter.proofs.Laws.{ready_move, first_ready, after_alone_moves-append, all_alone_ready-append, and_true, after_more, ready_more}
 
 -- ---- whether there is another step
@@ -86,15 +88,15 @@ runs_on l lines steady = by l.frames refl
     by (frame ∷ frames) some =
         λ i. held l (course_after Goes (sym some i)) (steady.counted refl i)
 
--- steps ahead of one that runs
+-- own steps of one that runs
 pub made_ahead : (count : ℕ) (old new : Lent) (lines : ℕ) → IsSteady (held old Running lines)
-    → HasMade count (going old) (going new)
+    → HasRun count old new
     → HasMade count (held old Running lines) (held new (course_after Goes new.frames) lines)
-made_ahead count old new lines steady makes =
+made_ahead count old new lines steady run =
     subst (λ (h : Held). HasMade count h (held new (course_after Goes new.frames) lines))
     (sym (runs_on old lines steady))
     (subst (λ (n : ℕ). HasMade count (going old) (held new (course_after Goes new.frames) n))
-    (sym (steady.counted refl)) makes)
+    (sym (steady.counted refl)) (made_by count old new run))
 
 -- a frame is left
 pub goes_framed : (l : Lent) → l.frames ≢ [] → going l ≡ held l Running 0
@@ -114,12 +116,14 @@ pub made_behind : (asks : Status → Around → Scene → Asked) (slot made : �
     → StepsBehind asks slot made result (held old Running lines) new
 made_behind asks slot made next result old left new lines steady behind finish =
     let goes : going behind.mid ≡ held behind.mid Running 0 = goes_framed behind.mid behind.framed in
+    let makes : HasMade made (going old) (going behind.mid) =
+    made_by made old behind.mid behind.makes in
     record {
       mid = held behind.mid Running 0;
       makes = subst (λ (h : Held). HasMade made h (held behind.mid Running 0))
-          (sym (runs_on old lines steady)) (subst (HasMade made (going old)) goes behind.makes);
+          (sym (runs_on old lines steady)) (subst (HasMade made (going old)) goes makes);
       going_on = refl;
-      steps = finish behind.mid (subst IsSteady goes behind.makes.steady) behind.turns;
+      steps = finish behind.mid (subst IsSteady goes makes.steady) behind.turns;
     }
 
 module _ (asks : Status → Around → Scene → Asked) (slot made : ℕ) (old mid new : Held)

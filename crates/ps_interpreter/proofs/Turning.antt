@@ -15,7 +15,7 @@ use Rattle.ps_control.specs.declared.frames.Cause.{Cause}
 use Rattle.ps_control.specs.declared.frames.Frame.{Frame}
 use Rattle.ps_acts.specs.declared.lent.Trial.{Trial}
 use Rattle.ps_acts.specs.Acts.{Asked, Needs, IsAtLeast, IsReason, LacksRooms}
-use Rattle.ps_acts.specs.Lent.{Lent, Rooms, scene_of, rooms_of}
+use Rattle.ps_acts.specs.Lent.{Lent, Rooms, scene_of, around_of, rooms_of}
 use Rattle.ps_acts.proofs.Meeting.{logs_more, logs_then, stays_then, AreNeedsWithin, needs_within-same, reason_more}
 use Rattle.ps_turns.specs.declared.turned.Turned.{Turned}
 use Rattle.ps_turns.specs.declared.turned.Turned.TheVariants.{Calls}
@@ -105,6 +105,15 @@ reason_before needs slot old mid new Memory words lists closed room (inr (inr (i
 
 -- ---- a turn
 
+-- that of the machine is that of what is lent
+pub turn_by : (l : Lent) (status : Status) (lines : ℕ) (machine : Machine)
+    → IsLentBy l status lines machine
+    → machine_turn l.program machine
+    ≡ turn_as (around_of l) status (scene_of l machine.store).frames (scene_of l machine.store)
+turn_by l status lines machine lent = λ i. turn_as
+    (record { program = l.program; error_dictionary = lent.error_dictionary i })
+    (lent.is_so i) (sym lent.scene i).frames (sym lent.scene i)
+
 module _ (asks : Status → Around → Scene → Asked) (unwinding : Option Cause) (old : Lent)
     (lines : ℕ) (trial : Trial) where
   abbrev needs_of : Machine → Needs
@@ -115,9 +124,7 @@ module _ (asks : Status → Around → Scene → Asked) (unwinding : Option Caus
 
   module _ (machine : Machine) (lent : IsLentBy old (status_in unwinding) lines machine) where
     turn_same : machine_turn old.program machine ≡ own_turn unwinding old machine.store
-    turn_same = λ i. turn_as
-        (record { program = old.program; error_dictionary = lent.error_dictionary i })
-        (lent.is_so i) (sym lent.scene i).frames (sym lent.scene i)
+    turn_same = turn_by old (status_in unwinding) lines machine lent
 
     step_same : alone_step old.program trial.refused machine
         ≡ alone_reached (after_turn trial.refused machine (own_turn unwinding old machine.store))

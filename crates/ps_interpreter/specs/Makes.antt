@@ -10,9 +10,10 @@ use Rattle.ps_acts.specs.Lent.{Lent}
 use Rattle.ps_turns.specs.declared.turned.Turned.{Turned}
 use Rattle.ps_turns.specs.Turns.{Turns}
 use Rattle.ps_interpreter.specs.Alone.{after_alone_moves, all_alone_ready}
-use Rattle.ps_interpreter.specs.Courses.{Held, going, has_steps, IsAt, IsSteady}
+use Rattle.ps_interpreter.specs.Courses.{Held, has_steps, IsAt, IsSteady}
 use Rattle.ps_interpreter.specs.Interprets.{asks_in, own_turn}
 use Rattle.ps_interpreter.specs.Needs.{alone_needs, IsHeldUp}
+use Rattle.ps_interpreter.specs.OwnSteps.{HasRun}
 use Rattle.ps_interpreter.specs.Steps.{Steps}
 
 -- so many ordinary steps of the first context
@@ -43,18 +44,18 @@ HoldsUp asks slot made old new reason =
 abbrev pub ordinary : (slot : ℕ) → Trial
 ordinary slot = record { slot = slot; refused = false }
 
--- so many were made, and the turn of the frame behind them came to this
+-- so many own steps were made, and the turn of the frame behind them came to this
 pub record TurnsBehind (asks : Status → Around → Scene → Asked) (slot made : ℕ)
     (result : Result Turned Reason) (old new : Lent) : Type 0 where
   pub mid : Lent
-  pub makes : HasMade made (going old) (going mid)
+  pub makes : HasRun made old mid
   pub framed : mid.frames ≢ []
   pub turns : Turns (asks_in asks None) (own_turn None) (ordinary slot) result mid new
 
 -- where no turn behind them is told, that is all
 abbrev pub Runs : (asks : Status → Around → Scene → Asked) → (slot made : ℕ)
     → Option (Result Turned Reason) → (old new : Lent) → Type 0
-Runs asks slot made None old new = HasMade made (going old) (going new)
+Runs asks slot made None old new = HasRun made old new
 Runs asks slot made (Some result) old new = TurnsBehind asks slot made result old new
 
 -- so many were made, and the step behind them came to this

@@ -6,7 +6,6 @@ ghost use Rattle.ps_language.specs.World.{Status};
 ghost use Rattle.ps_acts.specs.Acts.{Asked, AreFew};
 ghost use Rattle.ps_acts.specs.Lent.{lent, IsGood};
 ghost use Rattle.ps_turns.specs.Turns.{Turns};
-ghost use Rattle.ps_interpreter.specs.Courses.{going, IsSteady};
 ghost use Rattle.ps_interpreter.specs.Interprets.{asks_in, own_turn};
 ghost use Rattle.ps_interpreter.specs.Makes.{Runs};
 
@@ -52,7 +51,8 @@ pub trait Interpret {
             (lent (M.heap memory.new) (M.grants memory.new) context.new shared.new) };
 
     /// Makes ordinary steps of a running context one after another, at most so many, as long as it
-    /// goes on and has a frame. The records go into the log of a slot.
+    /// goes on and has a frame. The records go into the log of a slot. None of those that are made
+    /// leaves an operator to the world.
     fn run<M: Memory>(
         &mut self,
         most: u32,
@@ -62,8 +62,8 @@ pub trait Interpret {
         memory: &mut M,
     ) -> Run
         requires slot { slot < SLOTS }
-        requires steady { IsSteady
-            (going (lent (M.heap memory.old) (M.grants memory.old) context.old shared.old)) }
+        requires good { IsGood
+            (lent (M.heap memory.old) (M.grants memory.old) context.old shared.old) }
         ensures within { result.made ≤ most }
         ensures fewer { IsSome result.next → result.made < most }
         ensures ended { IsNone result.next → result.made < most → context.new.frames ≡ [] }

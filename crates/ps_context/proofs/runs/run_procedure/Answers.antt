@@ -9,7 +9,7 @@ element_turn-next-requires-clause-good g c =
     let l : Lent = lent (g.M.Memory.heap c.args.memory.now) (g.M.Memory.grants c.args.memory.now)
     c.args.context.now c.args.shared.now in
     rw (c.do_first-first.ensures.heap, c.do_first-first.ensures.grants, c.advance.ensures.frames)
-    (left_good l c.args.rest (sym c.requires.top) c.requires.steady
+    (left_good l c.args.rest (sym c.requires.top) c.requires.good
     c.do_first-first.result.done _ c.do_first-first.ensures.does)
 
 pub element_turn-next-requires-clause-element : goal.element_turn-next-requires-clause-element
@@ -24,7 +24,7 @@ pub returns-in-Some-clause-runs : goal.returns-in-Some-clause-runs
 returns-in-Some-clause-runs g c =
     let l : Lent = lent (g.M.Memory.heap c.args.memory.now) (g.M.Memory.grants c.args.memory.now)
     c.args.context.now c.args.shared.now in
-    left_behind l c.args.rest (sym c.requires.top) c.requires.steady
+    left_behind l c.args.rest (sym c.requires.top) c.requires.good
     c.do_first-first.result.done _ c.do_first-first.ensures.does g.O.Operate.asks c.args.slot
     (omega (arith, (rw c.in-Some.is at c.do_first-first.ensures.fewer), c.requires.most)) _ _
     (rw (c.do_first-first.ensures.heap, c.do_first-first.ensures.grants, c.advance.ensures.frames)
@@ -35,14 +35,14 @@ procedure_turn-next-requires-clause-good g c =
     let l : Lent = lent (g.M.Memory.heap c.args.memory.now) (g.M.Memory.grants c.args.memory.now)
     c.args.context.now c.args.shared.now in
     rw (c.do_first-first.ensures.heap, c.do_first-first.ensures.grants, c.advance.ensures.frames)
-    (left_good l c.args.rest (sym c.requires.top) c.requires.steady
+    (left_good l c.args.rest (sym c.requires.top) c.requires.good
     c.do_first-first.result.done _ c.do_first-first.ensures.does)
 
 pub returns-then-made-eq0-clause-runs : goal.returns-then-made-eq0-clause-runs
 returns-then-made-eq0-clause-runs g c =
     let l : Lent = lent (g.M.Memory.heap c.args.memory.now) (g.M.Memory.grants c.args.memory.now)
     c.args.context.now c.args.shared.now in
-    left_behind l c.args.rest (sym c.requires.top) c.requires.steady
+    left_behind l c.args.rest (sym c.requires.top) c.requires.good
     c.do_first-first.result.done _ c.do_first-first.ensures.does g.O.Operate.asks c.args.slot
     (omega (arith, c.if-made-eq0.true, c.requires.some, c.requires.most)) _ _
     (rw (c.do_first-first.ensures.heap, c.do_first-first.ensures.grants, c.advance.ensures.frames)
@@ -53,5 +53,5 @@ returns-clause-runs g c =
     let l : Lent = lent (g.M.Memory.heap c.args.memory.now) (g.M.Memory.grants c.args.memory.now)
     c.args.context.now c.args.shared.now in
     rw (c.do_first-first.ensures.heap, c.do_first-first.ensures.grants, c.advance.ensures.frames)
-    (made_first l c.args.rest (sym c.requires.top) c.requires.steady
+    (made_first l c.args.rest (sym c.requires.top) c.requires.good
     c.do_first-first.result.done _ c.do_first-first.ensures.does)

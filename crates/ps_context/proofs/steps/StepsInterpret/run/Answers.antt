@@ -2,13 +2,13 @@
 use Rattle.std.proofs.Common.{◌+◌, ◌<◌, ◌-◌, arith, Some, None, Ok, Err, refl}
 use Rattle.std.proofs.lemmas.Bool.{true≢false}
 use Rattle.ps_turns.specs.declared.turned.Turned.TheVariants.{Goes}
-use Rattle.ps_interpreter.proofs.Making.{made_none}
+use Rattle.ps_interpreter.proofs.Running.{run_none}
 use Rattle.ps_context.specs.Steps.{own_asks}
 use Rattle.ps_context.proofs.Ahead.{goes_behind, runs_then}
 use Rattle.ps_context.proofs.steps.StepsInterpret.run.Goals as goal
 
 pub loop-made-init : goal.loop-made-init
-loop-made-init g c = record { within = omega arith; makes = made_none _ c.requires.steady }
+loop-made-init g c = record { within = omega arith; makes = run_none _ c.requires.good }
 
 pub returns-in-Err-clause-runs : goal.returns-in-Err-clause-runs
 returns-in-Err-clause-runs g c =

@@ -1,0 +1,12 @@
+pub mod DeedLaws
+pub mod Reading
+pub mod Wishing
+pub mod Locking
+pub mod Fresh
+pub mod Singling
+pub mod Owning
+pub mod Waiting
+pub mod Notifying
+pub mod Monitoring
+pub mod Joining
+pub mod Forking

@@ -1,0 +1,17 @@
+pub mod Seated
+pub mod Following
+pub mod Places
+pub mod Holding
+pub mod Staying
+pub mod Going
+pub mod Finishing
+pub mod Settling
+pub mod Settled
+pub mod Turning
+pub mod Stepping
+pub mod Changing
+pub mod Lifting
+pub mod Beginning
+pub mod Named
+pub mod There
+pub mod Owning

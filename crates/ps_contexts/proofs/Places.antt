@@ -1,0 +1,49 @@
+-- The item of an identifier through changes of the list.
+use Rattle.std.proofs.Common.{◌≡◌, ℕ, zero, suc, List, [], ◌∷◌, Option, Some, None, refl, sym, ap}
+use Rattle.std.specs.Prelude.{option_and_then, slice_get, slice_set}
+use Rattle.ps_contexts.specs.Seats.{item_at, with_item}
+
+module _ {A : Type 0} where
+  same_place : (list : List (Option A)) (place : ℕ) (item : A)
+      → option_and_then (λ one. one) (slice_get list place) ≡ Some item
+      → slice_set list place (Some item) ≡ list
+  same_place [] place item found = refl
+  same_place (None ∷ list) zero item found = cc
+  same_place (Some one ∷ list) zero item found = ap (λ head. head ∷ list) (sym found)
+  same_place (one ∷ list) (suc place) item found =
+      ap (λ rest. one ∷ rest) (same_place list place item found)
+
+  -- with the same in its place
+  pub with_item-same : (list : List (Option A)) (identifier : ℕ) (item : A)
+      → item_at list identifier ≡ Some item → with_item list identifier (Some item) ≡ list
+  with_item-same list zero item found = refl
+  with_item-same list (suc place) item found = same_place list place item found
+
+  twice_place : (list : List (Option A)) (place : ℕ) (first second : Option A)
+      → slice_set (slice_set list place first) place second ≡ slice_set list place second
+  twice_place [] place first second = refl
+  twice_place (one ∷ list) zero first second = refl
+  twice_place (one ∷ list) (suc place) first second =
+      ap (λ rest. one ∷ rest) (twice_place list place first second)
+
+  -- the later one stands
+  pub with_item-twice : (list : List (Option A)) (identifier : ℕ) (first second : Option A)
+      → with_item (with_item list identifier first) identifier second
+      ≡ with_item list identifier second
+  with_item-twice list zero first second = refl
+  with_item-twice list (suc place) first second = twice_place list place first second
+
+  there_place : (list : List (Option A)) (place : ℕ) (old : A) (item : Option A)
+      → option_and_then (λ one. one) (slice_get list place) ≡ Some old
+      → option_and_then (λ one. one) (slice_get (slice_set list place item) place) ≡ item
+  there_place [] place old item found = cc
+  there_place (one ∷ list) zero old None found = refl
+  there_place (one ∷ list) zero old (Some item) found = refl
+  there_place (one ∷ list) (suc place) old item found = there_place list place old item found
+
+  -- where there was one
+  pub item_at-with_item : (list : List (Option A)) (identifier : ℕ) (old : A) (item : Option A)
+      → item_at list identifier ≡ Some old → item_at (with_item list identifier item) identifier
+      ≡ item
+  item_at-with_item list zero old item found = cc
+  item_at-with_item list (suc place) old item found = there_place list place old item found

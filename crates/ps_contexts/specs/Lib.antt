@@ -1,0 +1,5 @@
+pub mod Seats
+pub mod Lends
+pub mod Worlds
+pub mod Desks
+pub mod Moves

@@ -1,0 +1,8 @@
+//! The contexts of a world (PLRM2, 7.1).
+#![tactic(auto)]
+
+pub mod contexts;
+pub mod failing;
+pub mod laws;
+pub mod members;
+pub mod table;

@@ -1,0 +1,6 @@
+mod Identifiers
+mod Parts
+mod Ending
+mod Arms
+mod AloneDone
+mod NotifyDone

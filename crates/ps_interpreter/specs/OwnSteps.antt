@@ -1,0 +1,48 @@
+-- Ordinary steps of a running context, none of which leaves an operator to the world (PLRM2, 3.5).
+use Rattle.std.specs.Prelude.{◌≡◌, ℕ, zero, suc, false, Option, Some, None, option_and_then, List, [], ◌∷◌, if◌then◌else◌}
+use Rattle.ps_language.specs.Machines.{may_end, Reached, reaches, leaves_to_world, own_step}
+use Rattle.ps_language.specs.World.{Status, running, finished, Machine}
+use Rattle.ps_mem.specs.Keeps.{Keeps}
+use Rattle.ps_control.specs.declared.frames.Frame.{Frame}
+use Rattle.ps_acts.specs.Acts.{Lasts, Stays}
+use Rattle.ps_acts.specs.Lent.{Lent, IsGood}
+use Rattle.ps_interpreter.specs.Courses.{IsLentBy}
+
+-- the machine that was reached, where no operator is left to the world
+abbrev pub machine_in : Reached → Option Machine
+machine_in (reaches machine) = Some machine
+machine_in (leaves_to_world calling machine) = None
+
+-- after an ordinary step of a context that isn't over
+abbrev pub own_next : (program : List ℕ) → Machine → Option Machine
+own_next program machine =
+    if may_end machine.context.status then machine_in (own_step program false machine) else None
+
+-- after so many
+unfoldable pub own_after : (program : List ℕ) → (made : ℕ) → Machine → Option Machine
+own_after program zero machine = Some machine
+own_after program (suc made) machine =
+    option_and_then (own_next program) (own_after program made machine)
+
+-- a context goes on where a frame is left, and is finished where none is
+abbrev pub status_with : List Frame → Status
+status_with [] = finished
+status_with (frame ∷ frames) = running
+
+-- what a machine came to by so many own steps: what is lent is that of the next machine, whose
+-- context is detached as it was; no string is shorter, and no line of an error was printed
+pub record ComesTo (program : List ℕ) (made : ℕ) (machine : Machine) (new : Lent) : Type 0 where
+  pub next : Machine
+  pub steps : own_after program made machine ≡ Some next
+  pub lent : IsLentBy new (status_with new.frames) machine.error_lines next
+  pub lasts : Lasts machine.store next.store
+  pub detached : next.context.is_detached ≡ machine.context.is_detached
+
+-- so many own steps were made, from every machine whose is what was lent
+pub record HasRun (made : ℕ) (old new : Lent) : Type 0 where
+  pub comes : (machine : Machine)
+      → IsLentBy old (status_with old.frames) machine.error_lines machine
+      → ComesTo old.program made machine new
+  pub good : IsGood new
+  pub keeps : Keeps old.heap new.heap
+  pub stays : Stays old new

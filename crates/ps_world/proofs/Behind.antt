@@ -1,0 +1,205 @@
+-- The step behind many own ones.
+use Rattle.std.proofs.Common.{◌≡◌, ◌≢◌, ℕ, ℤ, true, Option, Some, None, Ok, Err, refl, sym, ap, subst, ◌∙◌, List, [], ◌∷◌}
+use Rattle.std.specs.Prelude.{Result, IsSome, ◌&&◌, if◌then◌else◌}
+use Rattle.ps_language.specs.Effect.{Around, Scene}
+use Rattle.ps_language.specs.Locks.{is_ready}
+use Rattle.ps_language.specs.Machines.{may_end}
+use Rattle.ps_language.specs.World.{Status, World}
+use Rattle.ps_language.specs.Worlds.{after_moves}
+use Rattle.ps_mem.specs.Heap.{birth_at}
+use Rattle.ps_ops.specs.declared.failure.NotMade.{NotMade as Reason}
+use Rattle.ps_control.specs.declared.frames.Frame.{Frame}
+use Rattle.ps_acts.specs.Acts.{Asked, AreFew}
+use Rattle.ps_acts.specs.Lent.{Lent}
+use Rattle.ps_turns.specs.declared.turned.Turned.{Turned}
+use Rattle.ps_turns.specs.declared.turned.Turned.TheVariants.{Goes}
+use Rattle.ps_interpreter.specs.Makes.{TurnsBehind}
+use Rattle.ps_interpreter.specs.OwnSteps.{HasRun}
+use Rattle.ps_contexts.specs.declared.members.Course.{Course}
+use Rattle.ps_contexts.specs.declared.members.Course.TheVariants.{Running}
+use Rattle.ps_contexts.specs.declared.members.Member.{Member}
+use Rattle.ps_contexts.specs.Moves.{plain_moves}
+use Rattle.ps_contexts.specs.Seats.{item_at, with_item}
+use Rattle.ps_contexts.specs.Worlds.{status_of, context_of}
+use Rattle.ps_contexts.specs.Desks.{Desk, returned, desk_of, desk_after, has_finished, IsWorld, member_left, course_after}
+use Rattle.ps_contexts.proofs.Owning.{own_ready}
+use Rattle.ps_contexts.proofs.Places.{with_item-twice, item_at-with_item}
+use Rattle.ps_contexts.proofs.Settled.{turned_changed}
+use Rattle.ps_contexts.proofs.Stepping.{context_there}
+use Rattle.ps_world.specs.declared.notes.Note.{Note}
+use Rattle.ps_world.specs.Finishes.{settled_desk, settled_held, Finishes}
+use Rattle.ps_world.specs.Held.{Held, held, CourseAt, IsSteadyHeld, course_in}
+use Rattle.ps_world.specs.Lending.{LendsDesk, TurnsSo}
+use Rattle.ps_world.specs.Steps.{HasMade, ordinary, StepsBehind, Steps}
+use Rattle.ps_world.proofs.Calling.{none_left}
+use Rattle.ps_world.proofs.Running.{or_false, run_desk, run_steady, run_world, run_made}
+use Rattle.ps_world.proofs.Turned.{one_there, turned_is_steady, turned_finishes, unmade_steps}
+
+course_framed : (frames : List Frame) → frames ≢ [] → course_after Goes frames ≡ Running
+course_framed [] some = absurd (some refl)
+course_framed (frame ∷ frames) some = refl
+
+-- ---- so many own steps, and none behind them
+
+pub run_settled : (before after : Desk) (identifier : ℕ) (goes : (old new : Lent) → Type 0)
+    (lends : LendsDesk identifier goes before after)
+    → settled_desk Goes identifier after
+    ≡ desk_after before identifier lends.member lends.after (course_after Goes lends.after.frames)
+    before.has_faulted
+run_settled before after identifier goes lends =
+    let now : Member = record lends.member { context = returned lends.after } in
+    ap (settled_desk Goes identifier) lends.is
+    ∙ (λ i. record (settled_desk Goes identifier
+    (desk_of lends.after (with_item before.members identifier (Some now)) before.has_faulted)) {
+      members = turned_changed Goes identifier before.members lends.member now lends.found i;
+      has_faulted = or_false before.has_faulted i;
+    })
+
+pub run_settles : (before after : Desk) (identifier : ℕ) (made : ℕ)
+    → IsSteadyHeld (held before None) → CourseAt identifier Running before.members
+    → LendsDesk identifier (HasRun made) before after
+    → HasMade identifier made (held before None) (held (settled_desk Goes identifier after) None)
+run_settles before after identifier made steady course lends =
+    subst (λ (d : Desk). HasMade identifier made (held before None) (held d None))
+    (sym (run_settled before after identifier (HasRun made) lends))
+    (run_made before steady.steady steady.framed identifier made lends.member lends.found
+    (ap (λ (m : Member). m.course)
+    (one_there before.members identifier lends.member course.member lends.found course.found)
+    ∙ course.is) lends.after lends.goes_on)
+
+-- it is still there
+pub still_there : (members : List (Option Member)) (after : List (Option Member)) (identifier : ℕ)
+    (old now : Member) → item_at members identifier ≡ Some old
+    → after ≡ with_item members identifier (Some now) → IsSome (item_at after identifier)
+still_there members after identifier old now found is =
+    subst IsSome (sym (ap (λ list. item_at list identifier) is
+    ∙ item_at-with_item members identifier old (Some now) found)) refl
+
+-- no step is made
+pub made_none : (identifier : ℕ) (h : Held) → IsSteadyHeld h → HasMade identifier 0 h h
+unfolding after_moves
+made_none identifier h steady = record {
+  at = λ w at ready. at;
+  ready = λ w at ready. refl;
+  steady = steady;
+  program = refl;
+}
+
+pub step_alone : (asks : Status → Around → Scene → Asked) (identifier slot : ℕ)
+    (shown : Option (ℤ × ℤ)) (told : Result Note Reason) (old new : Held) → IsSteadyHeld old
+    → Steps asks identifier (ordinary slot) shown told old new
+    → StepsBehind asks identifier slot 0 shown told old new
+unfolding after_moves
+step_alone asks identifier slot shown told old new steady steps = record {
+  mid = old;
+  makes = made_none identifier old steady;
+  ready = λ w at ready. ready;
+  steps = steps;
+}
+
+-- ---- and its turn behind them
+
+-- what was lent of a running context
+abbrev pub GoesBehind : (asks : Status → Around → Scene → Asked) → (slot made : ℕ)
+    → Result Turned Reason → (old new : Lent) → Type 0
+GoesBehind asks slot made result old new = TurnsBehind asks slot made result old new
+
+module _ (asks : Status → Around → Scene → Asked) (before after : Desk) (identifier slot made : ℕ)
+    (shown : Option (ℤ × ℤ)) (steady : IsSteadyHeld (held before None))
+    (course : CourseAt identifier Running before.members) (result : Result Turned Reason)
+    (lends : LendsDesk identifier (GoesBehind asks slot made result) before after) where
+  abbrev mid : Lent
+  mid = lends.goes_on.mid
+
+  pub runs : lends.member.course ≡ Running
+  runs =
+      ap (λ (m : Member). m.course)
+      (one_there before.members identifier lends.member course.member lends.found course.found)
+      ∙ course.is
+
+  abbrev mid_member : Member
+  mid_member =
+      record lends.member { context = returned mid; course = course_after Goes mid.frames }
+
+  abbrev pub mid_desk : Desk
+  mid_desk = run_desk before steady.steady steady.framed identifier made lends.member lends.found
+      runs mid lends.goes_on.makes
+
+  mid_runs : mid_member.course ≡ Running
+  mid_runs = course_framed mid.frames lends.goes_on.framed
+
+  mid_found : item_at mid_desk.members identifier ≡ Some mid_member
+  mid_found =
+      item_at-with_item before.members identifier lends.member (member_left mid_member) lends.found
+      ∙ (ap (λ (c : Course). if lends.member.is_detached && has_finished c then None
+      else Some mid_member) mid_runs
+      ∙ none_left lends.member.is_detached mid_member)
+
+  mid_course : CourseAt identifier (course_in None) mid_desk.members
+  mid_course = record { member = mid_member; found = mid_found; is = mid_runs }
+
+  mid_lends : LendsDesk identifier (TurnsSo asks None (ordinary slot) result) mid_desk after
+  mid_lends = record {
+    member = mid_member;
+    found = mid_found;
+    after = lends.after;
+    goes_on = lends.goes_on.turns;
+    is =
+        lends.is
+        ∙ (λ i. desk_of lends.after (with_item before.members identifier (Some (record lends.member
+        { context = returned lends.after; course = (runs ∙ sym mid_runs) i }))) before.has_faulted)
+        ∙ ap (λ members. desk_of lends.after members before.has_faulted)
+        (sym (with_item-twice before.members identifier (member_left mid_member)
+        (Some (record mid_member { context = returned lends.after }))));
+  }
+
+  mid_steady : IsSteadyHeld (held mid_desk None)
+  mid_steady = run_steady before steady.steady steady.framed identifier made lends.member
+      lends.found runs mid lends.goes_on.makes
+
+  mid_ready : (w : World) → IsWorld before w
+      → is_ready (after_moves w (plain_moves identifier made)) identifier ≡ true
+  mid_ready w at =
+      let now = after_moves w (plain_moves identifier made) in
+      let there = run_world before steady.steady steady.framed identifier made lends.member
+      lends.found runs mid lends.goes_on.makes w at in
+      own_ready now identifier (context_of mid_desk.heap mid_desk.names mid_member)
+      (context_there mid_desk now there identifier mid_member mid_found)
+      (ap (λ (c : Course). may_end (status_of (birth_at mid_desk.heap) c)) mid_runs)
+
+  behind : (told : Result Note Reason) (final : Held)
+      → Steps asks identifier (ordinary slot) shown told (held mid_desk None) final
+      → StepsBehind asks identifier slot made shown told (held before None) final
+  behind told final steps = record {
+    mid = held mid_desk None;
+    makes = run_made before steady.steady steady.framed identifier made lends.member lends.found
+        runs mid lends.goes_on.makes;
+    ready = λ w at ready. mid_ready w at;
+    steps = steps;
+  }
+
+  -- the turn is made
+
+  pub behind_is_steady : (turned : Turned) → result ≡ Ok turned
+      → IsSteadyHeld (settled_held turned identifier after)
+  behind_is_steady turned ok =
+      turned_is_steady asks None mid_desk after identifier (ordinary slot) shown mid_steady
+      mid_course result mid_lends turned ok
+
+  pub behind_finishes : (turned : Turned) → result ≡ Ok turned → (told : Result Note Reason)
+      (final : Held) → Finishes turned identifier (ordinary slot) shown told
+      (settled_held turned identifier after) final
+      → StepsBehind asks identifier slot made shown told (held before None) final
+  behind_finishes turned ok told final finishes =
+      behind told final
+      (turned_finishes asks None mid_desk after identifier (ordinary slot) shown mid_steady
+      mid_course result mid_lends turned ok told final finishes)
+
+  -- it is not
+  pub behind_unmade : AreFew asks → (reason : Reason) → result ≡ Err reason
+      → StepsBehind asks identifier slot made shown (Err reason) (held before None)
+      (held after None)
+  behind_unmade few reason err =
+      behind (Err reason) (held after None)
+      (unmade_steps asks None mid_desk after identifier (ordinary slot) shown mid_steady
+      mid_course result mid_lends few reason err)

@@ -1,0 +1,52 @@
+-- Steps of a context that called, by what the call came to.
+use Rattle.std.proofs.Common.{◌≡◌, ℤ, Option, Some, None, Ok, Err, sym, ap, subst}
+use Rattle.ps_language.specs.Effect.{Around, Scene}
+use Rattle.ps_language.specs.World.{Status}
+use Rattle.ps_ops.specs.declared.failure.NotMade.{NotMade as Reason}
+use Rattle.ps_acts.specs.declared.lent.Trial.{Trial}
+use Rattle.ps_acts.specs.Acts.{Asked}
+use Rattle.ps_contexts.specs.Desks.{Desk}
+use Rattle.ps_world.specs.declared.notes.Note.{Note}
+use Rattle.ps_world.specs.declared.worlds.Calling.{Calling}
+use Rattle.ps_world.specs.Calls.{RunsAt, AreFramedBut, Calls, IsSameDesk}
+use Rattle.ps_world.specs.Held.{held, IsSteadyHeld}
+use Rattle.ps_world.specs.Steps.{Steps}
+use Rattle.ps_world.proofs.Calling.{call_made, call_unmade}
+use Rattle.ps_world.proofs.Starving.{call_held}
+
+-- nothing has changed but what was granted
+pub same_members : (old new : Desk) → IsSameDesk old new → new.members ≡ old.members
+same_members old new same = ap (λ (d : Desk). d.members) same
+
+module _ (asks : Status → Around → Scene → Asked) (calling : Calling) (trial : Trial)
+    (shown : Option (ℤ × ℤ)) (old new : Desk) (steady : IsSteadyHeld (held old (Some calling)))
+  where
+    pub steps_called : (note : Note)
+        → Calls calling.operator calling.caller trial shown (Ok note) old new
+        → Steps asks calling.caller trial shown (Ok note) (held old (Some calling)) (held new None)
+    steps_called note calls = record {
+      meets = λ w at ready. call_made calling trial shown old new w at note calls;
+      held_up = λ reason bad. absurd (cc);
+      logs = λ w at ready. calls.logs;
+      keeps = calls.keeps;
+      steady = record { steady = calls.steady; framed = calls.framed steady.framed.0 };
+      program = calls.program;
+    }
+
+    pub steps_uncalled : (reason : Reason)
+        → Calls calling.operator calling.caller trial shown (Err reason) old new
+        → Steps asks calling.caller trial shown (Err reason) (held old (Some calling))
+        (held new (Some calling))
+    steps_uncalled reason calls = record {
+      meets = λ w at ready. call_unmade calling trial shown old new w at reason calls;
+      held_up = λ why is w at ready.
+          call_held asks calling trial shown old new w at why
+          (subst (λ r. Calls calling.operator calling.caller trial shown r old new) is calls);
+      logs = λ w at ready. calls.logs;
+      keeps = calls.keeps;
+      steady = record {
+        steady = calls.steady;
+        framed = (calls.unmade.1 steady.framed.0, calls.unmade.0);
+      };
+      program = calls.program;
+    }

@@ -1,0 +1,12 @@
+pub mod Owning
+pub mod Calling
+pub mod Starving
+pub mod Called
+pub mod Ended
+pub mod Retrying
+pub mod Turned
+pub mod Again
+pub mod Resting
+pub mod Running
+pub mod Behind
+pub mod Starting

@@ -1,0 +1,247 @@
+-- Why steps that are not made are held up.
+use Rattle.std.proofs.Common.{◌≡◌, ℕ, ℤ, suc, ◌<◌, ◌≤◌, Bool, true, false, IsTrue, Option, Some, Err, refl, ap, subst, ◌∙◌, arith}
+use Rattle.std.proofs.lemmas.Bool.Decides.{nat_tests}
+use Rattle.std.specs.Prelude.{◌&&◌, ◌||◌, nat_lt, if◌then◌else◌}
+use Rattle.std.specs.Option.{option_map_or}
+use Rattle.ps_language.specs.Contexts.{context_at}
+use Rattle.ps_language.specs.Effect.{Around, Scene}
+use Rattle.ps_language.specs.Machines.{may_end, around_of, scene_of, turn_as, own_step}
+use Rattle.ps_language.specs.Step.{machine_of, with_machine}
+use Rattle.ps_language.specs.Objects.{lacks_room}
+use Rattle.ps_language.specs.StepValues.{Turn, goes, tries, breaks, errs, asks as leaves_to}
+use Rattle.ps_language.specs.World.{for_stop, for_exit, for_quit, Status, running, unwinding, again, waiting, retaking, finished, Context, Machine, World}
+use Rattle.ps_mem.specs.Heap.{Heap, Grants, birth_at, has_room}
+use Rattle.ps_ops.specs.declared.failure.NotMade.{NotMade as Reason}
+use Rattle.ps_ops.specs.declared.failure.NotMade.TheVariants.{LogFull, LogClosed, NeedSpace, Memory}
+use Rattle.ps_ops.specs.Does.{most_records}
+use Rattle.ps_control.specs.declared.frames.Cause.{Cause}
+use Rattle.ps_acts.specs.declared.lent.Trial.{Trial}
+use Rattle.ps_acts.specs.Acts.{Asked, Needs, AreFew, IsReason, IsSame}
+use Rattle.ps_acts.specs.Lent as lents
+use Rattle.ps_acts.specs.Lent.{Lent, IsShown}
+use Rattle.ps_turns.specs.Turns.{Turns, calling_of, turn_needs, needs_in}
+use Rattle.ps_interpreter.specs.Interprets.{status_in, asks_in, own_turn}
+use Rattle.ps_interpreter.specs.Needs.{wants_rooms, wants}
+use Rattle.ps_interpreter.proofs.Reached.{IsLeft, left_by}
+use Rattle.ps_interpreter.proofs.Unmade.{wanted}
+use Rattle.ps_contexts.specs.declared.members.Member.{Member}
+use Rattle.ps_contexts.specs.Seats.{item_at}
+use Rattle.ps_contexts.specs.Worlds.{status_of, context_of}
+use Rattle.ps_contexts.specs.Desks.{Desk, lent_to, IsWorld}
+use Rattle.ps_contexts.proofs.Stepping.{context_there}
+use Rattle.ps_contexts.proofs.Turning.{member_at}
+use Rattle.ps_world.specs.declared.worlds.Calling.{Calling}
+use Rattle.ps_world.specs.Calls.{Calls, IsHeldUpAs, call_wants}
+use Rattle.ps_world.specs.Held.{IsCalling, course_in}
+use Rattle.ps_world.specs.Needs.{left_wants, own_wants, wants_as, step_wants}
+use Rattle.ps_world.proofs.Owning.{status_same, may_in}
+use Rattle.ps_world.proofs.Calling.{there}
+
+-- ---- in a memory that grows or not
+
+or_true : (a b : Bool) → b ≡ true → a || b ≡ true
+or_true true b h = refl
+or_true false b h = h
+
+or_first : (a b : Bool) → a ≡ true → a || b ≡ true
+or_first true b h = refl
+or_first false b h = absurd (cc)
+
+growing : (words grows lists : Bool) → (words && grows) || lists ≡ true
+    → (words && true) || lists ≡ true
+growing true grows lists h = refl
+growing false grows lists h = h
+
+either : (a b c : Bool) → (b ≡ true → c ≡ true) → a || b ≡ true → a || c ≡ true
+either true b c more h = refl
+either false b c more h = more h
+
+pub wants_more : (grows : Bool) (needs : Needs) → wants grows needs ≡ true
+    → wants true needs ≡ true
+wants_more grows needs h =
+    either (nat_lt 0 needs.bytes) _ _
+    (either (nat_lt 0 needs.names) _ _
+    (growing (nat_lt 0 needs.words) grows (wants_rooms needs.scratch))) h
+
+some_words : (needs : Needs) → 1 ≤ needs.words → wants true needs ≡ true
+some_words needs some =
+    let one : nat_lt 0 needs.words ≡ true = grind (arith, nat_tests) in
+    or_true (nat_lt 0 needs.bytes) _ (or_true (nat_lt 0 needs.names) _
+    (or_first (nat_lt 0 needs.words && true) _ (ap (λ b. b && true) one)))
+
+-- one that may want more is held up by the same
+pub held_more : (one other : Bool) → (one ≡ true → other ≡ true) → (slot : ℕ) (heap : Heap)
+    (grants : Grants) (reason : Reason) → IsHeldUpAs one slot heap grants reason
+    → IsHeldUpAs other slot heap grants reason
+held_more one other more slot heap grants LogFull held = held
+held_more one other more slot heap grants LogClosed held = held
+held_more one other more slot heap grants (NeedSpace words) held =
+    (more held.0, held.1, held.2)
+held_more one other more slot heap grants Memory held = more held
+
+-- ---- by what a turn asks for
+
+-- no turn asks for more records than any step may put
+few_either : (lacks : Bool) (one other : Needs) → one.records ≤ most_records
+    → other.records ≤ most_records → (if lacks then one else other).records ≤ most_records
+few_either true one other h k = h
+few_either false one other h k = k
+
+few_told : (told : Bool) (n : ℕ) → n < most_records → (if told then suc n else n) ≤ most_records
+few_told true n h = h
+few_told false n h = omega (arith, h)
+
+pub few_in : (refused : Bool) (asked : Asked) (birth : ℕ) (before : Scene) (turn : Turn)
+    → asked.records < most_records
+    → (turn_needs refused asked birth before turn).records ≤ most_records
+few_in refused asked birth before (goes scene output) few = omega (arith, few)
+few_in refused asked birth before (tries command kept scene output) few =
+    few_either (lacks_room refused kept.store scene.store) _ _ (omega arith) (omega (arith, few))
+few_in refused asked birth before (breaks for_stop scene) few =
+    few_told _ asked.records few
+few_in refused asked birth before (breaks for_exit scene) few = omega (arith, few)
+few_in refused asked birth before (breaks for_quit scene) few = omega (arith, few)
+few_in refused asked birth before (errs error command kept) few = omega arith
+few_in refused asked birth before (leaves_to calling kept) few = omega arith
+
+no_first : (a b : Bool) → a || b ≡ false → a ≡ false
+no_first true b h = h
+no_first false b h = refl
+
+pub held_by : (needs : Needs) (slot : ℕ) (old new : Lent) (reason : Reason)
+    → needs.records ≤ most_records → IsSame old new → new.grants.closed ≡ old.grants.closed
+    → IsReason needs slot old new reason
+    → IsHeldUpAs (wants true needs) slot new.heap new.grants reason
+unfolding has_room
+held_by needs slot old new LogFull few same closed why =
+    let less = why.1 in
+    (ap (λ (c : ℕ → Bool). c slot) closed ∙ why.0, omega (arith, less, few))
+held_by needs slot old new LogClosed few same closed why =
+    ap (λ (c : ℕ → Bool). c slot) closed ∙ why.1
+held_by needs slot old new (NeedSpace words) few same closed why = (
+  some_words needs (subst (λ n. 1 ≤ n) why.0 why.1),
+  why.1,
+  ap (λ (l : Lent). l.heap.space.grows) same ∙ no_first old.heap.space.grows _ why.2,
+)
+held_by needs slot old new Memory few same closed why =
+    wants_more old.heap.space.grows needs (wanted needs slot old new why)
+
+-- ---- by the status
+
+module _ (asks : Status → Around → Scene → Asked) (identifier : ℕ) (refused : Bool) (w : World)
+    (context : Context) (found : context_at w identifier ≡ Some context) where
+  -- of a context that is there
+  pub wants_there : step_wants asks identifier refused w
+      ≡ wants_as asks context.status identifier refused w (machine_of w context)
+  wants_there =
+      ap (λ (one : Option Context). option_map_or (λ it.
+      wants_as asks it.status identifier refused w (machine_of w it)) one false) found
+
+  own_as : (status : Status) → may_end status ≡ true → (machine : Machine)
+      → wants_as asks status identifier refused w machine
+      ≡ own_wants asks identifier refused w machine
+  own_as running may machine = refl
+  own_as (unwinding cause) may machine = refl
+  own_as again may machine = cc
+  own_as (waiting lock condition) may machine = cc
+  own_as (retaking lock) may machine = cc
+  own_as finished may machine = cc
+
+  pub wants_own : may_end context.status ≡ true → step_wants asks identifier refused w
+      ≡ own_wants asks identifier refused w (machine_of w context)
+  wants_own may = wants_there ∙ own_as context.status may (machine_of w context)
+
+-- ---- its own turn
+
+module _ (asks : Status → Around → Scene → Asked) (unwinding : Option Cause) (d : Desk)
+    (identifier : ℕ) (member : Member) (found : item_at d.members identifier ≡ Some member)
+    (is : member.course ≡ course_in unwinding) (trial : Trial) (few : AreFew asks)
+    (reason : Reason) (new : Lent)
+    (unmade : Turns (asks_in asks unwinding) (own_turn unwinding) trial (Err reason)
+    (lent_to d member.context) new) (w : World) (at : IsWorld d w) where
+  abbrev l : Lent
+  l = lent_to d member.context
+
+  abbrev machine : Machine
+  machine = machine_of w (context_of d.heap d.names member)
+
+  status_is : status_of (birth_at d.heap) member.course ≡ status_in unwinding
+  status_is =
+      ap (status_of (birth_at d.heap)) is ∙ status_same (birth_at d.heap) unwinding
+
+  -- what the machine's turn asks for is what that of what is lent asks for
+  needs_same : turn_needs trial.refused
+      (asks machine.context.status (around_of w.program machine) (scene_of machine))
+      machine.context.error_dictionary (scene_of machine)
+      (turn_as (around_of w.program machine) machine.context.status machine.context.frames
+      (scene_of machine))
+      ≡ needs_in trial (asks_in asks unwinding) (own_turn unwinding) l w.store
+  needs_same = λ i. turn_needs trial.refused
+      (asks (status_is i) (record {
+        program = at.program i;
+        error_dictionary = birth_at d.heap member.context.error_dictionary;
+      }) (record (lents.scene_of l w.store) { names = at.names i }))
+      (birth_at d.heap member.context.error_dictionary)
+      (record (lents.scene_of l w.store) { names = at.names i })
+      (turn_as (record {
+        program = at.program i;
+        error_dictionary = birth_at d.heap member.context.error_dictionary;
+      }) (status_is i) (lents.scene_of l w.store).frames
+      (record (lents.scene_of l w.store) { names = at.names i }))
+
+  pub own_held : IsHeldUpAs (step_wants asks identifier trial.refused w) trial.slot new.heap
+      new.grants reason
+  own_held =
+      let by = unmade.meets w.store (member_at (λ one. IsShown (lent_to d one.context) w.store)
+      d.members identifier member at.members found) in
+      let needs : Needs = needs_in trial (asks_in asks unwinding) (own_turn unwinding) l w.store in
+      let fewer : needs.records ≤ most_records =
+      few_in trial.refused (asks_in asks unwinding l w.store)
+      (birth_at l.heap l.error_dictionary) (lents.scene_of l w.store)
+      (own_turn unwinding l w.store) (few (status_in unwinding) _ _) in
+      let may : may_end machine.context.status ≡ true =
+      ap may_end status_is ∙ may_in unwinding in
+      held_more (wants true needs) (step_wants asks identifier trial.refused w)
+      (λ lacks. wants_own asks identifier trial.refused w (context_of d.heap d.names member)
+      (context_there d w at identifier member found) may
+      ∙ or_first _ _ (ap (wants true) needs_same ∙ lacks)) trial.slot new.heap new.grants reason
+      (held_by needs trial.slot l new reason fewer by.did.1 by.logs.closed by.did.0)
+
+-- ---- a call
+
+module _ (asks : Status → Around → Scene → Asked) (calling : Calling) (trial : Trial)
+    (shown : Option (ℤ × ℤ)) (old new : Desk) (w : World) (at : IsCalling calling old w)
+    (reason : Reason)
+    (calls : Calls calling.operator calling.caller trial shown (Err reason) old new) where
+  abbrev caller_machine : Machine
+  caller_machine = machine_of w at.context
+
+  abbrev caller_turn : Turn
+  caller_turn = turn_as (around_of w.program caller_machine) at.context.status at.context.frames
+      (scene_of caller_machine)
+
+  is_left : IsLeft caller_machine caller_turn (calling_of calling.operator) at.left
+  unfolding own_step
+  is_left = left_by false caller_machine caller_turn (calling_of calling.operator) at.left
+      (at.leaves false)
+
+  abbrev call_may : Bool
+  call_may = call_wants calling.operator calling.caller trial.refused
+      (with_machine calling.caller w at.left) at.left.context
+
+  left_lacks : call_may ≡ true
+      → left_wants calling.caller trial.refused w caller_machine caller_turn ≡ true
+  left_lacks lacks =
+      ap (left_wants calling.caller trial.refused w caller_machine) is_left.asks
+      ∙ (ap (λ (left : Machine). call_wants calling.operator calling.caller trial.refused
+      (with_machine calling.caller w left) left.context) is_left.is
+      ∙ lacks)
+
+  pub call_held : IsHeldUpAs (step_wants asks calling.caller trial.refused w) trial.slot new.heap
+      new.grants reason
+  call_held =
+      held_more call_may (step_wants asks calling.caller trial.refused w)
+      (λ lacks. wants_own asks calling.caller trial.refused w at.context at.found at.goes_on
+      ∙ or_true _ _ (left_lacks lacks)) trial.slot new.heap new.grants reason
+      (calls.held_up reason refl (with_machine calling.caller w at.left) at.left.context at.world
+      (there calling trial shown old new w at))

@@ -1,0 +1,9 @@
+-- The step alone.
+use Rattle.ps_world.proofs.Behind.{step_alone}
+use Rattle.ps_world.proofs.worlds.World.go_on.Goals as goal
+
+pub returns-clause-makes : goal.returns-clause-makes
+returns-clause-makes g c =
+    step_alone g.S.Interpret.asks c.args.identifier c.args.slot c.shown_by-shown.result
+    c.step-told.result _ _ c.requires.steady
+    (rw (c.shown_by-shown.ensures.heap, c.shown_by-shown.ensures.grants) at c.step-told.ensures)

@@ -1,0 +1,140 @@
+-- When a call of an operator that is left to the world went as the definitions say (PLRM2, 7.1).
+use Rattle.std.specs.Prelude.{◌≡◌, ◌<◌, ◌≤◌, ℕ, ℤ, ◌||◌, nat_lt, Bool, false, IsTrue, Option, Some, None, OnOk, OnErr, Result, Ok, Err, List, length}
+use Rattle.ps_language.specs.declared.operators.Operator.{Operator}
+use Rattle.ps_language.specs.Contexts.{context_at}
+use Rattle.ps_language.specs.Effect.{Scene, Call, Deed, does, waits}
+use Rattle.ps_language.specs.Machines.{settled, scene_of}
+use Rattle.ps_language.specs.Objects.{made_between}
+use Rattle.ps_language.specs.Outcome.{Outcome, leaves, fails}
+use Rattle.ps_language.specs.Step.{machine_of, with_machine, Stepped, deed_given_room, called, retaken}
+use Rattle.ps_language.specs.StepValues.{command_of}
+use Rattle.ps_language.specs.World.{retaking, Context, World}
+use Rattle.ps_mem.specs.Heap.{Heap, Grants}
+use Rattle.ps_mem.specs.Keeps.{Keeps}
+use Rattle.ps_ops.specs.declared.failure.NotMade.{NotMade as Reason}
+use Rattle.ps_ops.specs.declared.failure.NotMade.TheVariants.{LogFull, LogClosed, NeedSpace, Memory}
+use Rattle.ps_ops.specs.Does.{KeepsLogsWithin, most_records, spent}
+use Rattle.ps_acts.specs.declared.lent.Trial.{Trial}
+use Rattle.ps_acts.specs.Acts.{no_rooms}
+use Rattle.ps_turns.specs.Turns.{calling_of, error_needs}
+use Rattle.ps_contexts.specs.declared.contexts.Contexts.{Contexts}
+use Rattle.ps_contexts.specs.declared.members.Course.TheVariants.{Running, Retaking}
+use Rattle.ps_contexts.specs.declared.members.Member.{Member}
+use Rattle.ps_contexts.specs.Seats.{item_at, with_item}
+use Rattle.ps_contexts.specs.Desks.{Desk, desk, IsWorld, IsSteady, AreFramed}
+use Rattle.ps_world.specs.declared.notes.Note.{Note}
+use Rattle.ps_world.specs.Notes.{note_of}
+
+-- ---- the desk
+
+abbrev pub over : Heap → Grants → Contexts → Desk
+over heap grants contexts =
+    desk heap grants contexts.table contexts.shared contexts.has_faulted
+
+-- the context of an identifier is there, and runs
+pub record RunsAt (identifier : ℕ) (members : List (Option Member)) : Type 0 where
+  pub member : Member
+  pub found : item_at members identifier ≡ Some member
+  pub runs : member.course ≡ Running
+
+-- all but that one have frames where they run or are unwinding
+abbrev pub AreFramedBut : (identifier : ℕ) → List (Option Member) → Type 0
+AreFramedBut identifier members = AreFramed (with_item members identifier None)
+
+-- it still runs, and all others have frames if they had
+abbrev pub StaysAt : (identifier : ℕ) → (old new : List (Option Member)) → Type 0
+StaysAt identifier old new = RunsAt identifier new
+    × (AreFramedBut identifier old → AreFramedBut identifier new)
+
+-- nothing has changed but what was granted, and how much room there is
+abbrev pub IsSameDesk : (old new : Desk) → Type 0
+IsSameDesk old new =
+    new ≡ record old { grants = new.grants; room = new.room; scratch = new.scratch }
+
+-- ---- a call
+
+abbrev pub call_by : (caller : ℕ) → (shown : Option (ℤ × ℤ)) → World → Context → Call
+call_by caller shown world context =
+    record { caller = caller; context = context; shown = shown; world = world }
+
+-- whether the step of a deed may want a growth: for a new object, for a new context, or for the
+-- line of its error
+abbrev pub deed_wants : Operator → World → Context → Outcome Deed → Bool
+deed_wants operator before context (leaves (does note next)) =
+    nat_lt 0 (made_between before.store next.store)
+    || nat_lt (length before.contexts) (length next.contexts)
+deed_wants operator before context (leaves waits) = false
+deed_wants operator before context (fails error) =
+    let scene : Scene = scene_of (machine_of before context) in
+    nat_lt 0 (error_needs no_rooms context.error_dictionary scene error (command_of operator)
+    scene).bytes
+
+abbrev pub call_wants : Operator → (caller : ℕ) → (refused : Bool) → World → Context → Bool
+call_wants operator caller refused before context =
+    deed_wants operator before context (deed_given_room refused before
+    ((calling_of operator).deed context.operands (call_by caller None before context)))
+
+-- Why a step is not made, and wants says whether it may want a growth. LogFull: the log is open, and
+-- takes fewer records than a step may put. LogClosed: it is closed. NeedSpace: of some words, in a
+-- memory that doesn't grow, by a step that may want a growth. Memory: by such a step
+abbrev pub IsHeldUpAs : (wants : Bool) → (slot : ℕ) → Heap → Grants → Reason → Type 0
+IsHeldUpAs wants slot heap grants LogFull =
+    (grants.closed slot ≡ false) × (grants.records slot < most_records)
+IsHeldUpAs wants slot heap grants LogClosed = IsTrue (grants.closed slot)
+IsHeldUpAs wants slot heap grants (NeedSpace words) =
+    IsTrue wants × (1 ≤ words) × (heap.space.grows ≡ false)
+IsHeldUpAs wants slot heap grants Memory = IsTrue wants
+
+-- it comes to the step of the definitions, and the note is theirs; or it is not made, and the desk
+-- is still that of the world before
+abbrev pub CallsTo : Result Note Reason → Stepped → (before : World) → (new : Desk) → Type 0
+CallsTo (Ok note) stepped before new =
+    IsWorld new stepped.world × (note_of note ≡ stepped.note)
+CallsTo (Err reason) stepped before new = IsWorld new before
+
+-- for every world that the desk is of
+pub record Calls (operator : Operator) (caller : ℕ) (trial : Trial) (shown : Option (ℤ × ℤ))
+    (result : Result Note Reason) (old new : Desk) : Type 0 where
+  pub meets : (w : World) (context : Context) → IsWorld old w
+      → context_at w caller ≡ Some context
+      → CallsTo result (called (calling_of operator) caller trial.refused shown w context) w new
+  pub steady : IsSteady new
+  pub keeps : Keeps old.heap new.heap
+  pub program : new.program ≡ old.program
+  pub framed : OnOk result (AreFramedBut caller old.members → AreFramed new.members)
+  pub unmade : OnErr result (StaysAt caller old.members new.members)
+  pub same : (w : World) → IsWorld old w → OnErr result (IsSameDesk old new)
+  pub held_up : (reason : Reason) → result ≡ Err reason → (w : World) (context : Context)
+      → IsWorld old w → context_at w caller ≡ Some context
+      → IsHeldUpAs (call_wants operator caller trial.refused w context) trial.slot new.heap
+      new.grants reason
+  pub logs : KeepsLogsWithin (spent result most_records) old.grants new.grants trial.slot
+
+-- ---- a lock is taken again
+
+-- the context of an identifier is there, and waits for the lock at an address
+pub record RetakesAt (identifier : ℕ) (members : List (Option Member)) : Type 0 where
+  pub member : Member
+  pub found : item_at members identifier ≡ Some member
+  pub lock : ℕ
+  pub retakes : member.course ≡ Retaking lock
+
+abbrev pub RetakesTo : Result Unit Reason → (after before : World) → (new : Desk) → Type 0
+RetakesTo (Ok _) after before new = IsWorld new after
+RetakesTo (Err reason) after before new = IsWorld new before
+
+-- for every world that the desk is of
+pub record Retakes (caller : ℕ) (trial : Trial) (result : Result Unit Reason) (old new : Desk)
+    : Type 0 where
+  pub meets : (w : World) (context : Context) (lock : ℕ) → IsWorld old w
+      → context_at w caller ≡ Some context → context.status ≡ retaking lock
+      → RetakesTo result (with_machine caller w
+      (settled (retaken caller lock (machine_of w context)))) w new
+  pub steady : IsSteady new
+  pub keeps : Keeps old.heap new.heap
+  pub program : new.program ≡ old.program
+  pub framed : AreFramed old.members → AreFramed new.members
+  pub unmade : OnErr result (IsSameDesk old new)
+  pub held_up : (reason : Reason) → result ≡ Err reason
+      → IsHeldUpAs false trial.slot new.heap new.grants reason
+  pub logs : KeepsLogsWithin (spent result 1) old.grants new.grants trial.slot

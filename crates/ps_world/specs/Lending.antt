@@ -1,0 +1,52 @@
+-- When steps were made of one context of a table (PLRM2, 7.1).
+use Rattle.std.specs.Prelude.{◌≡◌, ◌<◌, ℕ, Option, Some, None, Result, []}
+use Rattle.ps_language.specs.Effect.{Around, Scene}
+use Rattle.ps_language.specs.World.{Status}
+use Rattle.ps_mem.specs.Heap.{Heap, Grants}
+use Rattle.ps_ops.specs.declared.failure.NotMade.{NotMade as Reason}
+use Rattle.ps_control.specs.declared.frames.Cause.{Cause}
+use Rattle.ps_acts.specs.declared.lent.Context.{Context}
+use Rattle.ps_acts.specs.declared.lent.Trial.{Trial}
+use Rattle.ps_acts.specs.Acts.{Asked}
+use Rattle.ps_acts.specs.Lent.{Lent, lent}
+use Rattle.ps_turns.specs.declared.turned.Turned.{Turned}
+use Rattle.ps_turns.specs.Turns.{Turns}
+use Rattle.ps_interpreter.specs.Interprets.{asks_in, own_turn}
+use Rattle.ps_contexts.specs.declared.contexts.Contexts.{Contexts}
+use Rattle.ps_contexts.specs.declared.members.Member.{Member}
+use Rattle.ps_contexts.specs.Desks.{Desk, lent_to, returned, desk_of}
+use Rattle.ps_contexts.specs.Seats.{item_at, with_item}
+
+-- What was lent of the context of an identifier went on so, and all other contexts, and how far
+-- each is, are as they were
+pub record Lends (identifier : ℕ) (goes : (old new : Lent) → Type 0) (old_heap new_heap : Heap)
+    (old_grants new_grants : Grants) (old new : Contexts) : Type 0 where
+  pub member : Member
+  pub found : item_at old.table identifier ≡ Some member
+  pub after : Context
+  pub goes_on : goes (lent old_heap old_grants member.context old.shared)
+      (lent new_heap new_grants after new.shared)
+  pub table : new.table ≡ with_item old.table identifier (Some (record member { context = after }))
+  pub faulted : new.has_faulted ≡ old.has_faulted
+
+-- the same over what clauses see of them
+pub record LendsDesk (identifier : ℕ) (goes : (old new : Lent) → Type 0) (old new : Desk) : Type 0
+  where
+    pub member : Member
+    pub found : item_at old.members identifier ≡ Some member
+    pub after : Lent
+    pub goes_on : goes (lent_to old member.context) after
+    pub is : new ≡ desk_of after
+        (with_item old.members identifier (Some (record member { context = returned after })))
+        old.has_faulted
+
+-- of ordinary steps, at most so many: where no turn behind them is told, all were made, or no frame
+-- is left
+abbrev pub RunsOut : (most made : ℕ) → Option (Result Turned Reason) → (old new : Lent) → Type 0
+RunsOut most made next old new = next ≡ None → made < most → new.frames ≡ []
+
+-- its turn
+abbrev pub TurnsSo : (asks : Status → Around → Scene → Asked) → (unwinding : Option Cause) → Trial
+    → Result Turned Reason → (old new : Lent) → Type 0
+TurnsSo asks unwinding trial result old new =
+    Turns (asks_in asks unwinding) (own_turn unwinding) trial result old new

@@ -1,0 +1,78 @@
+-- When steps of the contexts of a world went as the definitions say (PLRM2, 7.1).
+use Rattle.std.specs.Prelude.{◌≡◌, ℕ, ℤ, true, false, IsTrue, Option, Some, None, Result, Ok, Err}
+use Rattle.ps_language.specs.Effect.{Around, Scene}
+use Rattle.ps_language.specs.Locks.{is_ready}
+use Rattle.ps_language.specs.Step.{Stepped, stepped}
+use Rattle.ps_language.specs.World.{Status, World}
+use Rattle.ps_language.specs.Worlds.{after_moves, all_ready}
+use Rattle.ps_mem.specs.Keeps.{Keeps}
+use Rattle.ps_ops.specs.declared.failure.NotMade.{NotMade as Reason}
+use Rattle.ps_ops.specs.Does.{KeepsLogsWithin, most_records, spent}
+use Rattle.ps_acts.specs.declared.lent.Trial.{Trial}
+use Rattle.ps_acts.specs.Acts.{Asked}
+use Rattle.ps_contexts.specs.Desks.{IsWorld}
+use Rattle.ps_contexts.specs.Moves.{plain_moves}
+use Rattle.ps_world.specs.declared.notes.Note.{Note}
+use Rattle.ps_world.specs.declared.runs.Next.{Next}
+use Rattle.ps_world.specs.Calls.{IsHeldUpAs}
+use Rattle.ps_world.specs.Held.{Held, IsAt, IsSteadyHeld}
+use Rattle.ps_world.specs.Notes.{note_of}
+use Rattle.ps_world.specs.Needs.{step_wants}
+
+-- it comes to the step of the definitions, and the note is theirs; or it is not made, and all is
+-- still at the world before
+abbrev pub StepsTo : Result Note Reason → Stepped → (before : World) → (new : Held) → Type 0
+StepsTo (Ok note) stepped before new = IsWorld new.desk stepped.world × (new.calling ≡ None)
+    × (note_of note ≡ stepped.note)
+StepsTo (Err reason) stepped before new = IsAt new before
+
+-- For every world that it is at, where the context is ready. A step that is not made has its reason;
+-- what stood goes on standing, and the logs are kept
+pub record Steps (asks : Status → Around → Scene → Asked) (identifier : ℕ) (trial : Trial)
+    (shown : Option (ℤ × ℤ)) (result : Result Note Reason) (old new : Held) : Type 0 where
+  pub meets : (w : World) → IsAt old w → is_ready w identifier ≡ true
+      → StepsTo result (stepped w identifier trial.refused shown) w new
+  pub held_up : (reason : Reason) → result ≡ Err reason → (w : World) → IsAt old w
+      → is_ready w identifier ≡ true
+      → IsHeldUpAs (step_wants asks identifier trial.refused w) trial.slot new.desk.heap
+      new.desk.grants reason
+  pub logs : (w : World) → IsAt old w → is_ready w identifier ≡ true
+      → KeepsLogsWithin (spent result most_records) old.desk.grants new.desk.grants trial.slot
+  pub keeps : Keeps old.desk.heap new.desk.heap
+  pub steady : IsSteadyHeld new
+  pub program : new.desk.program ≡ old.desk.program
+
+-- ---- many
+
+-- so many were made, from every world that it was at where the context was ready, each while it was
+pub record HasMade (identifier made : ℕ) (old new : Held) : Type 0 where
+  pub at : (w : World) → IsAt old w → is_ready w identifier ≡ true
+      → IsAt new (after_moves w (plain_moves identifier made))
+  pub ready : (w : World) → IsAt old w → is_ready w identifier ≡ true
+      → IsTrue (all_ready w (plain_moves identifier made))
+  pub steady : IsSteadyHeld new
+  pub program : new.desk.program ≡ old.desk.program
+
+-- an ordinary step, whose records go into the log of a slot
+abbrev pub ordinary : (slot : ℕ) → Trial
+ordinary slot = record { slot = slot; refused = false }
+
+-- so many were made, and the step behind them, of the same context, came to this
+pub record StepsBehind (asks : Status → Around → Scene → Asked) (identifier slot made : ℕ)
+    (shown : Option (ℤ × ℤ)) (result : Result Note Reason) (old new : Held) : Type 0 where
+  pub mid : Held
+  pub makes : HasMade identifier made old mid
+  pub ready : (w : World) → IsAt old w → is_ready w identifier ≡ true
+      → is_ready (after_moves w (plain_moves identifier made)) identifier ≡ true
+  pub steps : Steps asks identifier (ordinary slot) shown result mid new
+
+-- in no world that it is at the context is ready
+abbrev pub IsUnready : (identifier : ℕ) → Held → Type 0
+IsUnready identifier h = (w : World) → IsAt h w → is_ready w identifier ≡ false
+
+-- what was told of that step; where nothing is, so many were made
+abbrev pub GoesOn : (asks : Status → Around → Scene → Asked) → (identifier slot made : ℕ)
+    → Option Next → (old new : Held) → Type 0
+GoesOn asks identifier slot made None old new = HasMade identifier made old new
+GoesOn asks identifier slot made (Some next) old new =
+    StepsBehind asks identifier slot made next.shown next.told old new

@@ -1,0 +1,73 @@
+//! Steps of one context of a table, over what is lent of it (PLRM2, 3.5, 7.1).
+
+ghost use Rattle.std.specs.Prelude.{◌≡◌, ◌<◌, ◌≤◌, None, IsSome};
+ghost use Rattle.ps_contexts.specs.Desks.{IsSteady, AreFramed};
+ghost use Rattle.ps_interpreter.specs.Makes.{Runs};
+ghost use Rattle.ps_world.specs.Calls.{over};
+ghost use Rattle.ps_world.specs.Held.{CourseAt, course_in};
+ghost use Rattle.ps_world.specs.Lending.{Lends, RunsOut, TurnsSo};
+
+use ps_acts::lent::Trial;
+use ps_contexts::contexts::Contexts;
+use ps_control::frames::Cause;
+use ps_interpreter::interprets::{Interpret, Run};
+use ps_mem::{Memory, SLOTS};
+use ps_ops::failure::NotMade;
+use ps_turns::turned::Turned;
+
+/// The turn of a context that runs, or is unwinding for a cause.
+pub fn turn_of<S: Interpret, M: Memory>(
+    contexts: &mut Contexts,
+    identifier: u32,
+    unwinding: Option<Cause>,
+    interpret: &mut S,
+    memory: &mut M,
+    trial: Trial,
+) -> Result<Turned, NotMade>
+    requires slot { trial.slot < SLOTS }
+    requires course { CourseAt identifier (course_in unwinding) contexts.old.table }
+    requires steady { IsSteady
+        (over (M.heap memory.old) (M.grants memory.old) contexts.old) }
+    requires framed { AreFramed contexts.old.table }
+    ensures { Lends identifier (TurnsSo S.asks unwinding trial result) (M.heap memory.old)
+        (M.heap memory.new) (M.grants memory.old) (M.grants memory.new) contexts.old contexts.new }
+{
+    let member = contexts.table.get_mut(identifier);
+    interpret.step(
+        unwinding,
+        &mut member.context,
+        &mut contexts.shared,
+        memory,
+        trial,
+    )
+}
+
+/// Ordinary steps of a running context, one after another, at most so many.
+pub fn run_of<S: Interpret, M: Memory>(
+    contexts: &mut Contexts,
+    identifier: u32,
+    interpret: &mut S,
+    memory: &mut M,
+    slot: u32,
+    most: u32,
+) -> Run
+    requires slot { slot < SLOTS }
+    requires course { CourseAt identifier (course_in None) contexts.old.table }
+    requires steady { IsSteady
+        (over (M.heap memory.old) (M.grants memory.old) contexts.old) }
+    ensures within { result.made ≤ most }
+    ensures fewer { IsSome result.next → result.made < most }
+    ensures lends { Lends identifier (Runs S.asks slot result.made result.next) (M.heap memory.old)
+        (M.heap memory.new) (M.grants memory.old) (M.grants memory.new) contexts.old contexts.new }
+    ensures ended { Lends identifier (RunsOut most result.made result.next) (M.heap memory.old)
+        (M.heap memory.new) (M.grants memory.old) (M.grants memory.new) contexts.old contexts.new }
+{
+    let member = contexts.table.get_mut(identifier);
+    interpret.run(
+        most,
+        slot,
+        &mut member.context,
+        &mut contexts.shared,
+        memory,
+    )
+}
