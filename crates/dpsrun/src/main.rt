@@ -19,6 +19,8 @@ struct SystemFiles<'a> {
     rt: &'a HostRuntime,
     /// Why the last read that failed did.
     last_fault: Option<ReadFault>,
+    /// Whether a write failed.
+    unwritten: bool,
 }
 
 impl SystemFiles<'_> {
@@ -45,6 +47,8 @@ impl SystemFiles<'_> {
 impl FileSet for SystemFiles<'_> {
     ghost last_fault = { λ files. files.last_fault };
 
+    ghost is_unwritten = { λ files. files.unwritten };
+
     fn read(&mut self, alloc: Global, name: &str) -> Result<Vec<u8>, ReadFault> {
         let read = self.bytes_of(alloc, name);
         if let Err(fault) = &read {
@@ -54,7 +58,11 @@ impl FileSet for SystemFiles<'_> {
     }
 
     fn write(&mut self, name: &str, bytes: &[u8]) -> Result<(), WriteFault> {
-        fs::write(self.rt, name, bytes).map_err(|_| WriteFault::NoWrite)
+        if fs::write(self.rt, name, bytes).is_err() {
+            self.unwritten = true;
+            return Err(WriteFault::NoWrite);
+        }
+        Ok(())
     }
 }
 
@@ -67,6 +75,7 @@ fn run(rt: &HostRuntime) -> io::Result<u8> {
     let mut files = SystemFiles {
         rt,
         last_fault: None,
+        unwritten: false,
     };
     let steps = Steps {
         operators: Operators,

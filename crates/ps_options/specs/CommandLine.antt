@@ -1,8 +1,11 @@
 -- The command line of the program, as rules of clap.
-use Rattle.std.specs.Prelude.{◌≡◌, ◌<◌, ◌^◌, ℕ, Bool, List, [], ◌∷◌, Option, Some, true, false, codes, unwrap_or}
+use Rattle.std.specs.Prelude.{◌≡◌, ◌<◌, ◌^◌, ℕ, Bool, ◌&&◌, ◌||◌, List, [], ◌∷◌, Option, Some, None, is_some, true, false, codes, unwrap_or, if◌then◌else◌}
+use Rattle.std.specs.Str.{bytes_eq}
 use Rattle.std.specs.Str.Parse.{IsNumeral, digits_value, without_leading_plus}
-use Rattle.clap.specs.Words.{App, Rule, Text, new_app, new_rule, with_rule, matches_of, first_of, one_of}
+use Rattle.clap.specs.Kinds.{Kinds, or_else}
+use Rattle.clap.specs.Words.{App, Rule, Text, new_app, new_rule, with_rule, matches_of, first_of, one_of, fault_of}
 use Rattle.clap.specs.declared.builder.action.ArgAction.TheVariants.{SetTrue}
+use Rattle.clap.specs.declared.error.kind.ErrorKind.TheVariants.{ArgumentConflict}
 use Rattle.clap.specs.declared.builder.value_parser.ValueParser.TheVariants.{Unsigned}
 
 -- an option with a value, and its text where it is left out
@@ -20,6 +23,10 @@ number_rule name default least most = within (option_rule name default) least mo
 -- an option without a value
 abbrev pub flag_rule : Text → Rule
 flag_rule name = record (new_rule name) { long = Some name; action = Some SetTrue }
+
+-- an option with the name of a file
+abbrev pub file_option_rule : Text → Rule
+file_option_rule name = record (new_rule name) { long = Some name; value_names = 1 }
 
 -- the program's file, which must be there
 abbrev pub file_rule : Rule
@@ -40,17 +47,44 @@ with_limits app = with_rule
 abbrev pub with_flags : App → App
 with_flags app = with_rule (with_rule app (flag_rule (codes "plain"))) (flag_rule (codes "stats"))
 
+-- the files of schedules
+abbrev pub with_schedules : App → App
+with_schedules app = with_rule
+    (with_rule app (file_option_rule (codes "record"))) (file_option_rule (codes "replay"))
+
 abbrev pub nameless : App → App
 nameless app = record app { top = record app.top { no_binary_name = true } }
 
 -- the whole: its words come without the program's name
 abbrev pub command_line : App
-command_line = with_rule (with_flags
-    (with_limits (with_sizes (nameless (new_app (codes "dpsrun")))))) file_rule
+command_line = with_rule (with_schedules (with_flags
+    (with_limits (with_sizes (nameless (new_app (codes "dpsrun"))))))) file_rule
 
 -- the name of the program's file in such words
 abbrev pub file_in : List Text → Text
 file_in words = unwrap_or (first_of (codes "FILE") (matches_of command_line words)) []
+
+-- the first text of an option in such words, as the name of a schedule's file
+abbrev pub named_in : Text → List Text → Option Text
+named_in name words = first_of name (matches_of command_line words)
+
+-- whether a flag stands in such words, by its first text
+abbrev pub is_set : Option Text → Bool
+is_set None = false
+is_set (Some text) = bytes_eq text (codes "true")
+
+-- a schedule is given, and something with which none can be
+abbrev pub excludes : (replay plain recorded : Option Text) → Bool
+excludes replay plain recorded = is_some replay && (is_set plain || is_some recorded)
+
+abbrev pub is_excluded : List Text → Bool
+is_excluded words = excludes (named_in (codes "replay") words) (named_in (codes "plain") words)
+    (named_in (codes "record") words)
+
+-- the faults of such words: those by the rules, or that a schedule is excluded
+abbrev pub faults_in : List Text → Kinds
+faults_in words = or_else (fault_of command_line words)
+    (if is_excluded words then ArgumentConflict ∷ [] else [])
 
 -- the text of a flag in such words
 abbrev pub flag_in : Text → List Text → Option Text

@@ -1,12 +1,18 @@
 //! The command line.
 
 ghost use Rattle.std.specs.Prelude.{◌≡◌, Some, true, false, codes, map, IfOk};
-ghost use Rattle.clap.specs.Words.{app_of, rule_of, with_rule, fault_of, FailsBy};
+ghost use Rattle.std.specs.Option.{option_map};
+ghost use Rattle.clap.specs.Words.{app_of, rule_of, with_rule, first_value, found_of, FailsBy};
 ghost use Rattle.ps_options.specs.CommandLine as spec;
 
 use clap::builder::ValueParser;
-use clap::{Arg, ArgAction, Command, Error};
+use clap::error::ErrorKind;
+use clap::{Arg, ArgAction, ArgMatches, Command, Error};
 use std::alloc::{AllocError, Global};
+
+/// What is told of a schedule that is given beside what excludes it.
+const EXCLUDED: &str =
+    "the argument '--replay <FILE>' cannot be used with '--plain' or '--record <FILE>'";
 
 /// What the command line asks for.
 #[derive(Debug, Drop)]
@@ -21,6 +27,10 @@ pub struct Options<'a> {
     pub steps: u32,
     /// Whether the counts are told at the end.
     pub stats: bool,
+    /// The name of the file that the schedule of the run is written to, if it is.
+    pub record_file: Option<&'a str>,
+    /// The name of the file whose schedule is followed, if one is. Nothing is recorded then.
+    pub replay_file: Option<&'a str>,
     /// The name of the program's file.
     pub file: &'a str,
 }
@@ -32,10 +42,8 @@ fn command<'a>(alloc: Global) -> Result<Command<'a>, AllocError>
     let command = Command::new(alloc, "dpsrun")
         .about("Runs a program in the PostScript language.")
         .no_binary_name(true);
-    with_file(
-        alloc,
-        with_flags(alloc, with_limits(alloc, with_sizes(alloc, command)?)?)?,
-    )
+    let numbered = with_limits(alloc, with_sizes(alloc, command)?)?;
+    with_file(alloc, with_schedules(alloc, with_flags(alloc, numbered)?)?)
 }
 
 /// The numbers of memory and threads.
@@ -92,6 +100,19 @@ fn with_flags<'a>(alloc: Global, command: Command<'a>) -> Result<Command<'a>, Al
         ))
 }
 
+/// The files of schedules.
+fn with_schedules<'a>(alloc: Global, command: Command<'a>) -> Result<Command<'a>, AllocError>
+    ensures { IfOk result (λ made. app_of made ≡ spec.with_schedules (app_of command.entry)) }
+{
+    command
+        .arg(file(alloc, "record", "write the schedule of the run to FILE"))?
+        .arg(file(
+            alloc,
+            "replay",
+            "make the steps of the schedule in FILE; not with --plain or --record",
+        ))
+}
+
 /// The program's file.
 fn with_file<'a>(alloc: Global, command: Command<'a>) -> Result<Command<'a>, AllocError>
     ensures { IfOk result (λ made. app_of made ≡ with_rule (app_of command.entry) spec.file_rule) }
@@ -119,6 +140,17 @@ fn within<'a>(option: Arg<'a>, least: u64, most: u64) -> Arg<'a>
     option.value_parser(ValueParser::unsigned(least, most))
 }
 
+/// An option with the name of a file.
+fn file<'a>(alloc: Global, name: &'a str, help: &'a str) -> Arg<'a>
+    ensures rule { rule_of result ≡ spec.file_option_rule name.entry.now }
+    ensures local { result.global ≡ false }
+{
+    Arg::new(alloc, name)
+        .long(name)
+        .value_name("FILE")
+        .help(help)
+}
+
 /// An option without a value.
 fn flag<'a>(alloc: Global, name: &'a str, help: &'a str) -> Arg<'a>
     ensures rule { rule_of result ≡ spec.flag_rule name.entry.now }
@@ -130,13 +162,39 @@ fn flag<'a>(alloc: Global, name: &'a str, help: &'a str) -> Arg<'a>
         .help(help)
 }
 
+/// Whether a flag stands in the words of the matches.
+fn is_set(matches: &ArgMatches<'_>, name: &str) -> bool
+    ensures { result ≡ spec.is_set (first_value (found_of matches.now) name.now) }
+{
+    match matches.get_str(name) {
+        Some(text) => text == "true",
+        None => false,
+    }
+}
+
+/// Whether a schedule is given in the words of the matches, and something with which none can be.
+fn is_excluded(matches: &ArgMatches<'_>) -> bool
+    ensures { result ≡ spec.excludes (first_value (found_of matches.now) (codes "replay"))
+        (first_value (found_of matches.now) (codes "plain"))
+        (first_value (found_of matches.now) (codes "record")) }
+{
+    matches.get_str("replay").is_some()
+        && (is_set(matches, "plain") || matches.get_str("record").is_some())
+}
+
 /// Reads the words of a command line, without the program's name. The error is the first fault of
-/// the words by the rules of the command line, or want of memory.
+/// the words by the rules of the command line, or that a schedule is given and `--plain` or
+/// `--record` stands there too, or want of memory.
 pub fn parse<'a>(alloc: Global, words: &'a [&'a str]) -> Result<Options<'a>, Error>
-    ensures fault { FailsBy (fault_of spec.command_line (map (λ word. word.now) words.entry.now))
-        result }
+    ensures fault { FailsBy (spec.faults_in (map (λ word. word.now) words.entry.now)) result }
     ensures file { IfOk result
         (λ options. options.file.now ≡ spec.file_in (map (λ word. word.now) words.entry.now)) }
+    ensures record_file { IfOk result
+        (λ options. option_map (λ name. name.now) options.record_file
+        ≡ spec.named_in (codes "record") (map (λ word. word.now) words.entry.now)) }
+    ensures replay_file { IfOk result
+        (λ options. option_map (λ name. name.now) options.replay_file
+        ≡ spec.named_in (codes "replay") (map (λ word. word.now) words.entry.now)) }
     ensures stats { IfOk result
         (λ options. spec.flag_in (codes "stats") (map (λ word. word.now) words.entry.now) ≡ Some
         (codes "true") → options.stats ≡ true) }
@@ -151,13 +209,19 @@ pub fn parse<'a>(alloc: Global, words: &'a [&'a str]) -> Result<Options<'a>, Err
           steps = options.steps;
         })) }
 {
-    let matches = command(alloc)?.try_get_matches_from(words)?;
+    let mut line = command(alloc)?;
+    let matches = line.try_get_matches_from_mut(words)?;
+    if is_excluded(&matches) {
+        return Err(line.error(ErrorKind::ArgumentConflict, EXCLUDED)?);
+    }
     Ok(Options {
         space: matches.get_one::<u32>("space").unwrap_or(65536),
         workers: matches.get_one::<u32>("workers").unwrap_or(4),
         quantum: matches.get_one::<u32>("quantum").unwrap_or(100),
         steps: matches.get_one::<u32>("steps").unwrap_or(1_000_000_000),
         stats: matches.get_flag("stats"),
+        record_file: matches.get_str("record"),
+        replay_file: matches.get_str("replay"),
         file: matches.get_str("FILE").unwrap_or(""),
     })
 }

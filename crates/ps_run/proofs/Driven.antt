@@ -1,32 +1,48 @@
 -- What a command line comes to, for other words of what it asks.
-use Rattle.std.proofs.Common.{◌≡◌, ◌≢◌, ℕ, List, [], ◌∷◌, Option, inl, inr}
+use Rattle.std.proofs.Common.{◌≡◌, ◌≢◌, ℕ, List, [], ◌∷◌, Bool, Option, inl, inr, subst}
 use Rattle.ps_language.specs.Effect.{Around, Scene}
 use Rattle.ps_language.specs.World as world
 use Rattle.ps_acts.specs.Acts as acts
-use Rattle.clap.specs.Words.{HasKind}
+use Rattle.ps_language.specs.declared.schedules.Entry.{Entry}
+use Rattle.ps_vault.specs.declared.reports.Outcome.{Outcome}
+use Rattle.clap.specs.Words.{HasKind, Text}
 use Rattle.clap.specs.Kinds.{Kinds, IsAmong}
 use Rattle.clap.specs.Values.{kind_of}
 use Rattle.clap.specs.declared.error.Error.{Error}
 use Rattle.clap.specs.declared.error.kind.ErrorKind.TheVariants as kind
-use Rattle.ps_run.specs.declared.driver.Status.{Status}
-use Rattle.ps_run.specs.Driving.{Asked, Outputs, IsDriven}
+use Rattle.ps_run.specs.declared.statuses.Status.{Status}
+use Rattle.ps_run.specs.Driving.{Asked, Contents, Names, Outputs, IsDriven, IsWritten}
 
-pub driven_more : (asks : world.Status → Around → Scene → acts.Asked) (known : Option (List ℕ))
-    (A B : Asked → Type 0) (F G : Type 0) (told : Status) (outputs : Outputs)
-    → ((asked : Asked) → A asked → B asked) → (F → G) → IsDriven asks known A F told outputs
-    → IsDriven asks known B G told outputs
-driven_more asks known A B F G told outputs more fault (inl usage) =
-    inl (usage.0, usage.1, fault usage.2)
-driven_more asks known A B F G told outputs more fault (inr (inl memory)) = inr (inl memory)
-driven_more asks known A B F G told outputs more fault (inr (inr run)) = inr (inr (record {
-  asked = run.asked;
-  is_asked = more run.asked run.is_asked;
-  printed = run.printed;
-  schedule = run.schedule;
-  outcome = run.outcome;
-  run = run.run;
-  written = run.written;
-}))
+pub driven_more : (asks : world.Status → Around → Scene → acts.Asked) (names other : Names)
+    (A B : Asked → Type 0) (F G : Type 0) (told : Status) (outputs : Outputs) → names ≡ other
+    → ((asked : Asked) → A asked → B asked) → (F → G) → IsDriven asks names A F told outputs
+    → IsDriven asks other B G told outputs
+driven_more asks names other A B F G told outputs same more fault driven =
+    with_more (subst (λ (n : Names). IsDriven asks n A F told outputs) same driven)
+  where
+    with_more : IsDriven asks other A F told outputs → IsDriven asks other B G told outputs
+    with_more (inl usage) = inl (usage.0, usage.1, usage.2, fault usage.3)
+    with_more (inr (inl memory)) = inr (inl memory)
+    with_more (inr (inr run)) = inr (inr (record {
+      asked = run.asked;
+      is_asked = more run.asked run.is_asked;
+      printed = run.printed;
+      schedule = run.schedule;
+      outcome = run.outcome;
+      run = run.run;
+      written = run.written;
+    }))
+
+-- what was written, where what stood before is told of what stood earlier
+pub written_from : (recorded : Option Text) (stats : Bool) (printed : List ℕ)
+    (schedule : List Entry) (outcome : Outcome) (told : Status) (outputs : Outputs) (err : Option (List ℕ))
+    (files : Contents) → outputs.err_old ≡ err → outputs.files_old ≡ files
+    → IsWritten recorded stats printed schedule outcome told outputs
+    → IsWritten recorded stats printed schedule outcome told
+    (record outputs { err_old = err; files_old = files })
+written_from recorded stats printed schedule outcome told outputs err files errs all written =
+    subst (IsWritten recorded stats printed schedule outcome told)
+    (λ i. record outputs { err_old = errs i; files_old = all i }) written
 
 among_none : (k : _) (kinds : Kinds) → IsAmong k kinds → kinds ≡ [] → ⊥
 among_none k [] among none = among

@@ -1,3 +1,4 @@
 pub mod Counting
 pub mod Written
 pub mod Driven
+pub mod Ranges

@@ -1,23 +1,26 @@
 -- What a run from a command line is, its exit status, and what is written.
-use Rattle.std.specs.Prelude.{◌≡◌, ◌<◌, ◌≤◌, ◌⊎◌, ◌++◌, ◌-◌, ◌^◌, min, ℕ, Bool, true, List, [], Option, IfSome, length, codes, if◌then◌else◌}
+use Rattle.std.specs.Prelude.{◌≡◌, ◌<◌, ◌≤◌, ◌⊎◌, ◌++◌, ◌-◌, ◌^◌, ⊤, min, ℕ, Bool, true, false, not, List, [], Option, Some, None, IsSome, IfSome, option_map, length, codes, if◌then◌else◌}
 use Rattle.std.specs.Fmt.{decimal}
 use Rattle.std.specs.Io.KnownBytes.{Appends}
 use Rattle.ps_language.specs.declared.schedules.Entry.{Entry}
 use Rattle.ps_language.specs.Effect.{Around, Scene}
-use Rattle.ps_language.specs.Schedules.{count_of}
+use Rattle.ps_language.specs.Schedules.{count_of, Begins}
 use Rattle.ps_language.specs.World as world
+use Rattle.ps_language.specs.Worlds as worlds
 use Rattle.ps_acts.specs.Acts as acts
 use Rattle.ps_options.specs.declared.options.Options.{Options}
-use Rattle.ps_options.specs.CommandLine.{IsNumber, IsFlag, AreNumbers}
+use Rattle.ps_interpreter.specs.Alone.{alone_machine, alone_printed}
+use Rattle.ps_options.specs.CommandLine.{IsNumber, IsFlag, AreNumbers, file_in, named_in}
+use Rattle.ps_schedules.specs.Texts.{AreEntries, IsBadAt, text_of}
 use Rattle.clap.specs.Words.{Text}
 use Rattle.ps_vault.specs.declared.reports.Config.{Config}
 use Rattle.ps_vault.specs.declared.reports.Outcome.{Outcome}
 use Rattle.ps_vault.specs.declared.reports.Outcome.TheVariants.{Finished, Faulted, AllWaiting, StepsOut, Memory}
-use Rattle.ps_vault.specs.Reports.{IsRunOf, IsWithin}
+use Rattle.ps_vault.specs.Reports.{EndsAs, IsOwn, IsRunOf, IsWithin, is_memory, is_next_refused}
 use Rattle.ps_run.specs.declared.files.ReadFault.{ReadFault}
 use Rattle.ps_run.specs.declared.files.ReadFault.TheVariants as fault
-use Rattle.ps_run.specs.declared.driver.Status.{Status}
-use Rattle.ps_run.specs.declared.driver.Status.TheVariants as status
+use Rattle.ps_run.specs.declared.statuses.Status.{Status}
+use Rattle.ps_run.specs.declared.statuses.Status.TheVariants as status
 
 -- the exit status of a run that ended so
 abbrev pub status_of : Outcome → Status
@@ -86,13 +89,34 @@ abbrev pub AreAsked : List Text → Asked → Type 0
 AreAsked words asked = IsNumber (codes "steps") words asked.steps
     × IsFlag (codes "stats") words asked.stats
 
--- the numbers of a run among what the words ask for
+-- the names of files that they give: the program's, and where they are given that of the record and
+-- that of the schedule to follow
+pub record Names : Type 0 where
+  pub file : Text
+  pub recorded : Option Text
+  pub replayed : Option Text
+
+abbrev pub names_in : List Text → Names
+names_in words = record {
+  file = file_in words;
+  recorded = named_in (codes "record") words;
+  replayed = named_in (codes "replay") words;
+}
+
+-- the numbers of a run and the names of files among what the words ask for
 abbrev pub config_in : Options → Config
 config_in options = record {
   space = options.space;
   workers = options.workers;
   quantum = options.quantum;
   steps = options.steps;
+}
+
+abbrev pub names_of : Options → Names
+names_of options = record {
+  file = options.file.now;
+  recorded = option_map (λ name. name.now) options.record_file;
+  replayed = option_map (λ name. name.now) options.replay_file;
 }
 
 -- the words' numbers are none of a run: the rules refuse such words
@@ -106,40 +130,108 @@ pub record AreOutOfRange (words : List Text) : Type 0 where
   })
   pub outside : ¬ IsWithin config
 
--- a run of a file's bytes, as far as they are known, with a budget; asks: what a step asks for that
--- the language doesn't say
-pub record IsFileRun (asks : world.Status → Around → Scene → acts.Asked)
-    (known : Option (List ℕ)) (steps : ℕ) (printed : List ℕ) (schedule : List Entry)
-    (outcome : Outcome) : Type 0 where
-  pub program : List ℕ
-  pub is_file : IfSome known (λ bytes. program ≡ bytes)
-  pub few : length program ≤ 16777215
-  pub run : IsRunOf asks program steps printed schedule outcome
+-- what files hold by their names, as far as it is known
+abbrev pub Contents : Type 0
+Contents = Text → Option (List ℕ)
 
--- the bytes that outputs hold before and after, where they are known; flushed: whether the first
--- was flushed after its last write
+-- the schedule to follow, if one is named: that of its file's bytes, as far as they are known
+abbrev pub IsGiven : Contents → Option Text → Option (List Entry) → Type 0
+IsGiven contents None None = ⊤
+IsGiven contents (Some name) (Some given) = AreEntries given
+    × IfSome (contents name) (λ bytes. text_of given ≡ bytes) × (length (text_of given) ≤ 16777215)
+IsGiven contents _ _ = ⊥
+
+-- a file holds the text of a schedule, if one is named
+abbrev pub IsRecorded : Contents → Option Text → List Entry → Type 0
+IsRecorded contents None schedule = ⊤
+IsRecorded contents (Some name) schedule =
+    IfSome (contents name) (λ bytes. bytes ≡ text_of schedule)
+
+-- asks: what a step asks for that the language doesn't say
+module _ (asks : world.Status → Around → Scene → acts.Asked) (program : List ℕ) where
+  -- a run under a given schedule: its bytes are those that the one context prints under the steps
+  -- that were made, and those of the whole language where no operator is left to the world. Those
+  -- steps are all that are given, or for want of memory fewer, and the outcome is that of their
+  -- machine
+  pub record IsReplayOf (given : List Entry) (printed : List ℕ) (schedule : List Entry)
+      (outcome : Outcome) : Type 0 where
+    pub prints : printed ≡ alone_printed program schedule
+    pub world : IsOwn program schedule → printed ≡ worlds.printed program schedule
+    pub begins : Begins schedule given
+    pub whole : is_memory outcome ≡ false → schedule ≡ given
+    pub refused : is_memory outcome ≡ true → count_of schedule < count_of given
+    pub ends : EndsAs asks program (alone_machine program schedule) (not (is_memory outcome))
+        (is_next_refused given schedule) outcome
+
+  -- a run with a budget of steps, whose schedule has a text that can be read again, or one under a
+  -- schedule that is given
+  abbrev pub IsMade : Option (List Entry) → (steps : ℕ) → (printed : List ℕ) → List Entry
+      → Outcome → Type 0
+  IsMade None steps printed schedule outcome =
+      IsRunOf asks program steps printed schedule outcome × AreEntries schedule
+  IsMade (Some given) steps printed schedule outcome = IsReplayOf given printed schedule outcome
+
+-- a run of a file's bytes, under the schedule of another file where one is named
+pub record IsFileRun (asks : world.Status → Around → Scene → acts.Asked) (contents : Contents)
+    (names : Names) (steps : ℕ) (printed : List ℕ) (schedule : List Entry) (outcome : Outcome)
+    : Type 0 where
+  pub program : List ℕ
+  pub is_file : IfSome (contents names.file) (λ bytes. program ≡ bytes)
+  pub few : length program ≤ 16777215
+  pub given : Option (List Entry)
+  pub is_given : IsGiven contents names.replayed given
+  pub run : IsMade asks program given steps printed schedule outcome
+
+-- what outputs and files hold before and after, where it is known; flushed: whether the first
+-- output was flushed after its last write
 pub record Outputs : Type 0 where
   pub out_old : Option (List ℕ)
   pub out_new : Option (List ℕ)
   pub err_old : Option (List ℕ)
   pub err_new : Option (List ℕ)
+  pub files_old : Contents
+  pub files_new : Contents
   pub flushed : Bool
 
--- all that was printed was written and flushed, and the status is that of the outcome; or the
--- output took a part of it alone, and the status tells a fault
-abbrev pub IsWritten : (stats : Bool) → (printed : List ℕ) → List Entry → Outcome → Status → Outputs
-    → Type 0
-IsWritten stats printed schedule outcome told outputs =
-    ((told ≡ status.Usage) × AppendsPart outputs.out_old outputs.out_new printed)
-    ⊎ ((told ≡ status_of outcome) × Appends outputs.out_old outputs.out_new printed
-    × AppendsPart outputs.err_old outputs.err_new (counts_of stats schedule ++ line_of told)
-    × (outputs.flushed ≡ true))
+-- no record was made, though one is asked for: its file was not written, or memory was wanted for
+-- its text, and no file has changed
+abbrev pub IsUnrecorded : Option Text → Status → Outputs → Type 0
+IsUnrecorded recorded told outputs = IsSome recorded
+    × ((told ≡ status.Usage)
+    ⊎ ((told ≡ status.Memory) × (outputs.files_new ≡ outputs.files_old)))
+
+-- the output took a part alone of what was printed, and the status tells a fault; or it took all
+-- and was flushed, and then the record was made where one is asked for, and the status is that of
+-- the outcome
+abbrev pub IsWritten : (recorded : Option Text) → (stats : Bool) → (printed : List ℕ) → List Entry
+    → Outcome → Status → Outputs → Type 0
+IsWritten recorded stats printed schedule outcome told outputs =
+    ((told ≡ status.Usage) × AppendsPart outputs.out_old outputs.out_new printed
+    × (outputs.files_new ≡ outputs.files_old))
+    ⊎ (Appends outputs.out_old outputs.out_new printed × (outputs.flushed ≡ true)
+    × (IsUnrecorded recorded told outputs
+    ⊎ ((told ≡ status_of outcome) × IsRecorded outputs.files_new recorded schedule
+    × AppendsPart outputs.err_old outputs.err_new (counts_of stats schedule ++ line_of told))))
+
+-- ---- faults
 
 -- the file can't be read for what it holds
 abbrev pub IsTooLong : (known : Option (List ℕ)) → Type 0
 IsTooLong known = IfSome known (λ bytes. 16777215 < length bytes)
 
-module _ (asks : world.Status → Around → Scene → acts.Asked) (known : Option (List ℕ))
+-- the line that standard error has of a bad line of a schedule
+abbrev pub bad_line : ℕ → List ℕ
+bad_line line = number_line (codes "dpsrun: bad schedule line ") line
+
+-- no schedule can be read of the file that is named: it is too long, or has a bad line, which is
+-- told
+abbrev pub HasNoSchedule : Contents → Option Text → (err_old err_new : Option (List ℕ)) → Type 0
+HasNoSchedule contents None err_old err_new = ⊥
+HasNoSchedule contents (Some name) err_old err_new = IsTooLong (contents name)
+    ⊎ ((line : ℕ) × IfSome (contents name) (λ bytes. IsBadAt bytes line)
+    × AppendsPart err_old err_new (bad_line line))
+
+module _ (asks : world.Status → Around → Scene → acts.Asked) (names : Names)
     (IsAsked : Asked → Type 0) where
   -- a run that was written
   pub record IsRunWritten (told : Status) (outputs : Outputs) : Type 0 where
@@ -148,13 +240,15 @@ module _ (asks : world.Status → Around → Scene → acts.Asked) (known : Opti
     pub printed : List ℕ
     pub schedule : List Entry
     pub outcome : Outcome
-    pub run : IsFileRun asks known asked.steps printed schedule outcome
-    pub written : IsWritten asked.stats printed schedule outcome told outputs
+    pub run : IsFileRun asks outputs.files_old names asked.steps printed schedule outcome
+    pub written : IsWritten names.recorded asked.stats printed schedule outcome told outputs
 
-  -- a fault of the words or the file, or want of memory before the run: nothing is written; else a
-  -- run. IsFault: of the words or the file
+  -- a fault of the words or a file, or want of memory before the run: nothing is written; else a
+  -- run. IsFault: of the words or a file
   abbrev pub IsDriven : (IsFault : Type 0) → (told : Status) → Outputs → Type 0
   IsDriven IsFault told outputs =
-      ((told ≡ status.Usage) × (outputs.out_new ≡ outputs.out_old) × IsFault)
-      ⊎ (((told ≡ status.Memory) × (outputs.out_new ≡ outputs.out_old))
+      ((told ≡ status.Usage) × (outputs.out_new ≡ outputs.out_old)
+      × (outputs.files_new ≡ outputs.files_old) × IsFault)
+      ⊎ (((told ≡ status.Memory) × (outputs.out_new ≡ outputs.out_old)
+      × (outputs.files_new ≡ outputs.files_old))
       ⊎ IsRunWritten told outputs)

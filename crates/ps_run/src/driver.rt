@@ -1,53 +1,42 @@
 //! A run from the words of a command line to an exit status.
 
-ghost use Rattle.std.specs.Prelude.{◌≡◌, ◌≢◌, ◌++◌, ◌⊎◌, ◌-◌, ◌^◌, [], ℕ, min, map, OnOk, IfSome, None, length};
-ghost use Rattle.std.specs.Io.KnownBytes.{Appends};
-ghost use Rattle.ps_language.specs.Schedules.{count_of};
-ghost use Rattle.ps_options.specs.CommandLine.{command_line, file_in};
+ghost use Rattle.std.specs.Prelude.{◌≡◌, ◌≢◌, ◌⊎◌, [], ℕ, List, true, false, Some, Err, map, option_map, IfOk, IfSome, None, codes};
+ghost use Rattle.ps_options.specs.CommandLine.{faults_in, named_in};
 ghost use Rattle.clap.specs.Values.{kind_of};
-ghost use Rattle.clap.specs.Words.{fault_of};
 ghost use Rattle.ps_vault.specs.Reports.{IsWithin};
 ghost use Rattle.ps_run.specs.Driving as driving;
-ghost use Rattle.ps_run.specs.Driving.{AppendsPart, AreAsked, AreOutOfRange, IsWritten, IsTooLong, IsDriven, config_in};
+ghost use Rattle.ps_run.specs.Driving.{AreAsked, AreOutOfRange, HasNoSchedule, IsDriven, IsMade, IsTooLong, config_in, names_in, names_of};
 
-use crate::files::{FileSet, ReadFault};
+use crate::files::FileSet;
+use crate::finishing::finish;
 use crate::outputs::Flushing;
-use crate::writing::{write_number, write_part};
+use crate::reading::{read, read_given};
+use crate::statuses::{Status, end, number_of};
 use clap::Error;
 use clap::error::ErrorKind;
 use ps_interpreter::interprets::Interpret;
 use ps_options::{Options, parse};
-use ps_vault::{Config, Entry, Outcome, Report, RunFault, run_plain};
+use ps_vault::{Config, Entry, Outcome, Report, RunFault, replay, run_plain};
 use std::alloc::Global;
 use std::hash::RandomState;
-use std::io::{self, Write};
+use std::io::Write;
 
-/// How the program ends, as an exit status.
-#[derive(Clone, Copy, Debug, PartialEq, Eq)]
-enum Status {
-    Finished,
-    Faulted,
-    /// A fault of the command line, of a file or of an output.
-    Usage,
-    AllWaiting,
-    StepsOut,
-    Memory,
-}
-
-/// Runs the program that the words name, by steps that `interpret` makes, writes what it printed to
-/// `out`, and statistics and faults to `err`. The words are without the program's name; the keys
-/// are for the table of names alone.
+/// Runs the program that the words name, by steps that `interpret` makes, or follows the schedule
+/// that they name. Writes what it printed to `out`, the schedule to the file that the words name
+/// for a record, and statistics and faults to `err`. The words are without the program's name; the
+/// keys are for the table of names alone.
 ///
 /// What is printed is what the definitions of the whole language print for the run's schedule, if
 /// no step of it is an operator on contexts or locks, `vmstatus` or `vmreclaim`: each of those
-/// raises `undefined` until there are contexts.
+/// raises `undefined` until there are contexts. The record has the text of that schedule.
 ///
 /// The result is the exit status: 0 where every context finished, 1 where an error was printed too,
 /// 2 for a fault of the command line, of a file or of the output, 3 where every context waits,
 /// which no program without contexts brings about, 4 where the steps are used up, 5 for want of
 /// memory, before the run or in it. With 2 the output has a beginning of what was printed, which is
-/// nothing where the words or the file were at fault. After a run whose output took everything the
-/// output is flushed. A write to `err` that fails changes nothing else.
+/// nothing where the words or a file that is read were at fault, and all of it where the record
+/// can't be written. After a run whose output took everything the output is flushed. A write to
+/// `err` that fails changes nothing else. No file changes but that of the record.
 pub fn drive<S: Interpret + Drop, F: FileSet, W: Flushing, X: Write>(
     alloc: Global,
     interpret: S,
@@ -58,24 +47,33 @@ pub fn drive<S: Interpret + Drop, F: FileSet, W: Flushing, X: Write>(
     err: &mut X,
 ) -> u8
     ensures not_waiting { result ≢ 3 }
-    ensures fault { fault_of command_line (map (λ word. word.now) words.now) ≢ []
-        → ((result ≡ 2) ⊎ (result ≡ 5)) × (W.contents out.new ≡ W.contents out.old) }
-    ensures files { F.contents files.new ≡ F.contents files.old }
+    ensures fault { faults_in (map (λ word. word.now) words.now) ≢ []
+        → ((result ≡ 2) ⊎ (result ≡ 5)) × (W.contents out.new ≡ W.contents out.old)
+        × (files.new ≡ files.old) }
+    ensures files { (name : List ℕ)
+        → named_in (codes "record") (map (λ word. word.now) words.now) ≢ Some name
+        → F.contents files.new name ≡ F.contents files.old name }
     ensures unread { F.last_fault files.old ≡ None
         → IfSome (F.last_fault files.new)
         (λ fault. result ≡ driving.number_of (driving.unread fault)) }
+    ensures unwritten { F.is_unwritten files.old ≡ false → F.is_unwritten files.new ≡ true
+        → result ≡ 2 }
     ensures run { (told : Status) × (result ≡ driving.number_of told)
-        × IsDriven S.asks (F.contents files.old (file_in (map (λ word. word.now) words.now)))
+        × IsDriven S.asks (names_in (map (λ word. word.now) words.now))
         (AreAsked (map (λ word. word.now) words.now))
-        ((fault_of command_line (map (λ word. word.now) words.now) ≢ [])
-        ⊎ (IsTooLong (F.contents files.old (file_in (map (λ word. word.now) words.now)))
-        ⊎ AreOutOfRange (map (λ word. word.now) words.now))) told
+        ((faults_in (map (λ word. word.now) words.now) ≢ [])
+        ⊎ (IsTooLong (F.contents files.old (names_in (map (λ word. word.now) words.now)).file)
+        ⊎ (HasNoSchedule (F.contents files.old)
+        (names_in (map (λ word. word.now) words.now)).replayed (X.contents err.old)
+        (X.contents err.new)
+        ⊎ AreOutOfRange (map (λ word. word.now) words.now)))) told
         (record {
           out_old = W.contents out.old;
           out_new = W.contents out.new;
-          err_old =
-              X.contents err.old;
+          err_old = X.contents err.old;
           err_new = X.contents err.new;
+          files_old = F.contents files.old;
+          files_new = F.contents files.new;
           flushed = W.is_flushed out.new;
         }) }
 {
@@ -97,14 +95,8 @@ fn refuse<X: Write>(error: &Error, err: &mut X) -> Status
     Status::Usage
 }
 
-/// The exit status as a number.
-fn number_of(status: Status) -> u8
-    ensures { result ≡ driving.number_of status }
-{
-    status as u8
-}
-
-/// Reads the program, runs it and writes what it printed.
+/// Reads the program, and the schedule where one is named, makes the steps and writes what they
+/// printed.
 fn run<S: Interpret + Drop, F: FileSet, W: Flushing, X: Write>(
     alloc: Global,
     interpret: S,
@@ -115,41 +107,64 @@ fn run<S: Interpret + Drop, F: FileSet, W: Flushing, X: Write>(
     err: &mut X,
 ) -> Status
     ensures not_waiting { driving.number_of result ≢ 3 }
-    ensures files { F.contents files.new ≡ F.contents files.old }
+    ensures files { (name : List ℕ) → (names_of options.now).recorded ≢ Some name
+        → F.contents files.new name ≡ F.contents files.old name }
     ensures unread { F.last_fault files.old ≡ None
         → IfSome (F.last_fault files.new) (λ fault. result ≡ driving.unread fault) }
-    ensures run { IsDriven S.asks (F.contents files.old options.now.file.now)
+    ensures unwritten { F.is_unwritten files.old ≡ false → F.is_unwritten files.new ≡ true
+        → result ≡ Status.Usage }
+    ensures run { IsDriven S.asks (names_of options.now)
         (λ asked. (asked.steps ≡ options.now.steps) × (asked.stats ≡ options.now.stats))
-        (IsTooLong (F.contents files.old options.now.file.now)
-        ⊎ ¬ IsWithin (config_in options.now))
+        (IsTooLong (F.contents files.old (names_of options.now).file)
+        ⊎ (HasNoSchedule (F.contents files.old) (names_of options.now).replayed
+        (X.contents err.old) (X.contents err.new)
+        ⊎ ¬ IsWithin (config_in options.now)))
         result (record {
           out_old = W.contents out.old;
           out_new = W.contents out.new;
-          err_old =
-              X.contents err.old;
+          err_old = X.contents err.old;
           err_new = X.contents err.new;
+          files_old = F.contents files.old;
+          files_new = F.contents files.new;
           flushed = W.is_flushed out.new;
         }) }
 {
-    let program = match files.read(alloc, options.file) {
+    let program = match read(alloc, options.file, files, err) {
         Ok(program) => program,
-        Err(ReadFault::Memory) => return end(err, Status::Memory),
-        Err(ReadFault::NoRead | ReadFault::TooLong) => {
-            let file = options.file;
-            let _ = writeln!(err, "dpsrun: cannot read {file}");
-            return Status::Usage;
-        }
+        Err(status) => return status,
     };
-    match run_plain(
-        alloc,
-        interpret,
-        program.as_slice(),
-        config_of(options),
-        keys,
-    ) {
-        Ok(report) => finish(&report, options.stats, out, err),
+    let given = match read_given(alloc, options, files, err) {
+        Ok(given) => given,
+        Err(status) => return status,
+    };
+    match make(alloc, interpret, program.as_slice(), options, given, keys) {
+        Ok(report) => finish(alloc, &report, options, files, out, err),
         Err(RunFault::Memory) => end(err, Status::Memory),
         Err(RunFault::Config) => Status::Usage,
+    }
+}
+
+/// The report of a run of the program: under the schedule that is given, or with the budget that is
+/// asked for.
+fn make<S: Interpret + Drop>(
+    alloc: Global,
+    interpret: S,
+    program: &[u8],
+    options: &Options<'_>,
+    given: Option<Vec<Entry>>,
+    keys: RandomState,
+) -> Result<Report, RunFault>
+    ensures config { result ≡ Err RunFault.Config → ¬ IsWithin (config_in options.now) }
+    ensures made { IfOk result (λ report. IsMade S.asks program.now
+        (option_map (λ schedule. schedule.items) given) options.now.steps report.printed.items
+        report.schedule.items report.outcome) }
+    ensures not_waiting { IfOk result (λ report. report.outcome ≢ Outcome.AllWaiting) }
+    ensures flips { IfOk result (λ report. report.flips ≡ 0) }
+    ensures taken { IfOk result (λ report. report.taken ≡ 0) }
+{
+    match given {
+        Some(schedule) => replay(alloc, interpret, program, schedule.as_slice(), keys),
+        None => run_plain(alloc, interpret, program, config_of(options), keys),
     }
 }
 
@@ -163,101 +178,4 @@ fn config_of(options: &Options<'_>) -> Config
         quantum: options.quantum,
         steps: options.steps,
     }
-}
-
-/// Writes the printed bytes, then the counts where they are asked for, then the line that belongs
-/// to the status.
-fn finish<W: Flushing, X: Write>(report: &Report, stats: bool, out: &mut W, err: &mut X) -> Status
-    requires flips { report.now.flips ≡ 0 }
-    requires taken { report.now.taken ≡ 0 }
-    ensures { IsWritten stats report.now.printed.items report.now.schedule.items report.now.outcome
-        result (record {
-          out_old = W.contents out.old;
-          out_new = W.contents out.new;
-          err_old =
-              X.contents err.old;
-          err_new = X.contents err.new;
-          flushed = W.is_flushed out.new;
-        }) }
-{
-    if write_part(out, report.printed.as_slice()).is_err() || out.hand_on().is_err() {
-        let _ = writeln!(err, "dpsrun: cannot write output");
-        return Status::Usage;
-    }
-    let status = status_of(report.outcome);
-    let _ = tell(report, stats, status, err);
-    status
-}
-
-/// The exit status of a run that ended so.
-fn status_of(outcome: Outcome) -> Status
-    ensures { result ≡ driving.status_of outcome }
-{
-    match outcome {
-        Outcome::Finished => Status::Finished,
-        Outcome::Faulted => Status::Faulted,
-        Outcome::AllWaiting => Status::AllWaiting,
-        Outcome::StepsOut => Status::StepsOut,
-        Outcome::Memory => Status::Memory,
-    }
-}
-
-/// Writes the counts of a run, where they are asked for, and the line of its status. Fails where a
-/// write fails; a beginning is written then.
-fn tell<X: Write>(report: &Report, stats: bool, status: Status, err: &mut X) -> io::Result<()>
-    requires flips { report.now.flips ≡ 0 }
-    requires taken { report.now.taken ≡ 0 }
-    ensures { AppendsPart (X.contents err.old) (X.contents err.new)
-        (driving.counts_of stats report.now.schedule.items ++ driving.line_of status) }
-{
-    if stats {
-        tell_counts(report, err)?;
-    }
-    write_part(err, line_of(status).as_bytes())
-}
-
-/// Writes the counts of a run. Fails where a write fails; a beginning is written then.
-fn tell_counts<X: Write>(report: &Report, err: &mut X) -> io::Result<()>
-    requires flips { report.now.flips ≡ 0 }
-    requires taken { report.now.taken ≡ 0 }
-    ensures part { AppendsPart (X.contents err.old) (X.contents err.new)
-        (driving.count_lines report.now.schedule.items) }
-    ensures whole { OnOk result
-        (Appends (X.contents err.old) (X.contents err.new)
-        (driving.count_lines report.now.schedule.items)) }
-{
-    write_number(err, b"flips ", u64::from(report.flips))?;
-    write_number(err, b"taken ", report.taken)?;
-    write_number(err, b"steps ", steps_of(report.schedule.as_slice()))
-}
-
-/// Writes the line that belongs to a status, where it has one.
-fn end<X: Write>(err: &mut X, status: Status) -> Status
-    ensures { result ≡ status }
-{
-    let _ = write_part(err, line_of(status).as_bytes());
-    status
-}
-
-/// The line that belongs to a status, with its newline; empty where it has none.
-fn line_of(status: Status) -> &'static str
-    ensures { result.now ≡ driving.line_of status }
-{
-    match status {
-        Status::AllWaiting => "dpsrun: all contexts wait\n",
-        Status::StepsOut => "dpsrun: steps used up\n",
-        Status::Memory => "dpsrun: out of memory\n",
-        Status::Finished | Status::Faulted | Status::Usage => "",
-    }
-}
-
-/// The steps of a schedule together, up to 18,446,744,073,709,551,615.
-fn steps_of(schedule: &[Entry]) -> u64
-    ensures { result ≡ min (count_of schedule.now) (2 ^ 64 - 1) }
-{
-    let mut steps = 0u64;
-    for entry in schedule {
-        steps = steps.saturating_add(u64::from(entry.steps));
-    }
-    steps
 }

@@ -1,6 +1,6 @@
 //! The files that the program reads and writes, by name.
 
-ghost use Rattle.std.specs.Prelude.{◌≡◌, ◌≢◌, ◌≤◌, ℕ, List, Option, Some, None, OnOk, IfOk, IfErr, IfSome, length, vec_len};
+ghost use Rattle.std.specs.Prelude.{◌≡◌, ◌≢◌, ◌≤◌, ℕ, Bool, true, List, Option, Some, None, OnOk, OnErr, IfOk, IfErr, IfSome, length, vec_len};
 
 use std::alloc::Global;
 use thiserror::Error;
@@ -37,6 +37,9 @@ pub trait FileSet {
     /// Why the last read that failed did.
     ghost last_fault: { Self → Option ReadFault };
 
+    /// Whether a write failed.
+    ghost is_unwritten: { Self → Bool };
+
     /// The bytes of a file of at most 16,777,215 bytes. A file that is known to have no more is
     /// refused only for want of memory; no file changes.
     fn read(&mut self, alloc: Global, name: &str) -> Result<Vec<u8>, ReadFault>
@@ -48,12 +51,16 @@ pub trait FileSet {
             (λ known. length known ≤ 16777215 → fault ≡ ReadFault.Memory)) }
         ensures kept { contents self.new ≡ contents self.old }
         ensures failed { IfErr result (λ fault. last_fault self.new ≡ Some fault) }
-        ensures succeeded { OnOk result (last_fault self.new ≡ last_fault self.old) };
+        ensures succeeded { OnOk result (last_fault self.new ≡ last_fault self.old) }
+        ensures writes { is_unwritten self.new ≡ is_unwritten self.old };
 
     /// Makes a file of these bytes, in the place of any that has the name. No other file changes.
     fn write(&mut self, name: &str, bytes: &[u8]) -> Result<(), WriteFault>
         ensures written { OnOk result
             (IfSome (contents self.new name.now) (λ known. known ≡ bytes.now)) }
         ensures kept { (other : List ℕ) → other ≢ name.now
-            → contents self.new other ≡ contents self.old other };
+            → contents self.new other ≡ contents self.old other }
+        ensures failed { OnErr result (is_unwritten self.new ≡ true) }
+        ensures succeeded { OnOk result (is_unwritten self.new ≡ is_unwritten self.old) }
+        ensures reads { last_fault self.new ≡ last_fault self.old };
 }

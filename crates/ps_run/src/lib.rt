@@ -4,7 +4,10 @@
 
 mod driver;
 mod files;
+mod finishing;
 mod outputs;
+mod reading;
+mod statuses;
 mod writing;
 
 pub use driver::drive;

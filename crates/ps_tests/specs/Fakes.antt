@@ -1,5 +1,6 @@
 -- What the files and outputs of tests hold.
-use Rattle.std.specs.Prelude.{ℕ, List, Option, Some, None, Result, Ok, Err}
+use Rattle.std.specs.Prelude.{ℕ, List, Option, Some, None, Result, Ok, Err, codes, if◌then◌else◌}
+use Rattle.std.specs.Str.{bytes_eq}
 use Rattle.std.specs.Borrow.{Bor}
 use Rattle.ps_run.specs.declared.files.ReadFault.{ReadFault}
 
@@ -7,3 +8,9 @@ use Rattle.ps_run.specs.declared.files.ReadFault.{ReadFault}
 abbrev pub bytes_in : Result (Bor (List ℕ)) ReadFault → Option (List ℕ)
 bytes_in (Ok bytes) = Some bytes.now
 bytes_in (Err fault) = None
+
+-- the bytes of the program's file and of the schedule's, by their names
+abbrev pub known_in : (program schedule : Result (Bor (List ℕ)) ReadFault) → (name : List ℕ)
+    → Option (List ℕ)
+known_in program schedule name = if bytes_eq name (codes "f") then bytes_in program
+    else (if bytes_eq name (codes "s") then bytes_in schedule else None)

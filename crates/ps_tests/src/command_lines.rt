@@ -1,21 +1,10 @@
 //! Rows of the command line: what is run, and what it gives.
 
-use crate::fakes::{OneFile, Output, steps_in};
-use ps_run::{Flushed, ReadFault, drive};
-use std::hash::RandomState;
+use crate::driven::{AMPLE, Given, driven_over};
+use crate::fakes::OneFile;
+use ps_run::ReadFault;
 use std::io;
 use std::test::Fail;
-
-/// Ample writes.
-const AMPLE: u32 = 1000;
-
-/// What a run gave: the status, and what stands on both outputs.
-#[derive(Drop)]
-struct Given {
-    status: u8,
-    out: Vec<u8>,
-    err: Vec<u8>,
-}
 
 /// What a run of these bytes gave, with so many writes to each output. Fails where the keys of the
 /// table of names can't be had.
@@ -26,29 +15,11 @@ fn driven(
     out_writes: u32,
     err_writes: u32,
 ) -> io::Result<Given> {
-    let alloc = rt.alloc();
     let mut files = OneFile {
         bytes,
         last_fault: None,
     };
-    let mut out = Flushed::new(Output::new(alloc, out_writes));
-    let mut err = Output::new(alloc, err_writes);
-    let status = drive(
-        alloc,
-        steps_in(alloc),
-        RandomState::new(rt)?,
-        words,
-        &mut files,
-        &mut out,
-        &mut err,
-    );
-    let Output { bytes: printed, .. } = out.into_inner();
-    let Output { bytes: told, .. } = err;
-    Ok(Given {
-        status,
-        out: printed,
-        err: told,
-    })
+    driven_over(rt, words, &mut files, out_writes, err_writes)
 }
 
 /// A command line over `1 2 add =`, what is printed, what is told and the status.
@@ -150,7 +121,7 @@ fn command_lines_are_read(rt: HostRuntime) -> Result<(), Fail> {
 }
 
 /// Command lines that are refused, `--help` too.
-const REFUSED: [&[&str]; 17] = [
+const REFUSED: [&[&str]; 22] = [
     &[],
     &["--space", "4095", "f"],
     &["--space", "1048577", "f"],
@@ -163,8 +134,13 @@ const REFUSED: [&[&str]; 17] = [
     &["--steps", "x", "f"],
     &["--steps", "-1", "f"],
     &["--steps"],
-    &["--record", "r", "f"],
-    &["--replay", "r", "f"],
+    &["--record"],
+    &["--record", "r"],
+    &["--replay", "s"],
+    &["--record", "r", "--record", "r", "f"],
+    &["--replay", "s", "--plain", "f"],
+    &["--replay", "s", "--record", "r", "f"],
+    &["--plain", "--record", "r", "--replay", "s", "f"],
     &["--unknown", "f"],
     &["f", "g"],
     &["--help"],

@@ -1,9 +1,9 @@
 //! Files and outputs in memory, and who makes the steps of a run.
 
-ghost use Rattle.std.specs.Prelude.{◌≡◌, ◌≢◌, ◌+◌, ℕ, List, [], Some, Err, OnOk, OnErr, IsErr, IfOk, IfSome, length};
+ghost use Rattle.std.specs.Prelude.{◌≡◌, ◌≢◌, ◌≤◌, ◌+◌, ℕ, List, [], true, Some, None, Err, OnOk, OnErr, IsErr, IfOk, IfErr, IfSome, length, vec_len};
 ghost use Rattle.std.specs.Io.{WritesAtMost};
 ghost use Rattle.std.specs.Io.KnownBytes.{WriteAppends, Keeps};
-ghost use Rattle.ps_tests.specs.Fakes.{bytes_in};
+ghost use Rattle.ps_tests.specs.Fakes.{bytes_in, known_in};
 
 use ps_context::steps::Steps;
 use ps_dispatch::operators::Operators;
@@ -16,6 +16,20 @@ pub fn steps_in(alloc: Global) -> Steps<Operators> {
     Steps {
         operators: Operators,
         text: Vec::new(alloc),
+    }
+}
+
+/// What is read of a file that has these bytes, or a fault in their place.
+fn copied(alloc: Global, bytes: Result<&[u8], ReadFault>) -> Result<Vec<u8>, ReadFault>
+    ensures few { IfOk result (λ copy. vec_len copy ≤ 16777215) }
+    ensures bytes { IfOk result (λ copy. bytes_in bytes.entry ≡ Some copy.items) }
+    ensures fault { IfErr result (λ fault. IfSome (bytes_in bytes.entry)
+        (λ known. length known ≤ 16777215 → fault ≡ ReadFault.Memory)) }
+{
+    match bytes {
+        Ok(bytes) if bytes.len() > MOST_PROGRAM_BYTES => Err(ReadFault::TooLong),
+        Ok(bytes) => Vec::from_slice(alloc, bytes).map_err(|_| ReadFault::Memory),
+        Err(fault) => Err(fault),
     }
 }
 
@@ -32,12 +46,10 @@ impl FileSet for OneFile<'_> {
 
     ghost last_fault = { λ file. file.last_fault };
 
+    ghost is_unwritten = { λ file. true };
+
     fn read(&mut self, alloc: Global, _name: &str) -> Result<Vec<u8>, ReadFault> {
-        let read = match self.bytes {
-            Ok(bytes) if bytes.len() > MOST_PROGRAM_BYTES => Err(ReadFault::TooLong),
-            Ok(bytes) => Vec::from_slice(alloc, bytes).map_err(|_| ReadFault::Memory),
-            Err(fault) => Err(fault),
-        };
+        let read = copied(alloc, self.bytes);
         if let Err(fault) = &read {
             self.last_fault = Some(*fault);
         }
@@ -50,8 +62,75 @@ impl FileSet for OneFile<'_> {
             (IfSome (bytes_in self.new.bytes) (λ known. known ≡ _bytes.now)) }
         ensures kept { (other : List ℕ) → other ≢ _name.now
             → bytes_in self.new.bytes ≡ bytes_in self.old.bytes }
+        ensures failed { OnErr result (true ≡ true) }
+        ensures succeeded { OnOk result (true ≡ true) }
+        ensures reads { self.new.last_fault ≡ self.old.last_fault }
     {
         Err(WriteFault::NoWrite)
+    }
+}
+
+/// The program's file `f` and a schedule's file `s`, each with its bytes or a fault in their place,
+/// and one file that can be written, of any other name.
+#[derive(Drop)]
+pub struct Files<'a> {
+    pub program: Result<&'a [u8], ReadFault>,
+    pub schedule: Result<&'a [u8], ReadFault>,
+    pub alloc: Global,
+    /// What was written.
+    pub written: Option<Vec<u8>>,
+    /// Whether it can be.
+    pub takes_writes: bool,
+    /// Why the last read that failed did.
+    pub last_fault: Option<ReadFault>,
+    /// Whether a write failed.
+    pub unwritten: bool,
+}
+
+impl Files<'_> {
+    /// Writes the record. Fails where it can't be written, or memory is wanted.
+    fn put(&mut self, name: &str, bytes: &[u8]) -> Result<(), WriteFault>
+        ensures reads { self.new ≡ record self.old { written = self.new.written } }
+        ensures other { OnOk result (known_in self.old.program self.old.schedule name.now ≡ None) }
+    {
+        if name == "f" || name == "s" || !self.takes_writes {
+            return Err(WriteFault::NoWrite);
+        }
+        let Ok(copy) = Vec::from_slice(self.alloc, bytes) else {
+            return Err(WriteFault::NoWrite);
+        };
+        self.written = Some(copy);
+        Ok(())
+    }
+}
+
+impl FileSet for Files<'_> {
+    ghost contents = { λ files name. known_in files.program files.schedule name };
+
+    ghost last_fault = { λ files. files.last_fault };
+
+    ghost is_unwritten = { λ files. files.unwritten };
+
+    fn read(&mut self, alloc: Global, name: &str) -> Result<Vec<u8>, ReadFault> {
+        let read = if name == "f" {
+            copied(alloc, self.program)
+        } else if name == "s" {
+            copied(alloc, self.schedule)
+        } else {
+            Err(ReadFault::NoRead)
+        };
+        if let Err(fault) = &read {
+            self.last_fault = Some(*fault);
+        }
+        read
+    }
+
+    fn write(&mut self, name: &str, bytes: &[u8]) -> Result<(), WriteFault> {
+        let written = self.put(name, bytes);
+        if written.is_err() {
+            self.unwritten = true;
+        }
+        written
     }
 }
 

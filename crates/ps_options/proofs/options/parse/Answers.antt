@@ -1,13 +1,16 @@
-use Rattle.std.proofs.Common.{◌≡◌, ◌<◌, ◌^◌, ℕ, ap, sym, subst, ◌∙◌, refl, codes, rules, true, map, List, Option, Some, None}
-use Rattle.std.specs.Prelude.{option_map, unwrap_or, Result, Err}
+use Rattle.std.proofs.Common.{◌≡◌, ◌<◌, ◌^◌, ℕ, ap, sym, subst, ◌∙◌, refl, codes, rules, true, map, List, [], ◌∷◌, Bool, false, Option, Some, None, inl, inr}
+use Rattle.std.specs.Prelude.{option_map, unwrap_or, Result, Err, if◌then◌else◌}
 use Rattle.std.specs.Str.Parse.{IsNumeral, ParsesUnsigned, ExplainsUnsignedError, HasUnsignedDigitsIfOk, digits_value, without_leading_plus}
 use Rattle.std.specs.Borrow.{Bor}
-use Rattle.clap.specs.Words.{App, Text, app_of, fault_of, found_of, first_value, first_of, one_text, one_of, is_simple, is_simple_and_free, matches_of, rows_of, HasKind, HasMatchesOf, ReadsOne}
+use Rattle.clap.specs.Words.{App, Text, app_of, fault_of, found_of, first_value, first_of, one_text, one_of, is_simple, is_simple_and_free, matches_of, rows_of, HasKind, HasMatchesOf, Kinds, ReadsOne}
+use Rattle.clap.specs.Kinds.{or_else}
+use Rattle.clap.specs.declared.error.Error.{Error}
+use Rattle.clap.specs.declared.error.kind.ErrorKind.TheVariants.{ArgumentConflict}
 use Rattle.clap.specs.declared.builder.command.Command.{Command}
 use Rattle.clap.specs.declared.parser.matches.ArgMatches.{ArgMatches}
 use Rattle.clap.proofs.OnLiterals.{clap_on_literals}
 use Rattle.clap.proofs.WalkLemmas.{first_value-rows, one_text-rows}
-use Rattle.ps_options.specs.CommandLine.{command_line, flag_in}
+use Rattle.ps_options.specs.CommandLine.{command_line, flag_in, excludes, is_excluded}
 use Rattle.ps_options.proofs.options.parse.Goals as goal
 
 -- the command line is one whose matches and faults the rules decide
@@ -26,24 +29,33 @@ behind_default : (found : Option (Bor Text)) (other : Bor Text) (text : Option T
 behind_default None other text is = ap (λ (t : Option Text). unwrap_or t other.now) is
 behind_default (Some found) other text is = ap (λ (t : Option Text). unwrap_or t other.now) is
 
+-- a kind of the first faults is one of both, and where those are none, the others are left
+has_first : (first next : Kinds) (error : Error) → HasKind first error
+    → HasKind (or_else first next) error
+has_first first next error (inl memory) = inl memory
+has_first [] next error (inr among) = absurd among
+has_first (kind ∷ kinds) next error (inr among) = inr among
+
+no_first : (first next : Kinds) → first ≡ [] → or_else first next ≡ next
+no_first first next none = ap (λ kinds. or_else kinds next) none
+
 pub returns-in_err-matches-clause-fault : goal.returns-in_err-matches-clause-fault
 returns-in_err-matches-clause-fault c =
-    let made : app_of c.in_ok-command.field-0 ≡ command_line = c.in_ok-command.ensures in
+    let made : app_of c.in_ok-line.line ≡ command_line = c.in_ok-line.ensures in
     let words : List Text = map {A = Bor Text} {B = Text} (λ (word : Bor Text). word.now)
     c.args.words.now in
     let same : c.from_residual-in_err-matches.result ≡ Err c.in_err-matches.field-0.0 =
     search rules in
-    rw same
+    rw same (has_first (fault_of command_line words) _ c.in_err-matches.field-0.0
     (subst (λ (app : App). HasKind (fault_of app words) c.in_err-matches.field-0.0) made
-    (c.in_err-matches.ensures.kinds (ap is_simple_and_free made ∙ line_is_free)))
+    (c.in_err-matches.ensures.kinds (ap is_simple_and_free made ∙ line_is_free))))
 
-pub returns-clause-fault : goal.returns-clause-fault
-returns-clause-fault c =
-    let made : app_of c.in_ok-command.field-0 ≡ command_line = c.in_ok-command.ensures in
-    let words : List Text = map {A = Bor Text} {B = Text} (λ (word : Bor Text). word.now)
-    c.args.words.now in
-    ap (λ (app : App). fault_of app words) (sym made)
-    ∙ c.in_ok-matches.ensures.kinds (ap is_simple_and_free made ∙ line_is_free)
+-- the rules have no fault of words that were taken
+no_fault : (made : Command) (words : List Text) → app_of made ≡ command_line
+    → (is_simple_and_free (app_of made) ≡ true → fault_of (app_of made) words ≡ [])
+    → fault_of command_line words ≡ []
+no_fault made words is none = ap (λ (app : App). fault_of app words) (sym is)
+    ∙ none (ap is_simple_and_free is ∙ line_is_free)
 
 -- the rows of the matches are those of the rules
 rows_are : (made : Command) (words : List Text) (m : ArgMatches) → app_of made ≡ command_line
@@ -65,22 +77,67 @@ flag_is : (made : Command) (words : List Text) (m : ArgMatches) (id : Text)
 flag_is made words m id is has = one_text-rows (found_of m) id
     ∙ ap (one_of id) (rows_are made words m is has)
 
+-- whether a schedule is excluded
+excluded_is : (made : Command) (words : List Text) (m : ArgMatches) → app_of made ≡ command_line
+    → HasMatchesOf (app_of made) words m
+    → excludes (first_value (found_of m) (codes "replay"))
+    (first_value (found_of m) (codes "plain")) (first_value (found_of m) (codes "record"))
+    ≡ is_excluded words
+excluded_is made words m is has =
+    let replay = name_is made words m (codes "replay") is has in
+    let plain = name_is made words m (codes "plain") is has in
+    let recorded = name_is made words m (codes "record") is has in
+    λ i. excludes (replay i) (plain i) (recorded i)
+
+pub returns-then-is_excluded-clause-fault : goal.returns-then-is_excluded-clause-fault
+returns-then-is_excluded-clause-fault c =
+    let words : List Text = map {A = Bor Text} {B = Text} (λ (word : Bor Text). word.now)
+    c.args.words.now in
+    let told : is_excluded words ≡ true =
+    sym (excluded_is c.in_ok-line.line words c.in_ok-matches.matches c.in_ok-line.ensures
+    c.in_ok-matches.ensures.ok.2) ∙ sym c.is_excluded.ensures ∙ c.if-is_excluded.true in
+    let faults = no_first (fault_of command_line words)
+    (if is_excluded words then ArgumentConflict ∷ [] else [])
+    (no_fault c.in_ok-line.line words c.in_ok-line.ensures c.in_ok-matches.ensures.kinds)
+    ∙ ap (λ (b : Bool). if b then ArgumentConflict ∷ [] else []) told in
+    subst (λ (kinds : Kinds). HasKind kinds c.in_ok-error.field-0) (sym faults)
+    (inr (inl c.in_ok-error.ensures.kind))
+
+pub returns-clause-fault : goal.returns-clause-fault
+returns-clause-fault c =
+    let words : List Text = map {A = Bor Text} {B = Text} (λ (word : Bor Text). word.now)
+    c.args.words.now in
+    let free : is_excluded words ≡ false =
+    sym (excluded_is c.in_ok-line.line words c.in_ok-matches.matches c.in_ok-line.ensures
+    c.in_ok-matches.ensures.ok.2) ∙ sym c.is_excluded.ensures ∙ c.if-is_excluded.false in
+    no_first (fault_of command_line words) _ (no_fault c.in_ok-line.line words c.in_ok-line.ensures
+    c.in_ok-matches.ensures.kinds)
+    ∙ ap (λ (b : Bool). if b then ArgumentConflict ∷ [] else []) free
+
+pub returns-clause-record_file : goal.returns-clause-record_file
+returns-clause-record_file c = c.get_str.ensures
+    ∙ name_is _ _ _ (codes "record") c.in_ok-line.ensures c.in_ok-matches.ensures.ok.2
+
+pub returns-clause-replay_file : goal.returns-clause-replay_file
+returns-clause-replay_file c = c.get_str-2.ensures
+    ∙ name_is _ _ _ (codes "replay") c.in_ok-line.ensures c.in_ok-matches.ensures.ok.2
+
 pub returns-clause-file : goal.returns-clause-file
 returns-clause-file c =
-    let name = name_is _ _ _ (codes "FILE") c.in_ok-command.ensures
-    c.in_ok-matches.ensures.matches in
+    let name = name_is _ _ _ (codes "FILE") c.in_ok-line.ensures
+    c.in_ok-matches.ensures.ok.2 in
     ap (λ (s : Bor Text). s.now) c.unwrap_or-5.ensures
-    ∙ behind_default c.get_str.result _ _ (c.get_str.ensures ∙ name)
+    ∙ behind_default c.get_str-3.result _ _ (c.get_str-3.ensures ∙ name)
 
 pub returns-clause-stats : goal.returns-clause-stats
 returns-clause-stats c told =
-    c.get_flag.ensures.value (flag_is _ _ _ (codes "stats") c.in_ok-command.ensures
-    c.in_ok-matches.ensures.matches ∙ told)
+    c.get_flag.ensures.value (flag_is _ _ _ (codes "stats") c.in_ok-line.ensures
+    c.in_ok-matches.ensures.ok.2 ∙ told)
 
 pub returns-clause-no_stats : goal.returns-clause-no_stats
 returns-clause-no_stats c told =
-    c.get_flag.ensures.other (flag_is _ _ _ (codes "stats") c.in_ok-command.ensures
-    c.in_ok-matches.ensures.matches ∙ told)
+    c.get_flag.ensures.other (flag_is _ _ _ (codes "stats") c.in_ok-line.ensures
+    c.in_ok-matches.ensures.ok.2 ∙ told)
 
 -- a number of 32 bits that was read of its text is that of the text
 number_read : {E : Type 0} (A B : Text → Result ℕ E → Type 0) (text : Text) (found : Option ℕ)
@@ -94,8 +151,8 @@ number_read A B text None other reads numeral small = absurd (reads.1.0 (numeral
 
 pub returns-clause-numbers : goal.returns-clause-numbers
 returns-clause-numbers c =
-    let made = c.in_ok-command.ensures in
-    let found = c.in_ok-matches.ensures.matches in
+    let made = c.in_ok-line.ensures in
+    let found = c.in_ok-matches.ensures.ok.2 in
     record {
       space = λ text is numeral small. c.unwrap_or.ensures
           ∙ number_read (λ t r. ExplainsUnsignedError 10 t r) (λ t r. HasUnsignedDigitsIfOk t r)

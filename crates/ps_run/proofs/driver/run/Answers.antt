@@ -1,13 +1,16 @@
-use Rattle.std.proofs.Common.{inr, refl, ap, arith, length}
+use Rattle.std.proofs.Common.{◌≡◌, inr, refl, ap, sym, subst, ◌∙◌, arith, length}
+use Rattle.std.specs.Prelude.{option_map}
+use Rattle.ps_run.specs.Driving.{Contents, IsGiven, names_of}
+use Rattle.ps_run.proofs.Driven.{written_from}
 use Rattle.ps_run.proofs.driver.run.Goals as goal
 
-pub returns-in-Ok-run_plain-clause-run : goal.returns-in-Ok-run_plain-clause-run
-returns-in-Ok-run_plain-clause-run g c = inr (inr (record {
+pub returns-in-Ok-make-clause-run : goal.returns-in-Ok-make-clause-run
+returns-in-Ok-make-clause-run g c = inr (inr (record {
   asked = record { steps = c.args.options.now.steps; stats = c.args.options.now.stats };
   is_asked = (refl, refl);
-  printed = c.in-Ok-run_plain.report.printed.items;
-  schedule = c.in-Ok-run_plain.report.schedule.items;
-  outcome = c.in-Ok-run_plain.report.outcome;
+  printed = c.in-Ok-make.report.printed.items;
+  schedule = c.in-Ok-make.report.schedule.items;
+  outcome = c.in-Ok-make.report.outcome;
   run = record {
     program = c.in-Ok.program.items;
     is_file = c.in-Ok.ensures.bytes;
@@ -17,7 +20,15 @@ returns-in-Ok-run_plain-clause-run g c = inr (inr (record {
       c.as_slice.ensures.len,
       c.in-Ok.ensures.few,
     );
-    run = rw (c.as_slice.ensures.value, c.config_of.ensures) at c.in-Ok-run_plain.ensures.run;
+    given = option_map (λ schedule. schedule.items) c.in-Ok-read_given.given;
+    is_given =
+        subst (λ (contents : Contents). IsGiven contents (names_of c.args.options.now).replayed
+        (option_map (λ schedule. schedule.items) c.in-Ok-read_given.given)) c.in-Ok.ensures.kept
+        c.in-Ok-read_given.ensures.given;
+    run = rw c.as_slice.ensures.value at c.in-Ok-make.ensures.made;
   };
-  written = c.finish.ensures;
+  written =
+      written_from _ _ _ _ _ _ _ _ _
+      (ap g.X.Write.contents (c.in-Ok-read_given.ensures.told ∙ c.in-Ok.ensures.told))
+      (c.in-Ok-read_given.ensures.kept ∙ c.in-Ok.ensures.kept) c.finish.ensures.written;
 }))

@@ -1,5 +1,5 @@
 use Rattle.ps_run.proofs.Written.{part_before, part_behind, joined_three, ok_map}
-use Rattle.ps_run.proofs.driver.tell_counts.Goals as goal
+use Rattle.ps_run.proofs.finishing.tell_counts.Goals as goal
 
 pub returns-in_err-write_number-clause-part : goal.returns-in_err-write_number-clause-part
 returns-in_err-write_number-clause-part g c =

@@ -1,6 +1,6 @@
 use Rattle.ps_run.proofs.Written.{part_before, part_behind}
-use Rattle.ps_run.proofs.driver.tell.Goals as goal
-use Rattle.ps_run.proofs.driver.tell.Goals.{then-stats+in_ok-tell_counts, else-stats}
+use Rattle.ps_run.proofs.finishing.tell.Goals as goal
+use Rattle.ps_run.proofs.finishing.tell.Goals.{then-stats+in_ok-tell_counts, else-stats}
 
 pub returns-in_err-tell_counts : goal.returns-in_err-tell_counts
 returns-in_err-tell_counts g c = rw c.if-stats.true (part_before _ _ _ _ c.tell_counts.ensures.part)

@@ -4,7 +4,7 @@ use Rattle.ps_language.specs.declared.schedules.Entry.{Entry}
 use Rattle.ps_language.specs.Schedules.{count_of}
 use Rattle.ps_language.proofs.ScheduleLaws.{count_of-nil}
 use Rattle.ps_run.proofs.Counting.{count_next, saturated_more}
-use Rattle.ps_run.proofs.driver.steps_of.Goals as goal
+use Rattle.ps_run.proofs.finishing.steps_of.Goals as goal
 
 -- what is past the end
 abbrev none : Entry

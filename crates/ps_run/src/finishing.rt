@@ -1,0 +1,155 @@
+//! What is written at the end of a run: the printed bytes, the record and the counts.
+
+ghost use Rattle.std.specs.Prelude.{◌≡◌, ◌≢◌, ◌++◌, ◌-◌, ◌^◌, ℕ, Bool, false, true, List, Some, Err, min, OnOk, OnErr, IsSome};
+ghost use Rattle.std.specs.Io.KnownBytes.{Appends};
+ghost use Rattle.ps_language.specs.Schedules.{count_of};
+ghost use Rattle.ps_run.specs.Driving as driving;
+ghost use Rattle.ps_run.specs.Driving.{AppendsPart, IsRecorded, IsWritten, names_of};
+
+use crate::files::FileSet;
+use crate::outputs::Flushing;
+use crate::statuses::{Status, end, line_of, status_of};
+use crate::writing::{write_number, write_part};
+use ps_options::Options;
+use ps_schedules::append_schedule;
+use ps_vault::{Entry, Outcome, Report};
+use std::alloc::Global;
+use std::io::{self, Write};
+use thiserror::Error;
+
+/// Why a schedule was not recorded.
+#[derive(Clone, Copy, Debug, PartialEq, Eq, Error)]
+enum RecordFault {
+    #[error("the record can't be written")]
+    NoWrite,
+    #[error("out of memory")]
+    Memory,
+}
+
+/// Writes the printed bytes, then the record and the counts where they are asked for, then the line
+/// that belongs to the status.
+pub(crate) fn finish<F: FileSet, W: Flushing, X: Write>(
+    alloc: Global,
+    report: &Report,
+    options: &Options<'_>,
+    files: &mut F,
+    out: &mut W,
+    err: &mut X,
+) -> Status
+    requires flips { report.now.flips ≡ 0 }
+    requires taken { report.now.taken ≡ 0 }
+    ensures others { (other : List ℕ) → (names_of options.now).recorded ≢ Some other
+        → F.contents files.new other ≡ F.contents files.old other }
+    ensures reads { F.last_fault files.new ≡ F.last_fault files.old }
+    ensures unwritten { F.is_unwritten files.old ≡ false → F.is_unwritten files.new ≡ true
+        → result ≡ Status.Usage }
+    ensures waiting { result ≡ Status.AllWaiting → report.now.outcome ≡ Outcome.AllWaiting }
+    ensures written { IsWritten (names_of options.now).recorded options.now.stats
+        report.now.printed.items report.now.schedule.items report.now.outcome
+        result (record {
+          out_old = W.contents out.old;
+          out_new = W.contents out.new;
+          err_old = X.contents err.old;
+          err_new = X.contents err.new;
+          files_old = F.contents files.old;
+          files_new = F.contents files.new;
+          flushed = W.is_flushed out.new;
+        }) }
+{
+    if write_part(out, report.printed.as_slice()).is_err() || out.hand_on().is_err() {
+        let _ = writeln!(err, "dpsrun: cannot write output");
+        return Status::Usage;
+    }
+    if let Err(fault) = record_schedule(alloc, options, report.schedule.as_slice(), files) {
+        return end_unrecorded(fault, options, err);
+    }
+    let status = status_of(report.outcome);
+    let _ = tell(report, options.stats, status, err);
+    status
+}
+
+/// Writes the text of a schedule to the file that is named for it, if one is. Fails where memory is
+/// wanted, and then no file has changed, or where the file can't be written.
+fn record_schedule<F: FileSet>(
+    alloc: Global,
+    options: &Options<'_>,
+    schedule: &[Entry],
+    files: &mut F,
+) -> Result<(), RecordFault>
+    ensures recorded { OnOk result
+        (IsRecorded (F.contents files.new) (names_of options.now).recorded schedule.now) }
+    ensures asked { OnErr result (IsSome (names_of options.now).recorded) }
+    ensures others { (other : List ℕ) → (names_of options.now).recorded ≢ Some other
+        → F.contents files.new other ≡ F.contents files.old other }
+    ensures memory { result ≡ Err RecordFault.Memory → files.new ≡ files.old }
+    ensures reads { F.last_fault files.new ≡ F.last_fault files.old }
+    ensures unwritten { F.is_unwritten files.old ≡ false → F.is_unwritten files.new ≡ true
+        → result ≡ Err RecordFault.NoWrite }
+{
+    let Some(name) = options.record_file else {
+        return Ok(());
+    };
+    let mut text = Vec::new(alloc);
+    if append_schedule(schedule, &mut text).is_err() {
+        return Err(RecordFault::Memory);
+    }
+    match files.write(name, text.as_slice()) {
+        Ok(()) => Ok(()),
+        Err(_) => Err(RecordFault::NoWrite),
+    }
+}
+
+/// Tells why no schedule was recorded, and gives the status.
+fn end_unrecorded<X: Write>(fault: RecordFault, options: &Options<'_>, err: &mut X) -> Status
+    ensures unwritten { fault ≡ RecordFault.NoWrite → result ≡ Status.Usage }
+    ensures memory { fault ≡ RecordFault.Memory → result ≡ Status.Memory }
+{
+    match fault {
+        RecordFault::Memory => end(err, Status::Memory),
+        RecordFault::NoWrite => {
+            let name = options.record_file.unwrap_or("");
+            let _ = writeln!(err, "dpsrun: cannot write {name}");
+            Status::Usage
+        }
+    }
+}
+
+/// Writes the counts of a run, where they are asked for, and the line of its status. Fails where a
+/// write fails; a beginning is written then.
+fn tell<X: Write>(report: &Report, stats: bool, status: Status, err: &mut X) -> io::Result<()>
+    requires flips { report.now.flips ≡ 0 }
+    requires taken { report.now.taken ≡ 0 }
+    ensures { AppendsPart (X.contents err.old) (X.contents err.new)
+        (driving.counts_of stats report.now.schedule.items ++ driving.line_of status) }
+{
+    if stats {
+        tell_counts(report, err)?;
+    }
+    write_part(err, line_of(status).as_bytes())
+}
+
+/// Writes the counts of a run. Fails where a write fails; a beginning is written then.
+fn tell_counts<X: Write>(report: &Report, err: &mut X) -> io::Result<()>
+    requires flips { report.now.flips ≡ 0 }
+    requires taken { report.now.taken ≡ 0 }
+    ensures part { AppendsPart (X.contents err.old) (X.contents err.new)
+        (driving.count_lines report.now.schedule.items) }
+    ensures whole { OnOk result
+        (Appends (X.contents err.old) (X.contents err.new)
+        (driving.count_lines report.now.schedule.items)) }
+{
+    write_number(err, b"flips ", u64::from(report.flips))?;
+    write_number(err, b"taken ", report.taken)?;
+    write_number(err, b"steps ", steps_of(report.schedule.as_slice()))
+}
+
+/// The steps of a schedule together, up to 18,446,744,073,709,551,615.
+fn steps_of(schedule: &[Entry]) -> u64
+    ensures { result ≡ min (count_of schedule.now) (2 ^ 64 - 1) }
+{
+    let mut steps = 0u64;
+    for entry in schedule {
+        steps = steps.saturating_add(u64::from(entry.steps));
+    }
+    steps
+}

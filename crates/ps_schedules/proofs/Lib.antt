@@ -1,0 +1,4 @@
+pub mod Beginnings
+pub mod Once
+pub mod Nones
+pub mod Appended

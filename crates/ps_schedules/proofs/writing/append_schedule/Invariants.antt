@@ -1,0 +1,10 @@
+use Rattle.std.proofs.Common.{◌≡◌, ◌≤◌, ◌++◌, take, vec_capacity}
+use Rattle.ps_schedules.specs.Texts.{text_of}
+use Rattle.ps_schedules.proofs.writing.append_schedule.Given as goal
+
+-- the lines so far stand behind what stood before
+abbrev pub invariant-loop-entry : goal.invariant-loop-entry
+invariant-loop-entry l = record {
+  is : l.text.items ≡ l.initial.text.items ++ text_of (take l.entry-index l.entries);
+  capacity : vec_capacity l.initial.text ≤ vec_capacity l.text;
+}
