@@ -1,9 +1,10 @@
-//! `dpsrun`: runs a program in the PostScript language, by the whole language of one context.
+//! `dpsrun`: runs a program in the PostScript language, in one context or many.
 #![tactic(auto)]
 
 ghost use Rattle.std.specs.Prelude.{◌≤◌, IfOk, vec_len};
 
 use ps_context::steps::Steps;
+use ps_deeds::operators::WorldOperators;
 use ps_dispatch::operators::Operators;
 use ps_run::{FileSet, Flushed, MOST_PROGRAM_BYTES, ReadFault, WriteFault, drive};
 use std::alloc::Global;
@@ -84,6 +85,7 @@ fn run(rt: &HostRuntime) -> io::Result<u8> {
     Ok(drive(
         alloc,
         steps,
+        WorldOperators { alloc },
         RandomState::new(rt)?,
         words.as_slice(),
         &mut files,

@@ -13,5 +13,4 @@ pub mod Changing
 pub mod Lifting
 pub mod Beginning
 pub mod Named
-pub mod There
 pub mod Owning

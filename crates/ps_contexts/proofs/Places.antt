@@ -1,5 +1,5 @@
 -- The item of an identifier through changes of the list.
-use Rattle.std.proofs.Common.{◌≡◌, ℕ, zero, suc, List, [], ◌∷◌, Option, Some, None, refl, sym, ap}
+use Rattle.std.proofs.Common.{◌≡◌, ◌∙◌, ℕ, zero, suc, ◌≤◌, arith, List, [], ◌∷◌, length, Option, Some, None, refl, sym, ap}
 use Rattle.std.specs.Prelude.{option_and_then, slice_get, slice_set}
 use Rattle.ps_contexts.specs.Seats.{item_at, with_item}
 
@@ -47,3 +47,24 @@ module _ {A : Type 0} where
       ≡ item
   item_at-with_item list zero old item found = cc
   item_at-with_item list (suc place) old item found = there_place list place old item found
+
+  -- no other is there
+  pub one_there : (list : List (Option A)) (identifier : ℕ) (one other : A)
+      → item_at list identifier ≡ Some one → item_at list identifier ≡ Some other
+      → one ≡ other
+  one_there list identifier one other found there =
+      let same : Some one ≡ Some other = sym found ∙ there in cc
+
+  place_within : (list : List (Option A)) (place : ℕ) (item : A)
+      → option_and_then (λ one. one) (slice_get list place) ≡ Some item
+      → suc place ≤ length list
+  place_within [] place item found = absurd (cc)
+  place_within (one ∷ list) zero item found = omega arith
+  place_within (one ∷ list) (suc place) item found =
+      let less = place_within list place item found in omega (arith, less)
+
+  -- none is above the last that was made
+  pub identifier_within : (list : List (Option A)) (identifier : ℕ) (item : A)
+      → item_at list identifier ≡ Some item → identifier ≤ length list
+  identifier_within list zero item found = omega arith
+  identifier_within list (suc place) item found = place_within list place item found

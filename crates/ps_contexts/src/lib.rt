@@ -2,7 +2,6 @@
 #![tactic(auto)]
 
 pub mod contexts;
-pub mod failing;
 pub mod laws;
 pub mod members;
 pub mod table;

@@ -1,6 +1,1 @@
-mod Identifiers
-mod Parts
-mod Ending
-mod Arms
-mod AloneDone
-mod NotifyDone
+mod UndefinedDone

@@ -1,8 +1,6 @@
-//! The operators on contexts, locks and memory, as deeds in the world of all contexts (PLRM2, 7.1,
-//! 8 'Operators': Multiple Execution Contexts, Virtual Memory).
+//! Who does the operators that are left to the world of all contexts (PLRM2, 7.1, 8 'Operators':
+//! Multiple Execution Contexts, Virtual Memory).
 #![tactic(auto)]
 
-pub mod alone;
-pub mod callers;
-pub mod endings;
-pub mod others;
+pub mod operators;
+pub mod undefined;

@@ -71,12 +71,7 @@ fn with_sizes<'a>(alloc: Global, command: Command<'a>) -> Result<Command<'a>, Al
 fn with_limits<'a>(alloc: Global, command: Command<'a>) -> Result<Command<'a>, AllocError>
     ensures { IfOk result (λ made. app_of made ≡ spec.with_limits (app_of command.entry)) }
 {
-    let quantum = number(
-        alloc,
-        "quantum",
-        "100",
-        "most steps of a turn; no effect yet",
-    );
+    let quantum = number(alloc, "quantum", "100", "most steps of a turn of a context");
     let steps = number(alloc, "steps", "1000000000", "most steps of the run");
     command
         .arg(within(quantum, 1, 65535))?

@@ -2,6 +2,7 @@
 //! which of them differ from what they say.
 #![tactic(auto)]
 
+mod chances;
 mod plays;
 mod rows;
 mod runs;

@@ -3,10 +3,12 @@
 //! of which `N*TEXT` is a text so many times.
 //!
 //! `drive STATUS`: by the command line, with that exit status, and again under the schedule of its
-//! run. `bounded SIZE`, `full SIZE`, `closed SIZE`: step by step in a space of so many words, with
+//! run. `contexts STATUS`: so too, and with other turns and under schedules by chance.
+//! `bounded SIZE`, `full SIZE`, `closed SIZE`: step by step in a space of so many words, with
 //! no cycle open, with a full log, with a closed one; what comes of it begins with why steps were
 //! not made.
 
+use crate::chances::scheduled;
 use crate::plays::{Log, Play};
 use crate::runs::{driven, replayed};
 use anyhow::Result;
@@ -30,6 +32,11 @@ impl Verdict {
         } else {
             Verdict::Different
         }
+    }
+
+    /// The first of two that isn't the same.
+    pub fn and(self, other: Verdict) -> Verdict {
+        if self == Verdict::Same { other } else { self }
     }
 }
 
@@ -90,6 +97,11 @@ pub fn verdict_of(alloc: Global, keys: RandomState, line: &str) -> Result<Verdic
     let log = match name {
         "drive" => {
             return Ok(run(alloc, keys, program.as_slice(), wanted.as_slice(), number));
+        }
+        "contexts" => {
+            let verdict = run(alloc, keys, program.as_slice(), wanted.as_slice(), number);
+            let other = scheduled(alloc, keys, program.as_slice(), wanted.as_slice());
+            return Ok(verdict.and(other));
         }
         "bounded" => Log::Idle,
         "full" => Log::Full,

@@ -2,7 +2,7 @@
 
 use crate::rows::Verdict;
 use ps_run::{Flushed, drive};
-use ps_tests::fakes::{OneFile, Output, steps_in};
+use ps_tests::fakes::{OneFile, Output, deeds_in, steps_in};
 use ps_vault::{Config, Outcome, Report, RunFault, replay, run_plain};
 use std::alloc::Global;
 use std::hash::RandomState;
@@ -14,7 +14,7 @@ const AMPLE: u32 = 1000;
 const MEMORY: u8 = 5;
 
 /// The numbers of a run that ends by itself.
-const CONFIG: Config = Config {
+pub const CONFIG: Config = Config {
     space: 65536,
     workers: 4,
     quantum: 100,
@@ -42,6 +42,7 @@ pub fn driven(
     let given = drive(
         alloc,
         steps_in(alloc),
+        deeds_in(alloc),
         keys,
         &["--plain", "f"],
         &mut files,
@@ -62,7 +63,14 @@ pub fn driven(
 /// Whether a run prints this, or a beginning of it where memory is wanted, and prints the same
 /// bytes again under its schedule.
 pub fn replayed(alloc: Global, keys: RandomState, program: &[u8], printed: &[u8]) -> Verdict {
-    match run_plain(alloc, steps_in(alloc), program, CONFIG, keys) {
+    match run_plain(
+        alloc,
+        steps_in(alloc),
+        deeds_in(alloc),
+        program,
+        CONFIG,
+        keys,
+    ) {
         Err(RunFault::Memory) => Verdict::WantsMemory,
         Err(RunFault::Config) => Verdict::Different,
         Ok(report) => {
@@ -82,7 +90,14 @@ pub fn replayed(alloc: Global, keys: RandomState, program: &[u8], printed: &[u8]
 /// memory is wanted then.
 fn again(alloc: Global, keys: RandomState, program: &[u8], report: &Report) -> Verdict {
     let schedule = report.schedule.as_slice();
-    let Ok(other) = replay(alloc, steps_in(alloc), program, schedule, keys) else {
+    let Ok(other) = replay(
+        alloc,
+        steps_in(alloc),
+        deeds_in(alloc),
+        program,
+        schedule,
+        keys,
+    ) else {
         return Verdict::WantsMemory;
     };
     let printed = report.printed.as_slice();

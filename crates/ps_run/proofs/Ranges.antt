@@ -1,44 +1,118 @@
--- The entries of a run of ordinary steps are within their ranges.
-use Rattle.std.proofs.Common.{◌≡◌, ◌+◌, ◌-◌, ◌<◌, ◌≤◌, ℕ, zero, suc, Bool, true, List, [], ◌∷◌, ◌++◌, drop, length, get_or, None, arith, refl, sym, ap, subst, ◌∙◌, append_assoc, length-append}
-use Rattle.std.specs.Prelude.{replicate, nat_lt, not, ◌&&◌}
+-- The entries of a run's schedule are within their ranges.
+use Rattle.std.proofs.Common.{◌≡◌, ◌^◌, ◌<◌, ◌≤◌, ℕ, zero, suc, ℤ, true, Option, Some, None, List, [], ◌∷◌, ◌++◌, length, arith, refl, sym, ap, ◌∙◌, append_assoc, length-append}
+use Rattle.std.specs.Prelude.{replicate, nat_lt, not, ◌&&◌, pos, negsuc}
 use Rattle.std.proofs.lemmas.Bool.{and_parts, ltb-true}
-use Rattle.std.proofs.lemmas.List.{drop_at, drop-replicate, get_or-replicate, length-replicate}
-use Rattle.std.proofs.Math.Seq.{get_or-append_seam}
 use Rattle.ps_language.specs.declared.schedules.Entry.{Entry}
-use Rattle.ps_language.specs.Schedules.{Move, is_longest, joins, last_move, moves, moves_of, plain_move}
-use Rattle.ps_schedules.specs.Texts.{AreEntries, IsEntry, IsShown}
+use Rattle.ps_language.specs.Contexts.{context_at}
+use Rattle.ps_language.specs.Locks.{is_ready}
+use Rattle.ps_language.specs.Schedules.{Move, count_of, is_longest, joins, last_move, moves, moves_of, plain_move}
+use Rattle.ps_language.specs.World.{World}
+use Rattle.ps_language.specs.Worlds.{after_move, all_ready, IsProper, starting_world}
+use Rattle.ps_schedules.specs.Texts.{AreEntries, IsShown, IsUpTo, IsWords}
+use Rattle.ps_vault.specs.Reports.{are_ordinary, are_words, is_number_of_words, is_ordinary}
 use Rattle.ps_run.proofs.Counting.{length_moves_of}
 
--- what the first entry of so many equal steps is, and what stands behind it
-pub record IsFirst (entry : Entry) (steps n : ℕ) (rest : List Move) (move : Move) : Type 0 where
-  pub last : last_move entry ≡ move
-  pub behind : rest ≡ replicate (n - steps) move
-  pub few : steps ≤ n
+-- ---- each step
 
-first_of_equal : (entry : Entry) (steps n : ℕ) (rest : List Move) (move : Move) → 0 < steps
-    → moves_of entry steps ++ rest ≡ replicate n move → IsFirst entry steps n rest move
-first_of_equal entry zero n rest move some same = absurd (omega (arith, some))
-first_of_equal entry (suc before) n rest move some same =
-    let plain = replicate before (plain_move entry.context) in
-    let own = length_moves_of entry (suc before) in
-    let sum = length-append (moves_of entry (suc before)) rest in
-    let all = ap {B = ℕ} (λ (steps : List Move). length steps) same in
-    let many = length-replicate n move in
-    let few : suc before ≤ n = omega (arith, own, sum, all, many) in
-    let here : get_or (plain ++ (last_move entry ∷ rest)) before move ≡ last_move entry =
-    ap (λ k. get_or (plain ++ (last_move entry ∷ rest)) k move)
-    (sym (length-replicate before (plain_move entry.context)))
-    ∙ get_or-append_seam plain (last_move entry) rest move in
-    let joined : plain ++ (last_move entry ∷ rest) ≡ replicate n move =
-    sym (append_assoc plain (last_move entry ∷ []) rest) ∙ same in
+-- one that is ready is a context
+ready_low : (w : World) (k : ℕ) → is_ready w k ≡ true → 1 ≤ k
+unfolding is_ready context_at
+ready_low w zero ready = absurd (cc)
+ready_low w (suc k) ready = omega arith
+
+shown_words : (words : ℤ) → is_number_of_words words ≡ true → IsWords words
+shown_words (pos words) is =
+    let both = and_parts (nat_lt 0 words) (nat_lt words (2 ^ 31)) is in
+    let low = ltb-true 0 words both.0 in
+    let high = ltb-true words (2 ^ 31) both.1 in
+    record { low = omega (arith, low); high = omega (arith, high) }
+shown_words (negsuc words) is = absurd (cc)
+
+shown_within : (shown : Option (ℤ × ℤ)) → are_words shown ≡ true → IsShown shown
+shown_within None is = tt
+shown_within (Some pair) is =
+    let both = and_parts (is_number_of_words pair.0) (is_number_of_words pair.1) is in
+    (shown_words pair.0 both.0, shown_words pair.1 both.1)
+
+-- ---- the steps behind others
+
+-- the numbers of an ordinary step, and those behind it
+record IsFirst (move : Move) (rest : List Move) : Type 0 where
+  context : move.context < 2 ^ 32
+  shown : are_words move.shown ≡ true
+  behind : are_ordinary rest ≡ true
+
+first_ordinary : (move : Move) (rest : List Move) → are_ordinary (move ∷ rest) ≡ true
+    → IsFirst move rest
+first_ordinary move rest all =
+    let few = nat_lt move.context (2 ^ 32) in
+    let both = and_parts (is_ordinary move) (are_ordinary rest) all in
+    let numbers = and_parts few (are_words move.shown)
+    (and_parts (not move.refused) (few && are_words move.shown) both.0).1 in
     record {
-      last = sym here ∙ ap (λ steps. get_or steps before move) joined
-          ∙ get_or-replicate n before move move (omega (arith, few));
-      behind =
-          sym (drop_at (moves_of entry (suc before)) rest (suc before) own)
-          ∙ ap (drop (suc before)) same ∙ drop-replicate (suc before) n move;
-      few = few;
+      context = ltb-true move.context (2 ^ 32) numbers.0;
+      shown = numbers.1;
+      behind = both.1;
     }
+
+ordinary_behind : (first rest : List Move) → are_ordinary (first ++ rest) ≡ true
+    → are_ordinary rest ≡ true
+ordinary_behind [] rest all = all
+ordinary_behind (move ∷ first) rest all =
+    ordinary_behind first rest (first_ordinary move (first ++ rest) all).behind
+
+-- each is of a context that is ready, from some world on
+record AreReady (steps : List Move) : Type 0 where
+  now : World
+  all : all_ready now steps ≡ true
+
+ready_behind : (first rest : List Move) (now : World) → all_ready now (first ++ rest) ≡ true
+    → AreReady rest
+ready_behind [] rest now all = record { now = now; all = all }
+ready_behind (move ∷ first) rest now all =
+    ready_behind first rest (after_move now move) (and_parts (is_ready now move.context)
+    (all_ready (after_move now move) (first ++ rest)) all).1
+
+-- the steps of an entry begin with one of its context
+record Begins (entry : Entry) (steps : List Move) : Type 0 where
+  first : Move
+  rest : List Move
+  is : steps ≡ first ∷ rest
+  context : first.context ≡ entry.context
+
+entry_begins : (entry : Entry) (steps : ℕ) (rest : List Move) → 0 < steps
+    → Begins entry (moves_of entry steps ++ rest)
+entry_begins entry zero rest some = absurd (omega (arith, some))
+entry_begins entry (suc zero) rest some =
+    record { first = last_move entry; rest = rest; is = refl; context = refl }
+entry_begins entry (suc (suc before)) rest some = record {
+  first = plain_move entry.context;
+  rest = (replicate before (plain_move entry.context) ++ last_move entry ∷ []) ++ rest;
+  is = refl;
+  context = refl;
+}
+
+entry_context : (entry : Entry) (steps : List Move) (now : World) → Begins entry steps
+    → all_ready now steps ≡ true → are_ordinary steps ≡ true → IsUpTo 4294967295 entry.context
+entry_context entry steps now begins ready ordinary =
+    let low = ready_low now begins.first.context (and_parts (is_ready now begins.first.context)
+    (all_ready (after_move now begins.first) begins.rest)
+    (sym (ap (all_ready now) begins.is) ∙ ready)).0 in
+    let high = (first_ordinary begins.first begins.rest
+    (sym (ap are_ordinary begins.is) ∙ ordinary)).context in
+    let same = begins.context in
+    record { low = omega (arith, low, same); high = omega (arith, high, same) }
+
+-- and end with its last
+entry_shown : (entry : Entry) (steps : ℕ) (rest : List Move) → 0 < steps
+    → are_ordinary (moves_of entry steps ++ rest) ≡ true → are_words entry.shown ≡ true
+entry_shown entry zero rest some all = absurd (omega (arith, some))
+entry_shown entry (suc before) rest some all =
+    let plain = replicate before (plain_move entry.context) in
+    (first_ordinary (last_move entry) rest (ordinary_behind plain (last_move entry ∷ rest)
+    (sym (ap are_ordinary (append_assoc plain (last_move entry ∷ []) rest)) ∙ all))).shown
+
+-- ---- entries
 
 -- a first longest entry has a step, and the others are longest
 longest_first : (entry : Entry) (entries : List Entry) → is_longest (entry ∷ entries) ≡ true
@@ -50,18 +124,35 @@ longest_first entry (next ∷ entries) longest =
     let second = and_parts (not (joins entry next.context)) (is_longest (next ∷ entries)) first.1 in
     (ltb-true 0 entry.steps first.0, second.1)
 
-pub are_entries : (schedule : List Entry) (n : ℕ) → n ≤ 4294967295 → is_longest schedule ≡ true
-    → moves schedule ≡ replicate n (plain_move 1) → AreEntries schedule
+entries_from : (schedule : List Entry) (now : World)
+    → length (moves schedule) ≤ 4294967295 → is_longest schedule ≡ true
+    → all_ready now (moves schedule) ≡ true → are_ordinary (moves schedule) ≡ true
+    → AreEntries schedule
 unfolding moves
-are_entries [] n few longest same = tt
-are_entries (entry ∷ entries) n few longest same =
+entries_from [] now few longest ready ordinary = tt
+entries_from (entry ∷ entries) now few longest ready ordinary =
     let both = longest_first entry entries longest in
-    let first = first_of_equal entry entry.steps n (moves entries) (plain_move 1) both.0 same in
-    let context : entry.context ≡ 1 = ap (λ (m : Move). m.context) first.last in (
+    let own = moves_of entry entry.steps in
+    let sum = length-append own (moves entries) in
+    let count = length_moves_of entry entry.steps in
+    let behind = ready_behind own (moves entries) now ready in (
       record {
-        context = record { low = omega (arith, context); high = omega (arith, context) };
-        steps = record { low = both.0; high = omega (arith, first.few, few) };
-        shown = subst IsShown (sym (ap (λ (m : Move). m.shown) first.last)) tt;
+        context = entry_context entry (own ++ moves entries) now
+            (entry_begins entry entry.steps (moves entries) both.0) ready ordinary;
+        steps = record {
+          low = omega (arith, both.0);
+          high = omega (arith, few, sum, count);
+        };
+        shown = shown_within entry.shown
+            (entry_shown entry entry.steps (moves entries) both.0 ordinary);
       },
-      are_entries entries (n - entry.steps) (omega (arith, few)) both.1 first.behind,
+      entries_from entries behind.now (omega (arith, few, sum)) both.1 behind.all
+          (ordinary_behind own (moves entries) ordinary),
     )
+
+pub are_entries : (program : List ℕ) (schedule : List Entry)
+    → count_of schedule ≤ 4294967295 → is_longest schedule ≡ true → IsProper program schedule
+    → are_ordinary (moves schedule) ≡ true → AreEntries schedule
+unfolding count_of IsProper
+are_entries program schedule few longest proper ordinary =
+    entries_from schedule (starting_world program) few longest proper ordinary

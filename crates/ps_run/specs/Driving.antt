@@ -4,19 +4,19 @@ use Rattle.std.specs.Fmt.{decimal}
 use Rattle.std.specs.Io.KnownBytes.{Appends}
 use Rattle.ps_language.specs.declared.schedules.Entry.{Entry}
 use Rattle.ps_language.specs.Effect.{Around, Scene}
-use Rattle.ps_language.specs.Schedules.{count_of, Begins}
+use Rattle.ps_language.specs.Schedules.{count_of, moves, Begins}
 use Rattle.ps_language.specs.World as world
 use Rattle.ps_language.specs.Worlds as worlds
 use Rattle.ps_acts.specs.Acts as acts
 use Rattle.ps_options.specs.declared.options.Options.{Options}
-use Rattle.ps_interpreter.specs.Alone.{alone_machine, alone_printed}
 use Rattle.ps_options.specs.CommandLine.{IsNumber, IsFlag, AreNumbers, file_in, named_in}
 use Rattle.ps_schedules.specs.Texts.{AreEntries, IsBadAt, text_of}
 use Rattle.clap.specs.Words.{Text}
 use Rattle.ps_vault.specs.declared.reports.Config.{Config}
 use Rattle.ps_vault.specs.declared.reports.Outcome.{Outcome}
 use Rattle.ps_vault.specs.declared.reports.Outcome.TheVariants.{Finished, Faulted, AllWaiting, StepsOut, Memory}
-use Rattle.ps_vault.specs.Reports.{EndsAs, IsOwn, IsRunOf, IsWithin, is_memory, is_next_refused}
+use Rattle.ps_vault.specs.Order.{InOrder}
+use Rattle.ps_vault.specs.Reports.{EndsAs, IsRunOf, IsWithin, is_memory, is_next_refused}
 use Rattle.ps_run.specs.declared.files.ReadFault.{ReadFault}
 use Rattle.ps_run.specs.declared.files.ReadFault.TheVariants as fault
 use Rattle.ps_run.specs.declared.statuses.Status.{Status}
@@ -83,11 +83,12 @@ counts_of stats schedule = if stats then count_lines schedule else []
 -- what the words ask for of a run
 pub record Asked : Type 0 where
   pub steps : ℕ
+  pub quantum : ℕ
   pub stats : Bool
 
 abbrev pub AreAsked : List Text → Asked → Type 0
 AreAsked words asked = IsNumber (codes "steps") words asked.steps
-    × IsFlag (codes "stats") words asked.stats
+    × IsNumber (codes "quantum") words asked.quantum × IsFlag (codes "stats") words asked.stats
 
 -- the names of files that they give: the program's, and where they are given that of the record and
 -- that of the schedule to follow
@@ -111,6 +112,10 @@ config_in options = record {
   quantum = options.quantum;
   steps = options.steps;
 }
+
+abbrev pub asked_of : Options → Asked
+asked_of options =
+    record { steps = options.steps; quantum = options.quantum; stats = options.stats }
 
 abbrev pub names_of : Options → Names
 names_of options = record {
@@ -149,38 +154,41 @@ IsRecorded contents (Some name) schedule =
 
 -- asks: what a step asks for that the language doesn't say
 module _ (asks : world.Status → Around → Scene → acts.Asked) (program : List ℕ) where
-  -- a run under a given schedule: its bytes are those that the one context prints under the steps
-  -- that were made, and those of the whole language where no operator is left to the world. Those
-  -- steps are all that are given, or for want of memory fewer, and the outcome is that of their
-  -- machine
-  pub record IsReplayOf (given : List Entry) (printed : List ℕ) (schedule : List Entry)
-      (outcome : Outcome) : Type 0 where
-    pub prints : printed ≡ alone_printed program schedule
-    pub world : IsOwn program schedule → printed ≡ worlds.printed program schedule
+  -- a run under a given schedule: its bytes are those that the definitions print under the steps that
+  -- were made. Those steps are all that are given, or for want of memory fewer, and the outcome is
+  -- that of their world
+  pub record IsReplayOf (given : List Entry) (printed : List ℕ) (capacity : ℕ)
+      (schedule : List Entry) (outcome : Outcome) : Type 0 where
+    pub prints : printed ≡ worlds.printed program schedule
     pub begins : Begins schedule given
     pub whole : is_memory outcome ≡ false → schedule ≡ given
     pub refused : is_memory outcome ≡ true → count_of schedule < count_of given
-    pub ends : EndsAs asks program (alone_machine program schedule) (not (is_memory outcome))
-        (is_next_refused given schedule) outcome
+    pub ends : EndsAs asks (worlds.world program schedule) capacity schedule
+        (not (is_memory outcome)) (is_next_refused given schedule) outcome
 
-  -- a run with a budget of steps, whose schedule has a text that can be read again, or one under a
-  -- schedule that is given
-  abbrev pub IsMade : Option (List Entry) → (steps : ℕ) → (printed : List ℕ) → List Entry
-      → Outcome → Type 0
-  IsMade None steps printed schedule outcome =
-      IsRunOf asks program steps printed schedule outcome × AreEntries schedule
-  IsMade (Some given) steps printed schedule outcome = IsReplayOf given printed schedule outcome
+  -- a run with a budget of steps, in passes with turns of at most a quantum, whose schedule has a text
+  -- that can be read again; or one under a schedule that is given
+  abbrev pub IsMade : Option (List Entry) → Asked → (printed : List ℕ) → (capacity : ℕ)
+      → List Entry → Outcome → Type 0
+  IsMade None asked printed capacity schedule outcome =
+      IsRunOf asks program asked.steps printed capacity schedule outcome
+      × InOrder asked.quantum (worlds.starting_world program) (moves schedule)
+      × AreEntries schedule
+  IsMade (Some given) asked printed capacity schedule outcome =
+      IsReplayOf given printed capacity schedule outcome
 
--- a run of a file's bytes, under the schedule of another file where one is named
+-- a run of a file's bytes, under the schedule of another file where one is named; capacity: how
+-- many entries found room
 pub record IsFileRun (asks : world.Status → Around → Scene → acts.Asked) (contents : Contents)
-    (names : Names) (steps : ℕ) (printed : List ℕ) (schedule : List Entry) (outcome : Outcome)
-    : Type 0 where
+    (names : Names) (asked : Asked) (printed : List ℕ) (schedule : List Entry)
+    (outcome : Outcome) : Type 0 where
   pub program : List ℕ
   pub is_file : IfSome (contents names.file) (λ bytes. program ≡ bytes)
   pub few : length program ≤ 16777215
   pub given : Option (List Entry)
   pub is_given : IsGiven contents names.replayed given
-  pub run : IsMade asks program given steps printed schedule outcome
+  pub capacity : ℕ
+  pub run : IsMade asks program given asked printed capacity schedule outcome
 
 -- what outputs and files hold before and after, where it is known; flushed: whether the first
 -- output was flushed after its last write
@@ -240,7 +248,7 @@ module _ (asks : world.Status → Around → Scene → acts.Asked) (names : Name
     pub printed : List ℕ
     pub schedule : List Entry
     pub outcome : Outcome
-    pub run : IsFileRun asks outputs.files_old names asked.steps printed schedule outcome
+    pub run : IsFileRun asks outputs.files_old names asked printed schedule outcome
     pub written : IsWritten names.recorded asked.stats printed schedule outcome told outputs
 
   -- a fault of the words or a file, or want of memory before the run: nothing is written; else a

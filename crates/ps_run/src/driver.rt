@@ -1,11 +1,11 @@
 //! A run from the words of a command line to an exit status.
 
-ghost use Rattle.std.specs.Prelude.{◌≡◌, ◌≢◌, ◌⊎◌, [], ℕ, List, true, false, Some, Err, map, option_map, IfOk, IfSome, None, codes};
+ghost use Rattle.std.specs.Prelude.{◌≡◌, ◌≢◌, ◌⊎◌, [], ℕ, List, true, false, Some, Err, map, option_map, IfOk, IfSome, None, codes, vec_capacity};
 ghost use Rattle.ps_options.specs.CommandLine.{faults_in, named_in};
 ghost use Rattle.clap.specs.Values.{kind_of};
 ghost use Rattle.ps_vault.specs.Reports.{IsWithin};
 ghost use Rattle.ps_run.specs.Driving as driving;
-ghost use Rattle.ps_run.specs.Driving.{AreAsked, AreOutOfRange, HasNoSchedule, IsDriven, IsMade, IsTooLong, config_in, names_in, names_of};
+ghost use Rattle.ps_run.specs.Driving.{AreAsked, AreOutOfRange, HasNoSchedule, IsDriven, IsMade, IsTooLong, asked_of, config_in, names_in, names_of};
 
 use crate::files::FileSet;
 use crate::finishing::finish;
@@ -16,37 +16,37 @@ use clap::Error;
 use clap::error::ErrorKind;
 use ps_interpreter::interprets::Interpret;
 use ps_options::{Options, parse};
-use ps_vault::{Config, Entry, Outcome, Report, RunFault, replay, run_plain};
+use ps_vault::{Config, Entry, Report, RunFault, replay, run_plain};
+use ps_world::deeds::Deeds;
 use std::alloc::Global;
 use std::hash::RandomState;
 use std::io::Write;
 
-/// Runs the program that the words name, by steps that `interpret` makes, or follows the schedule
-/// that they name. Writes what it printed to `out`, the schedule to the file that the words name
-/// for a record, and statistics and faults to `err`. The words are without the program's name; the
-/// keys are for the table of names alone.
+/// Runs the program that the words name, by steps that `interpret` makes and operators on contexts
+/// that `deeds` does, or follows the schedule that they name. Writes what it printed to `out`, the
+/// schedule to the file that the words name for a record, and statistics and faults to `err`. The
+/// words are without the program's name; the keys are for the table of names alone.
 ///
-/// What is printed is what the definitions of the whole language print for the run's schedule, if
-/// no step of it is an operator on contexts or locks, `vmstatus` or `vmreclaim`: each of those
-/// raises `undefined` until there are contexts. The record has the text of that schedule.
+/// What is printed is what the definitions print for the run's schedule. The record has the text of
+/// that schedule.
 ///
 /// The result is the exit status: 0 where every context finished, 1 where an error was printed too,
-/// 2 for a fault of the command line, of a file or of the output, 3 where every context waits,
-/// which no program without contexts brings about, 4 where the steps are used up, 5 for want of
-/// memory, before the run or in it. With 2 the output has a beginning of what was printed, which is
-/// nothing where the words or a file that is read were at fault, and all of it where the record
-/// can't be written. After a run whose output took everything the output is flushed. A write to
-/// `err` that fails changes nothing else. No file changes but that of the record.
-pub fn drive<S: Interpret + Drop, F: FileSet, W: Flushing, X: Write>(
+/// 2 for a fault of the command line, of a file or of the output, 3 where a context is left and all
+/// wait, 4 where the steps are used up, 5 for want of memory, before the run or in it. With 2 the
+/// output has a beginning of what was printed, which is nothing where the words or a file that is
+/// read were at fault, and all of it where the record can't be written. After a run whose output
+/// took everything the output is flushed. A write to `err` that fails changes nothing else. No file
+/// changes but that of the record.
+pub fn drive<S: Interpret + Drop, D: Deeds + Drop, F: FileSet, W: Flushing, X: Write>(
     alloc: Global,
     interpret: S,
+    deeds: D,
     keys: RandomState,
     words: &[&str],
     files: &mut F,
     out: &mut W,
     err: &mut X,
 ) -> u8
-    ensures not_waiting { result ≢ 3 }
     ensures fault { faults_in (map (λ word. word.now) words.now) ≢ []
         → ((result ≡ 2) ⊎ (result ≡ 5)) × (W.contents out.new ≡ W.contents out.old)
         × (files.new ≡ files.old) }
@@ -78,7 +78,7 @@ pub fn drive<S: Interpret + Drop, F: FileSet, W: Flushing, X: Write>(
         }) }
 {
     match parse(alloc, words) {
-        Ok(options) => number_of(run(alloc, interpret, keys, &options, files, out, err)),
+        Ok(options) => number_of(run(alloc, interpret, deeds, keys, &options, files, out, err)),
         Err(error) => number_of(refuse(&error, err)),
     }
 }
@@ -97,16 +97,16 @@ fn refuse<X: Write>(error: &Error, err: &mut X) -> Status
 
 /// Reads the program, and the schedule where one is named, makes the steps and writes what they
 /// printed.
-fn run<S: Interpret + Drop, F: FileSet, W: Flushing, X: Write>(
+fn run<S: Interpret + Drop, D: Deeds + Drop, F: FileSet, W: Flushing, X: Write>(
     alloc: Global,
     interpret: S,
+    deeds: D,
     keys: RandomState,
     options: &Options<'_>,
     files: &mut F,
     out: &mut W,
     err: &mut X,
 ) -> Status
-    ensures not_waiting { driving.number_of result ≢ 3 }
     ensures files { (name : List ℕ) → (names_of options.now).recorded ≢ Some name
         → F.contents files.new name ≡ F.contents files.old name }
     ensures unread { F.last_fault files.old ≡ None
@@ -114,7 +114,7 @@ fn run<S: Interpret + Drop, F: FileSet, W: Flushing, X: Write>(
     ensures unwritten { F.is_unwritten files.old ≡ false → F.is_unwritten files.new ≡ true
         → result ≡ Status.Usage }
     ensures run { IsDriven S.asks (names_of options.now)
-        (λ asked. (asked.steps ≡ options.now.steps) × (asked.stats ≡ options.now.stats))
+        (λ asked. asked ≡ asked_of options.now)
         (IsTooLong (F.contents files.old (names_of options.now).file)
         ⊎ (HasNoSchedule (F.contents files.old) (names_of options.now).replayed
         (X.contents err.old) (X.contents err.new)
@@ -137,7 +137,15 @@ fn run<S: Interpret + Drop, F: FileSet, W: Flushing, X: Write>(
         Ok(given) => given,
         Err(status) => return status,
     };
-    match make(alloc, interpret, program.as_slice(), options, given, keys) {
+    match make(
+        alloc,
+        interpret,
+        deeds,
+        program.as_slice(),
+        options,
+        given,
+        keys,
+    ) {
         Ok(report) => finish(alloc, &report, options, files, out, err),
         Err(RunFault::Memory) => end(err, Status::Memory),
         Err(RunFault::Config) => Status::Usage,
@@ -146,9 +154,10 @@ fn run<S: Interpret + Drop, F: FileSet, W: Flushing, X: Write>(
 
 /// The report of a run of the program: under the schedule that is given, or with the budget that is
 /// asked for.
-fn make<S: Interpret + Drop>(
+fn make<S: Interpret + Drop, D: Deeds + Drop>(
     alloc: Global,
     interpret: S,
+    deeds: D,
     program: &[u8],
     options: &Options<'_>,
     given: Option<Vec<Entry>>,
@@ -156,15 +165,14 @@ fn make<S: Interpret + Drop>(
 ) -> Result<Report, RunFault>
     ensures config { result ≡ Err RunFault.Config → ¬ IsWithin (config_in options.now) }
     ensures made { IfOk result (λ report. IsMade S.asks program.now
-        (option_map (λ schedule. schedule.items) given) options.now.steps report.printed.items
-        report.schedule.items report.outcome) }
-    ensures not_waiting { IfOk result (λ report. report.outcome ≢ Outcome.AllWaiting) }
+        (option_map (λ schedule. schedule.items) given) (asked_of options.now) report.printed.items
+        (vec_capacity report.schedule) report.schedule.items report.outcome) }
     ensures flips { IfOk result (λ report. report.flips ≡ 0) }
     ensures taken { IfOk result (λ report. report.taken ≡ 0) }
 {
     match given {
-        Some(schedule) => replay(alloc, interpret, program, schedule.as_slice(), keys),
-        None => run_plain(alloc, interpret, program, config_of(options), keys),
+        Some(schedule) => replay(alloc, interpret, deeds, program, schedule.as_slice(), keys),
+        None => run_plain(alloc, interpret, deeds, program, config_of(options), keys),
     }
 }
 

@@ -43,7 +43,6 @@ pub(crate) fn finish<F: FileSet, W: Flushing, X: Write>(
     ensures reads { F.last_fault files.new ≡ F.last_fault files.old }
     ensures unwritten { F.is_unwritten files.old ≡ false → F.is_unwritten files.new ≡ true
         → result ≡ Status.Usage }
-    ensures waiting { result ≡ Status.AllWaiting → report.now.outcome ≡ Outcome.AllWaiting }
     ensures written { IsWritten (names_of options.now).recorded options.now.stats
         report.now.printed.items report.now.schedule.items report.now.outcome
         result (record {

@@ -1,6 +1,6 @@
 //! The program over files and outputs in memory.
 
-use crate::fakes::{Output, steps_in};
+use crate::fakes::{Output, deeds_in, steps_in};
 use ps_run::{FileSet, Flushed, drive};
 use std::hash::RandomState;
 use std::io;
@@ -31,6 +31,7 @@ pub fn driven_over<F: FileSet>(
     let status = drive(
         alloc,
         steps_in(alloc),
+        deeds_in(alloc),
         RandomState::new(rt)?,
         words,
         files,

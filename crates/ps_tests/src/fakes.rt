@@ -6,6 +6,7 @@ ghost use Rattle.std.specs.Io.KnownBytes.{WriteAppends, Keeps};
 ghost use Rattle.ps_tests.specs.Fakes.{bytes_in, known_in};
 
 use ps_context::steps::Steps;
+use ps_deeds::operators::WorldOperators;
 use ps_dispatch::operators::Operators;
 use ps_run::{FileSet, MOST_PROGRAM_BYTES, ReadFault, WriteFault};
 use std::alloc::Global;
@@ -17,6 +18,11 @@ pub fn steps_in(alloc: Global) -> Steps<Operators> {
         operators: Operators,
         text: Vec::new(alloc),
     }
+}
+
+/// Who does the operators on contexts.
+pub fn deeds_in(alloc: Global) -> WorldOperators {
+    WorldOperators { alloc }
 }
 
 /// What is read of a file that has these bytes, or a fault in their place.

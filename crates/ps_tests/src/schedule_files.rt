@@ -40,7 +40,7 @@ struct Recorded {
     status: u8,
 }
 
-const RECORDED: [Recorded; 6] = [
+const RECORDED: [Recorded; 11] = [
     Recorded {
         words: &["--plain", "--record", "r", "f"],
         program: "1 2 add =",
@@ -89,6 +89,46 @@ const RECORDED: [Recorded; 6] = [
         record: "1 1 0\n",
         status: 0,
     },
+    Recorded {
+        words: &["--plain", "--record", "r", "f"],
+        program: "mark {1} fork join cleartomark (ok) =",
+        printed: "ok\n",
+        told: "",
+        record: "1 4 0\n2 1 0\n1 5 0\n",
+        status: 0,
+    },
+    Recorded {
+        words: &["--plain", "--record", "r", "f"],
+        program: "mark {(a) = (b) =} fork (c) = (d) = join cleartomark",
+        printed: "c\nd\na\nb\n",
+        told: "",
+        record: "1 8 0\n2 4 0\n1 3 0\n",
+        status: 0,
+    },
+    Recorded {
+        words: &["--plain", "--quantum", "2", "--record", "r", "f"],
+        program: "mark {(a) = (b) =} fork (c) = (d) = join cleartomark",
+        printed: "a\nc\nb\nd\n",
+        told: "",
+        record: "1 4 0\n2 2 0\n1 2 0\n2 2 0\n1 4 0\n",
+        status: 0,
+    },
+    Recorded {
+        words: &["--plain", "--record", "r", "f"],
+        program: "/l lock def /c condition def l {l c wait} monitor",
+        printed: "",
+        told: "dpsrun: all contexts wait\n",
+        record: "1 12 0\n",
+        status: 3,
+    },
+    Recorded {
+        words: &["--plain", "--record", "r", "f"],
+        program: "vmstatus = = =",
+        printed: "16777215\n528\n0\n",
+        told: "",
+        record: "1 1 0 528 16777215\n1 4 0\n",
+        status: 0,
+    },
 ];
 
 #[test]
@@ -129,7 +169,7 @@ struct Followed {
     status: u8,
 }
 
-const FOLLOWED: [Followed; 8] = [
+const FOLLOWED: [Followed; 11] = [
     Followed {
         words: &["--replay", "s", "f"],
         program: "1 2 add =",
@@ -193,6 +233,31 @@ const FOLLOWED: [Followed; 8] = [
         program: "1 2 add =",
         schedule: "1 10 0\n",
         printed: "3\n",
+        told: "",
+        status: 0,
+    },
+    Followed {
+        words: &["--replay", "s", "f"],
+        program: "mark {1} fork join cleartomark (ok) =",
+        schedule: "1 4 0\n2 1 0\n1 5 0\n",
+        printed: "ok\n",
+        told: "",
+        status: 0,
+    },
+    Followed {
+        words: &["--replay", "s", "f"],
+        program: "vmstatus = = =",
+        schedule: "1 1 0 528 4096\n1 4 0\n",
+        printed: "4096\n528\n0\n",
+        told: "",
+        status: 0,
+    },
+    // A step that no pair is shown shows zeros.
+    Followed {
+        words: &["--replay", "s", "f"],
+        program: "vmstatus = = =",
+        schedule: "1 5 0\n",
+        printed: "0\n0\n0\n",
         told: "",
         status: 0,
     },

@@ -1,6 +1,6 @@
 //! Runs under a schedule of their own and under one that is given.
 
-use crate::fakes::steps_in;
+use crate::fakes::{deeds_in, steps_in};
 use ps_vault::{Config, Entry, Outcome, Report, RunFault, replay, run_plain};
 use std::hash::RandomState;
 use std::test::Fail;
@@ -29,9 +29,16 @@ fn entry(context: u32, steps: u32, refused: bool) -> Entry {
 fn ran(rt: &HostRuntime, program: &[u8], config: Config) -> Result<Report, Fail> {
     let alloc = rt.alloc();
     let keys = RandomState::new(rt)?;
-    let report = run_plain(alloc, steps_in(alloc), program, config, keys)
-        .ok()
-        .ok_or("no report")?;
+    let report = run_plain(
+        alloc,
+        steps_in(alloc),
+        deeds_in(alloc),
+        program,
+        config,
+        keys,
+    )
+    .ok()
+    .ok_or("no report")?;
     Ok(report)
 }
 
@@ -39,9 +46,16 @@ fn ran(rt: &HostRuntime, program: &[u8], config: Config) -> Result<Report, Fail>
 fn followed(rt: &HostRuntime, program: &[u8], schedule: &[Entry]) -> Result<Report, Fail> {
     let alloc = rt.alloc();
     let keys = RandomState::new(rt)?;
-    let report = replay(alloc, steps_in(alloc), program, schedule, keys)
-        .ok()
-        .ok_or("no report")?;
+    let report = replay(
+        alloc,
+        steps_in(alloc),
+        deeds_in(alloc),
+        program,
+        schedule,
+        keys,
+    )
+    .ok()
+    .ok_or("no report")?;
     Ok(report)
 }
 
@@ -247,7 +261,7 @@ fn numbers_out_of_range_are_refused(rt: HostRuntime) -> Result<(), Fail> {
     ] {
         let alloc = rt.alloc();
         let keys = RandomState::new(&rt)?;
-        let report = run_plain(alloc, steps_in(alloc), b"", wrong, keys);
+        let report = run_plain(alloc, steps_in(alloc), deeds_in(alloc), b"", wrong, keys);
         assert!(rt; matches!(report, Err(RunFault::Config)));
     }
     Ok(())

@@ -1,31 +1,154 @@
--- The machine after the steps of entries.
-use Rattle.std.proofs.Common.{◌≡◌, ℕ, zero, suc, ◌+◌, ◌<◌, ◌≤◌, Bool, true, false, None, List, [], ◌∷◌, ◌++◌, length, take, drop, get_or, refl, sym, ◌∙◌, ap, ap₂, subst, arith, add-one, append-nil, drop-cons, length-append}
-use Rattle.std.specs.Prelude.{◌==◌, ◌&&◌, not, replicate}
-use Rattle.std.proofs.lemmas.List.{length-replicate, take-append-drop, take_more, drop_all}
+-- The world after the steps of entries.
+use Rattle.std.proofs.Common.{◌≡◌, ◌⊎◌, inl, inr, ℕ, ℤ, zero, suc, ◌+◌, ◌<◌, ◌≤◌, Bool, true, false, Option, Some, None, List, [], ◌∷◌, ◌++◌, length, take, drop, get_or, refl, sym, ◌∙◌, ap, arith, add-one, append-nil, drop-cons, length-append, append_assoc}
+use Rattle.std.specs.Prelude.{◌==◌, ◌&&◌, nat_lt, not, replicate, slice_get}
+use Rattle.std.specs.Option.{option_map_or}
+use Rattle.std.proofs.lemmas.List.{length-replicate, replicate_more, take-append-drop, take_more, drop_all}
 use Rattle.std.proofs.lemmas.Bool.{true≢false}
 use Rattle.std.proofs.lemmas.Bool.Decides.{nat_tests}
 use Rattle.ps_language.specs.declared.schedules.Entry.{Entry}
-use Rattle.ps_language.specs.Schedules.{Move, plain_move, last_move, moves_of, moves, count_of, Begins}
+use Rattle.ps_language.specs.Schedules.{Move, added, plain_move, last_move, moves_of, moves, count_of, joins, steps_limit, Begins}
+use Rattle.ps_language.specs.Contexts.{context_in, context_at, is_finished}
 use Rattle.ps_language.specs.Effect.{Around, Scene}
-use Rattle.ps_language.specs.Machines.{may_end}
-use Rattle.ps_language.specs.World.{Status, Machine}
+use Rattle.ps_language.specs.Locks.{is_ready_as, is_ready}
+use Rattle.ps_language.specs.World.{Status, running, unwinding, again, waiting, retaking, finished, Context, World}
+use Rattle.ps_language.specs.Worlds.{after_move, after_moves, starting_world, world, is_over, is_all_over}
+use Rattle.std.specs.List.{list_all}
 use Rattle.ps_acts.specs.Acts.{Asked}
-use Rattle.ps_start.specs.Starts.{first_machine}
-use Rattle.ps_interpreter.specs.Alone.{is_alone_ready, after_alone_move, after_alone_moves, alone_machine}
 use Rattle.ps_vault.specs.declared.reports.Outcome.{Outcome}
 use Rattle.ps_vault.specs.declared.reports.Outcome.TheVariants.{Finished, Faulted, AllWaiting, StepsOut, Memory}
-use Rattle.ps_vault.specs.Reports.{EndsAs, is_memory, is_over, IsStarved, is_first_refused, is_next_refused}
-use Rattle.ps_language.proofs.ScheduleLaws.{moves-single, moves-append, plain_entry, begins-part}
-use Rattle.ps_interpreter.proofs.Laws.{unready_move, after_alone_moves-append, after_alone_moves-single, alone_machine-append}
+use Rattle.ps_vault.specs.Reports.{EndsAs, is_memory}
+use Rattle.ps_vault.specs.Stories.{Story, world_at, move_of}
+use Rattle.ps_vault.specs.Turns.{added_times}
+use Rattle.ps_language.proofs.ScheduleLaws.{moves-single, moves-append, moves-added, plain_entry, begins-part}
+use Rattle.ps_language.proofs.WorldLaws.{step-unready, after_moves-append, world-append}
+use Rattle.ps_vault.proofs.Turning.{times_sum, turn_joined, turn_crossing, times_apart, times_alone}
 
--- nothing in this language shows the pair of a vmstatus, so a move is told by its context and
--- whether it is refused
-pub same_move : (program : List ℕ) (machine : Machine) (first second : Move) → first.context
-    ≡ second.context
-    → first.refused ≡ second.refused → after_alone_move program machine first
-    ≡ after_alone_move program machine second
-unfolding after_alone_move
-same_move program machine first second context refused = rw (context, refused) refl
+-- ---- many equal steps
+
+-- each is one of the steps
+pub times_moves : (n : ℕ) (schedule : List Entry) (move : Move)
+    → moves (added_times n schedule move) ≡ moves schedule ++ replicate n move
+unfolding added_times
+times_moves zero schedule move = sym (append-nil (moves schedule))
+times_moves (suc n) schedule move =
+    moves-added (added_times n schedule move) move
+    ∙ (ap (λ (steps : List Move). steps ++ move ∷ []) (times_moves n schedule move)
+    ∙ (append_assoc (moves schedule) (replicate n move) (move ∷ [])
+    ∙ ap {B = List Move} (λ steps. moves schedule ++ steps)
+    (replicate_more n move ∙ ap (λ k. replicate k move) (add-one n))))
+
+-- so they change the world
+pub times_world : (old new : Story) (n : ℕ) (move : Move) → new.program ≡ old.program
+    → new.schedule ≡ added_times n old.schedule move
+    → world_at new ≡ after_moves (world_at old) (replicate n move)
+unfolding world
+times_world old new n move same is =
+    ap (λ (p : List ℕ). after_moves (starting_world p) (moves new.schedule)) same
+    ∙ (ap (after_moves (starting_world old.program))
+    (ap moves is ∙ times_moves n old.schedule move)
+    ∙ after_moves-append (starting_world old.program) (moves old.schedule) (replicate n move))
+
+-- so many, and then so many
+pub times_more : (old now new : List Entry) (m n : ℕ) (move : Move) → now ≡ added_times m old move
+    → new ≡ added_times n now move → new ≡ added_times (m + n) old move
+times_more old now new m n move was is =
+    is ∙ (ap (λ (entries : List Entry). added_times n entries move) was
+    ∙ sym (times_sum m n old move))
+
+-- and an ordinary step behind them, of which nothing was shown
+pub times_noted : (made : ℕ) (old now new : List Entry) (context : ℕ) (shown : Option (ℤ × ℤ))
+    → now ≡ added_times made old (plain_move context) → shown ≡ None
+    → new ≡ added now (move_of context false shown)
+    → new ≡ added_times (made + 1) old (plain_move context)
+unfolding added_times
+times_noted made old now new context shown was none is =
+    is ∙ (ap (λ (pair : Option (ℤ × ℤ)). added now (move_of context false pair)) none
+    ∙ (ap (λ (entries : List Entry). added entries (plain_move context)) was
+    ∙ ap (λ k. added_times k old (plain_move context)) (sym (add-one made))))
+
+-- a list is empty, or has a last element
+last_of : (entries : List Entry) → (entries ≡ []) ⊎ ((before : List Entry) × (last : Entry)
+    × (entries ≡ before ++ last ∷ []))
+last_of [] = inl refl
+last_of (entry ∷ entries) = elim (last_of entries) [
+  | inl none ↦ inr ([], entry, ap (λ (rest : List Entry). entry ∷ rest) none)
+  | inr (before, last, is) ↦
+      inr (entry ∷ before, last, ap (λ (rest : List Entry). entry ∷ rest) is)
+]
+
+length_push : (before : List Entry) (entry : Entry)
+    → length (before ++ entry ∷ []) ≡ length before + 1
+length_push before entry = length-append before (entry ∷ [])
+
+-- of an entry that they join, by whether it has no room for all
+longer_joined : (old before : List Entry) (entry : Entry) (context n : ℕ) (test : Bool)
+    → old ≡ before ++ entry ∷ [] → joins entry context ≡ true → n ≤ steps_limit
+    → nat_lt steps_limit (entry.steps + n) ≡ test
+    → length (added_times n old (plain_move context)) ≤ length old + 1
+longer_joined old before entry context n true is joined most crosses =
+    let past : steps_limit < entry.steps + n = grind (arith, nat_tests) in
+    let size : length old ≡ length before + 1 =
+    ap {B = ℕ} (λ (entries : List Entry). length entries) is ∙ length_push before entry in
+    let long : length (added_times n old (plain_move context)) ≡ length before + 1 + 1 =
+    ap {B = ℕ} (λ (entries : List Entry). length entries)
+    (sym (turn_crossing old before entry context n is joined past most))
+    ∙ (length_push (before ++ _ ∷ []) _ ∙ ap (λ k. k + 1) (length_push before _)) in
+    omega (arith, long, size)
+longer_joined old before entry context n false is joined most crosses =
+    let fits : entry.steps + n ≤ steps_limit = grind (arith, nat_tests) in
+    let size : length old ≡ length before + 1 =
+    ap {B = ℕ} (λ (entries : List Entry). length entries) is ∙ length_push before entry in
+    let long : length (added_times n old (plain_move context)) ≡ length before + 1 =
+    ap {B = ℕ} (λ (entries : List Entry). length entries)
+    (sym (turn_joined old before entry context n is joined fits)) ∙ length_push before _ in
+    omega (arith, long, size)
+
+-- by whether they join the last entry
+longer_by : (old before : List Entry) (entry : Entry) (context n : ℕ) (test : Bool)
+    → old ≡ before ++ entry ∷ [] → joins entry context ≡ test → 1 ≤ n → n ≤ steps_limit
+    → length (added_times n old (plain_move context)) ≤ length old + 1
+longer_by old before entry context n true is joined some most =
+    longer_joined old before entry context n (nat_lt steps_limit (entry.steps + n)) is joined most
+    refl
+longer_by old before entry context n false is joined some most =
+    let long : length (added_times n old (plain_move context)) ≡ length (before ++ entry ∷ []) + 1 =
+    ap {B = ℕ} (λ (entries : List Entry). length entries)
+    (sym (times_apart old before entry context n is joined some most))
+    ∙ length_push (before ++ entry ∷ []) _ in
+    let size : length old ≡ length (before ++ entry ∷ []) =
+    ap {B = ℕ} (λ (entries : List Entry). length entries) is in
+    omega (arith, long, size)
+
+longer_times : (old : List Entry) (context n : ℕ) → n ≤ steps_limit
+    → length (added_times n old (plain_move context)) ≤ length old + 1
+unfolding added_times
+longer_times old context zero most = omega arith
+longer_times old context (suc n) most = elim (last_of old) [
+  | inl none ↦
+      let long : length (added_times (suc n) old (plain_move context)) ≡ 1 =
+      ap {B = ℕ} (λ (entries : List Entry). length entries)
+      (sym (times_alone old context (suc n) none (omega arith) most)) in
+      omega (arith, long)
+  | inr (before, last, is) ↦
+      longer_by old before last context (suc n) (joins last context) is refl (omega arith) most
+]
+
+-- ordinary steps of one context, as many as an entry has at most, are at most one entry more
+pub times_longer : (old new : List Entry) (context n : ℕ)
+    → new ≡ added_times n old (plain_move context) → n ≤ steps_limit
+    → length new ≤ length old + 1
+times_longer old new context n is most = rw is (longer_times old context n most)
+
+-- as long as fewer were made than were asked for, the context wasn't ready
+pub all_made : (made most : ℕ) (ready : Bool) → made ≤ most → (made < most → ready ≡ false)
+    → ready ≡ true → made ≡ most
+all_made made most ready within unready is = by (nat_lt made most) refl
+  where
+    by : (test : Bool) → nat_lt made most ≡ test → made ≡ most
+    by true test = let less : made < most = grind (arith, nat_tests) in
+        absurd (true≢false (sym is ∙ unready less))
+    by false test = let past : most ≤ made = grind (arith, nat_tests) in
+        omega (arith, past, within)
 
 -- ---- the first steps of an entry
 
@@ -44,169 +167,162 @@ taken_before (suc few) (suc many) move rest h =
     ap (λ (steps : List Move). move ∷ steps) (taken_before few many move rest (omega arith))
 
 -- those before the last are ordinary ones
-pub taken_part : (entry : Entry) (few n : ℕ) → few < n
+taken_part : (entry : Entry) (few n : ℕ) → few < n
     → take few (moves_of entry n) ≡ replicate few (plain_move entry.context)
 taken_part entry few zero h = absurd (omega arith)
 taken_part entry few (suc before) h =
     taken_before few before (plain_move entry.context) (last_move entry ∷ []) (omega arith)
 
 -- all of them, with the last
-pub after_last : (program : List ℕ) (machine : Machine) (entry : Entry) (before : ℕ)
-    → after_alone_moves program machine (moves_of entry (suc before)) ≡ after_alone_move program
-    (after_alone_moves program machine (replicate before (plain_move entry.context))) (last_move
-    entry)
-after_last program machine entry before =
-    after_alone_moves-append program machine (replicate before (plain_move entry.context))
-    (last_move entry ∷ [])
-    ∙ after_alone_moves-single program
-    (after_alone_moves program machine (replicate before (plain_move entry.context))) (last_move
-    entry)
+after_last : (now : World) (entry : Entry) (before : ℕ)
+    → after_moves now (moves_of entry (suc before)) ≡ after_move
+    (after_moves now (replicate before (plain_move entry.context))) (last_move entry)
+unfolding after_moves
+after_last now entry before =
+    after_moves-append now (replicate before (plain_move entry.context)) (last_move entry ∷ [])
 
 -- ---- steps of a context that isn't ready
 
-idle_steps : (program : List ℕ) (machine : Machine) (entry : Entry) (before : ℕ)
-    → is_alone_ready machine entry.context ≡ false
-    → after_alone_moves program machine (replicate before (plain_move entry.context) ++ last_move
-    entry ∷ [])
-    ≡ machine
-unfolding after_alone_moves
-idle_steps program machine entry zero unready =
-    unready_move program machine (last_move entry) unready
-idle_steps program machine entry (suc before) unready =
-    ap (λ (m : Machine). after_alone_moves program m
+unready_move : (now : World) (move : Move) → is_ready now move.context ≡ false
+    → after_move now move ≡ now
+unready_move now move unready = step-unready now move.context move.refused move.shown unready
+
+idle_steps : (now : World) (entry : Entry) (before : ℕ) → is_ready now entry.context ≡ false
+    → after_moves now (replicate before (plain_move entry.context) ++ last_move entry ∷ []) ≡ now
+unfolding after_moves
+idle_steps now entry zero unready = unready_move now (last_move entry) unready
+idle_steps now entry (suc before) unready =
+    ap (λ (w : World). after_moves w
     (replicate before (plain_move entry.context) ++ last_move entry ∷ []))
-    (unready_move program machine (plain_move entry.context) unready)
-    ∙ idle_steps program machine entry before unready
+    (unready_move now (plain_move entry.context) unready)
+    ∙ idle_steps now entry before unready
 
-idle_behind : (program : List ℕ) (machine : Machine) (entry : Entry) (made before : ℕ)
-    → is_alone_ready machine entry.context ≡ false
-    → after_alone_moves program machine
-    (drop made (replicate before (plain_move entry.context) ++ last_move entry ∷ [])) ≡ machine
-unfolding after_alone_moves
-idle_behind program machine entry zero before unready =
-    idle_steps program machine entry before unready
-idle_behind program machine entry (suc made) zero unready =
-    ap (after_alone_moves program machine) (drop_all made [] (omega arith))
-idle_behind program machine entry (suc made) (suc before) unready =
-    idle_behind program machine entry made before unready
+idle_behind : (now : World) (entry : Entry) (made before : ℕ)
+    → is_ready now entry.context ≡ false
+    → after_moves now
+    (drop made (replicate before (plain_move entry.context) ++ last_move entry ∷ [])) ≡ now
+unfolding after_moves
+idle_behind now entry zero before unready = idle_steps now entry before unready
+idle_behind now entry (suc made) zero unready =
+    ap (after_moves now) (drop_all made [] (omega arith))
+idle_behind now entry (suc made) (suc before) unready = idle_behind now entry made before unready
 
-idle : (program : List ℕ) (machine : Machine) (entry : Entry) (made n : ℕ)
-    → is_alone_ready machine entry.context ≡ false
-    → after_alone_moves program machine (drop made (moves_of entry n)) ≡ machine
-unfolding after_alone_moves
-idle program machine entry made zero unready =
-    ap (after_alone_moves program machine) (drop_all made [] (omega arith))
-idle program machine entry made (suc before) unready =
-    idle_behind program machine entry made before unready
+idle : (now : World) (entry : Entry) (made n : ℕ) → is_ready now entry.context ≡ false
+    → after_moves now (drop made (moves_of entry n)) ≡ now
+unfolding after_moves
+idle now entry made zero unready = ap (after_moves now) (drop_all made [] (omega arith))
+idle now entry made (suc before) unready = idle_behind now entry made before unready
 
 -- so where it isn't ready after some, the others of the entry change nothing
-pub after_idle : (program : List ℕ) (old new : Machine) (entry : Entry) (made n : ℕ)
-    → new ≡ after_alone_moves program old (take made (moves_of entry n))
-    → is_alone_ready new entry.context ≡ false
-    → new ≡ after_alone_moves program old (moves_of entry n)
-after_idle program old new entry made n is unready =
-    sym (ap (after_alone_moves program old) (sym (take-append-drop made (moves_of entry n)))
-    ∙ (after_alone_moves-append program old (take made (moves_of entry n)) (drop made (moves_of
-    entry n))
-    ∙ (ap (λ (m : Machine). after_alone_moves program m (drop made (moves_of entry n))) (sym is)
-    ∙ idle program new entry made n unready)))
+after_idle : (old new : World) (entry : Entry) (made n : ℕ)
+    → new ≡ after_moves old (take made (moves_of entry n))
+    → is_ready new entry.context ≡ false
+    → new ≡ after_moves old (moves_of entry n)
+after_idle old new entry made n is unready =
+    sym (ap (after_moves old) (sym (take-append-drop made (moves_of entry n)))
+    ∙ (after_moves-append old (take made (moves_of entry n)) (drop made (moves_of entry n))
+    ∙ (ap (λ (w : World). after_moves w (drop made (moves_of entry n))) (sym is)
+    ∙ idle new entry made n unready)))
 
--- the steps before were ordinary ones of the first context
-pub after_idle_part : (program : List ℕ) (old new : Machine) (entry : Entry) (made : ℕ)
-    → made < entry.steps
-    → new ≡ after_alone_moves program old (replicate made (plain_move entry.context))
-    → is_alone_ready new entry.context ≡ false
-    → new ≡ after_alone_moves program old (moves_of entry entry.steps)
-after_idle_part program old new entry made less is unready =
-    after_idle program old new entry made entry.steps
-    (is ∙ ap (after_alone_moves program old) (sym (taken_part entry made entry.steps less))) unready
+-- the steps before were ordinary ones
+pub after_idle_part : (old new : World) (entry : Entry) (made : ℕ) → made < entry.steps
+    → new ≡ after_moves old (replicate made (plain_move entry.context))
+    → is_ready new entry.context ≡ false
+    → new ≡ after_moves old (moves_of entry entry.steps)
+after_idle_part old new entry made less is unready =
+    after_idle old new entry made entry.steps
+    (is ∙ ap (after_moves old) (sym (taken_part entry made entry.steps less))) unready
 
 -- a context that isn't ready before the first step
-pub after_unready : (program : List ℕ) (machine : Machine) (entry : Entry)
-    → is_alone_ready machine entry.context ≡ false
-    → machine ≡ after_alone_moves program machine (moves_of entry entry.steps)
-unfolding after_alone_moves
-after_unready program machine entry unready =
-    after_idle program machine machine entry 0 entry.steps refl unready
+pub after_unready : (now : World) (entry : Entry) → is_ready now entry.context ≡ false
+    → now ≡ after_moves now (moves_of entry entry.steps)
+unfolding after_moves
+after_unready now entry unready = after_idle now now entry 0 entry.steps refl unready
 
 -- none
-pub after_nothing : (program : List ℕ) (machine : Machine) (entry : Entry) → entry.steps ≡ 0
-    → machine ≡ after_alone_moves program machine (moves_of entry entry.steps)
-unfolding after_alone_moves
-after_nothing program machine entry none = rw none refl
+pub after_nothing : (now : World) (entry : Entry) → entry.steps ≡ 0
+    → now ≡ after_moves now (moves_of entry entry.steps)
+unfolding after_moves
+after_nothing now entry none = rw none refl
 
--- the last behind program the others
-pub after_whole : (program : List ℕ) (old so_far new : Machine) (entry : Entry) (before : ℕ) (move
-    : Move)
+-- the last behind the others
+pub after_whole : (old so_far new : World) (entry : Entry) (before : ℕ)
     → entry.steps ≡ suc before
-    → so_far ≡ after_alone_moves program old (replicate before (plain_move entry.context))
-    → new ≡ after_alone_move program so_far move
-    → move.context ≡ entry.context → move.refused ≡ entry.refused
-    → new ≡ after_alone_moves program old (moves_of entry entry.steps)
-after_whole program old so_far new entry before move count was is context refused =
-    is ∙ (ap (λ (m : Machine). after_alone_move program m move) was
-    ∙ (same_move program (after_alone_moves program old (replicate before (plain_move
-    entry.context))) move
-    (last_move entry) context refused
-    ∙ (sym (after_last program old entry before)
-    ∙ ap (λ (n : ℕ). after_alone_moves program old (moves_of entry n)) (sym count))))
+    → so_far ≡ after_moves old (replicate before (plain_move entry.context))
+    → new ≡ after_move so_far (last_move entry)
+    → new ≡ after_moves old (moves_of entry entry.steps)
+after_whole old so_far new entry before count was is =
+    is ∙ (ap (λ (w : World). after_move w (last_move entry)) was
+    ∙ (sym (after_last old entry before)
+    ∙ ap (λ n. after_moves old (moves_of entry n)) (sym count)))
 
-second_true : (a b : Bool) → (a && b) ≡ true → not b ≡ false
-second_true true true h = refl
-second_true true false h = cc
-second_true false b h = cc
+-- ---- a ready context isn't over
 
--- a ready context isn't over
-pub ready_not_over : (machine : Machine) (context : ℕ) → is_alone_ready machine context ≡ true
-    → is_over machine ≡ false
-unfolding is_alone_ready
-ready_not_over machine context ready =
-    second_true (context == 1) (may_end machine.context.status) ready
+unfinished_as : (status : Status) (identifier : ℕ) (context : Context) (now : World)
+    → is_ready_as status identifier context now ≡ true → is_finished status ≡ false
+unfinished_as running identifier context now ready = refl
+unfinished_as (unwinding cause) identifier context now ready = refl
+unfinished_as again identifier context now ready = refl
+unfinished_as (waiting lock condition) identifier context now ready = refl
+unfinished_as (retaking lock) identifier context now ready = refl
+unfinished_as finished identifier context now ready = absurd (true≢false (sym ready))
 
-both_are : (a b : Bool) → (a && b) ≡ true → (a ≡ true) × (b ≡ true)
-both_are true b h = (refl, h)
-both_are false b h = cc
+unfinished : (found : Option Context) (identifier : ℕ) (now : World)
+    → option_map_or (λ context. is_ready_as context.status identifier context now) found false
+    ≡ true
+    → is_over found ≡ false
+unfinished (Some context) identifier now ready =
+    unfinished_as context.status identifier context now ready
+unfinished None identifier now ready = absurd (true≢false (sym ready))
 
--- and is the first
-pub ready_first : (machine : Machine) (context : ℕ) → is_alone_ready machine context ≡ true
-    → context ≡ 1
-unfolding is_alone_ready
-ready_first machine context ready = let same =
-    (both_are (context == 1) (may_end machine.context.status) ready).0 in grind (arith, nat_tests)
+pub and_false : (a b : Bool) → b ≡ false → false ≡ (a && b)
+and_false true b h = sym h
+and_false false b h = refl
 
--- ordinary steps of the first context are those of an entry of a context that is ready
-pub behind : (program : List ℕ) (old new : Machine) (entry : Entry) (made : ℕ)
-    → is_alone_ready old entry.context ≡ true
-    → new ≡ after_alone_moves program old (replicate made (plain_move 1))
-    → new ≡ after_alone_moves program old (replicate made (plain_move entry.context))
-behind program old new entry made ready is =
-    is ∙ ap (λ n. after_alone_moves program old (replicate made (plain_move n)))
-    (sym (ready_first old entry.context ready))
+one_left : (contexts : List (Option Context)) (place : ℕ)
+    → is_over (context_in (slice_get contexts place)) ≡ false
+    → list_all is_over contexts ≡ false
+one_left [] place left = absurd (true≢false left)
+one_left (None ∷ contexts) zero left = absurd (true≢false left)
+one_left (Some context ∷ contexts) zero left =
+    ap (λ b. b && list_all is_over contexts) left
+one_left (context ∷ contexts) (suc place) left =
+    sym (and_false (is_over context) (list_all is_over contexts) (one_left contexts place left))
 
--- the machine after the whole of the next entry
-pub after_next : (program : List ℕ) (given : List Entry) (i : ℕ) (d : Entry) (machine : Machine)
+pub ready_not_over : (now : World) (context : ℕ) → is_ready now context ≡ true
+    → is_all_over now ≡ false
+unfolding is_ready context_at is_all_over
+ready_not_over now zero ready = absurd (true≢false (sym ready))
+ready_not_over now (suc place) ready =
+    one_left now.contexts place
+    (unfinished (context_in (slice_get now.contexts place)) (suc place) now ready)
+
+-- ---- entries in a row
+
+-- the world after the whole of the next entry
+pub after_next : (program : List ℕ) (given : List Entry) (i : ℕ) (d : Entry) (now : World)
     → i < length given
-    → machine ≡ after_alone_moves program (alone_machine program (take i given))
+    → now ≡ after_moves (world program (take i given))
     (moves_of (get_or given i d) (get_or given i d).steps)
-    → machine ≡ alone_machine program (take (i + 1) given)
-after_next program given i d machine lt is =
+    → now ≡ world program (take (i + 1) given)
+after_next program given i d now lt is =
     let entry : Entry = get_or given i d in
-    is ∙ sym (ap (alone_machine program) (take_more given i d lt)
-    ∙ (alone_machine-append program (take i given) (entry ∷ [])
-    ∙ ap (after_alone_moves program (alone_machine program (take i given))) (moves-single entry)))
+    is ∙ sym (ap (world program) (take_more given i d lt)
+    ∙ (world-append program (take i given) (entry ∷ [])
+    ∙ ap (after_moves (world program (take i given))) (moves-single entry)))
 
--- the machine after a part of the next entry
+-- the world after a part of the next entry
 pub after_part : (program : List ℕ) (before schedule : List Entry) (few context : ℕ)
-    (old new : Machine)
-    → old ≡ alone_machine program before
-    → new ≡ after_alone_moves program old (replicate few (plain_move context))
+    (old new : World)
+    → old ≡ world program before
+    → new ≡ after_moves old (replicate few (plain_move context))
     → moves schedule ≡ moves before ++ replicate few (plain_move context)
-    → new ≡ alone_machine program schedule
-unfolding alone_machine
+    → new ≡ world program schedule
+unfolding world
 after_part program before schedule few context old new was is steps =
-    is ∙ (ap (λ (m : Machine). after_alone_moves program m (replicate few (plain_move context))) was
-    ∙ sym (ap (after_alone_moves program (first_machine program)) steps
-    ∙ after_alone_moves-append program (first_machine program) (moves before)
+    is ∙ (ap (λ (w : World). after_moves w (replicate few (plain_move context))) was
+    ∙ sym (ap (after_moves (starting_world program)) steps
+    ∙ after_moves-append (starting_world program) (moves before)
     (replicate few (plain_move context))))
 
 -- and with a part of the next one
@@ -228,7 +344,7 @@ begins_with_part given schedule i few d lt less steps =
     ∙ ap {B = List Move} (λ rest. moves (take i given) ++ rest) alone) in
     (p.0, ap {B = List Move} (λ front. front ++ p.0) same ∙ (p.1 ∙ ap moves cut))
 
--- the steps of the first entry and of those behind program it
+-- the steps of the first entry and of those behind it
 length_head : (entry : Entry) (rest : List Entry)
     → length (moves (entry ∷ rest)) ≡ entry.steps + length (moves rest)
 length_head entry rest =
@@ -238,7 +354,7 @@ length_head entry rest =
     (ap {B = ℕ} (λ (steps : List Move). length steps) (moves-single entry)
     ∙ length_moves_of entry entry.steps))
 
--- a part of an entry behind program those before it has fewer steps than all
+-- a part of an entry behind those before it has fewer steps than all
 pub fewer_with_part : (given schedule : List Entry) (i few : ℕ) (d : Entry) → i < length given
     → few < (get_or given i d).steps
     → moves schedule ≡ moves (take i given) ++ replicate few (plain_move (get_or given i d).context)
@@ -261,74 +377,27 @@ fewer_with_part given schedule i few d lt less steps =
     ∙ ap (λ k. front + k) (length_head entry rest))) in
     omega (arith, made, all, less)
 
--- a run that used up its steps doesn't end for want of memory
-pub never_memory : (asks : Status → Around → Scene → Asked) (program : List ℕ)
-    (machine : Machine) (outcome : Outcome) → EndsAs asks program machine true false outcome
+-- ---- how a run ends
+
+-- a run that used up its steps ends as it does whatever room there is, and whatever step would come
+-- next
+pub ends_used : (asks : Status → Around → Scene → Asked) (now : World)
+    (capacity room : ℕ) (schedule entries : List Entry) (refused next : Bool) (outcome : Outcome)
     → is_memory outcome ≡ false
-never_memory asks program machine Finished ends = refl
-never_memory asks program machine Faulted ends = refl
-never_memory asks program machine AllWaiting ends = refl
-never_memory asks program machine StepsOut ends = refl
-never_memory asks program machine Memory ends = ends.0
-
--- and ends as it does whatever step would come next
-pub ends_used : (asks : Status → Around → Scene → Asked) (program : List ℕ)
-    (machine : Machine) (refused : Bool) (outcome : Outcome)
-    → EndsAs asks program machine true false outcome
-    → EndsAs asks program machine (not (is_memory outcome)) refused outcome
-ends_used asks program machine refused Finished ends = ends
-ends_used asks program machine refused Faulted ends = ends
-ends_used asks program machine refused AllWaiting ends = ends
-ends_used asks program machine refused StepsOut ends = ends
-ends_used asks program machine refused Memory ends = absurd (true≢false ends.0)
-
--- ---- the step behind program those that were made
-
-and_false : (a b : Bool) → b ≡ false → false ≡ (a && b)
-and_false true b h = sym h
-and_false false b h = refl
-
-both_true : (a : Bool) → a ≡ (a && true)
-both_true true = refl
-both_true false = refl
+    → EndsAs asks now capacity schedule true refused outcome
+    → EndsAs asks now room entries (not (is_memory outcome)) next outcome
+ends_used asks now capacity room schedule entries refused next Finished known ends = ends
+ends_used asks now capacity room schedule entries refused next Faulted known ends = ends
+ends_used asks now capacity room schedule entries refused next AllWaiting known ends = ends
+ends_used asks now capacity room schedule entries refused next StepsOut known ends = ends
+ends_used asks now capacity room schedule entries refused next Memory known ends =
+    absurd (true≢false known)
 
 -- a step before the last is an ordinary one
-pub part_starved : (asks : Status → Around → Scene → Asked) (program : List ℕ)
-    (machine : Machine) (entry : Entry) (made : ℕ) → made + 1 < entry.steps
-    → IsStarved asks program false machine
-    → IsStarved asks program (entry.refused && (made + 1 == entry.steps)) machine
-part_starved asks program machine entry made less starved =
-    subst (λ (b : Bool). IsStarved asks program b machine)
-    (and_false entry.refused (made + 1 == entry.steps) (grind (arith, nat_tests))) starved
-
--- the last is as the entry says
-pub last_starved : (asks : Status → Around → Scene → Asked) (program : List ℕ)
-    (machine : Machine) (entry : Entry) (made : ℕ) → made + 1 ≡ entry.steps
-    → IsStarved asks program entry.refused machine
-    → IsStarved asks program (entry.refused && (made + 1 == entry.steps)) machine
-last_starved asks program machine entry made last starved =
-    let test : (made + 1 == entry.steps) ≡ true = grind (arith, nat_tests) in
-    subst (λ (b : Bool). IsStarved asks program b machine)
-    (both_true entry.refused ∙ ap (λ (b : Bool). entry.refused && b) (sym test)) starved
-
-first_behind : (few before : ℕ) (move last : Move) (rest : List Move) → few ≤ before
-    → move.refused ≡ false
-    → is_first_refused (drop few ((replicate before move ++ last ∷ []) ++ rest)) ≡
-    (last.refused && (few + 1 == suc before))
-first_behind zero zero move last rest h plain = both_true last.refused
-first_behind zero (suc before) move last rest h plain = plain
-    ∙ and_false last.refused (1 == suc (suc before)) (grind (arith, nat_tests))
-first_behind (suc few) zero move last rest h plain = absurd (omega arith)
-first_behind (suc few) (suc before) move last rest h plain =
-    first_behind few before move last rest (omega arith) plain
-    ∙ ap (λ (b : Bool). last.refused && b) (grind (arith, nat_tests))
-
--- of an entry of which some were made
-first_in : (entry : Entry) (few n : ℕ) (rest : List Move) → few < n
-    → is_first_refused (drop few (moves_of entry n ++ rest)) ≡ (entry.refused && (few + 1 == n))
-first_in entry few zero rest h = absurd (omega arith)
-first_in entry few (suc before) rest h =
-    first_behind few before (plain_move entry.context) (last_move entry) rest (omega arith) refl
+pub part_refused : (entry : Entry) (made : ℕ) → made + 1 < entry.steps
+    → false ≡ (entry.refused && (made + 1 == entry.steps))
+part_refused entry made less =
+    and_false entry.refused (made + 1 == entry.steps) (grind (arith, nat_tests))
 
 -- an entry of ordinary steps at the end
 pub moves_with_part : (old new : List Entry) (context made : ℕ) → new ≡ old
@@ -347,37 +416,3 @@ moves_without old context made none = let zeroed : made ≡ 0 = omega arith in
     rw (zeroed, append-nil) refl
 
 pub ruleset part_lemmas = (moves_with_part, moves_without)
-
--- the step behind program a part of the next entry
-pub next_with_part : (given schedule : List Entry) (i few : ℕ) (d : Entry) → i < length given
-    → few < (get_or given i d).steps
-    → moves schedule ≡ moves (take i given) ++ replicate few (plain_move (get_or given i d).context)
-    → is_next_refused given schedule ≡
-    ((get_or given i d).refused && (few + 1 == (get_or given i d).steps))
-unfolding count_of
-next_with_part given schedule i few d lt less steps =
-    let entry : Entry = get_or given i d in
-    let rest : List Entry = drop (i + 1) given in
-    let front : List Move = moves (take i given) in
-    let cut : take i given ++ (entry ∷ rest) ≡ given =
-    rw (add-one, ← drop-cons given i d) (take-append-drop i given) in
-    let made : length (moves schedule) ≡ length front + few =
-    ap {B = ℕ} (λ (m : List Move). length m) steps
-    ∙ (length-append front (replicate few (plain_move entry.context))
-    ∙ ap (λ k. length front + k) (length-replicate few (plain_move entry.context))) in
-    let all : moves given ≡ front ++ (moves_of entry entry.steps ++ moves rest) =
-    ap moves (sym cut) ∙ (moves-append (take i given) (entry ∷ rest)
-    ∙ ap {B = List Move} (λ m. front ++ m)
-    (moves-append (entry ∷ []) rest
-    ∙ ap {B = List Move} (λ m. m ++ moves rest) (moves-single entry))) in
-    ap is_first_refused (ap₂ drop made all
-    ∙ drop_front front few (moves_of entry entry.steps ++ moves rest))
-    ∙ first_in entry few entry.steps (moves rest) less
-  where
-    drop_front : (front : List Move) (few : ℕ) (rest : List Move)
-        → drop (length front + few) (front ++ rest) ≡ drop few rest
-    drop_front [] few rest = let none : length {A = Move} [] + few ≡ few = omega arith in
-        ap (λ k. drop k rest) none
-    drop_front (move ∷ front) few rest =
-        let more : length (move ∷ front) + few ≡ suc (length front + few) = omega arith in
-        ap (λ k. drop k (move ∷ (front ++ rest))) more ∙ drop_front front few rest

@@ -1,5 +1,9 @@
-pub mod Beginning
-pub mod Following
-pub mod Kept
 pub mod Notes
 pub mod Turning
+pub mod Keeping
+pub mod Beginning
+pub mod Following
+pub mod Advancing
+pub mod Readiness
+pub mod Ordering
+pub mod NextStep

@@ -1,3 +1,4 @@
 pub mod Reports
 pub mod Stories
 pub mod Turns
+pub mod Order

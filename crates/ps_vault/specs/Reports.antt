@@ -1,17 +1,14 @@
 -- What runs promise.
-use Rattle.std.specs.Prelude.{◌≡◌, ◌≢◌, ℕ, ◌≤◌, ◌==◌, Bool, true, false, not, IsTrue, List, [], ◌∷◌, drop, replicate}
+use Rattle.std.specs.Prelude.{◌≡◌, ℕ, ◌+◌, ◌<◌, ◌≤◌, ◌^◌, ◌==◌, nat_lt, ℤ, pos, negsuc, Bool, true, false, IsTrue, Option, Some, None, List, [], ◌∷◌, length, drop, not, ◌&&◌, ◌⊎◌}
 use Rattle.ps_language.specs.declared.schedules.Entry.{Entry}
-use Rattle.ps_language.specs.Schedules.{Move, plain_move, moves, count_of, is_longest}
 use Rattle.ps_language.specs.Effect.{Around, Scene}
-use Rattle.ps_language.specs.Machines.{may_end}
-use Rattle.ps_language.specs.World.{Status, Machine}
+use Rattle.ps_language.specs.Locks.{is_ready}
+use Rattle.ps_language.specs.Schedules.{Move, moves, count_of, is_longest}
+use Rattle.ps_language.specs.World.{Status, World}
 use Rattle.ps_language.specs.Worlds as worlds
-use Rattle.ps_language.specs.Worlds.{IsProper}
+use Rattle.ps_language.specs.Worlds.{IsProper, is_all_over, is_some_ready, IsFinished, IsFaulted, IsAllWaiting}
 use Rattle.ps_acts.specs.Acts.{Asked}
-use Rattle.ps_start.specs.Starts.{first_machine}
-use Rattle.ps_interpreter.specs.Alone.{alone_machine, alone_printed, IsAloneProper}
-use Rattle.ps_interpreter.specs.Needs.{wants_memory}
-use Rattle.ps_interpreter.specs.Owns.{are_own}
+use Rattle.ps_world.specs.Needs.{step_wants}
 use Rattle.ps_vault.specs.declared.reports.Config.{Config}
 use Rattle.ps_vault.specs.declared.reports.Outcome.{Outcome}
 use Rattle.ps_vault.specs.declared.reports.Outcome.TheVariants.{Finished, Faulted, AllWaiting, StepsOut, Memory}
@@ -26,54 +23,71 @@ pub record IsWithin (config : Config) : Type 0 where
   pub quantum_high : config.quantum ≤ 65535
   pub steps_low : 1 ≤ config.steps
 
--- the one context is finished
-abbrev pub is_over : Machine → Bool
-is_over machine = not (may_end machine.context.status)
+-- a number of words that a schedule can have
+abbrev pub is_number_of_words : ℤ → Bool
+is_number_of_words (pos words) = nat_lt 0 words && nat_lt words (2 ^ 31)
+is_number_of_words (negsuc words) = false
 
--- each step is an ordinary one of the first context: none is refused
-abbrev pub AreOrdinary : List Entry → Type 0
-AreOrdinary schedule = moves schedule ≡ replicate (count_of schedule) (plain_move 1)
+abbrev pub are_words : Option (ℤ × ℤ) → Bool
+are_words None = true
+are_words (Some pair) = is_number_of_words pair.0 && is_number_of_words pair.1
 
--- no operator is left to the world by its steps
-abbrev pub IsOwn : (program : List ℕ) → (schedule : List Entry) → Type 0
-IsOwn program schedule = are_own program (first_machine program) (moves schedule) ≡ true
+-- an ordinary step: it isn't refused, and a schedule can have its numbers
+abbrev pub is_ordinary : Move → Bool
+is_ordinary move =
+    not move.refused && (nat_lt move.context (2 ^ 32) && are_words move.shown)
 
--- the definitions of all contexts print these bytes under the schedule, and make all of its steps
-pub record IsWorldRun (program printed : List ℕ) (schedule : List Entry) : Type 0 where
-  pub prints : printed ≡ worlds.printed program schedule
-  pub proper : IsProper program schedule
+abbrev pub are_ordinary : List Move → Bool
+are_ordinary [] = true
+are_ordinary (move ∷ rest) = is_ordinary move && are_ordinary rest
+
+-- a schedule of so many entries has no room for two more
+abbrev pub IsShort : (capacity : ℕ) → List Entry → Type 0
+IsShort capacity schedule = capacity < length schedule + 2
 
 -- asks: what a step asks for that the language doesn't say
-module _ (asks : Status → Around → Scene → Asked) (program : List ℕ) where
-  -- a step is left, and a growth may be refused it
-  abbrev pub IsStarved : (refused : Bool) → Machine → Type 0
-  IsStarved refused machine =
-      (is_over machine ≡ false) × IsTrue (wants_memory asks program refused machine)
+module _ (asks : Status → Around → Scene → Asked) where
+  -- the context is ready, and its step may want a growth
+  pub record MayWant (context : ℕ) (refused : Bool) (w : World) : Type 0 where
+    pub ready : is_ready w context ≡ true
+    pub wants : IsTrue (step_wants asks context refused w)
 
-  -- how a run of the program ended at this machine; used up says that no step is left, refused
-  -- whether the next is to be refused. The one context never waits, and want of memory comes only
-  -- before any other end, where the next step may want it
-  abbrev pub EndsAs : Machine → (used_up refused : Bool) → Outcome → Type 0
-  EndsAs machine used_up refused Finished =
-      (is_over machine ≡ true) × (machine.error_lines ≡ 0)
-  EndsAs machine used_up refused Faulted = (is_over machine ≡ true) × (machine.error_lines ≢ 0)
-  EndsAs machine used_up refused AllWaiting = ⊥
-  EndsAs machine used_up refused StepsOut = (is_over machine ≡ false) × (used_up ≡ true)
-  EndsAs machine used_up refused Memory = (used_up ≡ false) × IsStarved refused machine
+  -- or the schedule has no room for it
+  pub record IsStarved (context : ℕ) (refused : Bool) (w : World) (capacity : ℕ)
+      (schedule : List Entry) : Type 0 where
+    pub ready : is_ready w context ≡ true
+    pub wants : IsTrue (step_wants asks context refused w) ⊎ IsShort capacity schedule
 
-  -- a run of the program with a budget of steps: its bytes are those that the one context prints
-  -- under its schedule, and those of the whole language where no operator is left to the world. The
-  -- schedule is proper, of ordinary steps and of the longest entries, and the outcome is that of
-  -- its machine
-  pub record IsRunOf (steps : ℕ) (printed : List ℕ) (schedule : List Entry) (outcome : Outcome)
-      : Type 0 where
-    pub prints : printed ≡ alone_printed program schedule
-    pub world : IsOwn program schedule → IsWorldRun program printed schedule
-    pub proper : IsAloneProper program schedule
-    pub ordinary : AreOrdinary schedule
+  -- one is
+  abbrev pub IsOneStarved : (refused : Bool) → World → (capacity : ℕ) → (schedule : List Entry)
+      → Type 0
+  IsOneStarved refused w capacity schedule =
+      (context : ℕ) × IsStarved context refused w capacity schedule
+
+  -- how a run ended at this world; used up says that no step is left, refused whether the next is
+  -- to be refused. Want of memory comes only before any other end, where a step may want some
+  abbrev pub EndsAs : World → (capacity : ℕ) → (schedule : List Entry) → (used_up refused : Bool)
+      → Outcome → Type 0
+  EndsAs w capacity schedule used_up refused Finished = IsFinished w
+  EndsAs w capacity schedule used_up refused Faulted = IsFaulted w
+  EndsAs w capacity schedule used_up refused AllWaiting = IsAllWaiting w
+  EndsAs w capacity schedule used_up refused StepsOut =
+      (is_all_over w ≡ false) × (is_some_ready w ≡ true) × (used_up ≡ true)
+  EndsAs w capacity schedule used_up refused Memory = (used_up ≡ false)
+      × (is_all_over w ≡ false) × IsOneStarved refused w capacity schedule
+
+  -- a run of the program with a budget of steps: its bytes are those that the definitions print
+  -- under its schedule, which is proper, of ordinary steps and of the longest entries, and the
+  -- outcome is that of its world
+  pub record IsRunOf (program : List ℕ) (steps : ℕ) (printed : List ℕ) (capacity : ℕ)
+      (schedule : List Entry) (outcome : Outcome) : Type 0 where
+    pub prints : printed ≡ worlds.printed program schedule
+    pub proper : IsProper program schedule
+    pub ordinary : are_ordinary (moves schedule) ≡ true
     pub longest : is_longest schedule ≡ true
     pub within : count_of schedule ≤ steps
-    pub ends : EndsAs (alone_machine program schedule) (count_of schedule == steps) false outcome
+    pub ends : EndsAs (worlds.world program schedule) capacity schedule
+        (count_of schedule == steps) false outcome
 
 -- whether it is for want of memory
 abbrev pub is_memory : Outcome → Bool
@@ -85,6 +99,19 @@ abbrev pub is_first_refused : List Move → Bool
 is_first_refused [] = false
 is_first_refused (move ∷ rest) = move.refused
 
--- whether the step of a given schedule that comes behind those that were made is refused
+-- the context of the first
+abbrev pub first_identifier : List Move → ℕ
+first_identifier [] = 0
+first_identifier (move ∷ rest) = move.context
+
+-- the steps of a given schedule behind those that were made
+abbrev pub steps_behind : (given made : List Entry) → List Move
+steps_behind given made = drop (count_of made) (moves given)
+
+-- whether the next of them is refused
 abbrev pub is_next_refused : (given made : List Entry) → Bool
-is_next_refused given made = is_first_refused (drop (count_of made) (moves given))
+is_next_refused given made = is_first_refused (steps_behind given made)
+
+-- whose it is
+abbrev pub next_identifier : (given made : List Entry) → ℕ
+next_identifier given made = first_identifier (steps_behind given made)

@@ -1,32 +1,35 @@
 -- What clauses see of a vault, and what it keeps.
-use Rattle.std.specs.Prelude.{◌≡◌, ◌<◌, ℕ, Bool, true, None, List, length}
+use Rattle.std.specs.Prelude.{◌≡◌, ◌+◌, ◌≤◌, ℕ, ℤ, Bool, true, Option, List, length}
 use Rattle.ps_language.specs.declared.schedules.Entry.{Entry}
 use Rattle.ps_language.specs.Schedules.{Move, is_longest}
-use Rattle.ps_language.specs.World.{Machine}
-use Rattle.ps_interpreter.specs.Alone.{alone_machine, IsAloneProper}
-use Rattle.ps_interpreter.specs.Courses.{Held, IsAt, IsSteady}
+use Rattle.ps_language.specs.World.{World}
+use Rattle.ps_language.specs.Worlds.{world, IsProper}
+use Rattle.ps_world.specs.Held.{Held, IsAt, IsSteadyHeld}
 
--- the program, the steps that were made, and how many entries find room
+-- the program, the steps that were made, how many entries find room, and whether a call waits that
+-- could not be made
 pub record Story : Type 0 where
   pub program : List ℕ
   pub schedule : List Entry
   pub capacity : ℕ
+  pub is_calling : Bool
 
--- one entry more finds room
+-- two entries more find room
 abbrev pub HasRoom : Story → Type 0
-HasRoom story = length story.schedule < story.capacity
+HasRoom story = length story.schedule + 2 ≤ story.capacity
 
--- the machine that they stand for
-abbrev pub machine_at : Story → Machine
-machine_at story = alone_machine story.program story.schedule
+-- the world that they stand for
+abbrev pub world_at : Story → World
+world_at story = world story.program story.schedule
 
--- a step of the first context
-abbrev pub first_move : (refused : Bool) → Move
-first_move refused = record { context = 1; refused = refused; shown = None }
+-- a step
+abbrev pub move_of : (context : ℕ) → (refused : Bool) → (shown : Option (ℤ × ℤ)) → Move
+move_of context refused shown =
+    record { context = context; refused = refused; shown = shown }
 
--- the context is at the machine of program and schedule, and the schedule is proper
+-- all is at the world of program and schedule, and the schedule is proper
 pub record Keeps (h : Held) (schedule : List Entry) : Type 0 where
-  pub steady : IsSteady h
-  pub at : IsAt h (alone_machine h.lent.program schedule)
-  pub proper : IsAloneProper h.lent.program schedule
+  pub steady : IsSteadyHeld h
+  pub at : IsAt h (world h.desk.program schedule)
+  pub proper : IsProper h.desk.program schedule
   pub longest : is_longest schedule ≡ true

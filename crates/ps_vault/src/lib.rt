@@ -5,6 +5,7 @@ mod plain;
 mod replays;
 mod reports;
 mod schedules;
+mod turns;
 mod vaults;
 
 pub use plain::run_plain;

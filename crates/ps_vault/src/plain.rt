@@ -1,25 +1,31 @@
 //! A run under a schedule of its own.
 
-ghost use Rattle.std.specs.Prelude.{◌≡◌, ◌↔◌, Err, IfOk};
-ghost use Rattle.ps_vault.specs.Reports.{IsRunOf, IsWithin};
+ghost use Rattle.std.specs.Prelude.{◌≡◌, ℕ, ◌↔◌, true, false, Err, IfOk, vec_capacity};
+ghost use Rattle.ps_language.specs.Schedules.{moves};
+ghost use Rattle.ps_language.specs.Worlds.{starting_world, world};
+ghost use Rattle.ps_vault.specs.Order.{HasTurn, InOrder};
+ghost use Rattle.ps_vault.specs.Reports.{is_memory, IsRunOf, IsStarved, IsWithin};
 
-use crate::reports::{Config, Report, RunFault};
+use crate::reports::{Config, Outcome, Report, RunFault};
 use crate::vaults::Vault;
 use ps_interpreter::interprets::Interpret;
+use ps_world::deeds::Deeds;
 use std::alloc::Global;
 use std::hash::RandomState;
 
-/// Runs a program, over memory that is never collected, for at most so many steps. The keys are for
-/// the names alone.
+/// Runs a program, over memory that is never collected, for at most so many steps: passes over the
+/// contexts by rising identifier, with a turn of at most a quantum of steps for each that is ready.
+/// The keys are for the names alone.
 ///
 /// The numbers `space` and `workers` are not used, but each must be in its range: else the fault is
-/// `Config`. The fault is `Memory` where the room that
-/// the run starts with can't be had; a growth that is refused later ends the run, and the report
-/// has what was made so far. The outcome is `Memory` only
-/// where the step that comes next may want a growth.
-pub fn run_plain<S: Interpret + Drop>(
+/// `Config`. The fault is `Memory` where the room that the run starts with can't be had; a growth
+/// that is refused later ends the run, and the report has what was made so far. The outcome is
+/// `Memory` only where the step of the context whose turn it is may want a growth, or the schedule
+/// has no room for it.
+pub fn run_plain<S: Interpret + Drop, D: Deeds + Drop>(
     alloc: Global,
     interpret: S,
+    deeds: D,
     program: &[u8],
     config: Config,
     keys: RandomState,
@@ -27,16 +33,26 @@ pub fn run_plain<S: Interpret + Drop>(
     ensures config { (result ≡ Err RunFault.Config) ↔ ¬ IsWithin config }
     ensures run { IfOk result
         (λ report. IsRunOf S.asks program.now config.steps report.printed.items
-        report.schedule.items report.outcome) }
+        (vec_capacity report.schedule) report.schedule.items report.outcome) }
+    ensures order { IfOk result (λ report. InOrder config.quantum
+        (starting_world program.now) (moves report.schedule.items)) }
+    ensures starved { IfOk result (λ report. is_memory report.outcome ≡ true → (context : ℕ)
+        × HasTurn config.quantum (starting_world program.now) context (moves report.schedule.items)
+        × IsStarved S.asks context false (world program.now report.schedule.items)
+        (vec_capacity report.schedule) report.schedule.items) }
     ensures flips { IfOk result (λ report. report.flips ≡ 0) }
     ensures taken { IfOk result (λ report. report.taken ≡ 0) }
 {
     if !config.is_within() {
         return Err(RunFault::Config);
     }
-    let Ok(mut vault) = Vault::new(alloc, interpret, program, keys, 1) else {
+    let Ok(mut vault) = Vault::new(alloc, interpret, deeds, program, keys, 0) else {
         return Err(RunFault::Memory);
     };
-    let made = vault.turn(config.steps);
-    Ok(vault.into_report(config.steps, made))
+    let run = vault.run(config.steps, config.quantum);
+    if run.held {
+        return Ok(vault.into_report(config.steps, Outcome::Memory));
+    }
+    let outcome = vault.outcome(run.made == config.steps);
+    Ok(vault.into_report(config.steps, outcome))
 }

@@ -1,75 +1,115 @@
-//! A run under a given schedule.
+//! A run under a given schedule (PLRM2, 3.5, 7.1).
 
-ghost use Rattle.std.specs.Prelude.{◌≡◌, ◌≢◌, ◌+◌, ◌<◌, ◌≤◌, ◌++◌, ◌&&◌, ◌==◌, vec_len, vec_capacity, [], length, true, false, not, replicate, IfOk, Err};
+ghost use Rattle.std.specs.Prelude.{◌≡◌, ◌≢◌, ◌+◌, ◌<◌, ◌≤◌, ◌++◌, ◌&&◌, ◌==◌, ℕ, List, vec_len, vec_capacity, length, true, false, not, replicate, IfOk, Err};
+ghost use Rattle.ps_language.specs.declared.schedules.Entry.{Entry as EntryOf};
+ghost use Rattle.ps_language.specs.Locks as locks;
 ghost use Rattle.ps_language.specs.Schedules.{plain_move, moves_of, moves, count_of, Begins};
-ghost use Rattle.ps_language.specs.Worlds.{printed};
-ghost use Rattle.ps_interpreter.specs.Alone.{after_alone_moves, alone_machine, alone_printed};
-ghost use Rattle.ps_vault.specs.Reports.{EndsAs, IsOwn, IsStarved, is_memory, is_next_refused};
-ghost use Rattle.ps_vault.specs.Stories.{machine_at};
+ghost use Rattle.ps_language.specs.Worlds as worlds;
+ghost use Rattle.ps_language.specs.Worlds.{after_moves};
+ghost use Rattle.ps_vault.specs.Reports.{EndsAs, MayWant, is_memory, is_next_refused, next_identifier};
+ghost use Rattle.ps_vault.specs.Stories.{world_at};
+ghost use Rattle.ps_vault.specs.Turns.{added_times};
 
 use crate::reports::{Outcome, Report, RunFault};
 use crate::schedules::push_within;
-use crate::vaults::Vault;
+use crate::turns::Turn;
+use crate::vaults::{Told, Vault};
 use ps_interpreter::interprets::Interpret;
 use ps_language::schedules::Entry;
+use ps_world::deeds::Deeds;
 use std::alloc::Global;
 use std::hash::RandomState;
 
-/// Makes the steps of an entry, of which the last may be refused, as far as memory goes, and tells
-/// how many were made; a step of a context that isn't ready is counted
-/// and changes nothing, nor do those behind it in the entry.
-fn follow_entry<S: Interpret + Drop>(vault: &mut Vault<S>, entry: Entry) -> u32
-    requires room { length vault.old.schedule + 2 ≤ vault.old.capacity }
+/// Makes ordinary steps of a context, at most so many, as long as it is ready, whether or not its
+/// turn would end; a `vmstatus` in them is shown zeros. Fewer, and none held up: the context isn't
+/// ready. Held up: fewer, and the next may want memory, whatever room the schedule has.
+fn steps<S: Interpret + Drop, D: Deeds + Drop>(
+    vault: &mut Vault<S, D>,
+    context: u32,
+    most: u32,
+) -> Turn
+    requires calling { vault.old.is_calling ≡ false }
+    requires room { length vault.old.schedule + 3 ≤ vault.old.capacity }
+    ensures program { vault.new.program ≡ vault.old.program }
+    ensures within { result.made ≤ most }
+    ensures added { vault.new.schedule
+        ≡ added_times result.made vault.old.schedule (plain_move context) }
+    ensures longer { length vault.new.schedule ≤ length vault.old.schedule + 1 }
+    ensures world { world_at vault.new
+        ≡ after_moves (world_at vault.old) (replicate result.made (plain_move context)) }
+    ensures capacity { vault.old.capacity ≤ vault.new.capacity }
+    ensures calling_on { result.held ≡ false → vault.new.is_calling ≡ false }
+    ensures unready { result.held ≡ false → result.made < most
+        → locks.is_ready (world_at vault.new) context ≡ false }
+    ensures fewer { result.held ≡ true → result.made < most }
+    ensures starved { result.held ≡ true → MayWant S.asks context false (world_at vault.new) }
+{
+    let mut made = 0;
+    while made < most && vault.is_ready(context) {
+        let advanced = vault.advance(context, most - made, false);
+        made += advanced.made;
+        match advanced.told {
+            Told::Goes | Told::TurnEnds => {}
+            Told::HeldUp => return Turn { made, held: true },
+        }
+    }
+    Turn { made, held: false }
+}
+
+/// Makes the steps of an entry, of which the last may be refused and may show a pair, as far as
+/// memory goes, and tells how many were made; a step of a context that isn't ready is counted and
+/// changes nothing, nor do those behind it in the entry.
+fn follow_entry<S: Interpret + Drop, D: Deeds + Drop>(vault: &mut Vault<S, D>, entry: Entry) -> u32
+    requires calling { vault.old.is_calling ≡ false }
+    requires room { length vault.old.schedule + 3 ≤ vault.old.capacity }
     ensures program { vault.new.program ≡ vault.old.program }
     ensures longer { length vault.new.schedule ≤ length vault.old.schedule + 2 }
     ensures capacity { vault.old.capacity ≤ vault.new.capacity }
     ensures within { result ≤ entry.steps }
     ensures all { result ≡ entry.steps
-        → machine_at vault.new ≡ after_alone_moves vault.old.program (machine_at vault.old)
-        (moves_of entry entry.steps) }
+        → world_at vault.new ≡ after_moves (world_at vault.old) (moves_of entry entry.steps) }
+    ensures calling_on { result ≡ entry.steps → vault.new.is_calling ≡ false }
     ensures part { result < entry.steps
-        → machine_at vault.new ≡ after_alone_moves vault.old.program (machine_at vault.old)
+        → world_at vault.new ≡ after_moves (world_at vault.old)
         (replicate result (plain_move entry.context)) }
-    ensures starved { result < entry.steps
-        → IsStarved S.asks vault.old.program (entry.refused && (result + 1 == entry.steps))
-        (machine_at vault.new) }
+    ensures starved { result < entry.steps → MayWant S.asks entry.context
+        (entry.refused && (result + 1 == entry.steps)) (world_at vault.new) }
 {
     if entry.steps == 0 || !vault.is_ready(entry.context) {
         return entry.steps;
     }
     let ordinary = entry.steps - 1;
-    let made = vault.turn(ordinary);
+    let before = steps(vault, entry.context, ordinary);
+    if before.held {
+        return before.made;
+    }
     if !vault.is_ready(entry.context) {
         return entry.steps;
     }
-    if made < ordinary {
-        return made;
-    }
-    match vault.step(entry.refused) {
+    match vault.step(entry.context, entry.refused, entry.shown) {
         Ok(()) => entry.steps,
         Err(_) => ordinary,
     }
 }
 
 /// Runs the steps of a schedule, over memory that is never collected. The keys are for the names
-/// alone.
+/// alone. A step of a context that isn't ready changes nothing.
 ///
 /// The report has the given schedule; where a growth was refused, the outcome is `Memory` and the
-/// report has the steps that were made, fewer than the given ones. The fault is
-/// `Memory` where the room that the run starts with can't be had; there is no other.
-pub fn replay<S: Interpret + Drop>(
+/// report has the steps that were made, fewer than the given ones: the next of those may want a
+/// growth. The fault is `Memory` where the room that the run starts with can't be had; there is no
+/// other.
+pub fn replay<S: Interpret + Drop, D: Deeds + Drop>(
     alloc: Global,
     interpret: S,
+    deeds: D,
     program: &[u8],
     schedule: &[Entry],
     keys: RandomState,
 ) -> Result<Report, RunFault>
     ensures fault { result ≢ Err RunFault.Config }
     ensures prints { IfOk result
-        (λ report. report.printed.items ≡ alone_printed program.now report.schedule.items) }
-    ensures world { IfOk result
-        (λ report. IsOwn program.now report.schedule.items
-        → report.printed.items ≡ printed program.now report.schedule.items) }
+        (λ report. report.printed.items ≡ worlds.printed program.now report.schedule.items) }
     ensures begins { IfOk result (λ report. Begins report.schedule.items schedule.now) }
     ensures whole { IfOk result
         (λ report. is_memory report.outcome ≡ false → report.schedule.items ≡ schedule.now) }
@@ -77,16 +117,23 @@ pub fn replay<S: Interpret + Drop>(
         (λ report. is_memory report.outcome ≡ true
         → count_of report.schedule.items < count_of schedule.now) }
     ensures ends { IfOk result
-        (λ report. EndsAs S.asks program.now (alone_machine program.now report.schedule.items)
-        (not (is_memory report.outcome)) (is_next_refused schedule.now report.schedule.items)
-        report.outcome) }
+        (λ report. EndsAs S.asks (worlds.world program.now report.schedule.items)
+        (vec_capacity report.schedule) report.schedule.items (not (is_memory report.outcome))
+        (is_next_refused schedule.now report.schedule.items) report.outcome) }
+    ensures starved { IfOk result (λ report. is_memory report.outcome ≡ true
+        → MayWant S.asks (next_identifier schedule.now report.schedule.items)
+        (is_next_refused schedule.now report.schedule.items)
+        (worlds.world program.now report.schedule.items)) }
     ensures flips { IfOk result (λ report. report.flips ≡ 0) }
     ensures taken { IfOk result (λ report. report.taken ≡ 0) }
 {
-    let Some(entries) = schedule.len().checked_mul(2) else {
+    let Some(twice) = schedule.len().checked_mul(2) else {
         return Err(RunFault::Memory);
     };
-    let Ok(mut vault) = Vault::new(alloc, interpret, program, keys, entries) else {
+    let Some(entries) = twice.checked_add(1) else {
+        return Err(RunFault::Memory);
+    };
+    let Ok(mut vault) = Vault::new(alloc, interpret, deeds, program, keys, entries) else {
         return Err(RunFault::Memory);
     };
     let Ok(mut followed) = Vec::with_capacity(alloc, schedule.len()) else {
@@ -100,7 +147,7 @@ pub fn replay<S: Interpret + Drop>(
         }
         push_within(&mut followed, *entry);
     }
-    let outcome = vault.outcome_at_end(true);
+    let outcome = vault.outcome(true);
     Ok(report_of(vault, followed, outcome))
 }
 
@@ -125,8 +172,12 @@ fn push_part(schedule: &mut Vec<Entry>, context: u32, made: u32)
 }
 
 /// A report with a vault's printed bytes.
-fn report_of<S: Interpret + Drop>(vault: Vault<S>, schedule: Vec<Entry>, outcome: Outcome) -> Report
-    ensures printed { result.printed.items ≡ (machine_at vault.entry).printed }
+fn report_of<S: Interpret + Drop, D: Deeds + Drop>(
+    vault: Vault<S, D>,
+    schedule: Vec<Entry>,
+    outcome: Outcome,
+) -> Report
+    ensures printed { result.printed.items ≡ (world_at vault.entry).printed }
     ensures schedule { result.schedule ≡ schedule }
     ensures outcome { result.outcome ≡ outcome }
     ensures flips { result.flips ≡ 0 }

@@ -2,51 +2,61 @@
 
 ghost use Rattle.std.specs.Prelude.{◌≡◌, false, ◌+◌, ◌<◌, ◌≤◌, ◌++◌, ◌∷◌, [], vec_len, vec_capacity};
 ghost use Rattle.ps_language.specs.Schedules as schedules;
-ghost use Rattle.ps_vault.specs.Stories.{first_move};
+ghost use Rattle.ps_language.specs.Schedules.{plain_move};
+ghost use Rattle.ps_language.specs.Worlds.{kept_pair};
+ghost use Rattle.ps_world.specs.Notes.{note_of};
+ghost use Rattle.ps_vault.specs.Stories.{move_of};
 ghost use Rattle.ps_vault.specs.Turns as turning;
 ghost use Rattle.ps_vault.specs.Turns.{added_times};
 
 use ps_language::schedules::Entry;
+use ps_world::notes::Note;
 
-/// The identifier of the first context.
-pub const FIRST_CONTEXT: u32 = 1;
-
-/// Whether a further step of the first context joins an entry.
-fn joins(entry: &Entry) -> bool
-    ensures { result ≡ schedules.joins entry.now 1 }
+/// Whether a further step of a context joins an entry.
+fn joins(entry: &Entry, context: u32) -> bool
+    ensures { result ≡ schedules.joins entry.now context }
 {
-    entry.context == FIRST_CONTEXT
-        && !entry.refused
-        && entry.shown.is_none()
-        && entry.steps < u32::MAX
+    entry.context == context && !entry.refused && entry.shown.is_none() && entry.steps < u32::MAX
 }
 
-/// Adds a step of the first context, for which the capacity has room.
+/// What a schedule keeps of the pair that a step was shown: the pair, where a `vmstatus` acted
+/// (PLRM2, 8 'vmstatus').
+pub fn kept(told: Note, shown: Option<(i32, i32)>) -> Option<(i32, i32)>
+    ensures { result ≡ kept_pair (note_of told) shown }
+{
+    match told {
+        Note::ShowsMemory => shown,
+        Note::Nothing | Note::TurnEnds | Note::Wishes(_) => None,
+    }
+}
+
+/// Adds a step of a context, for which the capacity has room.
 #[tactic(auto, using(crate::proofs::Notes::note_lemmas))]
-pub fn note(schedule: &mut Vec<Entry>, refused: bool)
+pub fn note(schedule: &mut Vec<Entry>, context: u32, refused: bool, shown: Option<(i32, i32)>)
     requires { vec_len schedule.old < vec_capacity schedule.old }
-    ensures added { schedule.new.items ≡ schedules.added schedule.old.items (first_move refused) }
+    ensures added { schedule.new.items ≡ schedules.added schedule.old.items
+        (move_of context refused shown) }
     ensures longer { vec_len schedule.new ≤ vec_len schedule.old + 1 }
     ensures capacity { vec_capacity schedule.old ≤ vec_capacity schedule.new }
 {
     let single = Entry {
-        context: FIRST_CONTEXT,
+        context,
         steps: 1,
         refused,
-        shown: None,
+        shown,
     };
     let Some(last) = schedule.pop() else {
         push_within(schedule, single);
         return;
     };
-    if joins(&last) {
+    if joins(&last, context) {
         push_within(
             schedule,
             Entry {
                 context: last.context,
                 steps: last.steps + 1,
                 refused,
-                shown: None,
+                shown,
             },
         );
         return;
@@ -55,24 +65,24 @@ pub fn note(schedule: &mut Vec<Entry>, refused: bool)
     push_within(schedule, single);
 }
 
-/// An entry of so many ordinary steps of the first context.
-fn plain_entry(steps: u32) -> Entry
-    ensures { result ≡ turning.plain_entry 1 steps }
+/// An entry of so many ordinary steps of a context.
+fn plain_entry(context: u32, steps: u32) -> Entry
+    ensures { result ≡ turning.plain_entry context steps }
 {
     Entry {
-        context: FIRST_CONTEXT,
+        context,
         steps,
         refused: false,
         shown: None,
     }
 }
 
-/// Adds the ordinary steps of a turn of the first context, for which the capacity has room: as many
-/// single ones.
+/// Adds ordinary steps of a context, for which the capacity has room: as many single ones.
 #[tactic(auto, using(crate::proofs::Turning::turn_lemmas))]
-pub fn note_turn(schedule: &mut Vec<Entry>, steps: u32)
+pub fn note_turn(schedule: &mut Vec<Entry>, context: u32, steps: u32)
     requires { vec_len schedule.old < vec_capacity schedule.old }
-    ensures added { schedule.new.items ≡ added_times steps schedule.old.items (first_move false) }
+    ensures added { schedule.new.items ≡ added_times steps schedule.old.items
+        (plain_move context) }
     ensures longer { vec_len schedule.new ≤ vec_len schedule.old + 1 }
     ensures capacity { vec_capacity schedule.old ≤ vec_capacity schedule.new }
 {
@@ -80,21 +90,21 @@ pub fn note_turn(schedule: &mut Vec<Entry>, steps: u32)
         return;
     }
     let Some(last) = schedule.pop() else {
-        push_within(schedule, plain_entry(steps));
+        push_within(schedule, plain_entry(context, steps));
         return;
     };
-    if !joins(&last) {
+    if !joins(&last, context) {
         push_within(schedule, last);
-        push_within(schedule, plain_entry(steps));
+        push_within(schedule, plain_entry(context, steps));
         return;
     }
     let free = u32::MAX - last.steps;
     if steps <= free {
-        push_within(schedule, plain_entry(last.steps + steps));
+        push_within(schedule, plain_entry(context, last.steps + steps));
         return;
     }
-    push_within(schedule, plain_entry(u32::MAX));
-    push_within(schedule, plain_entry(steps - free));
+    push_within(schedule, plain_entry(context, u32::MAX));
+    push_within(schedule, plain_entry(context, steps - free));
 }
 
 /// Pushes an entry for which the capacity has room.

@@ -1,22 +1,28 @@
-//! A context and its memory, with the program and the schedule that they stand for.
+//! All contexts and their memory, with the program and the schedule that they stand for.
 
-ghost use Rattle.std.specs.Prelude.{◌≡◌, ◌+◌, ◌<◌, ◌≤◌, ◌==◌, false, OnOk, OnErr, IfOk, IfErr, IfSome, IfNone, Bool, Some, None, [], length, replicate, true, ◌&&◌};
-ghost use Rattle.ps_language.specs.Schedules.{added, count_of, plain_move};
-ghost use Rattle.ps_interpreter.specs.Alone.{after_alone_move, after_alone_moves, is_alone_ready};
-ghost use Rattle.ps_vault.specs.Reports.{AreOrdinary, EndsAs, IsRunOf, IsStarved, is_over};
-ghost use Rattle.ps_vault.specs.Stories.{Story, HasRoom, machine_at, first_move};
+ghost use Rattle.std.specs.Prelude.{◌≡◌, ◌≢◌, ◌↔◌, ◌+◌, ◌<◌, ◌≤◌, ℕ, ℤ, false, true, Bool, OnOk, OnErr, IfOk, IfSome, IfNone, IsTrue, Option, None, [], ◌==◌, not, nat_eq, vec_capacity, length};
+ghost use Rattle.ps_language.specs.Locks as locks;
+ghost use Rattle.ps_language.specs.Schedules.{added, count_of, moves, plain_move};
+ghost use Rattle.ps_language.specs.Worlds as worlds;
+ghost use Rattle.ps_language.specs.Worlds.{after_move, after_moves, starting_world};
+ghost use Rattle.ps_vault.specs.Order.{IsNoneAbove, AddsSteps, EndsTurn};
+ghost use Rattle.ps_vault.specs.Reports.{are_ordinary, is_memory, EndsAs, IsRunOf, IsShort, MayWant};
+ghost use Rattle.ps_vault.specs.Stories.{Story, HasRoom, world_at, move_of};
 ghost use Rattle.ps_vault.specs.Turns.{added_times};
 
 use crate::reports::{Outcome, Report};
-use crate::schedules::{FIRST_CONTEXT, note, note_turn};
-use ps_acts::lent::Trial;
-use ps_interpreter::interpreter::Interpreter;
+use crate::schedules::{kept, note, note_turn};
+use ps_acts::lent::{Shared, Trial};
+use ps_contexts::contexts::Contexts;
 use ps_interpreter::interprets::Interpret;
-use ps_interpreter::turns::{Turn, make_steps};
 use ps_language::schedules::Entry;
 use ps_mem::Memory;
 use ps_mem::plain::PlainMemory;
-use ps_ops::failure::NotMade;
+use ps_world::deeds::Deeds;
+use ps_world::notes::Note;
+use ps_world::runs::Advance;
+use ps_world::starts::start_world;
+use ps_world::worlds::World;
 use std::alloc::{AllocError, Global};
 use std::hash::RandomState;
 use std::marker::Model;
@@ -24,189 +30,310 @@ use std::marker::Model;
 /// The slot of the steps; the memory keeps no log.
 const SLOT: u32 = 0;
 
-/// The context, who makes its steps, its memory, and the steps that it made: seen as the program,
-/// the schedule and how many entries find room.
+/// All contexts, who makes their steps, their memory, and the steps that they made: seen as the
+/// program, the schedule, how many entries find room, and whether a call waits.
 #[derive(Drop)]
-pub struct Vault<'a, S: Interpret + Drop> {
+pub struct Vault<'a, S: Interpret + Drop, D: Deeds + Drop> {
     interpret: S,
-    interpreter: Interpreter<'a>,
+    deeds: D,
+    world: World<'a>,
     memory: PlainMemory,
     schedule: Vec<Entry>,
 }
 
-impl<'a, S: Interpret + Drop> Model for Vault<'a, S> {
-    ghost use Rattle.std.specs.Prelude.{vec_capacity};
-    ghost use Rattle.ps_acts.specs.Lent.{lent};
-    ghost use Rattle.ps_interpreter.specs.Courses.{held};
+impl<'a, S: Interpret + Drop, D: Deeds + Drop> Model for Vault<'a, S, D> {
+    ghost use Rattle.std.specs.Prelude.{is_some, vec_capacity};
+    ghost use Rattle.ps_world.specs.Calls.{over};
+    ghost use Rattle.ps_world.specs.Held.{held};
     ghost use Rattle.ps_vault.specs.Stories.{Story, Keeps};
 
     ghost Value = { Story };
 
     ghost view = { λ v. record {
-      program = v.interpreter.shared.program.now;
+      program = v.world.contexts.shared.program.now;
       schedule = v.schedule.items;
-      capacity =
-          vec_capacity v.schedule;
+      capacity = vec_capacity v.schedule;
+      is_calling = is_some v.world.calling;
     } };
 
-    ghost invariant = { λ v. Keeps (held (lent (⟦<PlainMemory as Memory>⟧.heap v.memory)
-        (⟦<PlainMemory as Memory>⟧.grants v.memory) v.interpreter.context v.interpreter.shared)
-        v.interpreter.course v.interpreter.error_lines) v.schedule.items };
+    ghost invariant = { λ v. Keeps (held (over (⟦<PlainMemory as Memory>⟧.heap v.memory)
+        (⟦<PlainMemory as Memory>⟧.grants v.memory) v.world.contexts) v.world.calling)
+        v.schedule.items };
 }
 
-impl<'a, S: Interpret + Drop> Vault<'a, S> {
-    /// The context before its first step, over a memory in which nothing else stands, and an empty
-    /// schedule with room for so many entries. The keys are for the names alone. Fails where that
-    /// room, or the context's, can't be had.
+/// What steps of a context came to.
+#[derive(Clone, Copy, Debug, PartialEq, Eq)]
+pub enum Told {
+    /// It may go on.
+    Goes,
+    /// Its turn ends.
+    TurnEnds,
+    /// The next one was held up for want of memory.
+    HeldUp,
+}
+
+impl Told {
+    /// What a step came to that was made.
+    fn of(note: Note) -> Told
+        ensures made { result ≢ Told.HeldUp }
+        ensures ends { (result ≡ Told.TurnEnds) ↔ (note ≡ Note.TurnEnds) }
+    {
+        match note {
+            Note::TurnEnds => Told::TurnEnds,
+            Note::Nothing | Note::ShowsMemory | Note::Wishes(_) => Told::Goes,
+        }
+    }
+}
+
+/// Steps that were made, and what they came to.
+#[derive(Clone, Copy, Debug, PartialEq, Eq)]
+pub struct Advanced {
+    pub made: u32,
+    pub told: Told,
+}
+
+impl<'a, S: Interpret + Drop, D: Deeds + Drop> Vault<'a, S, D> {
+    /// The first context before its first step, over a memory in which nothing else stands, and an
+    /// empty schedule with room for so many entries. The keys are for the names alone. Fails where
+    /// that room, or the context's, can't be had.
     pub fn new(
         alloc: Global,
         interpret: S,
+        deeds: D,
         program: &'a [u8],
         keys: RandomState,
         entries: usize,
-    ) -> Result<Vault<'a, S>, AllocError>
+    ) -> Result<Vault<'a, S, D>, AllocError>
         ensures program { IfOk result (λ vault. vault.program ≡ program.now) }
         ensures schedule { IfOk result (λ vault. vault.schedule ≡ []) }
         ensures room { IfOk result (λ vault. entries ≤ vault.capacity) }
+        ensures calling { IfOk result (λ vault. vault.is_calling ≡ false) }
     {
         let mut memory = PlainMemory::new(alloc);
-        let Ok(interpreter) = Interpreter::new(alloc, &mut memory, program, keys) else {
+        let Ok(world) = start_world(alloc, &mut memory, program, keys) else {
             return Err(AllocError);
         };
         let schedule = Vec::with_capacity(alloc, entries)?;
         Ok(Vault {
             interpret,
-            interpreter,
+            deeds,
+            world,
             memory,
             schedule,
         })
     }
 }
 
-impl<S: Interpret + Drop> Vault<'_, S> {
+impl<S: Interpret + Drop, D: Deeds + Drop> Vault<'_, S, D> {
     /// Whether a context is ready.
-    pub fn is_ready(&self, context: u32) -> bool
-        ensures { result ≡ is_alone_ready (machine_at self.now) context }
+    pub fn is_ready(&mut self, context: u32) -> bool
+        requires { self.old.is_calling ≡ false }
+        ensures same { self.new ≡ self.old }
+        ensures ready { result ≡ locks.is_ready (world_at self.old) context }
     {
-        context == FIRST_CONTEXT && self.interpreter.has_steps()
+        self.deeds
+            .is_ready(context, &self.world.contexts, &mut self.memory)
     }
 
-    /// Makes a step of the first context, which is ready; a refused one makes no object. Not made,
-    /// at the same place of its run, where a growth was refused that the step may want: the reason
-    /// is `Memory`, and no other.
-    pub fn step(&mut self, refused: bool) -> Result<(), NotMade>
-        requires ready { is_alone_ready (machine_at self.old) 1 ≡ true }
+    /// The least identifier above another of a context that isn't ended.
+    pub fn next_left(&self, after: u32) -> Option<u32>
+        requires { self.now.is_calling ≡ false }
+        ensures left { IfSome result (λ next. (after < next)
+            × (next ≤ length (world_at self.now).contexts)
+            × ((k : ℕ) → after < k → k < next → locks.is_ready (world_at self.now) k ≡ false)) }
+        ensures none { IfNone result (IsNoneAbove (world_at self.now) after) }
+    {
+        self.world.contexts.table.next(after)
+    }
+
+    /// Room for two entries of the schedule. `AllocError`: it can't be had; nothing has changed.
+    pub fn reserve_entries(&mut self) -> Result<(), AllocError>
+        ensures program { self.new.program ≡ self.old.program }
+        ensures schedule { self.new.schedule ≡ self.old.schedule }
+        ensures calling { self.new.is_calling ≡ self.old.is_calling }
+        ensures room { OnOk result (HasRoom self.new) }
+        ensures short { OnErr result (IsShort self.new.capacity self.new.schedule) }
+    {
+        self.schedule.reserve(2)
+    }
+
+    /// Makes a step of a context that is ready; a refused one makes no object, and a `vmstatus`
+    /// shows the given pair. Not made, at the same world, where a growth was refused that the step
+    /// may want.
+    pub fn step(
+        &mut self,
+        context: u32,
+        refused: bool,
+        shown: Option<(i32, i32)>,
+    ) -> Result<(), AllocError>
+        requires calling { self.old.is_calling ≡ false }
+        requires ready { locks.is_ready (world_at self.old) context ≡ true }
         requires room { HasRoom self.old }
         ensures program { self.new.program ≡ self.old.program }
         ensures made { OnOk result
-            (self.new.schedule ≡ added self.old.schedule (first_move refused)) }
-        ensures world { OnOk result
-            (machine_at self.new ≡ after_alone_move self.old.program (machine_at self.old)
-            (first_move refused)) }
+            (self.new.schedule ≡ added self.old.schedule (move_of context refused shown)) }
+        ensures world { OnOk result (world_at self.new
+            ≡ after_move (world_at self.old) (move_of context refused shown)) }
         ensures longer { length self.new.schedule ≤ length self.old.schedule + 1 }
         ensures capacity { self.old.capacity ≤ self.new.capacity }
-        ensures memory { IfErr result (λ reason. reason ≡ NotMade.Memory) }
+        ensures calling_on { OnOk result (self.new.is_calling ≡ false) }
+        ensures not_made { OnErr result (self.new.schedule ≡ self.old.schedule) }
         ensures starved { OnErr result
-            (IsStarved S.asks self.old.program refused (machine_at self.old)) }
-        ensures not_made { OnErr result (self.new ≡ self.old) }
+            (MayWant S.asks context refused (world_at self.old)) }
     {
         let trial = Trial {
             slot: SLOT,
             refused,
         };
-        self.interpreter
-            .step(&mut self.interpret, &mut self.memory, trial)?;
-        note(&mut self.schedule, refused);
-        Ok(())
+        let told = self.world.step(
+            &mut self.interpret,
+            &mut self.deeds,
+            &mut self.memory,
+            context,
+            trial,
+            shown,
+        );
+        match told {
+            Ok(_) => {
+                note(&mut self.schedule, context, refused, shown);
+                Ok(())
+            }
+            Err(_) => Err(AllocError),
+        }
     }
 
-    /// Makes ordinary steps of the first context, at most so many, and tells how many: fewer only
-    /// where no step is left, or a growth was refused that the next may want.
-    pub fn turn(&mut self, most: u32) -> u32
+    /// Makes steps of a context that is ready, at most so many, as far as it goes on by itself, and
+    /// the step behind them; shows says whether a `vmstatus` is shown the memory, or zeros. One is
+    /// made at least, but where it is held up for want of memory.
+    pub fn advance(&mut self, context: u32, most: u32, shows: bool) -> Advanced
+        requires calling { self.old.is_calling ≡ false }
+        requires ready { locks.is_ready (world_at self.old) context ≡ true }
         requires room { HasRoom self.old }
+        requires some { 1 ≤ most }
         ensures program { self.new.program ≡ self.old.program }
-        ensures within { result ≤ most }
-        ensures made { self.new.schedule ≡ added_times result self.old.schedule (first_move false) }
-        ensures world { machine_at self.new ≡ after_alone_moves self.old.program
-            (machine_at self.old) (replicate result (plain_move 1)) }
-        ensures longer { length self.new.schedule ≤ length self.old.schedule + 1 }
+        ensures within { result.made ≤ most }
+        ensures some { result.told ≢ Told.HeldUp → 1 ≤ result.made }
+        ensures fewer { result.told ≡ Told.HeldUp → result.made < most }
+        ensures counted { count_of self.new.schedule ≡ count_of self.old.schedule + result.made }
+        ensures ordinary { are_ordinary (moves self.old.schedule) ≡ true
+            → are_ordinary (moves self.new.schedule) ≡ true }
+        ensures takes { AddsSteps context result.made (moves self.old.schedule)
+            (moves self.new.schedule) }
+        ensures ends { result.told ≡ Told.TurnEnds → EndsTurn
+            (starting_world self.old.program) context (moves self.new.schedule) }
+        ensures plain { shows ≡ false → self.new.schedule
+            ≡ added_times result.made self.old.schedule (plain_move context) }
+        ensures longer { length self.new.schedule ≤ length self.old.schedule + 2 }
         ensures capacity { self.old.capacity ≤ self.new.capacity }
-        ensures fewer { result < most → is_over (machine_at self.new) ≡ false
-            → IsStarved S.asks self.old.program false (machine_at self.new) }
+        ensures calling_on { result.told ≢ Told.HeldUp → self.new.is_calling ≡ false }
+        ensures starved { result.told ≡ Told.HeldUp
+            → MayWant S.asks context false (world_at self.new) }
     {
-        let Turn { made, .. } = make_steps(
-            &mut self.interpreter,
+        let Advance { made, next } = self.world.go_on(
             &mut self.interpret,
+            &mut self.deeds,
             &mut self.memory,
+            context,
             SLOT,
             most,
+            shows,
         );
-        note_turn(&mut self.schedule, made);
-        made
-    }
-
-    /// How the run ended, if it did; used up says that no step is left.
-    fn outcome(&self, used_up: bool) -> Option<Outcome>
-        ensures known { (refused : Bool)
-            → IfSome result (λ outcome. EndsAs S.asks self.now.program (machine_at self.now)
-            used_up refused outcome) }
-        ensures open { IfNone result ((is_over (machine_at self.now) ≡ false) × (used_up ≡ false)) }
-    {
-        if self.interpreter.has_steps() {
-            if used_up {
-                Some(Outcome::StepsOut)
-            } else {
-                None
+        note_turn(&mut self.schedule, context, made);
+        let Some(next) = next else {
+            return Advanced {
+                made,
+                told: Told::Goes,
+            };
+        };
+        let told = match next.told {
+            Ok(told) => told,
+            Err(_) => {
+                return Advanced {
+                    made,
+                    told: Told::HeldUp,
+                };
             }
-        } else if self.interpreter.error_lines() == 0 {
-            Some(Outcome::Finished)
-        } else {
-            Some(Outcome::Faulted)
+        };
+        let kept = kept(told, next.shown);
+        note(&mut self.schedule, context, false, kept);
+        Advanced {
+            made: made + 1,
+            told: Told::of(told),
         }
     }
 
-    /// How the run ended; for want of memory, where nothing else ended it and the next step may
-    /// want some.
-    pub fn outcome_at_end(&self, used_up: bool) -> Outcome
-        requires { used_up ≡ false → is_over (machine_at self.now) ≡ false
-            → IsStarved S.asks self.now.program false (machine_at self.now) }
-        ensures { EndsAs S.asks self.now.program (machine_at self.now) used_up false result }
+    /// How a run ended that no step was held up of; used up says that no step is left.
+    pub fn outcome(&mut self, used_up: bool) -> Outcome
+        requires calling { self.old.is_calling ≡ false }
+        requires ready { used_up ≡ false → IsNoneAbove (world_at self.old) 0 }
+        ensures same { self.new ≡ self.old }
+        ensures ends { (refused : Bool) → EndsAs S.asks (world_at self.old) self.old.capacity
+            self.old.schedule used_up refused result }
+        ensures known { is_memory result ≡ false }
     {
-        match self.outcome(used_up) {
-            Some(outcome) => outcome,
-            None => Outcome::Memory,
+        if self.is_all_over() {
+            if self.has_faulted() {
+                return Outcome::Faulted;
+            }
+            return Outcome::Finished;
         }
+        match self.next_ready(0) {
+            Some(_) => Outcome::StepsOut,
+            None => Outcome::AllWaiting,
+        }
+    }
+
+    /// Whether each context is finished or ended.
+    fn is_all_over(&self) -> bool
+        requires { self.now.is_calling ≡ false }
+        ensures { result ≡ worlds.is_all_over (world_at self.now) }
+    {
+        self.world.contexts.is_all_over()
+    }
+
+    /// Whether the line of an error was printed.
+    fn has_faulted(&self) -> bool
+        requires { self.now.is_calling ≡ false }
+        ensures { result ≡ not (nat_eq (world_at self.now).error_lines 0) }
+    {
+        self.world.contexts.has_faulted
     }
 
     /// The printed bytes, at the end.
     pub fn into_printed(self) -> Vec<u8>
-        ensures { result.items ≡ (machine_at self.entry).printed }
+        ensures { result.items ≡ (world_at self.entry).printed }
     {
-        let Vault { interpreter, .. } = self;
-        interpreter.into_printed()
+        let Vault { world, .. } = self;
+        let World { contexts, .. } = world;
+        let Contexts { shared, .. } = contexts;
+        let Shared { printed, .. } = shared;
+        printed
     }
 
-    /// The report of a run of ordinary steps with a budget, at the end; made says how many there
-    /// were.
-    pub fn into_report(self, steps: u32, made: u32) -> Report
-        requires counted { count_of self.schedule ≡ made }
-        requires few { made ≤ steps }
-        requires ordinary { AreOrdinary self.schedule }
-        requires starved { made < steps → is_over (machine_at self) ≡ false
-            → IsStarved S.asks self.program false (machine_at self) }
+    /// The report of a run of ordinary steps with a budget, at the end.
+    pub fn into_report(self, steps: u32, outcome: Outcome) -> Report
+        requires few { count_of self.schedule ≤ steps }
+        requires ordinary { are_ordinary (moves self.schedule) ≡ true }
+        requires ends { EndsAs S.asks (world_at self) self.capacity self.schedule
+            (count_of self.schedule == steps) false outcome }
         ensures run { IsRunOf S.asks self.entry.program steps result.printed.items
-            result.schedule.items result.outcome }
+            (vec_capacity result.schedule) result.schedule.items result.outcome }
+        ensures schedule { result.schedule.items ≡ self.entry.schedule }
+        ensures capacity { vec_capacity result.schedule ≡ self.entry.capacity }
+        ensures outcome { result.outcome ≡ outcome }
         ensures flips { result.flips ≡ 0 }
         ensures taken { result.taken ≡ 0 }
     {
-        let outcome = self.outcome_at_end(made == steps);
         let Vault {
-            interpreter,
+            world,
             schedule,
             ..
         } = self;
+        let World { contexts, .. } = world;
+        let Contexts { shared, .. } = contexts;
+        let Shared { printed, .. } = shared;
         Report {
-            printed: interpreter.into_printed(),
+            printed,
             schedule,
             outcome,
             flips: 0,

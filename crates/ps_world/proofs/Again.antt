@@ -25,7 +25,7 @@ use Rattle.ps_contexts.specs.Desks.{Desk, lent_to, HasFrame, AreFramed, IsWorld,
 use Rattle.ps_contexts.proofs.Changing.{changed_world, changed_steady}
 use Rattle.ps_contexts.proofs.Going.{with_item_members}
 use Rattle.ps_contexts.proofs.Owning.{put_back}
-use Rattle.ps_contexts.proofs.Places.{with_item-same, with_item-twice, item_at-with_item}
+use Rattle.ps_contexts.proofs.Places.{with_item-same, with_item-twice, item_at-with_item, one_there}
 use Rattle.ps_contexts.proofs.Stepping.{context_there}
 use Rattle.ps_contexts.proofs.Turning.{member_at, regranted}
 use Rattle.ps_world.specs.declared.notes.Note.{Note}
@@ -37,7 +37,6 @@ use Rattle.ps_world.proofs.Called.{same_members}
 use Rattle.ps_world.proofs.Calling.{none_left}
 use Rattle.ps_world.proofs.Owning.{framed_but}
 use Rattle.ps_world.proofs.Starving.{held_more, wants_there}
-use Rattle.ps_world.proofs.Turned.{one_there}
 
 -- a context in another course
 abbrev pub in_course : Course → Member → Member

@@ -7,12 +7,15 @@ use Rattle.ps_language.specs.Machines.{may_end}
 use Rattle.ps_language.specs.World.{Status, World}
 use Rattle.ps_language.specs.Worlds.{after_moves}
 use Rattle.ps_mem.specs.Heap.{birth_at}
+use Rattle.ps_mem.specs.Keeps.{Keeps}
+use Rattle.ps_mem.proofs.KeepsLemmas.{Keeps-then}
 use Rattle.ps_ops.specs.declared.failure.NotMade.{NotMade as Reason}
 use Rattle.ps_control.specs.declared.frames.Frame.{Frame}
 use Rattle.ps_acts.specs.Acts.{Asked, AreFew}
 use Rattle.ps_acts.specs.Lent.{Lent}
+use Rattle.ps_acts.proofs.Meeting.{keeps-same}
 use Rattle.ps_turns.specs.declared.turned.Turned.{Turned}
-use Rattle.ps_turns.specs.declared.turned.Turned.TheVariants.{Goes}
+use Rattle.ps_turns.specs.declared.turned.Turned.TheVariants.{Goes, Calls, Breaks, Ends}
 use Rattle.ps_interpreter.specs.Makes.{TurnsBehind}
 use Rattle.ps_interpreter.specs.OwnSteps.{HasRun}
 use Rattle.ps_contexts.specs.declared.members.Course.{Course}
@@ -23,7 +26,7 @@ use Rattle.ps_contexts.specs.Seats.{item_at, with_item}
 use Rattle.ps_contexts.specs.Worlds.{status_of, context_of}
 use Rattle.ps_contexts.specs.Desks.{Desk, returned, desk_of, desk_after, has_finished, IsWorld, member_left, course_after}
 use Rattle.ps_contexts.proofs.Owning.{own_ready}
-use Rattle.ps_contexts.proofs.Places.{with_item-twice, item_at-with_item}
+use Rattle.ps_contexts.proofs.Places.{with_item-twice, item_at-with_item, one_there}
 use Rattle.ps_contexts.proofs.Settled.{turned_changed}
 use Rattle.ps_contexts.proofs.Stepping.{context_there}
 use Rattle.ps_world.specs.declared.notes.Note.{Note}
@@ -33,7 +36,7 @@ use Rattle.ps_world.specs.Lending.{LendsDesk, TurnsSo}
 use Rattle.ps_world.specs.Steps.{HasMade, ordinary, StepsBehind, Steps}
 use Rattle.ps_world.proofs.Calling.{none_left}
 use Rattle.ps_world.proofs.Running.{or_false, run_desk, run_steady, run_world, run_made}
-use Rattle.ps_world.proofs.Turned.{one_there, turned_is_steady, turned_finishes, unmade_steps}
+use Rattle.ps_world.proofs.Turned.{turned_is_steady, turned_finishes, unmade_steps}
 
 course_framed : (frames : List Frame) → frames ≢ [] → course_after Goes frames ≡ Running
 course_framed [] some = absurd (some refl)
@@ -203,3 +206,31 @@ module _ (asks : Status → Around → Scene → Asked) (before after : Desk) (i
       behind (Err reason) (held after None)
       (unmade_steps asks None mid_desk after identifier (ordinary slot) shown mid_steady
       mid_course result mid_lends few reason err)
+
+  -- what stood stands in the memory that its call is shown, and what stands there after the call
+  pub behind_keeps : (turned : Turned) (told : Result Note Reason) (final : Held)
+      → Finishes turned identifier (ordinary slot) shown told
+      (settled_held turned identifier after) final
+      → Keeps before.heap after.heap × Keeps after.heap final.desk.heap
+  behind_keeps turned told final finishes = (
+    subst (λ (d : Desk). Keeps before.heap d.heap) (sym lends.is)
+        (Keeps-then before.heap mid.heap lends.after.heap lends.goes_on.makes.keeps
+        lends.goes_on.turns.keeps),
+    finished_keeps turned told final finishes,
+  )
+    where
+      settled_keeps : (final : Held) (settled : Desk) (calling : _) → final ≡ held settled calling
+          → Keeps settled.heap final.desk.heap
+      settled_keeps final settled calling same =
+          subst (λ (h : Held). Keeps settled.heap h.desk.heap) (sym same) (keeps-same settled.heap)
+
+      finished_keeps : (turned : Turned) (told : Result Note Reason) (final : Held)
+          → Finishes turned identifier (ordinary slot) shown told
+          (settled_held turned identifier after) final → Keeps after.heap final.desk.heap
+      finished_keeps (Calls operator) told final finishes = (finishes asks).keeps
+      finished_keeps Goes told final finishes =
+          settled_keeps final (settled_desk Goes identifier after) None finishes.1
+      finished_keeps (Breaks cause) told final finishes =
+          settled_keeps final (settled_desk (Breaks cause) identifier after) None finishes.1
+      finished_keeps (Ends faults) told final finishes =
+          settled_keeps final (settled_desk (Ends faults) identifier after) None finishes.1

@@ -1,5 +1,5 @@
 -- Steps of a context that called, by what the call came to.
-use Rattle.std.proofs.Common.{◌≡◌, ℤ, Option, Some, None, Ok, Err, sym, ap, subst}
+use Rattle.std.proofs.Common.{◌≡◌, ℤ, Option, Some, None, Ok, Err, ap, subst}
 use Rattle.ps_language.specs.Effect.{Around, Scene}
 use Rattle.ps_language.specs.World.{Status}
 use Rattle.ps_ops.specs.declared.failure.NotMade.{NotMade as Reason}
@@ -8,7 +8,7 @@ use Rattle.ps_acts.specs.Acts.{Asked}
 use Rattle.ps_contexts.specs.Desks.{Desk}
 use Rattle.ps_world.specs.declared.notes.Note.{Note}
 use Rattle.ps_world.specs.declared.worlds.Calling.{Calling}
-use Rattle.ps_world.specs.Calls.{RunsAt, AreFramedBut, Calls, IsSameDesk}
+use Rattle.ps_world.specs.Calls.{Calls, IsSameDesk}
 use Rattle.ps_world.specs.Held.{held, IsSteadyHeld}
 use Rattle.ps_world.specs.Steps.{Steps}
 use Rattle.ps_world.proofs.Calling.{call_made, call_unmade}

@@ -1,7 +1,6 @@
 -- A context whose run left no frame isn't ready.
-use Rattle.std.proofs.Common.{◌≡◌, ℕ, Bool, true, false, Option, None, refl, ap, subst, ◌∙◌, List, []}
+use Rattle.std.proofs.Common.{◌≡◌, ℕ, Bool, true, false, Option, refl, ap, subst, ◌∙◌, List, []}
 use Rattle.std.specs.Option.{option_map, option_map_or}
-use Rattle.ps_language.specs.Contexts.{context_at}
 use Rattle.ps_language.specs.Locks.{is_ready_as, is_ready}
 use Rattle.ps_language.specs.World.{Context, World}
 use Rattle.ps_control.specs.declared.frames.Frame.{Frame}
@@ -9,7 +8,6 @@ use Rattle.ps_acts.specs.Lent.{Lent}
 use Rattle.ps_turns.specs.declared.turned.Turned.TheVariants.{Goes}
 use Rattle.ps_contexts.specs.declared.members.Course.TheVariants.{Finished}
 use Rattle.ps_contexts.specs.declared.members.Member.{Member}
-use Rattle.ps_contexts.specs.Seats.{item_at}
 use Rattle.ps_contexts.specs.Worlds.{context_of}
 use Rattle.ps_contexts.specs.Desks.{Desk, returned, desk_after, IsWorld, member_left, course_after}
 use Rattle.ps_contexts.proofs.Places.{item_at-with_item}

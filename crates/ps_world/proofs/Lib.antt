@@ -4,6 +4,7 @@ pub mod Starving
 pub mod Called
 pub mod Ended
 pub mod Retrying
+pub mod Telling
 pub mod Turned
 pub mod Again
 pub mod Resting

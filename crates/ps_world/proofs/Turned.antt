@@ -1,5 +1,5 @@
 -- A step by the turn of one context, over the table.
-use Rattle.std.proofs.Common.{◌≡◌, ℕ, ℤ, Option, Some, None, Ok, Err, refl, sym, ap, subst, ◌∙◌, List, arith}
+use Rattle.std.proofs.Common.{◌≡◌, ℕ, ℤ, Option, Some, None, Ok, Err, refl, sym, ap, subst, ◌∙◌, arith}
 use Rattle.std.specs.Prelude.{Result}
 use Rattle.ps_language.specs.declared.operators.Operator.{Operator}
 use Rattle.ps_language.specs.Effect.{Around, Scene}
@@ -17,9 +17,10 @@ use Rattle.ps_turns.specs.declared.turned.Turned.{Turned}
 use Rattle.ps_turns.specs.declared.turned.Turned.TheVariants.{Goes, Calls, Breaks, Ends}
 use Rattle.ps_contexts.specs.declared.contexts.Contexts.{Contexts}
 use Rattle.ps_contexts.specs.declared.members.Member.{Member}
-use Rattle.ps_contexts.specs.Seats.{item_at, with_item}
+use Rattle.ps_contexts.specs.Seats.{with_item}
 use Rattle.ps_contexts.specs.Desks.{Desk, lent_to, returned, desk_of, HasFrame, desk_turned}
 use Rattle.ps_contexts.proofs.Going.{with_item_members}
+use Rattle.ps_contexts.proofs.Places.{one_there}
 use Rattle.ps_contexts.proofs.Settled.{turned_changed}
 use Rattle.ps_contexts.proofs.Turning.{member_at}
 use Rattle.ps_world.specs.declared.notes.Note.{Note}
@@ -31,12 +32,6 @@ use Rattle.ps_world.specs.Lending.{Lends, LendsDesk, TurnsSo}
 use Rattle.ps_world.specs.Steps.{Steps}
 use Rattle.ps_world.proofs.Owning.{own_made, calls_logs, own_calls, own_steady, own_unmade, unmade_is_steady}
 use Rattle.ps_world.proofs.Starving.{own_held}
-
--- one context is under an identifier
-pub one_there : (members : List (Option Member)) (identifier : ℕ) (one other : Member)
-    → item_at members identifier ≡ Some one → item_at members identifier ≡ Some other
-    → one ≡ other
-one_there members identifier one other found there = cc
 
 abbrev pub failed_with : Reason → Result Note Reason
 failed_with reason = Err reason

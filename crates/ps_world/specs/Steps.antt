@@ -1,10 +1,11 @@
 -- When steps of the contexts of a world went as the definitions say (PLRM2, 7.1).
-use Rattle.std.specs.Prelude.{◌≡◌, ℕ, ℤ, true, false, IsTrue, Option, Some, None, Result, Ok, Err}
+use Rattle.std.specs.Prelude.{◌≡◌, ℕ, ℤ, pos, min, max, true, false, IsTrue, Option, Some, None, Result, Ok, Err}
 use Rattle.ps_language.specs.Effect.{Around, Scene}
 use Rattle.ps_language.specs.Locks.{is_ready}
 use Rattle.ps_language.specs.Step.{Stepped, stepped}
 use Rattle.ps_language.specs.World.{Status, World}
 use Rattle.ps_language.specs.Worlds.{after_moves, all_ready}
+use Rattle.ps_mem.specs.Heap.{Heap}
 use Rattle.ps_mem.specs.Keeps.{Keeps}
 use Rattle.ps_ops.specs.declared.failure.NotMade.{NotMade as Reason}
 use Rattle.ps_ops.specs.Does.{KeepsLogsWithin, most_records, spent}
@@ -41,6 +42,23 @@ pub record Steps (asks : Status → Around → Scene → Asked) (identifier : �
   pub keeps : Keeps old.desk.heap new.desk.heap
   pub steady : IsSteadyHeld new
   pub program : new.desk.program ≡ old.desk.program
+
+-- ---- what a vmstatus is shown
+
+-- a number of words: at least one, and at most the greatest integer
+abbrev pub words_shown : ℕ → ℤ
+words_shown words = pos (min (max 1 words) 2147483647)
+
+-- the words of all that stands in a memory, and the words that there are
+abbrev pub shown_words : Heap → ℤ × ℤ
+shown_words heap = (words_shown heap.used, words_shown heap.space.size)
+
+-- a pair is of a memory between the one before and the one after
+pub record AreShown (old new : Heap) (pair : ℤ × ℤ) : Type 0 where
+  pub heap : Heap
+  pub from : Keeps old heap
+  pub to : Keeps heap new
+  pub is : pair ≡ shown_words heap
 
 -- ---- many
 

@@ -1,10 +1,11 @@
 //! Many steps of one context (PLRM2, 3.5, 7.1).
 
-ghost use Rattle.std.specs.Prelude.{◌≡◌, ◌<◌, ◌≤◌, false, None, IsSome, IsNone, IfSome};
+ghost use Rattle.std.specs.Prelude.{◌≡◌, ◌<◌, ◌≤◌, false, Some, None, IsSome, IsNone, IfSome, if◌then◌else◌};
 ghost use Rattle.ps_contexts.specs.Seats.{item_at};
 ghost use Rattle.ps_world.specs.Calls.{over};
 ghost use Rattle.ps_world.specs.Held.{held, CourseAt, IsSteadyHeld, MayStep, course_in};
-ghost use Rattle.ps_world.specs.Steps.{GoesOn, IsUnready};
+ghost use Rattle.ps_world.specs.Steps as steps;
+ghost use Rattle.ps_world.specs.Steps.{AreShown, GoesOn, IsUnready};
 
 use crate::deeds::Deeds;
 use crate::notes::Note;
@@ -28,22 +29,31 @@ pub struct Next {
 #[derive(Clone, Copy, Debug, PartialEq, Eq)]
 pub struct Advance {
     pub made: u32,
-    /// None where as many were made as were asked for, or the context has ended.
+    /// None where as many were made as were asked for, or the context has ended: no call is left
+    /// then.
     pub next: Option<Next>,
 }
 
-/// The words used and the words there are, where `vmstatus` is to show them; numbers past 32 bits
-/// are shown as the greatest.
+/// A number of words as `vmstatus` shows it, and as a schedule can have it: from 1 to the greatest
+/// integer.
+fn words_shown(words: u32) -> i32
+    ensures { result ≡ steps.words_shown words }
+{
+    i32::try_from(words.max(1)).unwrap_or(i32::MAX)
+}
+
+/// The words used and the words there are, where `vmstatus` is to show them.
 fn shown_by<M: Memory>(memory: &mut M, shows: bool) -> Option<(i32, i32)>
     ensures heap { M.heap memory.new ≡ M.heap memory.old }
     ensures grants { M.grants memory.new ≡ M.grants memory.old }
-    ensures hidden { shows ≡ false → result ≡ None }
+    ensures shown { result
+        ≡ (if shows then Some (steps.shown_words (M.heap memory.old)) else None) }
 {
     if !shows {
         return None;
     }
-    let used = i32::try_from(memory.used()).unwrap_or(i32::MAX);
-    let size = i32::try_from(memory.size()).unwrap_or(i32::MAX);
+    let used = words_shown(memory.used());
+    let size = words_shown(memory.size());
     Some((used, size))
 }
 
@@ -72,9 +82,12 @@ impl World<'_> {
         ensures within { result.made ≤ most }
         ensures fewer { IsSome result.next → result.made < most }
         ensures hidden { IfSome result.next (λ next. shows ≡ false → next.shown ≡ None) }
+        ensures words { IfSome result.next (λ next. IfSome next.shown (λ pair.
+            AreShown (M.heap memory.old) (M.heap memory.new) pair)) }
         ensures ended { IsNone result.next → result.made < most → IsUnready identifier
             (held (over (M.heap memory.new) (M.grants memory.new) self.new.contexts)
             self.new.calling) }
+        ensures idle { IsNone result.next → self.new.calling ≡ None }
         ensures makes { GoesOn S.asks identifier slot result.made result.next
             (held (over (M.heap memory.old) (M.grants memory.old) self.old.contexts)
             self.old.calling)
@@ -116,9 +129,12 @@ impl World<'_> {
         ensures within { result.made ≤ most }
         ensures fewer { IsSome result.next → result.made < most }
         ensures hidden { IfSome result.next (λ next. shows ≡ false → next.shown ≡ None) }
+        ensures words { IfSome result.next (λ next. IfSome next.shown (λ pair.
+            AreShown (M.heap memory.old) (M.heap memory.new) pair)) }
         ensures ended { IsNone result.next → result.made < most → IsUnready identifier
             (held (over (M.heap memory.new) (M.grants memory.new) self.new.contexts)
             self.new.calling) }
+        ensures idle { IsNone result.next → self.new.calling ≡ None }
         ensures makes { GoesOn S.asks identifier slot result.made result.next
             (held (over (M.heap memory.old) (M.grants memory.old) self.old.contexts) None)
             (held (over (M.heap memory.new) (M.grants memory.new) self.new.contexts)

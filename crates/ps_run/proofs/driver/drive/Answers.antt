@@ -1,6 +1,6 @@
-use Rattle.std.proofs.Common.{Option, inl, inr, refl, subst, ◌∙◌}
+use Rattle.std.proofs.Common.{Option, inl, inr, refl, ap, subst, ◌∙◌}
 use Rattle.clap.specs.Words.{Text}
-use Rattle.ps_run.specs.Driving.{HasNoSchedule, IsTooLong, config_in}
+use Rattle.ps_run.specs.Driving.{Asked, HasNoSchedule, IsTooLong, config_in}
 use Rattle.ps_run.proofs.Driven.{driven_more, faulty}
 use Rattle.ps_run.proofs.driver.drive.Goals as goal
 
@@ -15,10 +15,15 @@ returns-in-Ok-clause-run g c = (
         replayed = c.in-Ok.ensures.replay_file i;
       })
       (λ asked is. (
-        λ text found numeral small. is.0 ∙ c.in-Ok.ensures.numbers.steps text found numeral small,
+        λ text found numeral small.
+            ap (λ (a : Asked). a.steps) is
+            ∙ c.in-Ok.ensures.numbers.steps text found numeral small,
+        λ text found numeral small.
+            ap (λ (a : Asked). a.quantum) is
+            ∙ c.in-Ok.ensures.numbers.quantum text found numeral small,
         record {
-          set = λ found. is.1 ∙ c.in-Ok.ensures.stats found;
-          unset = λ found. is.1 ∙ c.in-Ok.ensures.no_stats found;
+          set = λ found. ap (λ (a : Asked). a.stats) is ∙ c.in-Ok.ensures.stats found;
+          unset = λ found. ap (λ (a : Asked). a.stats) is ∙ c.in-Ok.ensures.no_stats found;
         },
       ))
       (λ fault. inr (elim fault [

@@ -1,13 +1,13 @@
-use Rattle.std.proofs.Common.{◌≡◌, inr, refl, ap, sym, subst, ◌∙◌, arith, length}
-use Rattle.std.specs.Prelude.{option_map}
-use Rattle.ps_run.specs.Driving.{Contents, IsGiven, names_of}
+use Rattle.std.proofs.Common.{inr, refl, ap, subst, ◌∙◌, arith, length}
+use Rattle.std.specs.Prelude.{option_map, vec_capacity}
+use Rattle.ps_run.specs.Driving.{Contents, IsGiven, asked_of, names_of}
 use Rattle.ps_run.proofs.Driven.{written_from}
 use Rattle.ps_run.proofs.driver.run.Goals as goal
 
 pub returns-in-Ok-make-clause-run : goal.returns-in-Ok-make-clause-run
 returns-in-Ok-make-clause-run g c = inr (inr (record {
-  asked = record { steps = c.args.options.now.steps; stats = c.args.options.now.stats };
-  is_asked = (refl, refl);
+  asked = asked_of c.args.options.now;
+  is_asked = refl;
   printed = c.in-Ok-make.report.printed.items;
   schedule = c.in-Ok-make.report.schedule.items;
   outcome = c.in-Ok-make.report.outcome;
@@ -25,6 +25,7 @@ returns-in-Ok-make-clause-run g c = inr (inr (record {
         subst (λ (contents : Contents). IsGiven contents (names_of c.args.options.now).replayed
         (option_map (λ schedule. schedule.items) c.in-Ok-read_given.given)) c.in-Ok.ensures.kept
         c.in-Ok-read_given.ensures.given;
+    capacity = vec_capacity c.in-Ok-make.report.schedule;
     run = rw c.as_slice.ensures.value at c.in-Ok-make.ensures.made;
   };
   written =

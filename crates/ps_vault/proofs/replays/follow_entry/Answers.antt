@@ -1,93 +1,66 @@
-use Rattle.std.proofs.Common.{◌≡◌, ℕ, ◌-◌, suc, List, true, refl, sym, ◌∙◌, ap, arith, subst}
+use Rattle.std.proofs.Common.{subst, ◌+◌, ◌<◌, Bool, ◌≡◌, ◌-◌, suc, true, sym, ◌∙◌, ap, arith}
 use Rattle.std.specs.Prelude.{replicate}
+use Rattle.ps_language.specs.Locks.{is_ready}
 use Rattle.ps_language.specs.Schedules.{plain_move}
-use Rattle.ps_language.specs.World.{Machine}
-use Rattle.ps_interpreter.specs.Alone.{is_alone_ready, after_alone_move, after_alone_moves}
-use Rattle.ps_vault.specs.Reports.{IsStarved}
-use Rattle.ps_vault.specs.Stories.{machine_at, first_move}
-use Rattle.ps_vault.proofs.Following.{after_nothing, after_unready, after_idle_part, after_whole, behind, ready_first, ready_not_over, last_starved, part_starved}
+use Rattle.ps_language.specs.Worlds.{after_moves}
+use Rattle.ps_vault.specs.Reports.{MayWant}
+use Rattle.ps_vault.specs.Stories.{Story, world_at}
+use Rattle.ps_vault.proofs.Following.{after_nothing, after_unready, after_idle_part, after_whole, all_made, part_refused}
+use Rattle.ps_vault.proofs.replays.follow_entry.Given as givens
 use Rattle.ps_vault.proofs.replays.follow_entry.Goals as goal
-use Rattle.ps_vault.proofs.replays.follow_entry.Goals.{then-entry-eq0-via-then-entry-eq0, then-entry-eq0-via-else-entry-eq0+then-not-is_ready}
+use Rattle.ps_vault.proofs.replays.follow_entry.Goals.{After-steps-before, then-entry-eq0-via-then-entry-eq0, then-entry-eq0-via-else-entry-eq0+then-not-is_ready}
 
 pub returns-then-entry-eq0-clause-all : goal.returns-then-entry-eq0-clause-all
 returns-then-entry-eq0-clause-all g c = λ all. elim c.then-entry-eq0.branch [
   | then-entry-eq0-via-then-entry-eq0 w ↦
-      after_nothing c.args.vault.now.program (machine_at c.args.vault.now) c.args.entry
-      w.if-entry-eq0.true
+      ap world_at w.vault-is
+      ∙ after_nothing (world_at c.args.vault.now) c.args.entry w.if-entry-eq0.true
   | then-entry-eq0-via-else-entry-eq0+then-not-is_ready w ↦
-      after_unready c.args.vault.now.program (machine_at c.args.vault.now) c.args.entry
-      (sym w.is_ready.ensures ∙ w.if-not-is_ready.true)
+      ap world_at (w.vault-is ∙ w.is_ready.ensures.same)
+      ∙ after_unready (world_at c.args.vault.now) c.args.entry
+      (sym w.is_ready.ensures.ready ∙ w.if-not-is_ready.true)
 ]
+
+-- the world behind the ordinary steps
+ordinary : (g : givens.Over) (c : After-steps-before g)
+    → world_at c.steps-before.new.vault ≡ after_moves (world_at c.args.vault.now)
+    (replicate c.steps-before.result.made (plain_move c.args.entry.context))
+ordinary g c = c.steps-before.ensures.world
+    ∙ ap (λ (s : Story). after_moves (world_at s)
+    (replicate c.steps-before.result.made (plain_move c.args.entry.context)))
+    c.is_ready.ensures.same
 
 pub returns-then-not-is_ready-2-clause-all : goal.returns-then-not-is_ready-2-clause-all
 returns-then-not-is_ready-2-clause-all g c = λ all.
-    after_idle_part c.args.vault.now.program (machine_at c.args.vault.now) (machine_at
-    c.turn-made.new.self) c.args.entry
-    c.turn-made.result
-    (omega (arith, c.turn-made.ensures.within, c.if-entry-eq0.false))
-    (behind c.args.vault.now.program _ _ c.args.entry _ (sym c.is_ready.ensures
-    ∙ c.if-not-is_ready.false)
-    c.turn-made.ensures.world) (sym c.is_ready-2.ensures ∙ c.if-not-is_ready-2.true)
-
-pub returns-then-made-ordinary-clause-part : goal.returns-then-made-ordinary-clause-part
-returns-then-made-ordinary-clause-part g c =
-    λ less. behind c.args.vault.now.program _ _ c.args.entry _ (sym c.is_ready.ensures
-    ∙ c.if-not-is_ready.false)
-    c.turn-made.ensures.world
-
-pub returns-then-made-ordinary-clause-starved : goal.returns-then-made-ordinary-clause-starved
-returns-then-made-ordinary-clause-starved g c = λ less.
-    part_starved g.S.Interpret.asks c.args.vault.now.program (machine_at c.turn-made.new.self)
-    c.args.entry c.turn-made.result
-    (omega (arith, c.if-made-ordinary.true, c.if-entry-eq0.false))
-    (c.turn-made.ensures.fewer c.if-made-ordinary.true
-    (ready_not_over _ _ (sym c.is_ready-2.ensures ∙ c.if-not-is_ready-2.false)))
-
-pub step-requires-clause-ready : goal.step-requires-clause-ready
-step-requires-clause-ready g c =
-    let ready : is_alone_ready (machine_at c.turn-made.new.self) c.args.entry.context ≡ true =
-    sym c.is_ready-2.ensures ∙ c.if-not-is_ready-2.false in
-    subst (λ n. is_alone_ready (machine_at c.turn-made.new.self) n ≡ true) (ready_first _ _ ready)
-    ready
+    ap world_at c.is_ready-2.ensures.same
+    ∙ after_idle_part (world_at c.args.vault.now) (world_at c.steps-before.new.vault) c.args.entry
+    c.steps-before.result.made
+    (omega (arith, c.steps-before.ensures.within, c.if-entry-eq0.false))
+    (ordinary g (goal.at.returns-then-not-is_ready-2-clause-all g c).After-steps-before)
+    (sym c.is_ready-2.ensures.ready ∙ c.if-not-is_ready-2.true)
 
 pub returns-in-Ok-clause-all : goal.returns-in-Ok-clause-all
 returns-in-Ok-clause-all g c = λ all.
-    let ready : is_alone_ready (machine_at c.args.vault.now) c.args.entry.context ≡ true =
-    sym c.is_ready.ensures ∙ c.if-not-is_ready.false in
-    let whole : c.turn-made.result ≡ c.args.entry.steps - 1 =
-    omega (arith, c.turn-made.ensures.within, c.if-made-ordinary.false) in
+    let ready : is_ready (world_at c.steps-before.new.vault) c.args.entry.context ≡ true =
+    sym c.is_ready-2.ensures.ready ∙ c.if-not-is_ready-2.false in
+    let whole : c.steps-before.result.made ≡ c.args.entry.steps - 1 =
+    all_made _ _ _ c.steps-before.ensures.within
+    (c.steps-before.ensures.unready c.if-before.false) ready in
     let count : c.args.entry.steps ≡ suc (c.args.entry.steps - 1) =
     omega (arith, c.if-entry-eq0.false) in
-    after_whole c.args.vault.now.program (machine_at c.args.vault.now) (machine_at
-    c.turn-made.new.self)
-    (machine_at c.step.new.self) c.args.entry (c.args.entry.steps - 1)
-    (first_move c.args.entry.refused) count
-    (behind c.args.vault.now.program _ _ c.args.entry _ ready c.turn-made.ensures.world
-    ∙ ap (λ n. after_alone_moves c.args.vault.now.program (machine_at c.args.vault.now)
-    (replicate n (plain_move c.args.entry.context))) whole)
-    (c.in-Ok.ensures.world
-    ∙ ap (λ (p : List ℕ). after_alone_move p (machine_at c.turn-made.new.self)
-    (first_move c.args.entry.refused)) c.turn-made.ensures.program) (sym (ready_first _ _ ready))
-    refl
+    after_whole (world_at c.args.vault.now) (world_at c.is_ready-2.new.self)
+    (world_at c.step.new.self) c.args.entry (c.args.entry.steps - 1) count
+    (ap world_at c.is_ready-2.ensures.same
+    ∙ (ordinary g (goal.at.returns-in-Ok-clause-all g c).After-steps-before
+    ∙ ap (λ n. after_moves (world_at c.args.vault.now)
+    (replicate n (plain_move c.args.entry.context))) whole))
+    c.in-Ok.ensures.world
 
-pub returns-in-Err-clause-part : goal.returns-in-Err-clause-part
-returns-in-Err-clause-part g c = λ less.
-    let ready : is_alone_ready (machine_at c.args.vault.now) c.args.entry.context ≡ true =
-    sym c.is_ready.ensures ∙ c.if-not-is_ready.false in
-    let whole : c.turn-made.result ≡ c.args.entry.steps - 1 =
-    omega (arith, c.turn-made.ensures.within, c.if-made-ordinary.false) in
-    ap machine_at c.in-Err.ensures.not_made
-    ∙ (behind c.args.vault.now.program _ _ c.args.entry _ ready c.turn-made.ensures.world
-    ∙ ap (λ n. after_alone_moves c.args.vault.now.program (machine_at c.args.vault.now)
-    (replicate n (plain_move c.args.entry.context))) whole)
-
-pub returns-in-Err-clause-starved : goal.returns-in-Err-clause-starved
-returns-in-Err-clause-starved g c = λ less.
-    last_starved g.S.Interpret.asks c.args.vault.now.program (machine_at c.step.new.self)
-    c.args.entry (c.args.entry.steps - 1)
-    (omega (arith, c.if-entry-eq0.false))
-    (subst (λ (w : Machine). IsStarved g.S.Interpret.asks c.args.vault.now.program
-    c.args.entry.refused w)
-    (ap machine_at (sym c.in-Err.ensures.not_made))
-    (subst (λ (p : List ℕ). IsStarved g.S.Interpret.asks p c.args.entry.refused
-    (machine_at c.turn-made.new.self)) c.turn-made.ensures.program c.in-Err.ensures.starved))
+pub returns-then-before-clause-starved : goal.returns-then-before-clause-starved
+returns-then-before-clause-starved g c = λ _.
+    let made = c.steps-before.result.made in
+    let fewer : made + 1 < c.args.entry.steps =
+    omega (arith, c.steps-before.ensures.fewer c.if-before.true) in
+    subst (λ (refused : Bool). MayWant g.S.Interpret.asks c.args.entry.context refused
+    (world_at c.steps-before.new.vault)) (part_refused c.args.entry made fewer)
+    (c.steps-before.ensures.starved c.if-before.true)

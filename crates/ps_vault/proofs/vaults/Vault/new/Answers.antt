@@ -1,14 +1,15 @@
+-- The first context stands in an empty memory.
 use Rattle.ps_mem.specs.Objects.{heap_in}
 use Rattle.ps_vault.proofs.Beginning.{nothing_stands}
-use Rattle.ps_vault.proofs.Kept.{keeps_start}
+use Rattle.ps_vault.proofs.Keeping.{keeps_start}
 use Rattle.ps_vault.proofs.vaults.Vault.new.Goals as goal
 
-pub new-requires : goal.new-requires
+pub start_world-requires : goal.start_world-requires
 unfolding heap_in
-new-requires g c = record { heap = nothing_stands _ _ c.new-memory.ensures }
+start_world-requires g c = record { heap = nothing_stands _ _ c.new-memory.ensures }
 
 pub invariant_of-result : goal.invariant_of-result
 invariant_of-result g c =
     rw c.in_ok-schedule.ensures.items
-    (keeps_start _ c.args.program.now c.in-Ok.ensures.program c.in-Ok.ensures.steady
-    c.in-Ok.ensures.at)
+    (keeps_start _ _ c.args.program.now c.in-Ok.ensures.program c.in-Ok.ensures.steady
+    c.in-Ok.ensures.calling c.in-Ok.ensures.at)

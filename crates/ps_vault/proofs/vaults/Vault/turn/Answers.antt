@@ -1,40 +1,78 @@
-use Rattle.std.proofs.Common.{◌≡◌, ◌<◌, false, true, List, refl, ap, subst, ◌∙◌}
-use Rattle.ps_language.specs.World.{Machine}
-use Rattle.ps_mem.specs.Objects.{heap_in}
-use Rattle.ps_interpreter.specs.Alone.{after_alone_moves, alone_machine}
-use Rattle.ps_interpreter.specs.Makes.{plain_moves}
-use Rattle.ps_vault.specs.Reports.{IsStarved, is_over}
-use Rattle.ps_vault.specs.Stories.{Story, machine_at, first_move}
-use Rattle.ps_vault.specs.Turns.{added_times}
-use Rattle.ps_vault.proofs.Kept.{many_free}
-use Rattle.ps_vault.proofs.Turning.{keeps_times, times_machine, fewer_starved}
+-- Each round adds steps of the context, and they are over where it isn't ready.
+use Rattle.std.proofs.Common.{◌≡◌, ◌+◌, ◌≤◌, List, true, inl, inr, sym, ◌∙◌, ap, subst, arith, rules}
+use Rattle.ps_language.specs.declared.schedules.Entry.{Entry}
+use Rattle.ps_language.specs.Locks.{is_ready}
+use Rattle.ps_language.specs.Schedules.{count_of, moves}
+use Rattle.ps_language.specs.World.{World}
+use Rattle.ps_vault.specs.Order.{AddsSteps}
+use Rattle.ps_vault.specs.Reports.{are_ordinary}
+use Rattle.ps_vault.specs.Stories.{Story, world_at}
+use Rattle.ps_vault.proofs.Ordering.{adds_more, world_moves}
+use Rattle.ps_vault.proofs.vaults.Vault.turn.Given as givens
 use Rattle.ps_vault.proofs.vaults.Vault.turn.Goals as goal
+use Rattle.ps_vault.proofs.vaults.Vault.turn.Goals.{After-advance-advanced}
 
-pub invariant_of-self : goal.invariant_of-self
-invariant_of-self g c =
-    rw c.note_turn.ensures.added
-    (keeps_times _ _ c.self.inside.schedule.items c.make_steps-made.result.made c.self.invariant
-    c.make_steps-made.ensures.makes)
+-- at the start of a round and with room for more
+same_schedule : (g : givens.Over) (c : After-advance-advanced g)
+    → c.reserve_entries.new.self.schedule ≡ c.loop-made.self.schedule
+same_schedule g c =
+    c.reserve_entries.ensures.schedule ∙ ap (λ (s : Story). s.schedule) c.is_ready.ensures.same
 
-pub returns-clause-world : goal.returns-clause-world
-returns-clause-world g c =
-    let made = c.make_steps-made.result.made in
-    rw (c.make_steps-made.ensures.makes.program, c.note_turn.ensures.added)
-    (times_machine c.self.inside.interpreter.shared.program.now made c.self.inside.schedule.items
-    ∙ ap (λ (s : Story). after_alone_moves s.program (machine_at s) (plain_moves made))
-    c.self.view_is)
+takes_on : (g : givens.Over) (c : After-advance-advanced g)
+    → AddsSteps c.args.context (c.loop-made.made + c.advance-advanced.result.made)
+    (moves c.args.self.now.schedule) (moves c.advance-advanced.new.self.schedule)
+takes_on g c =
+    adds_more c.args.context c.loop-made.made c.advance-advanced.result.made
+    (moves c.args.self.now.schedule) (moves c.loop-made.self.schedule)
+    (moves c.advance-advanced.new.self.schedule) c.loop-made.invariant.takes
+    (subst (λ (entries : List Entry). AddsSteps c.args.context c.advance-advanced.result.made
+    (moves entries) (moves c.advance-advanced.new.self.schedule)) (same_schedule g c)
+    c.advance-advanced.ensures.takes)
 
-pub returns-clause-fewer : goal.returns-clause-fewer
-unfolding heap_in
-returns-clause-fewer g c =
-    let made = c.make_steps-made.result.made in
-    let after : Machine = alone_machine c.self.inside.interpreter.shared.program.now
-    (added_times made c.self.inside.schedule.items (first_move false)) in
-    rw (c.make_steps-made.ensures.makes.program, c.note_turn.ensures.added)
-    (subst (λ (p : List _). made < c.args.most → is_over after ≡ false
-    → IsStarved g.S.Interpret.asks p false after) (ap (λ (s : Story). s.program) c.self.view_is)
-    (fewer_starved g.S.Interpret.asks g.met.S.Interpret.few _ _ c.self.inside.schedule.items 0
-    c.make_steps-made.result.held made c.args.most c.self.invariant
-    c.make_steps-made.ensures.makes
-    (record { opened = refl {a = false}; free = many_free; grows = refl {a = true} })
-    c.make_steps-made.ensures.ended c.make_steps-made.ensures.held))
+pub loop-made-preserved : goal.loop-made-preserved
+loop-made-preserved g c =
+    let at = (goal.at.loop-made-preserved g c).After-advance-advanced in
+    let same : count_of c.reserve_entries.new.self.schedule ≡ count_of c.loop-made.self.schedule =
+    ap count_of (same_schedule g at) in
+    let some : 1 ≤ c.advance-advanced.result.made = c.advance-advanced.ensures.some (search rules)
+    in
+    record {
+      within = omega (arith, c.loop-made.invariant.within, c.advance-advanced.ensures.within);
+      program = c.advance-advanced.ensures.program ∙ (c.reserve_entries.ensures.program
+          ∙ (ap (λ (s : Story). s.program) c.is_ready.ensures.same
+          ∙ c.loop-made.invariant.program));
+      counted = omega (
+        arith,
+        same,
+        c.advance-advanced.ensures.counted,
+        c.loop-made.invariant.counted,
+      );
+      ordinary = λ plain. c.advance-advanced.ensures.ordinary
+          (subst (λ (entries : List Entry). are_ordinary (moves entries) ≡ true)
+          (sym (same_schedule g at)) (c.loop-made.invariant.ordinary plain));
+      takes = takes_on g at;
+      calling = c.advance-advanced.ensures.calling_on (search rules);
+      first = λ none. absurd (omega (arith, some, none));
+    }
+
+pub returns-in-TurnEnds-clause-takes : goal.returns-in-TurnEnds-clause-takes
+returns-in-TurnEnds-clause-takes g c =
+    takes_on g (goal.at.returns-in-TurnEnds-clause-takes g c).After-advance-advanced
+
+pub returns-in-HeldUp-clause-takes : goal.returns-in-HeldUp-clause-takes
+returns-in-HeldUp-clause-takes g c =
+    takes_on g (goal.at.returns-in-HeldUp-clause-takes g c).After-advance-advanced
+
+pub returns-in-HeldUp-clause-starved : goal.returns-in-HeldUp-clause-starved
+returns-in-HeldUp-clause-starved g c = λ _.
+    let wants = c.advance-advanced.ensures.starved c.in-HeldUp.is in
+    record { ready = wants.ready; wants = inl wants.wants }
+
+pub returns-else-is_ready-clause-over : goal.returns-else-is_ready-clause-over
+returns-else-is_ready-clause-over g c = λ _.
+    let now : Story = c.is_ready.new.self in
+    let same : now ≡ c.loop-made.self = c.is_ready.ensures.same in
+    inr (inl (ap (λ (w : World). is_ready w c.args.context)
+    (sym (world_moves now c.args.self.now.program
+    (ap (λ (s : Story). s.program) same ∙ c.loop-made.invariant.program)) ∙ ap world_at same)
+    ∙ (sym c.is_ready.ensures.ready ∙ c.if-is_ready.false)))

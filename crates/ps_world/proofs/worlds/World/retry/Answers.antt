@@ -2,7 +2,7 @@
 use Rattle.std.proofs.Common.{sym, ap, ◌∙◌}
 use Rattle.ps_contexts.specs.declared.members.Member.{Member}
 use Rattle.ps_world.proofs.Again.{runs_at, running_steady, retry_made, retry_unmade, back_some}
-use Rattle.ps_world.proofs.Turned.{one_there}
+use Rattle.ps_contexts.proofs.Places.{one_there}
 use Rattle.ps_world.proofs.worlds.World.retry.Goals as goal
 
 pub call-requires-clause-runs : goal.call-requires-clause-runs

@@ -1,7 +1,8 @@
 -- Own steps, and the step behind them.
 use Rattle.std.proofs.Common.{None, Ok, Err, refl}
-use Rattle.ps_world.proofs.Behind.{run_settles, still_there, behind_is_steady, behind_finishes, behind_unmade}
+use Rattle.ps_world.proofs.Behind.{run_settles, still_there, behind_is_steady, behind_finishes, behind_keeps, behind_unmade}
 use Rattle.ps_world.proofs.Ended.{run_ended}
+use Rattle.ps_world.proofs.Telling.{shown_between}
 use Rattle.ps_world.proofs.Turned.{lends_desk}
 use Rattle.ps_world.proofs.worlds.World.run.Goals as goal
 
@@ -58,3 +59,14 @@ returns-clause-makes g c =
     (rw (c.in-Some.is, c.in-Ok.is) at c.run_of-made.ensures.lends)) c.in-Ok.turned refl
     c.finish-told.result _
     (rw (c.shown_by-shown.ensures.heap, c.shown_by-shown.ensures.grants) at c.finish-told.ensures)
+
+pub returns-clause-words : goal.returns-clause-words
+returns-clause-words g c =
+    let keeps = behind_keeps g.S.Interpret.asks _ _ c.args.identifier c.args.slot
+    c.run_of-made.result.made c.shown_by-shown.result c.requires.steady c.requires.course
+    (Ok c.in-Ok.turned) (lends_desk c.args.identifier _ _ _ _ _ _ _
+    (rw (c.in-Some.is, c.in-Ok.is) at c.run_of-made.ensures.lends)) c.in-Ok.turned
+    c.finish-told.result _
+    (rw (c.shown_by-shown.ensures.heap, c.shown_by-shown.ensures.grants) at c.finish-told.ensures) in
+    shown_between _ _ _ c.args.shows c.shown_by-shown.result keeps.0 keeps.1
+    c.shown_by-shown.ensures.shown

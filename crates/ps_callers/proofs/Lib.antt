@@ -1,0 +1,4 @@
+pub mod Parts
+pub mod Ending
+pub mod Arms
+mod AloneDone

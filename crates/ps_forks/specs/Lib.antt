@@ -1,0 +1,5 @@
+pub mod Named
+pub mod Detached
+pub mod Begun
+pub mod Waits
+pub mod Joined

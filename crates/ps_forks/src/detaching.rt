@@ -1,0 +1,88 @@
+//! A context is left by itself (PLRM2, 7.1, 8 'detach').
+
+ghost use Rattle.std.specs.Prelude.{◌≡◌, ◌<◌, ℤ, Option, IsSome};
+ghost use Rattle.ps_contexts.specs.Desks.{IsSteady};
+ghost use Rattle.ps_contexts.specs.Seats.{item_at};
+ghost use Rattle.ps_world.specs.Calls.{over, RunsAt, Calls};
+ghost use Rattle.ps_acts.specs.declared.lent.Trial.{Trial as ATrial};
+ghost use Rattle.ps_callers.specs.Done.{DoesBy};
+ghost use Rattle.ps_forks.specs.Detached.{detached_members};
+
+use crate::naming::named_operand;
+use ps_acts::breaks::Break;
+use ps_acts::lent::Trial;
+use ps_callers::endings::end;
+use ps_context_operators::identifiers;
+use ps_contexts::contexts::Contexts;
+use ps_contexts::members::Member;
+use ps_contexts::table::Table;
+use ps_language::operators::Operator;
+use ps_mem::{Memory, SLOTS};
+use ps_ops::failure::NotMade;
+use ps_world::notes::Note;
+
+/// The context of an identifier is detached from now on; one that is finished is gone.
+fn leave(identifier: u32, table: &mut Table<Member>)
+    requires { IsSome (item_at table.old identifier) }
+    ensures { table.new ≡ detached_members identifier table.old }
+{
+    let member = table.get_mut(identifier);
+    member.is_detached = true;
+    if member.course.is_finished() {
+        let _ = table.remove(identifier);
+    }
+}
+
+/// `i detach`: the context of the identifier ends by itself once it is finished, and may no longer
+/// be named; a context may detach itself. Its caller hasn't settled yet. Raises `stackunderflow`,
+/// `typecheck`, and `invalidcontext` where there is no such context, or it is ended or detached.
+pub fn detach<M: Memory>(
+    caller: u32,
+    contexts: &mut Contexts,
+    memory: &mut M,
+) -> Result<Note, Break>
+    requires runs { RunsAt caller contexts.old.table }
+    requires steady { IsSteady
+        (over (M.heap memory.old) (M.grants memory.old) contexts.old) }
+    ensures { (trial : ATrial) (shown : Option (ℤ × ℤ))
+        → DoesBy Operator.Detach caller trial shown result
+        (over (M.heap memory.old) (M.grants memory.old) contexts.old)
+        (over (M.heap memory.new) (M.grants memory.new) contexts.new) }
+{
+    let identifier = match named_operand(caller, contexts) {
+        Ok(identifier) => identifier,
+        Err(error) => return Err(Break::Raises(error)),
+    };
+    let member = contexts.table.get_mut(caller);
+    match identifiers::detach(&mut member.context, &mut contexts.shared, memory) {
+        Ok(()) => {
+            leave(identifier, &mut contexts.table);
+            Ok(Note::Nothing)
+        }
+        Err(why) => Err(why),
+    }
+}
+
+/// A running context calls `detach`, whose element is taken: it is done, or its error is noted; the
+/// caller settles.
+///
+/// Not made, with nothing changed: as the note of an error. `LogFull`, `LogClosed`: the log of the
+/// slot doesn't take five records. `Memory`: the output has no room for the error's line.
+pub fn call_detach<M: Memory>(
+    caller: u32,
+    contexts: &mut Contexts,
+    memory: &mut M,
+    trial: Trial,
+    shown: Option<(i32, i32)>,
+) -> Result<Note, NotMade>
+    requires slot { trial.slot < SLOTS }
+    requires runs { RunsAt caller contexts.old.table }
+    requires steady { IsSteady
+        (over (M.heap memory.old) (M.grants memory.old) contexts.old) }
+    ensures { Calls Operator.Detach caller trial shown result
+        (over (M.heap memory.old) (M.grants memory.old) contexts.old)
+        (over (M.heap memory.new) (M.grants memory.new) contexts.new) }
+{
+    let done = detach(caller, contexts, memory);
+    end(Operator::Detach, done, caller, contexts, memory, trial)
+}

@@ -1,0 +1,224 @@
+-- What a vault keeps over steps of one context.
+use Rattle.std.proofs.Common.{◌≡◌, ℕ, ℤ, zero, suc, ◌+◌, ◌^◌, ◌<◌, ◌≤◌, Bool, true, false, ◌&&◌, Option, Some, None, Result, Ok, Err, List, [], ◌∷◌, ◌++◌, refl, sym, ◌∙◌, ap, subst, arith}
+use Rattle.std.specs.Prelude.{IsTrue, IfSome, min, max, replicate}
+use Rattle.std.proofs.lemmas.Bool.{lt-ltb, true≢false}
+use Rattle.ps_language.specs.declared.schedules.Entry.{Entry}
+use Rattle.ps_language.specs.Effect.{Around, Scene}
+use Rattle.ps_language.specs.Locks.{is_ready}
+use Rattle.ps_language.specs.Schedules.{Move, plain_move, added, moves, count_of, is_longest}
+use Rattle.ps_language.specs.World.{Status, World}
+use Rattle.ps_language.specs.Worlds.{after_moves, starting_world, world, all_ready, IsProper}
+use Rattle.ps_language.proofs.ScheduleLaws.{moves-added, count_of-added, longest-added}
+use Rattle.ps_language.proofs.WorldLaws.{after_moves-append, all_ready-append}
+use Rattle.ps_acts.specs.Acts.{Asked}
+use Rattle.ps_language.specs.Worlds.{kept_pair}
+use Rattle.ps_mem.specs.Heap.{Heap}
+use Rattle.ps_ops.specs.declared.failure.NotMade.{NotMade as Reason}
+use Rattle.ps_ops.specs.Does.{most_records}
+use Rattle.ps_world.specs.declared.notes.Note.{Note}
+use Rattle.ps_world.specs.declared.notes.Note.TheVariants.{Nothing, TurnEnds, ShowsMemory, Wishes}
+use Rattle.ps_world.specs.Held.{Held, IsAt}
+use Rattle.ps_world.specs.Notes.{note_of}
+use Rattle.ps_world.specs.Steps.{AreShown, HasMade, IsUnready, StepsBehind, ordinary, words_shown}
+use Rattle.ps_language.specs.Step.{stepped}
+use Rattle.ps_vault.specs.Order.{EndsTurn}
+use Rattle.ps_vault.specs.Reports.{are_ordinary, are_words, is_number_of_words, is_ordinary, MayWant}
+use Rattle.ps_vault.specs.Stories.{Keeps, move_of}
+use Rattle.ps_vault.specs.Turns.{added_times}
+use Rattle.ps_vault.proofs.Following.{times_moves}
+use Rattle.ps_vault.proofs.Keeping.{and_both, keeps_noted, keeps_unmade, starved_step}
+
+-- the world after so many more
+pub world_times : (program : List ℕ) (schedule : List Entry) (n : ℕ) (move : Move)
+    → world program (added_times n schedule move)
+    ≡ after_moves (world program schedule) (replicate n move)
+unfolding world
+world_times program schedule n move =
+    ap (after_moves (starting_world program)) (times_moves n schedule move)
+    ∙ after_moves-append (starting_world program) (moves schedule) (replicate n move)
+
+pub proper_times : (program : List ℕ) (schedule : List Entry) (n : ℕ) (move : Move)
+    → IsProper program schedule
+    → IsTrue (all_ready (world program schedule) (replicate n move))
+    → IsProper program (added_times n schedule move)
+unfolding IsProper world
+proper_times program schedule n move proper ready =
+    ap (all_ready (starting_world program)) (times_moves n schedule move)
+    ∙ (all_ready-append (starting_world program) (moves schedule) (replicate n move)
+    ∙ and_both _ _ proper ready)
+
+pub longest_times : (n : ℕ) (schedule : List Entry) (move : Move) → is_longest schedule ≡ true
+    → is_longest (added_times n schedule move) ≡ true
+unfolding added_times
+longest_times zero schedule move h = h
+longest_times (suc n) schedule move h =
+    longest-added (added_times n schedule move) move (longest_times n schedule move h)
+
+pub count_times : (n : ℕ) (schedule : List Entry) (move : Move)
+    → count_of (added_times n schedule move) ≡ count_of schedule + n
+unfolding added_times
+count_times zero schedule move = omega arith
+count_times (suc n) schedule move =
+    let before = count_times n schedule move in
+    let one = count_of-added (added_times n schedule move) move in
+    omega (arith, before, one)
+
+-- ---- ordinary steps
+
+number_shown : (words : ℕ) → is_number_of_words (words_shown words) ≡ true
+number_shown words =
+    and_both _ _ (lt-ltb 0 (min (max 1 words) 2147483647) (omega arith))
+    (lt-ltb (min (max 1 words) 2147483647) (2 ^ 31) (omega arith))
+
+-- what a memory shows are numbers of words
+pub words_kept : (old new : Heap) (note : Note) (shown : Option (ℤ × ℤ))
+    → IfSome shown (λ pair. AreShown old new pair)
+    → are_words (kept_pair (note_of note) shown) ≡ true
+words_kept old new note None words = words_of_none note
+  where
+    words_of_none : (note : Note) → are_words (kept_pair (note_of note) None) ≡ true
+    words_of_none Nothing = refl
+    words_of_none TurnEnds = refl
+    words_of_none ShowsMemory = refl
+    words_of_none (Wishes number) = refl
+words_kept old new note (Some pair) words = words_of_pair note
+  where
+    words_are : are_words (Some pair) ≡ true
+    words_are = subst (λ (pair : ℤ × ℤ). are_words (Some pair) ≡ true) (sym words.is)
+        (and_both _ _ (number_shown words.heap.used) (number_shown words.heap.space.size))
+
+    words_of_pair : (note : Note) → are_words (kept_pair (note_of note) (Some pair)) ≡ true
+    words_of_pair Nothing = refl
+    words_of_pair TurnEnds = refl
+    words_of_pair ShowsMemory = words_are
+    words_of_pair (Wishes number) = refl
+
+pub ordinary_move : (context : ℕ) (shown : Option (ℤ × ℤ)) → context < 2 ^ 32
+    → are_words shown ≡ true → is_ordinary (move_of context false shown) ≡ true
+ordinary_move context shown few words = and_both _ _ (lt-ltb context (2 ^ 32) few) words
+
+ordinary_more : (steps : List Move) (move : Move) → is_ordinary move ≡ true
+    → are_ordinary steps ≡ true → are_ordinary (steps ++ move ∷ []) ≡ true
+ordinary_more [] move plain h = and_both _ true plain refl
+ordinary_more (first ∷ steps) move plain h =
+    let p = both (is_ordinary first) (are_ordinary steps) h in
+    and_both _ _ p.0 (ordinary_more steps move plain p.1)
+  where
+    both : (a b : Bool) → (a && b) ≡ true → (a ≡ true) × (b ≡ true)
+    both true b h = (refl, h)
+    both false b h = absurd (true≢false (sym h))
+
+pub ordinary_added : (schedule : List Entry) (move : Move) → is_ordinary move ≡ true
+    → are_ordinary (moves schedule) ≡ true → are_ordinary (moves (added schedule move)) ≡ true
+ordinary_added schedule move plain h =
+    ap are_ordinary (moves-added schedule move) ∙ ordinary_more (moves schedule) move plain h
+
+pub ordinary_times : (n : ℕ) (schedule : List Entry) (move : Move) → is_ordinary move ≡ true
+    → are_ordinary (moves schedule) ≡ true
+    → are_ordinary (moves (added_times n schedule move)) ≡ true
+unfolding added_times
+ordinary_times zero schedule move plain h = h
+ordinary_times (suc n) schedule move plain h =
+    ordinary_added (added_times n schedule move) move plain
+    (ordinary_times n schedule move plain h)
+
+-- so many were made
+module _ (context made : ℕ) (old new : Held) (schedule : List Entry) (keeps : Keeps old schedule)
+    (ready : is_ready (world old.desk.program schedule) context ≡ true)
+    (has : HasMade context made old new) where
+  abbrev later : List Entry
+  later = added_times made schedule (plain_move context)
+
+  pub keeps_made : Keeps new later
+  keeps_made = record {
+    steady = has.steady;
+    at = subst (λ (p : List ℕ). IsAt new (world p later)) (sym has.program)
+        (subst (IsAt new) (sym (world_times old.desk.program schedule made (plain_move context)))
+        (has.at (world old.desk.program schedule) keeps.at ready));
+    proper = subst (λ (p : List ℕ). IsProper p later) (sym has.program)
+        (proper_times old.desk.program schedule made (plain_move context) keeps.proper
+        (has.ready (world old.desk.program schedule) keeps.at ready));
+    longest = longest_times made schedule (plain_move context) keeps.longest;
+  }
+
+-- one is made at least, where fewer than were asked for end with the context not ready
+pub some_made : (context made most : ℕ) (old new : Held) (schedule : List Entry)
+    → Keeps old schedule → is_ready (world old.desk.program schedule) context ≡ true
+    → HasMade context made old new → 1 ≤ most → (made < most → IsUnready context new) → 1 ≤ made
+unfolding after_moves
+some_made context zero most old new schedule keeps ready has some unready =
+    let here : World = world old.desk.program schedule in
+    absurd (true≢false (sym ready ∙ unready (omega arith) here (has.at here keeps.at ready)))
+some_made context (suc made) most old new schedule keeps ready has some unready = omega arith
+
+-- so many were made, and the step behind them came to this
+module _ (asks : Status → Around → Scene → Asked) (context slot made : ℕ)
+    (shown : Option (ℤ × ℤ)) (old new : Held) (schedule : List Entry) (keeps : Keeps old schedule)
+    (ready : is_ready (world old.desk.program schedule) context ≡ true) where
+  abbrev so_far : List Entry
+  so_far = added_times made schedule (plain_move context)
+
+  module _ (result : Result Note Reason)
+      (behind : StepsBehind asks context slot made shown result old new) where
+    keeps_mid : Keeps behind.mid so_far
+    keeps_mid = keeps_made context made old behind.mid schedule keeps ready behind.makes
+
+    ready_mid : is_ready (world behind.mid.desk.program so_far) context ≡ true
+    ready_mid = ap (λ (p : List ℕ). is_ready (world p so_far) context) behind.makes.program
+        ∙ (ap (λ (w : World). is_ready w context)
+        (world_times old.desk.program schedule made (plain_move context))
+        ∙ behind.ready (world old.desk.program schedule) keeps.at ready)
+
+  -- it was made
+  module _ (note : Note) (behind : StepsBehind asks context slot made shown (Ok note) old new)
+    where
+      pub keeps_behind : (kept : Option (ℤ × ℤ)) → kept ≡ kept_pair (note_of note) shown
+          → Keeps new (added so_far (move_of context false kept))
+      keeps_behind kept is =
+          keeps_noted asks context (ordinary slot) shown behind.mid new so_far
+          (keeps_mid (Ok note) behind) (ready_mid (Ok note) behind) note kept behind.steps is
+
+      -- it ended the turn
+      pub ends_behind : (kept : Option (ℤ × ℤ)) → note ≡ TurnEnds
+          → EndsTurn (starting_world old.desk.program) context
+          (moves (added so_far (move_of context false kept)))
+      unfolding world
+      ends_behind kept ends =
+          let mid : Held = behind.mid in
+          let to = behind.steps.meets (world mid.desk.program so_far)
+          (keeps_mid (Ok note) behind).at
+          (ready_mid (Ok note) behind) in
+          record {
+            before = moves so_far;
+            last = move_of context false kept;
+            is = moves-added so_far (move_of context false kept);
+            shown = shown;
+            told = ap (λ (p : List ℕ). (stepped (world p so_far) context false shown).note)
+                (sym behind.makes.program) ∙ (sym to.2 ∙ ap note_of ends);
+          }
+
+  -- it was not
+  module _ (reason : Reason)
+      (behind : StepsBehind asks context slot made shown (Err reason) old new) where
+    pub keeps_held : Keeps new so_far
+    keeps_held =
+        keeps_unmade asks context (ordinary slot) shown behind.mid new so_far
+        (keeps_mid (Err reason) behind) (ready_mid (Err reason) behind) reason behind.steps
+
+    pub starved_behind : new.desk.grants.closed slot ≡ false
+        → most_records ≤ new.desk.grants.records slot → new.desk.heap.space.grows ≡ true
+        → MayWant asks context false (world new.desk.program so_far)
+    starved_behind opened free grows =
+        subst (λ (p : List ℕ). MayWant asks context false (world p so_far))
+        (sym behind.steps.program)
+        (starved_step asks context (ordinary slot) shown behind.mid new so_far
+        (keeps_mid (Err reason) behind) (ready_mid (Err reason) behind) reason behind.steps
+        opened free grows)
+
+-- of a pair that isn't there none is kept
+pub kept_none : (note : Note) (shown : Option (ℤ × ℤ)) → shown ≡ None
+    → kept_pair (note_of note) shown ≡ None
+kept_none Nothing shown none = refl
+kept_none TurnEnds shown none = refl
+kept_none ShowsMemory shown none = none
+kept_none (Wishes number) shown none = refl

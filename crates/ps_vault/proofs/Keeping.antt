@@ -1,0 +1,282 @@
+-- What a vault keeps, over its steps.
+use Rattle.std.proofs.Common.{◌≡◌, ℕ, ℤ, ◌<◌, ◌≤◌, Bool, true, false, ◌&&◌, Option, Some, None, Ok, Err, List, [], ◌∷◌, refl, sym, ◌∙◌, ap, subst, arith}
+use Rattle.std.specs.Prelude.{is_some, IsTrue, IsSome, IfSome, IfNone, MatchOption, ◌==◌, length}
+use Rattle.std.specs.Option.{option_map, option_map_or}
+use Rattle.std.proofs.lemmas.Bool.{true≢false}
+use Rattle.ps_language.specs.declared.schedules.Entry.{Entry}
+use Rattle.ps_language.specs.Effect.{Around, Scene}
+use Rattle.ps_language.specs.Locks.{is_ready_as, is_ready}
+use Rattle.ps_language.specs.Machines.{around_of, scene_of, turn_as, own_step}
+use Rattle.ps_language.specs.Schedules.{Move, added, moves, count_of}
+use Rattle.ps_language.specs.Step.{machine_of, step}
+use Rattle.ps_language.specs.World.{Status, Context, Machine, World}
+use Rattle.ps_language.specs.Effect as effect
+use Rattle.ps_language.specs.Worlds.{after_move, after_moves, starting_world, world, printed, all_ready, kept_pair, IsProper}
+use Rattle.ps_language.proofs.Recorded.{recorded-same}
+use Rattle.ps_language.proofs.ScheduleLaws.{moves-added, longest-added}
+use Rattle.ps_language.proofs.WorldLaws.{after_moves-append, all_ready-append}
+use Rattle.ps_ops.specs.declared.failure.NotMade.{NotMade as Reason}
+use Rattle.ps_ops.specs.declared.failure.NotMade.TheVariants.{LogFull, LogClosed, NeedSpace, Memory}
+use Rattle.ps_ops.specs.Does.{most_records}
+use Rattle.ps_acts.specs.declared.lent.Trial.{Trial}
+use Rattle.ps_acts.specs.Acts.{Asked}
+use Rattle.ps_mem.specs.Heap.{Heap}
+use Rattle.ps_contexts.specs.declared.members.Member.{Member}
+use Rattle.ps_contexts.specs.Seats.{item_at}
+use Rattle.ps_contexts.specs.Worlds.{context_of, contexts_in}
+use Rattle.ps_contexts.specs.Desks.{Desk, IsWorld}
+use Rattle.ps_contexts.proofs.Holding.{contexts_in-found, contexts_in-length}
+use Rattle.ps_contexts.proofs.Places.{identifier_within}
+use Rattle.ps_turns.specs.Turns.{calling_of}
+use Rattle.ps_interpreter.proofs.Reached.{left_by}
+use Rattle.ps_world.specs.declared.notes.Note.{Note}
+use Rattle.ps_world.specs.declared.worlds.Calling.{Calling}
+use Rattle.ps_world.specs.Calls.{IsHeldUpAs}
+use Rattle.ps_world.specs.Held.{Held, held, IsAt, IsAtBy, IsSteadyHeld}
+use Rattle.ps_world.specs.Needs.{step_wants}
+use Rattle.ps_world.specs.Notes.{note_of}
+use Rattle.ps_world.specs.Steps.{Steps}
+use Rattle.ps_vault.specs.declared.reports.Outcome.{Outcome}
+use Rattle.ps_vault.specs.Reports.{are_ordinary, EndsAs, IsRunOf, MayWant}
+use Rattle.ps_vault.specs.Stories.{Story, Keeps, move_of, world_at}
+
+-- ---- one more move
+
+pub world_added : (program : List ℕ) (schedule : List Entry) (move : Move)
+    → world program (added schedule move) ≡ after_move (world program schedule) move
+unfolding world after_moves
+world_added program schedule move =
+    ap (after_moves (starting_world program)) (moves-added schedule move)
+    ∙ after_moves-append (starting_world program) (moves schedule) (move ∷ [])
+
+pub and_both : (a b : Bool) → a ≡ true → b ≡ true → a && b ≡ true
+and_both true b h k = k
+and_both false b h k = absurd (true≢false (sym h))
+
+pub proper_added : (program : List ℕ) (schedule : List Entry) (move : Move)
+    → IsProper program schedule → is_ready (world program schedule) move.context ≡ true
+    → IsProper program (added schedule move)
+unfolding IsProper world
+proper_added program schedule move proper ready =
+    ap (all_ready (starting_world program)) (moves-added schedule move)
+    ∙ (all_ready-append (starting_world program) (moves schedule) (move ∷ [])
+    ∙ and_both _ _ proper (and_both _ true ready refl))
+
+-- ---- what it is at
+
+pub no_call : (calling : Option Calling) → is_some calling ≡ false → calling ≡ None
+no_call None h = refl
+no_call (Some calling) h = absurd (true≢false h)
+
+-- the world of its story
+pub at_story : (h : Held) (schedule : List Entry) (story : Story) → Keeps h schedule
+    → h.desk.program ≡ story.program → schedule ≡ story.schedule
+    → is_some h.calling ≡ story.is_calling → story.is_calling ≡ false
+    → IsWorld h.desk (world_at story)
+at_story h schedule story keeps same made is none =
+    subst (λ (p : List ℕ). IsWorld h.desk (world p story.schedule)) same
+    (subst (λ (s : List Entry). IsWorld h.desk (world h.desk.program s)) made
+    (subst (λ (calling : Option Calling). IsAtBy calling h.desk (world h.desk.program schedule))
+    (no_call h.calling (is ∙ none)) keeps.at))
+
+-- before the first step
+pub keeps_start : (d : Desk) (calling : Option Calling) (program : List ℕ)
+    → d.program ≡ program → IsSteadyHeld (held d None) → calling ≡ None
+    → IsWorld d (starting_world program) → Keeps (held d calling) []
+unfolding world moves after_moves IsProper
+keeps_start d calling program same steady none at = record {
+  steady = subst (λ (c : Option Calling). IsSteadyHeld (held d c)) (sym none) steady;
+  at = subst (λ (c : Option Calling). IsAtBy c d (world d.program []))
+      (sym none) (subst (λ (p : List ℕ). IsWorld d (starting_world p)) (sym same) at);
+  proper = refl;
+  longest = refl;
+}
+
+-- ---- a step
+
+module _ (asks : Status → Around → Scene → Asked) (context : ℕ) (trial : Trial)
+    (shown : Option (ℤ × ℤ)) (old new : Held) (schedule : List Entry) (keeps : Keeps old schedule)
+    (ready : is_ready (world old.desk.program schedule) context ≡ true) where
+  abbrev here : World
+  here = world old.desk.program schedule
+
+  abbrev move : Move
+  move = move_of context trial.refused shown
+
+  -- it is made, and noted with a pair under which it comes to the same world
+  keeps_as : (note : Note) (kept : Option (ℤ × ℤ))
+      → Steps asks context trial shown (Ok note) old new
+      → after_move here move ≡ after_move here (move_of context trial.refused kept)
+      → Keeps new (added schedule (move_of context trial.refused kept))
+  unfolding step
+  keeps_as note kept steps same =
+      let to = steps.meets here keeps.at ready in
+      let after : List Entry = added schedule (move_of context trial.refused kept) in
+      record {
+        steady = steps.steady;
+        at = subst (λ (p : List ℕ). IsAt new (world p after)) (sym steps.program)
+            (subst (λ (calling : Option Calling). IsAtBy calling new.desk
+            (world old.desk.program after)) (sym to.1)
+            (subst (IsWorld new.desk) (same ∙ sym (world_added old.desk.program schedule
+            (move_of context trial.refused kept))) to.0));
+        proper = subst (λ (p : List ℕ). IsProper p after) (sym steps.program)
+            (proper_added old.desk.program schedule (move_of context trial.refused kept)
+            keeps.proper ready);
+        longest = longest-added schedule (move_of context trial.refused kept) keeps.longest;
+      }
+
+  -- with what was shown
+  pub keeps_step : (note : Note) → Steps asks context trial shown (Ok note) old new
+      → Keeps new (added schedule move)
+  keeps_step note steps = keeps_as note shown steps refl
+
+  -- with what was shown where a vmstatus acted
+  pub keeps_noted : (note : Note) (kept : Option (ℤ × ℤ))
+      → Steps asks context trial shown (Ok note) old new → kept ≡ kept_pair (note_of note) shown
+      → Keeps new (added schedule (move_of context trial.refused kept))
+  keeps_noted note kept steps is =
+      let to = steps.meets here keeps.at ready in
+      keeps_as note kept steps (sym (recorded-same here move)
+      ∙ ap (λ (pair : Option (ℤ × ℤ)). after_move here (move_of context trial.refused pair))
+      (sym (is ∙ ap (λ (n : effect.Note). kept_pair n shown) to.2)))
+
+  -- it is not
+  module _ (reason : Reason) (steps : Steps asks context trial shown (Err reason) old new) where
+    pub keeps_unmade : Keeps new schedule
+    keeps_unmade = record {
+      steady = steps.steady;
+      at = subst (λ (p : List ℕ). IsAt new (world p schedule)) (sym steps.program)
+          (steps.meets here keeps.at ready);
+      proper = subst (λ (p : List ℕ). IsProper p schedule) (sym steps.program) keeps.proper;
+      longest = keeps.longest;
+    }
+
+    -- in a memory that grows and keeps no log
+    wants_of : (why : Reason) → new.desk.grants.closed trial.slot ≡ false
+        → most_records ≤ new.desk.grants.records trial.slot
+        → new.desk.heap.space.grows ≡ true → (wants : Bool)
+        → IsHeldUpAs wants trial.slot new.desk.heap new.desk.grants why → IsTrue wants
+    wants_of LogFull opened free grows wants held =
+        let less = held.1 in absurd (omega (arith, less, free))
+    wants_of LogClosed opened free grows wants held = absurd (true≢false (sym held ∙ opened))
+    wants_of (NeedSpace words) opened free grows wants held = held.0
+    wants_of Memory opened free grows wants held = held
+
+    pub starved_step : new.desk.grants.closed trial.slot ≡ false
+        → most_records ≤ new.desk.grants.records trial.slot
+        → new.desk.heap.space.grows ≡ true
+        → MayWant asks context trial.refused here
+    starved_step opened free grows = record {
+      ready = ready;
+      wants = wants_of reason opened free grows (step_wants asks context trial.refused here)
+          (steps.held_up reason refl here keeps.at ready);
+    }
+
+-- ---- what is told of its world
+
+-- one that is ready is there
+pub ready_there : (h : Heap) (names : List (List ℕ)) (members : List (Option Member)) (w : World)
+    (identifier : ℕ) → w.contexts ≡ contexts_in h names members → is_ready w identifier ≡ true
+    → IsSome (item_at members identifier)
+unfolding is_ready
+ready_there h names members w identifier same ready =
+    by_item (item_at members identifier) (sym (ap (λ (found : Option Context).
+    option_map_or (λ context. is_ready_as context.status identifier context w) found false)
+    (contexts_in-found h names members w identifier same)) ∙ ready)
+  where
+    by_item : (item : Option Member)
+        → option_map_or (λ context. is_ready_as context.status identifier context w)
+        (option_map (context_of h names) item) false ≡ true → IsSome item
+    by_item None bad = absurd (true≢false (sym bad))
+    by_item (Some member) good = refl
+
+-- one that is gone isn't ready
+pub gone_unready : (h : Heap) (names : List (List ℕ)) (members : List (Option Member)) (w : World)
+    (identifier : ℕ) → w.contexts ≡ contexts_in h names members
+    → item_at members identifier ≡ None → is_ready w identifier ≡ false
+unfolding is_ready
+gone_unready h names members w identifier same gone =
+    ap (λ (found : Option Context).
+    option_map_or (λ context. is_ready_as context.status identifier context w) found false)
+    (contexts_in-found h names members w identifier same
+    ∙ ap (option_map (context_of h names)) gone)
+
+-- ---- what it printed
+
+-- a call whose element is taken printed nothing
+pub printed_by : (calling : Option Calling) (d : Desk) (w : World) → IsAtBy calling d w
+    → w.printed ≡ d.printed
+unfolding own_step
+printed_by None d w at = at.printed
+printed_by (Some calling) d w at =
+    ap (λ (m : Machine). m.printed)
+    (left_by false (machine_of w at.context)
+    (turn_as (around_of w.program (machine_of w at.context)) at.context.status at.context.frames
+    (scene_of (machine_of w at.context))) (calling_of calling.operator) at.left
+    (at.leaves false)).is ∙ at.world.printed
+
+-- a vault at its end is a run
+pub run_at_end : (asks : Status → Around → Scene → Asked) (h : Held) (schedule : List Entry)
+    (capacity steps : ℕ) (is_calling : Bool) (story : Story) (outcome : Outcome)
+    → Keeps h schedule
+    → record {
+      program = h.desk.program;
+      schedule = schedule;
+      capacity = capacity;
+      is_calling = is_calling;
+    } ≡ story
+    → count_of story.schedule ≤ steps → are_ordinary (moves story.schedule) ≡ true
+    → EndsAs asks (world_at story) story.capacity story.schedule
+    (count_of story.schedule == steps) false outcome
+    → IsRunOf asks story.program steps h.desk.printed capacity schedule outcome
+unfolding printed
+run_at_end asks h schedule capacity steps is_calling story outcome keeps view few ordinary ends =
+    let same : h.desk.program ≡ story.program = ap (λ (s : Story). s.program) view in
+    let made : story.schedule ≡ schedule = sym (ap (λ (s : Story). s.schedule) view) in
+    let here : World = world h.desk.program schedule in
+    record {
+      prints = sym (printed_by h.calling h.desk here keeps.at)
+          ∙ ap (λ (p : List ℕ). (world p schedule).printed) same;
+      proper = subst (λ (p : List ℕ). IsProper p schedule) same keeps.proper;
+      ordinary = subst (λ (s : List Entry). are_ordinary (moves s) ≡ true) made ordinary;
+      longest = keeps.longest;
+      within = subst (λ (s : List Entry). count_of s ≤ steps) made few;
+      ends = subst (λ (s : List Entry). EndsAs asks (world story.program s) capacity s
+          (count_of s == steps) false outcome) made
+          (subst (λ (n : ℕ). EndsAs asks (world_at story) n story.schedule
+          (count_of story.schedule == steps) false outcome)
+          (sym (ap (λ (s : Story). s.capacity) view)) ends);
+    }
+
+-- ---- the next one that is left
+
+pub next_found : (h : Heap) (names : List (List ℕ)) (members : List (Option Member)) (w : World)
+    (after : ℕ) (found : Option ℕ) → w.contexts ≡ contexts_in h names members
+    → MatchOption found ((k : ℕ) → after < k → item_at members k ≡ None)
+    (λ next. (after < next) × IsSome (item_at members next)
+    × ((k : ℕ) → after < k → k < next → item_at members k ≡ None))
+    → IfSome found (λ next. (after < next) × (next ≤ length w.contexts)
+    × ((k : ℕ) → after < k → k < next → is_ready w k ≡ false))
+next_found h names members w after None same found = tt
+next_found h names members w after (Some next) same found = (
+  found.0,
+  subst (λ n. next ≤ n)
+      (sym (ap length same ∙ contexts_in-length h names members))
+      (place_of (item_at members next) refl found.1),
+  λ k above below. gone_unready h names members w k same (found.2 k above below),
+)
+  where
+    place_of : (item : Option Member) → item_at members next ≡ item → IsSome item
+        → next ≤ length members
+    place_of None is some = absurd (true≢false (sym some))
+    place_of (Some member) is some = identifier_within members next member is
+
+pub next_none : (h : Heap) (names : List (List ℕ)) (members : List (Option Member)) (w : World)
+    (after : ℕ) (found : Option ℕ) → w.contexts ≡ contexts_in h names members
+    → MatchOption found ((k : ℕ) → after < k → item_at members k ≡ None)
+    (λ next. (after < next) × IsSome (item_at members next)
+    × ((k : ℕ) → after < k → k < next → item_at members k ≡ None))
+    → IfNone found ((k : ℕ) → after < k → is_ready w k ≡ false)
+next_none h names members w after None same found = λ k above.
+    gone_unready h names members w k same (found k above)
+next_none h names members w after (Some next) same found = tt

@@ -1,0 +1,17 @@
+use Rattle.std.proofs.Common.{◌≡◌, ◌≤◌, ◌-◌, false}
+use Rattle.ps_language.specs.Schedules.{plain_move}
+use Rattle.ps_vault.specs.Turns.{added_times}
+use Rattle.ps_vault.proofs.replays.steps.Given as goal
+
+-- the steps so far were made
+abbrev pub invariant-loop-made : goal.invariant-loop-made
+invariant-loop-made g l = record {
+  within : l.made ≤ l.most;
+  program : l.vault.program ≡ l.fn.vault.program;
+  added : l.vault.schedule ≡ added_times l.made l.fn.vault.schedule (plain_move l.context);
+  capacity : l.fn.vault.capacity ≤ l.vault.capacity;
+  calling : l.vault.is_calling ≡ false;
+}
+
+abbrev pub decreases-loop-made : goal.decreases-loop-made
+decreases-loop-made g l = l.most - l.made

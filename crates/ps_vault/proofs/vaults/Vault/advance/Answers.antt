@@ -1,0 +1,187 @@
+-- So many steps more of the schedule, and the one behind them.
+use Rattle.std.proofs.Common.{◌≡◌, ℤ, false, true, List, Option, None, refl, sym, ap, subst, ◌∙◌, ◌+◌, arith}
+use Rattle.ps_language.specs.declared.schedules.Entry.{Entry}
+use Rattle.ps_language.specs.Locks.{is_ready}
+use Rattle.ps_language.specs.Schedules.{plain_move, count_of, moves}
+use Rattle.ps_language.specs.Worlds.{world}
+use Rattle.ps_language.proofs.ScheduleLaws.{count_of-added}
+use Rattle.ps_mem.specs.Objects.{heap_in}
+use Rattle.ps_vault.specs.Order.{AddsSteps}
+use Rattle.ps_vault.specs.Reports.{are_ordinary, are_words}
+use Rattle.ps_vault.specs.Stories.{Story, world_at, move_of}
+use Rattle.ps_vault.specs.Turns.{added_times}
+use Rattle.ps_vault.proofs.Following.{times_noted}
+use Rattle.ps_vault.proofs.Keeping.{at_story, ready_there}
+use Rattle.ps_vault.proofs.Advancing.{keeps_made, count_times, ordinary_added, ordinary_move, ordinary_times, words_kept, some_made, keeps_behind, ends_behind, keeps_held, starved_behind, kept_none}
+use Rattle.ps_vault.proofs.Ordering.{adds_times, adds_one, adds_more}
+use Rattle.ps_vault.proofs.vaults.Vault.advance.Given as givens
+use Rattle.ps_vault.proofs.vaults.Vault.advance.Goals as goal
+use Rattle.ps_vault.proofs.vaults.Vault.advance.Goals.{After-go_on-made, After-note_turn}
+
+-- ---- the steps that were made
+
+pub go_on-made-requires-clause-there : goal.go_on-made-requires-clause-there
+go_on-made-requires-clause-there g c =
+    ready_there _ _ _ (world_at c.args.self.now) c.args.context
+    (at_story _ c.self.inside.schedule.items c.args.self.now c.self.invariant
+    (ap (λ (s : Story). s.program) c.self.view_is) (ap (λ (s : Story). s.schedule) c.self.view_is)
+    (ap (λ (s : Story). s.is_calling) c.self.view_is) c.requires.calling).contexts
+    c.requires.ready
+
+-- the context was ready before them
+ready_before : (g : givens.Over) (c : After-go_on-made g)
+    → is_ready (world c.self.inside.world.contexts.shared.program.now
+    c.self.inside.schedule.items) c.args.context ≡ true
+ready_before g c =
+    ap (λ (s : Story). is_ready (world_at s) c.args.context) c.self.view_is ∙ c.requires.ready
+
+noted : (g : givens.Over) (c : After-note_turn g)
+    → c.note_turn.new.schedule.items
+    ≡ added_times c.go_on-made.result.made c.args.self.now.schedule (plain_move c.args.context)
+noted g c = c.note_turn.ensures.added
+    ∙ ap (λ (s : Story). added_times c.go_on-made.result.made s.schedule
+    (plain_move c.args.context)) c.self.view_is
+
+counted : (g : givens.Over) (c : After-note_turn g)
+    → count_of c.note_turn.new.schedule.items
+    ≡ count_of c.args.self.now.schedule + c.go_on-made.result.made
+counted g c = ap count_of (noted g c)
+    ∙ count_times c.go_on-made.result.made c.args.self.now.schedule (plain_move c.args.context)
+
+plain : (g : givens.Over) (c : After-note_turn g)
+    → are_ordinary (moves c.args.self.now.schedule) ≡ true
+    → are_ordinary (moves c.note_turn.new.schedule.items) ≡ true
+plain g c before =
+    ap (λ (entries : List Entry). are_ordinary (moves entries)) (noted g c)
+    ∙ ordinary_times c.go_on-made.result.made c.args.self.now.schedule
+    (plain_move c.args.context)
+    (ordinary_move c.args.context None (let few = c.ranges.context.fits in omega (arith, few)) refl)
+    before
+
+takes : (g : givens.Over) (c : After-note_turn g)
+    → AddsSteps c.args.context c.go_on-made.result.made (moves c.args.self.now.schedule)
+    (moves c.note_turn.new.schedule.items)
+takes g c =
+    adds_times c.args.context c.go_on-made.result.made c.args.self.now.schedule
+    c.note_turn.new.schedule.items (noted g c)
+
+-- ---- nothing is told
+
+pub invariant_of-self : goal.invariant_of-self
+invariant_of-self g c =
+    rw c.note_turn.ensures.added
+    (keeps_made c.args.context c.go_on-made.result.made _ _ c.self.inside.schedule.items
+    c.self.invariant (ready_before g (goal.at.invariant_of-self g c).After-go_on-made)
+    (rw c.in_default.is at c.go_on-made.ensures.makes))
+
+pub returns-in_default-clause-some : goal.returns-in_default-clause-some
+returns-in_default-clause-some g c = λ _.
+    some_made c.args.context c.go_on-made.result.made c.args.most _ _
+    c.self.inside.schedule.items c.self.invariant
+    (ready_before g (goal.at.returns-in_default-clause-some g c).After-go_on-made)
+    (rw c.in_default.is at c.go_on-made.ensures.makes) c.requires.some
+    (c.go_on-made.ensures.ended (rw c.in_default.is refl))
+
+pub returns-in_default-clause-counted : goal.returns-in_default-clause-counted
+returns-in_default-clause-counted g c =
+    counted g (goal.at.returns-in_default-clause-counted g c).After-note_turn
+
+pub returns-in_default-clause-ordinary : goal.returns-in_default-clause-ordinary
+returns-in_default-clause-ordinary g c =
+    plain g (goal.at.returns-in_default-clause-ordinary g c).After-note_turn
+
+pub returns-in_default-clause-takes : goal.returns-in_default-clause-takes
+returns-in_default-clause-takes g c =
+    takes g (goal.at.returns-in_default-clause-takes g c).After-note_turn
+
+-- ---- the next step was held up
+
+pub invariant_of-self-in-Err : goal.invariant_of-self-in-Err
+invariant_of-self-in-Err g c =
+    rw c.note_turn.ensures.added
+    (keeps_held g.S.Interpret.asks c.args.context 0 c.go_on-made.result.made c.in-Some.next.shown
+    _ _ c.self.inside.schedule.items c.self.invariant
+    (ready_before g (goal.at.invariant_of-self-in-Err g c).After-go_on-made)
+    c.in-Err.field-0 (rw (c.in-Some.is, c.in-Err.is) at c.go_on-made.ensures.makes))
+
+pub returns-in-Err-clause-counted : goal.returns-in-Err-clause-counted
+returns-in-Err-clause-counted g c =
+    counted g (goal.at.returns-in-Err-clause-counted g c).After-note_turn
+
+pub returns-in-Err-clause-ordinary : goal.returns-in-Err-clause-ordinary
+returns-in-Err-clause-ordinary g c =
+    plain g (goal.at.returns-in-Err-clause-ordinary g c).After-note_turn
+
+pub returns-in-Err-clause-takes : goal.returns-in-Err-clause-takes
+returns-in-Err-clause-takes g c =
+    takes g (goal.at.returns-in-Err-clause-takes g c).After-note_turn
+
+pub returns-in-Err-clause-starved : goal.returns-in-Err-clause-starved
+unfolding heap_in
+returns-in-Err-clause-starved g c = λ _.
+    rw c.note_turn.ensures.added
+    (starved_behind g.S.Interpret.asks c.args.context 0 c.go_on-made.result.made
+    c.in-Some.next.shown _ _ c.self.inside.schedule.items c.self.invariant
+    (ready_before g (goal.at.returns-in-Err-clause-starved g c).After-go_on-made)
+    c.in-Err.field-0 (rw (c.in-Some.is, c.in-Err.is) at c.go_on-made.ensures.makes)
+    (refl {a = false}) (omega arith) (refl {a = true}))
+
+-- ---- the next step was made
+
+pub invariant_of-self-2 : goal.invariant_of-self-2
+invariant_of-self-2 g c =
+    rw (c.note.ensures.added, c.note_turn.ensures.added)
+    (keeps_behind g.S.Interpret.asks c.args.context 0 c.go_on-made.result.made
+    c.in-Some.next.shown _ _ c.self.inside.schedule.items c.self.invariant
+    (ready_before g (goal.at.invariant_of-self-2 g c).After-go_on-made)
+    c.in-Ok.told (rw (c.in-Some.is, c.in-Ok.is) at c.go_on-made.ensures.makes)
+    c.kept-kept.result c.kept-kept.ensures)
+
+pub returns-clause-counted : goal.returns-clause-counted
+returns-clause-counted g c =
+    let before = counted g (goal.at.returns-clause-counted g c).After-note_turn in
+    let one = ap count_of c.note.ensures.added
+    ∙ count_of-added c.note_turn.new.schedule.items
+    (move_of c.args.context false c.kept-kept.result) in
+    omega (arith, before, one)
+
+pub returns-clause-ordinary : goal.returns-clause-ordinary
+returns-clause-ordinary g c = λ before.
+    ap (λ (entries : List Entry). are_ordinary (moves entries)) c.note.ensures.added
+    ∙ ordinary_added c.note_turn.new.schedule.items
+    (move_of c.args.context false c.kept-kept.result)
+    (ordinary_move c.args.context c.kept-kept.result
+    (let few = c.ranges.context.fits in omega (arith, few))
+    (subst (λ (shown : Option (ℤ × ℤ)). are_words shown ≡ true) (sym c.kept-kept.ensures)
+    (words_kept _ _ c.in-Ok.told c.in-Some.next.shown
+    (rw c.in-Some.is at c.go_on-made.ensures.words))))
+    (plain g (goal.at.returns-clause-ordinary g c).After-note_turn before)
+
+pub returns-clause-takes : goal.returns-clause-takes
+returns-clause-takes g c =
+    adds_more c.args.context c.go_on-made.result.made 1 (moves c.args.self.now.schedule)
+    (moves c.note_turn.new.schedule.items) (moves c.note.new.schedule.items)
+    (takes g (goal.at.returns-clause-takes g c).After-note_turn)
+    (adds_one (move_of c.args.context false c.kept-kept.result) c.note_turn.new.schedule.items
+    c.note.new.schedule.items c.note.ensures.added)
+
+pub returns-clause-ends : goal.returns-clause-ends
+returns-clause-ends g c = λ ends.
+    let program : c.self.inside.world.contexts.shared.program.now ≡ c.args.self.now.program =
+    ap (λ (s : Story). s.program) c.self.view_is in
+    rw (c.note.ensures.added, c.note_turn.ensures.added, ← program)
+    (ends_behind g.S.Interpret.asks c.args.context 0 c.go_on-made.result.made
+    c.in-Some.next.shown _ _ c.self.inside.schedule.items c.self.invariant
+    (ready_before g (goal.at.returns-clause-ends g c).After-go_on-made)
+    c.in-Ok.told (rw (c.in-Some.is, c.in-Ok.is) at c.go_on-made.ensures.makes)
+    c.kept-kept.result (c.of.ensures.ends.0 ends))
+
+pub returns-clause-plain : goal.returns-clause-plain
+returns-clause-plain g c = λ hides.
+    let hidden : c.in-Some.next.shown ≡ None =
+    (rw c.in-Some.is at c.go_on-made.ensures.hidden) hides in
+    let none : c.kept-kept.result ≡ None = c.kept-kept.ensures
+    ∙ kept_none c.in-Ok.told c.in-Some.next.shown hidden in
+    times_noted c.go_on-made.result.made c.args.self.now.schedule c.note_turn.new.schedule.items
+    c.note.new.schedule.items c.args.context c.kept-kept.result
+    (noted g (goal.at.returns-clause-plain g c).After-note_turn) none c.note.ensures.added

@@ -1,0 +1,26 @@
+use Rattle.std.proofs.Common.{◌≡◌, ◌<◌, ◌≤◌, ◌+◌, ◌-◌, ◌*◌, [], false, true, min}
+use Rattle.ps_language.specs.Schedules.{count_of, moves}
+use Rattle.ps_language.specs.Worlds.{starting_world}
+use Rattle.ps_vault.specs.Order.{InOrder}
+use Rattle.ps_vault.specs.Reports.{are_ordinary}
+use Rattle.ps_vault.proofs.Ordering.{Passing}
+use Rattle.ps_vault.proofs.vaults.Vault.run.Given as goal
+
+-- the steps so far were made
+abbrev pub invariant-loop-made : goal.invariant-loop-made
+invariant-loop-made g l = record {
+  within : l.made ≤ l.steps;
+  program : l.self.program ≡ l.fn.self.program;
+  counted : count_of l.self.schedule ≡ count_of l.fn.self.schedule + l.made;
+  ordinary : are_ordinary (moves l.fn.self.schedule) ≡ true
+      → are_ordinary (moves l.self.schedule) ≡ true;
+  order : moves l.fn.self.schedule ≡ []
+      → (l.made < l.steps
+      → Passing l.quantum (starting_world l.fn.self.program) l.after (moves l.self.schedule))
+      × InOrder l.quantum (starting_world l.fn.self.program) (moves l.self.schedule);
+  calling : l.self.is_calling ≡ false;
+}
+
+-- a pass that begins anew makes no step, and then one does
+abbrev pub decreases-loop-made : goal.decreases-loop-made
+decreases-loop-made g l = 2 * (l.steps - l.made) + min l.after 1

@@ -1,0 +1,122 @@
+//! Turns of contexts, and which context is next (PLRM2, 7.1).
+
+ghost use Rattle.std.specs.Prelude.{◌≡◌, ℕ, ◌+◌, ◌<◌, ◌≤◌, false, true, [], IfSome, IfNone};
+ghost use Rattle.ps_language.specs.Locks as locks;
+ghost use Rattle.ps_language.specs.Schedules.{count_of, moves};
+ghost use Rattle.ps_language.specs.Worlds.{starting_world};
+ghost use Rattle.ps_vault.specs.Order.{IsNoneAbove, IsLeastAbove, AddsSteps, IsOver, HasTurn, InOrder};
+ghost use Rattle.ps_vault.specs.Reports.{are_ordinary, IsStarved, IsOneStarved};
+ghost use Rattle.ps_vault.specs.Stories.{world_at};
+
+use crate::vaults::{Told, Vault};
+use ps_interpreter::interprets::Interpret;
+use ps_world::deeds::Deeds;
+
+/// The steps of a turn, or of a run, and whether the next one was held up for want of memory.
+#[derive(Clone, Copy, Debug, PartialEq, Eq)]
+pub struct Turn {
+    pub made: u32,
+    pub held: bool,
+}
+
+impl<S: Interpret + Drop, D: Deeds + Drop> Vault<'_, S, D> {
+    /// The turn of a context that is ready: ordinary steps, at most so many, as long as it is
+    /// ready, ended early by `yield` or where it waits. Held up: fewer, and the next may want
+    /// memory, or the schedule has no room for it.
+    pub fn turn(&mut self, context: u32, most: u32) -> Turn
+        requires calling { self.old.is_calling ≡ false }
+        requires ready { locks.is_ready (world_at self.old) context ≡ true }
+        requires some { 1 ≤ most }
+        ensures program { self.new.program ≡ self.old.program }
+        ensures within { result.made ≤ most }
+        ensures some { result.held ≡ false → 1 ≤ result.made }
+        ensures counted { count_of self.new.schedule ≡ count_of self.old.schedule + result.made }
+        ensures ordinary { are_ordinary (moves self.old.schedule) ≡ true
+            → are_ordinary (moves self.new.schedule) ≡ true }
+        ensures takes { AddsSteps context result.made (moves self.old.schedule)
+            (moves self.new.schedule) }
+        ensures over { result.held ≡ false → IsOver most (starting_world self.old.program) context
+            result.made (moves self.new.schedule) }
+        ensures calling_on { result.held ≡ false → self.new.is_calling ≡ false }
+        ensures fewer { result.held ≡ true → result.made < most }
+        ensures starved { result.held ≡ true
+            → IsStarved S.asks context false (world_at self.new) self.new.capacity
+            self.new.schedule }
+    {
+        let mut made = 0;
+        while made < most && self.is_ready(context) {
+            if self.reserve_entries().is_err() {
+                return Turn { made, held: true };
+            }
+            let advanced = self.advance(context, most - made, true);
+            made += advanced.made;
+            match advanced.told {
+                Told::Goes => {}
+                Told::TurnEnds => return Turn { made, held: false },
+                Told::HeldUp => return Turn { made, held: true },
+            }
+        }
+        Turn { made, held: false }
+    }
+
+    /// The ready context of the least identifier above another.
+    pub fn next_ready(&mut self, after: u32) -> Option<u32>
+        requires { self.old.is_calling ≡ false }
+        ensures same { self.new ≡ self.old }
+        ensures ready { IfSome result (λ next. IsLeastAbove (world_at self.old) after next) }
+        ensures none { IfNone result (IsNoneAbove (world_at self.old) after) }
+    {
+        let mut at = after;
+        while let Some(next) = self.next_left(at) {
+            if self.is_ready(next) {
+                return Some(next);
+            }
+            at = next;
+        }
+        None
+    }
+
+    /// Runs contexts for at most so many steps: passes over them by rising identifier, also those
+    /// that are made in the pass, with a turn of at most a quantum of steps for each that is ready.
+    pub fn run(&mut self, steps: u32, quantum: u32) -> Turn
+        requires calling { self.old.is_calling ≡ false }
+        requires quantum { 1 ≤ quantum }
+        ensures program { self.new.program ≡ self.old.program }
+        ensures within { result.made ≤ steps }
+        ensures counted { count_of self.new.schedule ≡ count_of self.old.schedule + result.made }
+        ensures ordinary { are_ordinary (moves self.old.schedule) ≡ true
+            → are_ordinary (moves self.new.schedule) ≡ true }
+        ensures order { moves self.old.schedule ≡ []
+            → InOrder quantum (starting_world self.old.program) (moves self.new.schedule) }
+        ensures calling_on { result.held ≡ false → self.new.is_calling ≡ false }
+        ensures fewer { result.held ≡ true → result.made < steps }
+        ensures starved { result.held ≡ true
+            → IsOneStarved S.asks false (world_at self.new) self.new.capacity self.new.schedule }
+        ensures owed { result.held ≡ true → moves self.old.schedule ≡ [] → (context : ℕ)
+            × HasTurn quantum (starting_world self.old.program) context (moves self.new.schedule)
+            × IsStarved S.asks context false (world_at self.new) self.new.capacity
+            self.new.schedule }
+        ensures ended { result.held ≡ false → result.made < steps
+            → IsNoneAbove (world_at self.new) 0 }
+    {
+        let mut made = 0;
+        let mut after = 0;
+        while made < steps {
+            let Some(next) = self.next_ready(after) else {
+                if after == 0 {
+                    return Turn { made, held: false };
+                }
+                after = 0;
+                continue;
+            };
+            let left = steps - made;
+            let turn = self.turn(next, if quantum < left { quantum } else { left });
+            made += turn.made;
+            if turn.held {
+                return Turn { made, held: true };
+            }
+            after = next;
+        }
+        Turn { made, held: false }
+    }
+}
