@@ -1,12 +1,12 @@
 //! `dpsrun`: runs a program in the PostScript language, in one context or many.
 #![tactic(auto)]
 
-ghost use Rattle.std.specs.Prelude.{◌≤◌, IfOk, vec_len};
+ghost use Rattle.std.specs.Prelude.{◌≤◌, ◌^◌, IfOk, vec_len};
 
 use ps_context::steps::Steps;
 use ps_deeds::operators::WorldOperators;
 use ps_dispatch::operators::Operators;
-use ps_run::{FileSet, Flushed, MOST_PROGRAM_BYTES, ReadFault, WriteFault, drive};
+use ps_run::{FileSet, Flushed, ReadFault, WriteFault, drive};
 use std::alloc::Global;
 use std::env;
 use std::fs::{self, File};
@@ -25,19 +25,17 @@ struct SystemFiles<'a> {
 }
 
 impl SystemFiles<'_> {
-    /// The bytes of a file.
-    fn bytes_of(&self, alloc: Global, name: &str) -> Result<Vec<u8>, ReadFault>
-        ensures { IfOk result (λ bytes. vec_len bytes ≤ 16777215) }
+    /// The bytes of a file of at most so many.
+    fn bytes_of(&self, alloc: Global, name: &str, most: usize) -> Result<Vec<u8>, ReadFault>
+        requires { most ≤ 2 ^ 40 }
+        ensures { IfOk result (λ bytes. vec_len bytes ≤ most) }
     {
         let mut bytes = Vec::new(alloc);
         let Ok(file) = File::open(self.rt, name) else {
             return Err(ReadFault::NoRead);
         };
-        match file
-            .take(MOST_PROGRAM_BYTES as u64 + 1)
-            .read_to_end(&mut bytes)
-        {
-            Ok(_) if bytes.len() > MOST_PROGRAM_BYTES => Err(ReadFault::TooLong),
+        match file.take(most as u64 + 1).read_to_end(&mut bytes) {
+            Ok(_) if bytes.len() > most => Err(ReadFault::TooLong),
             Ok(_) => Ok(bytes),
             Err(error) if error.kind() == io::ErrorKind::OutOfMemory => Err(ReadFault::Memory),
             Err(_) => Err(ReadFault::NoRead),
@@ -50,8 +48,8 @@ impl FileSet for SystemFiles<'_> {
 
     ghost is_unwritten = { λ files. files.unwritten };
 
-    fn read(&mut self, alloc: Global, name: &str) -> Result<Vec<u8>, ReadFault> {
-        let read = self.bytes_of(alloc, name);
+    fn read(&mut self, alloc: Global, name: &str, most: usize) -> Result<Vec<u8>, ReadFault> {
+        let read = self.bytes_of(alloc, name, most);
         if let Err(fault) = &read {
             self.last_fault = Some(*fault);
         }

@@ -80,6 +80,13 @@ counts_of stats schedule = if stats then count_lines schedule else []
 
 -- ---- a run of a file
 
+-- how many bytes a file may have that is read
+abbrev pub most_program_bytes : ℕ
+most_program_bytes = 16777215
+
+abbrev pub most_schedule_bytes : ℕ
+most_schedule_bytes = 2 ^ 40
+
 -- what the words ask for of a run
 pub record Asked : Type 0 where
   pub steps : ℕ
@@ -143,7 +150,7 @@ Contents = Text → Option (List ℕ)
 abbrev pub IsGiven : Contents → Option Text → Option (List Entry) → Type 0
 IsGiven contents None None = ⊤
 IsGiven contents (Some name) (Some given) = AreEntries given
-    × IfSome (contents name) (λ bytes. text_of given ≡ bytes) × (length (text_of given) ≤ 16777215)
+    × IfSome (contents name) (λ bytes. text_of given ≡ bytes) × (length (text_of given) ≤ most_schedule_bytes)
 IsGiven contents _ _ = ⊥
 
 -- a file holds the text of a schedule, if one is named
@@ -184,7 +191,7 @@ pub record IsFileRun (asks : world.Status → Around → Scene → acts.Asked) (
     (outcome : Outcome) : Type 0 where
   pub program : List ℕ
   pub is_file : IfSome (contents names.file) (λ bytes. program ≡ bytes)
-  pub few : length program ≤ 16777215
+  pub few : length program ≤ most_program_bytes
   pub given : Option (List Entry)
   pub is_given : IsGiven contents names.replayed given
   pub capacity : ℕ
@@ -223,9 +230,9 @@ IsWritten recorded stats printed schedule outcome told outputs =
 
 -- ---- faults
 
--- the file can't be read for what it holds
-abbrev pub IsTooLong : (known : Option (List ℕ)) → Type 0
-IsTooLong known = IfSome known (λ bytes. 16777215 < length bytes)
+-- the file can't be read for what it holds: more than so many bytes
+abbrev pub IsTooLong : (most : ℕ) → (known : Option (List ℕ)) → Type 0
+IsTooLong most known = IfSome known (λ bytes. most < length bytes)
 
 -- the line that standard error has of a bad line of a schedule
 abbrev pub bad_line : ℕ → List ℕ
@@ -235,7 +242,8 @@ bad_line line = number_line (codes "dpsrun: bad schedule line ") line
 -- told
 abbrev pub HasNoSchedule : Contents → Option Text → (err_old err_new : Option (List ℕ)) → Type 0
 HasNoSchedule contents None err_old err_new = ⊥
-HasNoSchedule contents (Some name) err_old err_new = IsTooLong (contents name)
+HasNoSchedule contents (Some name) err_old err_new =
+    IsTooLong most_schedule_bytes (contents name)
     ⊎ ((line : ℕ) × IfSome (contents name) (λ bytes. IsBadAt bytes line)
     × AppendsPart err_old err_new (bad_line line))
 

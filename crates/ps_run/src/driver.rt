@@ -5,9 +5,9 @@ ghost use Rattle.ps_options.specs.CommandLine.{faults_in, named_in};
 ghost use Rattle.clap.specs.Values.{kind_of};
 ghost use Rattle.ps_vault.specs.Reports.{IsWithin};
 ghost use Rattle.ps_run.specs.Driving as driving;
-ghost use Rattle.ps_run.specs.Driving.{AreAsked, AreOutOfRange, HasNoSchedule, IsDriven, IsMade, IsTooLong, asked_of, config_in, names_in, names_of};
+ghost use Rattle.ps_run.specs.Driving.{AreAsked, AreOutOfRange, HasNoSchedule, IsDriven, IsMade, IsTooLong, asked_of, config_in, most_program_bytes, names_in, names_of};
 
-use crate::files::FileSet;
+use crate::files::{FileSet, MOST_PROGRAM_BYTES};
 use crate::finishing::finish;
 use crate::outputs::Flushing;
 use crate::reading::{read, read_given};
@@ -62,7 +62,7 @@ pub fn drive<S: Interpret + Drop, D: Deeds + Drop, F: FileSet, W: Flushing, X: W
         × IsDriven S.asks (names_in (map (λ word. word.now) words.now))
         (AreAsked (map (λ word. word.now) words.now))
         ((faults_in (map (λ word. word.now) words.now) ≢ [])
-        ⊎ (IsTooLong (F.contents files.old (names_in (map (λ word. word.now) words.now)).file)
+        ⊎ (IsTooLong most_program_bytes (F.contents files.old (names_in (map (λ word. word.now) words.now)).file)
         ⊎ (HasNoSchedule (F.contents files.old)
         (names_in (map (λ word. word.now) words.now)).replayed (X.contents err.old)
         (X.contents err.new)
@@ -115,7 +115,7 @@ fn run<S: Interpret + Drop, D: Deeds + Drop, F: FileSet, W: Flushing, X: Write>(
         → result ≡ Status.Usage }
     ensures run { IsDriven S.asks (names_of options.now)
         (λ asked. asked ≡ asked_of options.now)
-        (IsTooLong (F.contents files.old (names_of options.now).file)
+        (IsTooLong most_program_bytes (F.contents files.old (names_of options.now).file)
         ⊎ (HasNoSchedule (F.contents files.old) (names_of options.now).replayed
         (X.contents err.old) (X.contents err.new)
         ⊎ ¬ IsWithin (config_in options.now)))
@@ -129,7 +129,7 @@ fn run<S: Interpret + Drop, D: Deeds + Drop, F: FileSet, W: Flushing, X: Write>(
           flushed = W.is_flushed out.new;
         }) }
 {
-    let program = match read(alloc, options.file, files, err) {
+    let program = match read(alloc, options.file, MOST_PROGRAM_BYTES, files, err) {
         Ok(program) => program,
         Err(status) => return status,
     };

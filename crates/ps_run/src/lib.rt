@@ -11,5 +11,5 @@ mod statuses;
 mod writing;
 
 pub use driver::drive;
-pub use files::{FileSet, MOST_PROGRAM_BYTES, ReadFault, WriteFault};
+pub use files::{FileSet, MOST_PROGRAM_BYTES, MOST_SCHEDULE_BYTES, ReadFault, WriteFault};
 pub use outputs::{Flushed, Flushing};

@@ -1,10 +1,10 @@
 //! The files that a run is made of: the program's, and that of a schedule to follow.
 
-ghost use Rattle.std.specs.Prelude.{◌≡◌, ◌⊎◌, ◌≤◌, Some, None, OnOk, IfOk, IfErr, IfSome, option_map, vec_len};
+ghost use Rattle.std.specs.Prelude.{◌≡◌, ◌⊎◌, ◌≤◌, ◌^◌, Some, None, OnOk, IfOk, IfErr, IfSome, option_map, vec_len};
 ghost use Rattle.ps_run.specs.Driving as driving;
 ghost use Rattle.ps_run.specs.Driving.{HasNoSchedule, IsGiven, IsTooLong, names_of};
 
-use crate::files::{FileSet, ReadFault};
+use crate::files::{FileSet, MOST_SCHEDULE_BYTES, ReadFault};
 use crate::statuses::{Status, end};
 use crate::writing::write_number;
 use ps_options::Options;
@@ -13,14 +13,16 @@ use ps_vault::Entry;
 use std::alloc::Global;
 use std::io::Write;
 
-/// The bytes of a file. Where they can't be read that is told, and the status is the error.
+/// The bytes of a file of at most so many. Where they can't be read that is told, and the status is the error.
 pub(crate) fn read<F: FileSet, X: Write>(
     alloc: Global,
     name: &str,
+    most: usize,
     files: &mut F,
     err: &mut X,
 ) -> Result<Vec<u8>, Status>
-    ensures few { IfOk result (λ bytes. vec_len bytes ≤ 16777215) }
+    requires most { most ≤ 2 ^ 40 }
+    ensures few { IfOk result (λ bytes. vec_len bytes ≤ most) }
     ensures bytes { IfOk result
         (λ bytes. IfSome (F.contents files.old name.now) (λ known. bytes.items ≡ known)) }
     ensures told { OnOk result (err.new ≡ err.old) }
@@ -30,9 +32,9 @@ pub(crate) fn read<F: FileSet, X: Write>(
     ensures unread { IfErr result
         (λ told. IfSome (F.last_fault files.new) (λ fault. told ≡ driving.unread fault)) }
     ensures fault { IfErr result (λ told. (told ≡ Status.Memory)
-        ⊎ ((told ≡ Status.Usage) × IsTooLong (F.contents files.old name.now))) }
+        ⊎ ((told ≡ Status.Usage) × IsTooLong most (F.contents files.old name.now))) }
 {
-    match files.read(alloc, name) {
+    match files.read(alloc, name, most) {
         Ok(bytes) => Ok(bytes),
         Err(ReadFault::Memory) => Err(end(err, Status::Memory)),
         Err(ReadFault::NoRead | ReadFault::TooLong) => {
@@ -67,7 +69,7 @@ pub(crate) fn read_given<F: FileSet, X: Write>(
     let Some(name) = options.replay_file else {
         return Ok(None);
     };
-    let bytes = read(alloc, name, files, err)?;
+    let bytes = read(alloc, name, MOST_SCHEDULE_BYTES, files, err)?;
     match read_schedule(alloc, bytes.as_slice()) {
         Ok(schedule) => Ok(Some(schedule)),
         Err(ScheduleFault::Memory) => Err(end(err, Status::Memory)),

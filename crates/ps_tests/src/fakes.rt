@@ -8,7 +8,7 @@ ghost use Rattle.ps_tests.specs.Fakes.{bytes_in, known_in};
 use ps_context::steps::Steps;
 use ps_deeds::operators::WorldOperators;
 use ps_dispatch::operators::Operators;
-use ps_run::{FileSet, MOST_PROGRAM_BYTES, ReadFault, WriteFault};
+use ps_run::{FileSet, ReadFault, WriteFault};
 use std::alloc::Global;
 use std::io::{self, ErrorKind, Write};
 
@@ -25,15 +25,15 @@ pub fn deeds_in(alloc: Global) -> WorldOperators {
     WorldOperators { alloc }
 }
 
-/// What is read of a file that has these bytes, or a fault in their place.
-fn copied(alloc: Global, bytes: Result<&[u8], ReadFault>) -> Result<Vec<u8>, ReadFault>
-    ensures few { IfOk result (λ copy. vec_len copy ≤ 16777215) }
+/// What is read, of at most so many bytes, of a file that has these, or a fault in their place.
+fn copied(alloc: Global, bytes: Result<&[u8], ReadFault>, most: usize) -> Result<Vec<u8>, ReadFault>
+    ensures few { IfOk result (λ copy. vec_len copy ≤ most) }
     ensures bytes { IfOk result (λ copy. bytes_in bytes.entry ≡ Some copy.items) }
     ensures fault { IfErr result (λ fault. IfSome (bytes_in bytes.entry)
-        (λ known. length known ≤ 16777215 → fault ≡ ReadFault.Memory)) }
+        (λ known. length known ≤ most → fault ≡ ReadFault.Memory)) }
 {
     match bytes {
-        Ok(bytes) if bytes.len() > MOST_PROGRAM_BYTES => Err(ReadFault::TooLong),
+        Ok(bytes) if bytes.len() > most => Err(ReadFault::TooLong),
         Ok(bytes) => Vec::from_slice(alloc, bytes).map_err(|_| ReadFault::Memory),
         Err(fault) => Err(fault),
     }
@@ -54,8 +54,8 @@ impl FileSet for OneFile<'_> {
 
     ghost is_unwritten = { λ file. true };
 
-    fn read(&mut self, alloc: Global, _name: &str) -> Result<Vec<u8>, ReadFault> {
-        let read = copied(alloc, self.bytes);
+    fn read(&mut self, alloc: Global, _name: &str, most: usize) -> Result<Vec<u8>, ReadFault> {
+        let read = copied(alloc, self.bytes, most);
         if let Err(fault) = &read {
             self.last_fault = Some(*fault);
         }
@@ -117,11 +117,11 @@ impl FileSet for Files<'_> {
 
     ghost is_unwritten = { λ files. files.unwritten };
 
-    fn read(&mut self, alloc: Global, name: &str) -> Result<Vec<u8>, ReadFault> {
+    fn read(&mut self, alloc: Global, name: &str, most: usize) -> Result<Vec<u8>, ReadFault> {
         let read = if name == "f" {
-            copied(alloc, self.program)
+            copied(alloc, self.program, most)
         } else if name == "s" {
-            copied(alloc, self.schedule)
+            copied(alloc, self.schedule, most)
         } else {
             Err(ReadFault::NoRead)
         };

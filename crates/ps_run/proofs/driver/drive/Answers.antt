@@ -1,6 +1,6 @@
 use Rattle.std.proofs.Common.{Option, inl, inr, refl, ap, subst, ◌∙◌}
 use Rattle.clap.specs.Words.{Text}
-use Rattle.ps_run.specs.Driving.{Asked, HasNoSchedule, IsTooLong, config_in}
+use Rattle.ps_run.specs.Driving.{Asked, HasNoSchedule, IsTooLong, config_in, most_program_bytes}
 use Rattle.ps_run.proofs.Driven.{driven_more, faulty}
 use Rattle.ps_run.proofs.driver.drive.Goals as goal
 
@@ -28,7 +28,7 @@ returns-in-Ok-clause-run g c = (
       ))
       (λ fault. inr (elim fault [
         | inl long ↦
-            inl (subst (λ (name : Text). IsTooLong (g.F.FileSet.contents c.args.files.now name))
+            inl (subst (λ (name : Text). IsTooLong most_program_bytes (g.F.FileSet.contents c.args.files.now name))
             c.in-Ok.ensures.file long)
         | inr other ↦ inr (elim other [
           | inl none ↦
