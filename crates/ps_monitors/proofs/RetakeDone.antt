@@ -1,5 +1,5 @@
 -- A lock is taken again, or is not.
-use Rattle.std.proofs.Common.{◌≡◌, ℕ, zero, suc, ◌≤◌, arith, Bool, false, List, [], ◌∷◌, Option, Some, Ok, Err, refl, sym, ap, subst, ◌∙◌}
+use Rattle.std.proofs.Common.{◌≡◌, ℕ, zero, suc, ◌≤◌, arith, List, [], ◌∷◌, Option, Some, Ok, Err, refl, sym, ap, subst, ◌∙◌}
 use Rattle.ps_language.specs.declared.kinds.Kind.TheVariants.{Lock as LockKind}
 use Rattle.ps_language.specs.Machines.{settled}
 use Rattle.ps_language.specs.Owners.{with_owner}
@@ -12,7 +12,6 @@ use Rattle.ps_mem.specs.References.{StandsAs}
 use Rattle.ps_mem.specs.Shows.{IsSound, Shows}
 use Rattle.ps_mem.proofs.KeepsLemmas.{AreValues-kept, AreWithin-kept, values_of-kept, known_values, birth_at-kept}
 use Rattle.ps_ops.specs.declared.failure.NotMade.{NotMade as Reason}
-use Rattle.ps_ops.specs.declared.failure.NotMade.TheVariants.{LogFull, LogClosed, NeedSpace, Memory}
 use Rattle.ps_ops.specs.Does.{KeepsLogsWithin, values_in}
 use Rattle.ps_control.specs.declared.frames.Frame.{Frame}
 use Rattle.ps_acts.specs.declared.lent.Trial.{Trial}
@@ -30,7 +29,7 @@ use Rattle.ps_contexts.specs.Desks.{Desk, lent_to, desk_after, course_after, IsC
 use Rattle.ps_contexts.proofs.Staying.{members_good}
 use Rattle.ps_contexts.proofs.Stepping.{context_there}
 use Rattle.ps_contexts.proofs.Turning.{member_at, frame_after, goes_by, went_steady, went_settled, regranted}
-use Rattle.ps_world.specs.Calls.{IsHeldUpAs, Retakes}
+use Rattle.ps_world.specs.Calls.{Retakes}
 use Rattle.ps_world.proofs.Owning.{framed_with}
 use Rattle.ps_context_operators.specs.Singles.{owner_by}
 use Rattle.ps_context_operators.proofs.Locking.{lock_shown}
@@ -49,18 +48,6 @@ pub identifier_some : (members : List (Option Member)) (identifier : ℕ) (membe
     → item_at members identifier ≡ Some member → 1 ≤ identifier
 identifier_some members zero member found = absurd (cc)
 identifier_some members (suc place) member found = omega arith
-
--- no record was granted
-unlogged_held : (slot : ℕ) (heap : Heap) (asked left : Grants) → left.closed ≡ asked.closed
-    → (reason : Reason) → IsUnlogged 1 slot asked left reason
-    → IsHeldUpAs false slot heap left reason
-unlogged_held slot heap asked left closed LogFull why =
-    let less = why.1 in
-    (ap (λ (c : ℕ → Bool). c slot) closed ∙ why.0, omega (arith, less))
-unlogged_held slot heap asked left closed LogClosed why =
-    ap (λ (c : ℕ → Bool). c slot) closed ∙ why
-unlogged_held slot heap asked left closed (NeedSpace words) why = absurd why
-unlogged_held slot heap asked left closed Memory why = absurd why
 
 -- one store
 pub logs_stored : (old new : Grants) (slot : ℕ) → AfterStore old new slot
@@ -228,8 +215,6 @@ module _ (caller : ℕ) (trial : Trial) (d : Desk) (steady : IsSteady d) (member
       unmade = refl;
       held_up = λ other is.
           let same : reason ≡ other = cc in
-          subst (IsHeldUpAs false trial.slot d.heap left) same
-          (unlogged_held trial.slot d.heap d.grants left (ap (λ (g : Grants). g.closed) kept) reason
-          why);
+          subst (IsUnlogged 1 trial.slot d.grants left) same why;
       logs = logs;
     }

@@ -25,7 +25,7 @@ use Rattle.ps_world.specs.Held.{held, CourseAt, IsSteadyHeld}
 use Rattle.ps_world.specs.Needs.{step_wants}
 use Rattle.ps_world.specs.Steps.{Steps}
 use Rattle.ps_world.proofs.Called.{same_members}
-use Rattle.ps_world.proofs.Starving.{held_more}
+use Rattle.ps_world.proofs.Starving.{unlogged_held}
 use Rattle.ps_world.proofs.Turned.{failed_with, same_reason}
 
 -- in a course that makes no step
@@ -121,8 +121,8 @@ module _ (asks : Status → Around → Scene → Asked) (d : Desk)
           (context_there d w at identifier here.member here.found)
           (status_is (Retaking lock) here);
       held_up = λ why is w at ready.
-          held_more false (step_wants asks identifier trial.refused w) (λ no. absurd (cc))
-          trial.slot new.heap new.grants why
+          unlogged_held (step_wants asks identifier trial.refused w) trial.slot new.heap d.grants
+          new.grants done.logs.closed why
           (done.held_up why (ap (λ r. Err r) (same_reason reason why is)));
       logs = λ w at ready. done.logs;
       keeps = done.keeps;

@@ -19,7 +19,7 @@ use Rattle.ps_acts.specs.declared.lent.Trial.{Trial}
 use Rattle.ps_acts.specs.Acts.{Asked, Needs, AreFew, IsReason, IsSame}
 use Rattle.ps_acts.specs.Lent as lents
 use Rattle.ps_acts.specs.Lent.{Lent, IsShown}
-use Rattle.ps_turns.specs.Turns.{Turns, calling_of, turn_needs, needs_in}
+use Rattle.ps_turns.specs.Turns.{IsUnlogged, Turns, calling_of, turn_needs, needs_in}
 use Rattle.ps_interpreter.specs.Interprets.{status_in, asks_in, own_turn}
 use Rattle.ps_interpreter.specs.Needs.{wants_rooms, wants}
 use Rattle.ps_interpreter.proofs.Reached.{IsLeft, left_by}
@@ -78,6 +78,18 @@ held_more one other more slot heap grants LogClosed held = held
 held_more one other more slot heap grants (NeedSpace words) held =
     (more held.0, held.1, held.2)
 held_more one other more slot heap grants Memory held = more held
+
+-- no step asks for fewer records than one that asks for one
+pub unlogged_held : (may : Bool) (slot : ℕ) (heap : Heap) (asked left : Grants)
+    → left.closed ≡ asked.closed → (reason : Reason) → IsUnlogged 1 slot asked left reason
+    → IsHeldUpAs may slot heap left reason
+unlogged_held may slot heap asked left closed LogFull why =
+    let less = why.1 in
+    (ap (λ (c : ℕ → Bool). c slot) closed ∙ why.0, omega (arith, less))
+unlogged_held may slot heap asked left closed LogClosed why =
+    ap (λ (c : ℕ → Bool). c slot) closed ∙ why
+unlogged_held may slot heap asked left closed (NeedSpace words) why = absurd why
+unlogged_held may slot heap asked left closed Memory why = absurd why
 
 -- ---- by what a turn asks for
 

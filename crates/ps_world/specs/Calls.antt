@@ -16,7 +16,7 @@ use Rattle.ps_ops.specs.declared.failure.NotMade.TheVariants.{LogFull, LogClosed
 use Rattle.ps_ops.specs.Does.{KeepsLogsWithin, most_records, spent}
 use Rattle.ps_acts.specs.declared.lent.Trial.{Trial}
 use Rattle.ps_acts.specs.Acts.{no_rooms}
-use Rattle.ps_turns.specs.Turns.{calling_of, error_needs}
+use Rattle.ps_turns.specs.Turns.{calling_of, error_needs, IsUnlogged}
 use Rattle.ps_contexts.specs.declared.contexts.Contexts.{Contexts}
 use Rattle.ps_contexts.specs.declared.members.Course.TheVariants.{Running, Retaking}
 use Rattle.ps_contexts.specs.declared.members.Member.{Member}
@@ -136,5 +136,5 @@ pub record Retakes (caller : ℕ) (trial : Trial) (result : Result Unit Reason) 
   pub framed : AreFramed old.members → AreFramed new.members
   pub unmade : OnErr result (IsSameDesk old new)
   pub held_up : (reason : Reason) → result ≡ Err reason
-      → IsHeldUpAs false trial.slot new.heap new.grants reason
+      → IsUnlogged 1 trial.slot old.grants new.grants reason
   pub logs : KeepsLogsWithin (spent result 1) old.grants new.grants trial.slot
