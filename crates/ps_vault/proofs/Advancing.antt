@@ -1,13 +1,13 @@
 -- What a vault keeps over steps of one context.
-use Rattle.std.proofs.Common.{◌≡◌, ℕ, ℤ, zero, suc, ◌+◌, ◌^◌, ◌<◌, ◌≤◌, Bool, true, false, ◌&&◌, Option, Some, None, Result, Ok, Err, List, [], ◌∷◌, ◌++◌, refl, sym, ◌∙◌, ap, subst, arith}
+use Rattle.std.proofs.Common.{◌≡◌, ◌≢◌, ℕ, ℤ, zero, suc, ◌+◌, ◌^◌, ◌<◌, ◌≤◌, Bool, true, false, ◌&&◌, Option, Some, None, Result, Ok, Err, List, [], ◌∷◌, ◌++◌, refl, sym, ◌∙◌, ap, subst, arith}
 use Rattle.std.specs.Prelude.{IsTrue, IfSome, min, max, replicate}
 use Rattle.std.proofs.lemmas.Bool.{lt-ltb, true≢false}
 use Rattle.ps_language.specs.declared.schedules.Entry.{Entry}
-use Rattle.ps_language.specs.Effect.{Around, Scene}
+use Rattle.ps_language.specs.Effect.{turn_ends, Around, Scene}
 use Rattle.ps_language.specs.Locks.{is_ready}
 use Rattle.ps_language.specs.Schedules.{Move, plain_move, added, moves, count_of, is_longest}
 use Rattle.ps_language.specs.World.{Status, World}
-use Rattle.ps_language.specs.Worlds.{after_moves, starting_world, world, all_ready, IsProper}
+use Rattle.ps_language.specs.Worlds.{after_move, after_moves, starting_world, world, all_ready, IsProper}
 use Rattle.ps_language.proofs.ScheduleLaws.{moves-added, count_of-added, longest-added}
 use Rattle.ps_language.proofs.WorldLaws.{after_moves-append, all_ready-append}
 use Rattle.ps_acts.specs.Acts.{Asked}
@@ -19,14 +19,15 @@ use Rattle.ps_world.specs.declared.notes.Note.{Note}
 use Rattle.ps_world.specs.declared.notes.Note.TheVariants.{Nothing, TurnEnds, ShowsMemory, Wishes}
 use Rattle.ps_world.specs.Held.{Held, IsAt}
 use Rattle.ps_world.specs.Notes.{note_of}
-use Rattle.ps_world.specs.Steps.{AreShown, HasMade, IsUnready, StepsBehind, ordinary, words_shown}
+use Rattle.ps_world.specs.Steps.{AreQuiet, AreShown, HasMade, IsUnready, StepsBehind, ordinary, words_shown}
 use Rattle.ps_language.specs.Step.{stepped}
-use Rattle.ps_vault.specs.Order.{EndsTurn}
+use Rattle.ps_vault.specs.Order.{AllKeepTurn, NoneEnds, OnlyLastMayEnd, EndsTurn}
 use Rattle.ps_vault.specs.Reports.{are_ordinary, are_words, is_number_of_words, is_ordinary, MayWant}
 use Rattle.ps_vault.specs.Stories.{Keeps, move_of}
 use Rattle.ps_vault.specs.Turns.{added_times}
 use Rattle.ps_vault.proofs.Following.{times_moves}
 use Rattle.ps_vault.proofs.Keeping.{and_both, keeps_noted, keeps_unmade, starved_step}
+use Rattle.ps_vault.proofs.Ordering.{none_ends_more}
 
 -- the world after so many more
 pub world_times : (program : List ℕ) (schedule : List Entry) (n : ℕ) (move : Move)
@@ -122,6 +123,22 @@ ordinary_times (suc n) schedule move plain h =
     ordinary_added (added_times n schedule move) move plain
     (ordinary_times n schedule move plain h)
 
+-- ---- what ends a turn
+
+-- steps of which nothing is told end none
+quiet_keep : (now : World) (steps : List Move) → AreQuiet now steps → AllKeepTurn now steps
+quiet_keep now [] quiet = tt
+quiet_keep now (step ∷ steps) quiet = (
+  record { shown = step.shown; told = λ ends. absurd (cc) },
+  quiet_keep (after_move now step) steps quiet.1,
+)
+
+ends_noted : (note : Note) → note_of note ≡ turn_ends → note ≡ TurnEnds
+ends_noted Nothing is = absurd (cc)
+ends_noted TurnEnds is = refl
+ends_noted ShowsMemory is = absurd (cc)
+ends_noted (Wishes number) is = absurd (cc)
+
 -- so many were made
 module _ (context made : ℕ) (old new : Held) (schedule : List Entry) (keeps : Keeps old schedule)
     (ready : is_ready (world old.desk.program schedule) context ≡ true)
@@ -139,6 +156,15 @@ module _ (context made : ℕ) (old new : Held) (schedule : List Entry) (keeps : 
         (proper_times old.desk.program schedule made (plain_move context) keeps.proper
         (has.ready (world old.desk.program schedule) keeps.at ready));
     longest = longest_times made schedule (plain_move context) keeps.longest;
+  }
+
+  pub none_ends_made : NoneEnds (starting_world old.desk.program) (moves schedule) (moves later)
+  unfolding world
+  none_ends_made = record {
+    steps = replicate made (plain_move context);
+    is = times_moves made schedule (plain_move context);
+    keep = quiet_keep (world old.desk.program schedule) (replicate made (plain_move context))
+        (has.quiet (world old.desk.program schedule) keeps.at ready);
   }
 
 -- one is made at least, where fewer than were asked for end with the context not ready
@@ -169,6 +195,10 @@ module _ (asks : Status → Around → Scene → Asked) (context slot made : ℕ
         (world_times old.desk.program schedule made (plain_move context))
         ∙ behind.ready (world old.desk.program schedule) keeps.at ready)
 
+    pub none_ends_mid : NoneEnds (starting_world old.desk.program) (moves schedule)
+        (moves so_far)
+    none_ends_mid = none_ends_made context made old behind.mid schedule keeps ready behind.makes
+
   -- it was made
   module _ (note : Note) (behind : StepsBehind asks context slot made shown (Ok note) old new)
     where
@@ -178,23 +208,55 @@ module _ (asks : Status → Around → Scene → Asked) (context slot made : ℕ
           keeps_noted asks context (ordinary slot) shown behind.mid new so_far
           (keeps_mid (Ok note) behind) (ready_mid (Ok note) behind) note kept behind.steps is
 
+      -- it was made as the definitions make it
+      told : (stepped (world old.desk.program so_far) context false shown).note ≡ note_of note
+      told =
+          let mid : Held = behind.mid in
+          let to = behind.steps.meets (world mid.desk.program so_far)
+          (keeps_mid (Ok note) behind).at (ready_mid (Ok note) behind) in
+          ap (λ (p : List ℕ). (stepped (world p so_far) context false shown).note)
+          (sym behind.makes.program) ∙ sym to.2
+
+      -- none behind the old ones ended the turn
+      pub none_ends_behind : (kept : Option (ℤ × ℤ)) → note ≢ TurnEnds
+          → NoneEnds (starting_world old.desk.program) (moves schedule)
+          (moves (added so_far (move_of context false kept)))
+      unfolding world
+      none_ends_behind kept goes =
+          none_ends_more (starting_world old.desk.program) (moves schedule) (moves so_far)
+          (moves (added so_far (move_of context false kept))) (none_ends_mid (Ok note) behind)
+          (record {
+            steps = move_of context false kept ∷ [];
+            is = moves-added so_far (move_of context false kept);
+            keep = (
+              record { shown = shown; told = λ is. goes (ends_noted note (sym told ∙ is)) },
+              tt,
+            );
+          })
+
+      -- none but it did
+      pub only_last_behind : (kept : Option (ℤ × ℤ))
+          → OnlyLastMayEnd (starting_world old.desk.program) (moves schedule)
+          (moves (added so_far (move_of context false kept)))
+      only_last_behind kept = record {
+        before = moves so_far;
+        last = move_of context false kept;
+        is = moves-added so_far (move_of context false kept);
+        others = none_ends_mid (Ok note) behind;
+      }
+
       -- it ended the turn
       pub ends_behind : (kept : Option (ℤ × ℤ)) → note ≡ TurnEnds
           → EndsTurn (starting_world old.desk.program) context
           (moves (added so_far (move_of context false kept)))
       unfolding world
       ends_behind kept ends =
-          let mid : Held = behind.mid in
-          let to = behind.steps.meets (world mid.desk.program so_far)
-          (keeps_mid (Ok note) behind).at
-          (ready_mid (Ok note) behind) in
           record {
             before = moves so_far;
             last = move_of context false kept;
             is = moves-added so_far (move_of context false kept);
             shown = shown;
-            told = ap (λ (p : List ℕ). (stepped (world p so_far) context false shown).note)
-                (sym behind.makes.program) ∙ (sym to.2 ∙ ap note_of ends);
+            told = told ∙ ap note_of ends;
           }
 
   -- it was not

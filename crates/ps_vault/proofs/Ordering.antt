@@ -1,13 +1,14 @@
 -- Turns one after another.
-use Rattle.std.proofs.Common.{◌≡◌, ℕ, zero, suc, ◌+◌, ◌<◌, ◌≤◌, List, [], ◌∷◌, ◌++◌, map, inl, inr, refl, sym, ◌∙◌, ap, ap₂, subst, arith, append-nil, append_assoc}
+use Rattle.std.proofs.Common.{◌≡◌, ℕ, zero, suc, ◌+◌, ◌<◌, ◌≤◌, List, [], ◌∷◌, ◌++◌, length, map, inl, inr, refl, sym, ◌∙◌, ap, ap₂, subst, arith, append-nil, append_assoc}
 use Rattle.std.specs.Prelude.{replicate, ◌⊎◌}
 use Rattle.std.proofs.lemmas.List.{map-append, replicate-append-replicate}
 use Rattle.ps_language.specs.declared.schedules.Entry.{Entry}
-use Rattle.ps_language.specs.Schedules.{Move, plain_move, added, moves}
+use Rattle.ps_language.specs.Schedules.{Move, plain_move, added, moves, count_of}
 use Rattle.ps_language.specs.World.{World}
-use Rattle.ps_language.specs.Worlds.{after_moves, starting_world, world}
+use Rattle.ps_language.specs.Worlds.{after_move, after_moves, starting_world, world}
 use Rattle.ps_language.proofs.ScheduleLaws.{moves-added}
-use Rattle.ps_vault.specs.Order.{IsNoneAbove, IsLeastAbove, IsNext, AddsSteps, IsOver, AddsTurn, AreTurns, no_turn, one_more, HasTurn, InOrder}
+use Rattle.ps_language.proofs.WorldLaws.{after_moves-append}
+use Rattle.ps_vault.specs.Order.{IsNoneAbove, IsLeastAbove, IsNext, AddsSteps, AllKeepTurn, NoneEnds, OnlyLastMayEnd, IsOver, AddsTurn, AreTurns, no_turn, one_more, HasTurn, InOrder}
 use Rattle.ps_vault.specs.Stories.{Story, world_at}
 use Rattle.ps_vault.specs.Turns.{added_times}
 use Rattle.ps_vault.proofs.Following.{times_moves}
@@ -66,6 +67,84 @@ adds_zero context old new adds =
     empty [] is = refl
     empty (step ∷ steps) is = absurd (cc)
 
+-- ---- steps that end no turn
+
+all_keep-append : (now : World) (first second : List Move) → AllKeepTurn now first
+    → AllKeepTurn (after_moves now first) second → AllKeepTurn now (first ++ second)
+unfolding after_moves
+all_keep-append now [] second one other = other
+all_keep-append now (step ∷ first) second one other =
+    (one.0, all_keep-append (after_move now step) first second one.1 other)
+
+pub none_ends_nil : (start : World) (steps : List Move) → NoneEnds start steps steps
+none_ends_nil start steps = record { steps = []; is = sym (append-nil steps); keep = tt }
+
+pub none_ends_more : (start : World) (old now new : List Move) → NoneEnds start old now
+    → NoneEnds start now new → NoneEnds start old new
+none_ends_more start old now new first second = record {
+  steps = first.steps ++ second.steps;
+  is = second.is ∙ (ap (λ (steps : List Move). steps ++ second.steps) first.is
+      ∙ append_assoc old first.steps second.steps);
+  keep = all_keep-append (after_moves start old) first.steps second.steps first.keep
+      (subst (λ (w : World). AllKeepTurn w second.steps)
+      (ap (after_moves start) first.is ∙ after_moves-append start old first.steps) second.keep);
+}
+
+pub only_last_more : (start : World) (old now new : List Move) → NoneEnds start old now
+    → OnlyLastMayEnd start now new → OnlyLastMayEnd start old new
+only_last_more start old now new first second = record {
+  before = second.before;
+  last = second.last;
+  is = second.is;
+  others = none_ends_more start old now second.before first second.others;
+}
+
+-- some steps without the last
+record IsWithoutLast (now : World) (steps : List Move) : Type 0 where
+  before : List Move
+  last : Move
+  is : steps ≡ before ++ last ∷ []
+  keep : AllKeepTurn now before
+
+without_last : (now : World) (step : Move) (steps : List Move) → AllKeepTurn now (step ∷ steps)
+    → IsWithoutLast now (step ∷ steps)
+without_last now step [] keep = record { before = []; last = step; is = refl; keep = tt }
+without_last now step (next ∷ steps) keep =
+    let others = without_last (after_move now step) next steps keep.1 in
+    record {
+      before = step ∷ others.before;
+      last = others.last;
+      is = ap (λ (rest : List Move). step ∷ rest) others.is;
+      keep = (keep.0, others.keep);
+    }
+
+-- where none ended it and there are some, none but the last did
+pub only_last_of : (start : World) (old now new : List Entry) (made : ℕ) → new ≡ now
+    → count_of now ≡ count_of old + made → NoneEnds start (moves old) (moves now) → 1 ≤ made
+    → OnlyLastMayEnd start (moves old) (moves new)
+unfolding count_of
+only_last_of start old now new made same counted none some = by none.steps refl
+  where
+    by : (steps : List Move) → none.steps ≡ steps
+        → OnlyLastMayEnd start (moves old) (moves new)
+    by [] is =
+        let few : length (moves now) ≡ length (moves old) =
+        ap {B = ℕ} (λ (m : List Move). length m)
+        (none.is ∙ (ap (λ (steps : List Move). moves old ++ steps) is
+        ∙ append-nil (moves old))) in
+        absurd (omega (arith, few, counted, some))
+    by (step ∷ steps) is =
+        let cut = without_last (after_moves start (moves old)) step steps
+        (subst (AllKeepTurn (after_moves start (moves old))) is none.keep) in
+        record {
+          before = moves old ++ cut.before;
+          last = cut.last;
+          is = ap moves same ∙ (none.is
+              ∙ (ap (λ (steps : List Move). moves old ++ steps) (is ∙ cut.is)
+              ∙ sym (append_assoc (moves old) cut.before (cut.last ∷ []))));
+          others = record { steps = cut.before; is = refl; keep = cut.keep };
+        }
+
 -- ---- turns in order
 
 module _ (quantum : ℕ) (start : World) where
@@ -110,13 +189,15 @@ module _ (quantum : ℕ) (start : World) where
   -- a turn more
   module _ (after next count : ℕ) (old new : List Move) (passing : Passing after old)
       (least : IsLeastAbove (after_moves start old) after next)
-      (adds : AddsSteps next count old new) (within : count ≤ quantum) where
+      (adds : AddsSteps next count old new) (within : count ≤ quantum)
+      (only_last : 1 ≤ count → OnlyLastMayEnd start old new) where
     taken : 1 ≤ count → AddsTurn quantum start passing.last next count old new
     taken some = record {
       next = next_of after next old passing least;
       some = some;
       within = within;
       adds = adds;
+      only_last = only_last some;
     }
 
     -- it is over
@@ -146,9 +227,9 @@ module _ (quantum : ℕ) (start : World) where
           rest = inr (next, count, taken (omega (arith, is)));
         }
 
-    -- it had fewer steps than a turn may have
-    pub has_turn : count < quantum → HasTurn quantum start next new
-    has_turn fewer = by count refl
+    -- it had fewer steps than a turn may have, none of which ended it
+    pub has_turn : count < quantum → NoneEnds start old new → HasTurn quantum start next new
+    has_turn fewer none = by count refl
       where
         by : (n : ℕ) → count ≡ n → HasTurn quantum start next new
         by zero is =
@@ -164,7 +245,7 @@ module _ (quantum : ℕ) (start : World) where
           last = passing.last;
           whole = old;
           turns = passing.turns;
-          turn = inr (count, fewer, taken (omega (arith, is)));
+          turn = inr (count, fewer, taken (omega (arith, is)), none);
         }
 
   -- of a quantum, or of all steps that were left: where some are left behind it, it is over

@@ -4,7 +4,7 @@ ghost use Rattle.std.specs.Prelude.{◌≡◌, ℕ, ◌+◌, ◌<◌, ◌≤◌,
 ghost use Rattle.ps_language.specs.Locks as locks;
 ghost use Rattle.ps_language.specs.Schedules.{count_of, moves};
 ghost use Rattle.ps_language.specs.Worlds.{starting_world};
-ghost use Rattle.ps_vault.specs.Order.{IsNoneAbove, IsLeastAbove, AddsSteps, IsOver, HasTurn, InOrder};
+ghost use Rattle.ps_vault.specs.Order.{IsNoneAbove, IsLeastAbove, AddsSteps, NoneEnds, OnlyLastMayEnd, IsOver, HasTurn, InOrder};
 ghost use Rattle.ps_vault.specs.Reports.{are_ordinary, IsStarved, IsOneStarved};
 ghost use Rattle.ps_vault.specs.Stories.{world_at};
 
@@ -35,6 +35,10 @@ impl<S: Interpret + Drop, D: Deeds + Drop> Vault<'_, S, D> {
             → are_ordinary (moves self.new.schedule) ≡ true }
         ensures takes { AddsSteps context result.made (moves self.old.schedule)
             (moves self.new.schedule) }
+        ensures only_last { 1 ≤ result.made → OnlyLastMayEnd (starting_world self.old.program)
+            (moves self.old.schedule) (moves self.new.schedule) }
+        ensures keeps { result.held ≡ true → NoneEnds (starting_world self.old.program)
+            (moves self.old.schedule) (moves self.new.schedule) }
         ensures over { result.held ≡ false → IsOver most (starting_world self.old.program) context
             result.made (moves self.new.schedule) }
         ensures calling_on { result.held ≡ false → self.new.is_calling ≡ false }

@@ -5,7 +5,7 @@ ghost use Rattle.ps_language.specs.Locks as locks;
 ghost use Rattle.ps_language.specs.Schedules.{added, count_of, moves, plain_move};
 ghost use Rattle.ps_language.specs.Worlds as worlds;
 ghost use Rattle.ps_language.specs.Worlds.{after_move, after_moves, starting_world};
-ghost use Rattle.ps_vault.specs.Order.{IsNoneAbove, AddsSteps, EndsTurn};
+ghost use Rattle.ps_vault.specs.Order.{IsNoneAbove, AddsSteps, NoneEnds, OnlyLastMayEnd, EndsTurn};
 ghost use Rattle.ps_vault.specs.Reports.{are_ordinary, is_memory, EndsAs, IsRunOf, IsShort, MayWant};
 ghost use Rattle.ps_vault.specs.Stories.{Story, HasRoom, world_at, move_of};
 ghost use Rattle.ps_vault.specs.Turns.{added_times};
@@ -219,8 +219,12 @@ impl<S: Interpret + Drop, D: Deeds + Drop> Vault<'_, S, D> {
             → are_ordinary (moves self.new.schedule) ≡ true }
         ensures takes { AddsSteps context result.made (moves self.old.schedule)
             (moves self.new.schedule) }
+        ensures keeps { result.told ≢ Told.TurnEnds → NoneEnds
+            (starting_world self.old.program) (moves self.old.schedule) (moves self.new.schedule) }
         ensures ends { result.told ≡ Told.TurnEnds → EndsTurn
             (starting_world self.old.program) context (moves self.new.schedule) }
+        ensures only_last { result.told ≡ Told.TurnEnds → OnlyLastMayEnd
+            (starting_world self.old.program) (moves self.old.schedule) (moves self.new.schedule) }
         ensures plain { shows ≡ false → self.new.schedule
             ≡ added_times result.made self.old.schedule (plain_move context) }
         ensures longer { length self.new.schedule ≤ length self.old.schedule + 2 }

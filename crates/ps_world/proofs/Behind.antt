@@ -84,6 +84,7 @@ unfolding after_moves
 made_none identifier h steady = record {
   at = λ w at ready. at;
   ready = λ w at ready. refl;
+  quiet = λ w at ready. tt;
   steady = steady;
   program = refl;
 }

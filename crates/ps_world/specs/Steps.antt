@@ -1,10 +1,11 @@
 -- When steps of the contexts of a world went as the definitions say (PLRM2, 7.1).
-use Rattle.std.specs.Prelude.{◌≡◌, ℕ, ℤ, pos, min, max, true, false, IsTrue, Option, Some, None, Result, Ok, Err}
-use Rattle.ps_language.specs.Effect.{Around, Scene}
+use Rattle.std.specs.Prelude.{◌≡◌, ℕ, ℤ, pos, min, max, true, false, IsTrue, Option, Some, None, Result, Ok, Err, List, [], ◌∷◌}
+use Rattle.ps_language.specs.Effect.{nothing, Around, Scene}
 use Rattle.ps_language.specs.Locks.{is_ready}
+use Rattle.ps_language.specs.Schedules.{Move}
 use Rattle.ps_language.specs.Step.{Stepped, stepped}
 use Rattle.ps_language.specs.World.{Status, World}
-use Rattle.ps_language.specs.Worlds.{after_moves, all_ready}
+use Rattle.ps_language.specs.Worlds.{after_move, after_moves, all_ready}
 use Rattle.ps_mem.specs.Heap.{Heap}
 use Rattle.ps_mem.specs.Keeps.{Keeps}
 use Rattle.ps_ops.specs.declared.failure.NotMade.{NotMade as Reason}
@@ -62,12 +63,22 @@ pub record AreShown (old new : Heap) (pair : ℤ × ℤ) : Type 0 where
 
 -- ---- many
 
--- so many were made, from every world that it was at where the context was ready, each while it was
+-- nothing is told of any of these steps, from this world on
+abbrev pub AreQuiet : World → List Move → Type 0
+AreQuiet now [] = Unit {0}
+AreQuiet now (move ∷ rest) =
+    ((stepped now move.context move.refused move.shown).note ≡ nothing)
+    × AreQuiet (after_move now move) rest
+
+-- so many were made, from every world that it was at where the context was ready, each while it was,
+-- and nothing is told of them
 pub record HasMade (identifier made : ℕ) (old new : Held) : Type 0 where
   pub at : (w : World) → IsAt old w → is_ready w identifier ≡ true
       → IsAt new (after_moves w (plain_moves identifier made))
   pub ready : (w : World) → IsAt old w → is_ready w identifier ≡ true
       → IsTrue (all_ready w (plain_moves identifier made))
+  pub quiet : (w : World) → IsAt old w → is_ready w identifier ≡ true
+      → AreQuiet w (plain_moves identifier made)
   pub steady : IsSteadyHeld new
   pub program : new.desk.program ≡ old.desk.program
 

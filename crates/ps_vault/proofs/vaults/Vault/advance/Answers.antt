@@ -1,18 +1,18 @@
 -- So many steps more of the schedule, and the one behind them.
-use Rattle.std.proofs.Common.{◌≡◌, ℤ, false, true, List, Option, None, refl, sym, ap, subst, ◌∙◌, ◌+◌, arith}
+use Rattle.std.proofs.Common.{◌≡◌, ℕ, ℤ, false, true, List, Option, None, Err, refl, sym, ap, subst, ◌∙◌, ◌+◌, arith}
 use Rattle.ps_language.specs.declared.schedules.Entry.{Entry}
 use Rattle.ps_language.specs.Locks.{is_ready}
 use Rattle.ps_language.specs.Schedules.{plain_move, count_of, moves}
-use Rattle.ps_language.specs.Worlds.{world}
+use Rattle.ps_language.specs.Worlds.{starting_world, world}
 use Rattle.ps_language.proofs.ScheduleLaws.{count_of-added}
 use Rattle.ps_mem.specs.Objects.{heap_in}
-use Rattle.ps_vault.specs.Order.{AddsSteps}
+use Rattle.ps_vault.specs.Order.{AddsSteps, NoneEnds, OnlyLastMayEnd}
 use Rattle.ps_vault.specs.Reports.{are_ordinary, are_words}
 use Rattle.ps_vault.specs.Stories.{Story, world_at, move_of}
 use Rattle.ps_vault.specs.Turns.{added_times}
 use Rattle.ps_vault.proofs.Following.{times_noted}
 use Rattle.ps_vault.proofs.Keeping.{at_story, ready_there}
-use Rattle.ps_vault.proofs.Advancing.{keeps_made, count_times, ordinary_added, ordinary_move, ordinary_times, words_kept, some_made, keeps_behind, ends_behind, keeps_held, starved_behind, kept_none}
+use Rattle.ps_vault.proofs.Advancing.{keeps_made, count_times, ordinary_added, ordinary_move, ordinary_times, words_kept, some_made, none_ends_made, none_ends_mid, none_ends_behind, only_last_behind, keeps_behind, ends_behind, keeps_held, starved_behind, kept_none}
 use Rattle.ps_vault.proofs.Ordering.{adds_times, adds_one, adds_more}
 use Rattle.ps_vault.proofs.vaults.Vault.advance.Given as givens
 use Rattle.ps_vault.proofs.vaults.Vault.advance.Goals as goal
@@ -65,6 +65,14 @@ takes g c =
     adds_times c.args.context c.go_on-made.result.made c.args.self.now.schedule
     c.note_turn.new.schedule.items (noted g c)
 
+-- what holds of the program and the schedule inside
+of_story : (g : givens.Over) (c : After-note_turn g)
+    → (holds : List ℕ → List Entry → Type 0)
+    → holds c.self.inside.world.contexts.shared.program.now c.self.inside.schedule.items
+    → holds c.args.self.now.program c.args.self.now.schedule
+of_story g c holds inside =
+    subst (λ (s : Story). holds s.program s.schedule) c.self.view_is inside
+
 -- ---- nothing is told
 
 pub invariant_of-self : goal.invariant_of-self
@@ -93,6 +101,16 @@ returns-in_default-clause-ordinary g c =
 pub returns-in_default-clause-takes : goal.returns-in_default-clause-takes
 returns-in_default-clause-takes g c =
     takes g (goal.at.returns-in_default-clause-takes g c).After-note_turn
+
+pub returns-in_default-clause-keeps : goal.returns-in_default-clause-keeps
+returns-in_default-clause-keeps g c = λ _.
+    of_story g (goal.at.returns-in_default-clause-keeps g c).After-note_turn
+    (λ p entries. NoneEnds (starting_world p) (moves entries)
+    (moves c.note_turn.new.schedule.items))
+    (rw c.note_turn.ensures.added
+    (none_ends_made c.args.context c.go_on-made.result.made _ _ c.self.inside.schedule.items
+    c.self.invariant (ready_before g (goal.at.returns-in_default-clause-keeps g c).After-go_on-made)
+    (rw c.in_default.is at c.go_on-made.ensures.makes)))
 
 -- ---- the next step was held up
 
@@ -125,6 +143,17 @@ returns-in-Err-clause-starved g c = λ _.
     (ready_before g (goal.at.returns-in-Err-clause-starved g c).After-go_on-made)
     c.in-Err.field-0 (rw (c.in-Some.is, c.in-Err.is) at c.go_on-made.ensures.makes)
     (refl {a = false}) (omega arith) (refl {a = true}))
+
+pub returns-in-Err-clause-keeps : goal.returns-in-Err-clause-keeps
+returns-in-Err-clause-keeps g c = λ _.
+    of_story g (goal.at.returns-in-Err-clause-keeps g c).After-note_turn
+    (λ p entries. NoneEnds (starting_world p) (moves entries)
+    (moves c.note_turn.new.schedule.items))
+    (rw c.note_turn.ensures.added
+    (none_ends_mid g.S.Interpret.asks c.args.context 0 c.go_on-made.result.made
+    c.in-Some.next.shown _ _ c.self.inside.schedule.items c.self.invariant
+    (ready_before g (goal.at.returns-in-Err-clause-keeps g c).After-go_on-made) (Err c.in-Err.field-0)
+    (rw (c.in-Some.is, c.in-Err.is) at c.go_on-made.ensures.makes)))
 
 -- ---- the next step was made
 
@@ -175,6 +204,29 @@ returns-clause-ends g c = λ ends.
     (ready_before g (goal.at.returns-clause-ends g c).After-go_on-made)
     c.in-Ok.told (rw (c.in-Some.is, c.in-Ok.is) at c.go_on-made.ensures.makes)
     c.kept-kept.result (c.of.ensures.ends.0 ends))
+
+pub returns-clause-keeps : goal.returns-clause-keeps
+returns-clause-keeps g c = λ goes.
+    of_story g (goal.at.returns-clause-keeps g c).After-note_turn
+    (λ p entries. NoneEnds (starting_world p) (moves entries) (moves c.note.new.schedule.items))
+    (rw (c.note.ensures.added, c.note_turn.ensures.added)
+    (none_ends_behind g.S.Interpret.asks c.args.context 0 c.go_on-made.result.made
+    c.in-Some.next.shown _ _ c.self.inside.schedule.items c.self.invariant
+    (ready_before g (goal.at.returns-clause-keeps g c).After-go_on-made)
+    c.in-Ok.told (rw (c.in-Some.is, c.in-Ok.is) at c.go_on-made.ensures.makes)
+    c.kept-kept.result (λ ends. goes (c.of.ensures.ends.1 ends))))
+
+pub returns-clause-only_last : goal.returns-clause-only_last
+returns-clause-only_last g c = λ _.
+    of_story g (goal.at.returns-clause-only_last g c).After-note_turn
+    (λ p entries. OnlyLastMayEnd (starting_world p) (moves entries)
+    (moves c.note.new.schedule.items))
+    (rw (c.note.ensures.added, c.note_turn.ensures.added)
+    (only_last_behind g.S.Interpret.asks c.args.context 0 c.go_on-made.result.made
+    c.in-Some.next.shown _ _ c.self.inside.schedule.items c.self.invariant
+    (ready_before g (goal.at.returns-clause-only_last g c).After-go_on-made)
+    c.in-Ok.told (rw (c.in-Some.is, c.in-Ok.is) at c.go_on-made.ensures.makes)
+    c.kept-kept.result))
 
 pub returns-clause-plain : goal.returns-clause-plain
 returns-clause-plain g c = λ hides.

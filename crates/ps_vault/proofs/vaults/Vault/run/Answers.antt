@@ -4,7 +4,7 @@ use Rattle.std.specs.Prelude.{◌⊎◌}
 use Rattle.ps_language.specs.Schedules.{count_of, moves}
 use Rattle.ps_language.specs.World.{World}
 use Rattle.ps_language.specs.Worlds.{after_moves, starting_world}
-use Rattle.ps_vault.specs.Order.{IsNoneAbove, IsLeastAbove, IsOver, InOrder}
+use Rattle.ps_vault.specs.Order.{IsNoneAbove, IsLeastAbove, NoneEnds, OnlyLastMayEnd, IsOver, InOrder}
 use Rattle.ps_vault.specs.Reports.{are_ordinary}
 use Rattle.ps_vault.specs.Stories.{Story, world_at}
 use Rattle.ps_vault.proofs.Ordering.{Passing, passing_start, passing_anew, passing_order, passing_turn, turn_order, has_turn, over_turn, world_moves}
@@ -98,6 +98,19 @@ least_now g c =
     subst (λ (w : World). IsLeastAbove w c.loop-made.after c.in-Some.next)
     (world_now g (goal.at.After-turn-turn g c).After-next_ready) c.in-Some.ensures.ready
 
+program_now : (g : givens.Over) (c : After-turn-turn g)
+    → c.next_ready.new.self.program ≡ c.args.self.now.program
+program_now g c =
+    ap (λ (s : Story). s.program) c.next_ready.ensures.same ∙ c.loop-made.invariant.program
+
+only_last_now : (g : givens.Over) (c : After-turn-turn g) → 1 ≤ c.turn-turn.result.made
+    → OnlyLastMayEnd (starting_world c.args.self.now.program)
+    (moves c.next_ready.new.self.schedule) (moves c.turn-turn.new.self.schedule)
+only_last_now g c some =
+    subst (λ (p : List ℕ). OnlyLastMayEnd (starting_world p)
+    (moves c.next_ready.new.self.schedule) (moves c.turn-turn.new.self.schedule))
+    (program_now g c) (c.turn-turn.ensures.only_last some)
+
 ordered_now : (g : givens.Over) (c : After-turn-turn g) → moves c.args.self.now.schedule ≡ []
     → InOrder c.args.quantum (starting_world c.args.self.now.program)
     (moves c.turn-turn.new.self.schedule)
@@ -107,7 +120,7 @@ ordered_now g c none =
     (moves c.turn-turn.new.self.schedule)
     (passing_now g (goal.at.After-turn-turn g c).After-next_ready none c.loop-made-test.true)
     (least_now g c) c.turn-turn.ensures.takes
-    (omega (arith, c.turn-turn.ensures.within, within_quantum g c))
+    (omega (arith, c.turn-turn.ensures.within, within_quantum g c)) (only_last_now g c)
 
 passing_on : (g : givens.Over) (c : After-turn-turn g) → moves c.args.self.now.schedule ≡ []
     → c.turn-turn.result.held ≡ false
@@ -118,16 +131,15 @@ passing_on g c none free less =
     let start : World = starting_world c.args.self.now.program in
     let made = c.turn-turn.result.made in
     let steps = moves c.turn-turn.new.self.schedule in
-    let program : c.next_ready.new.self.program ≡ c.args.self.now.program =
-    ap (λ (s : Story). s.program) c.next_ready.ensures.same ∙ c.loop-made.invariant.program in
     let over : IsOver c.if-quantum-left.turn start c.in-Some.next made steps =
     subst (λ (p : List ℕ). IsOver c.if-quantum-left.turn (starting_world p) c.in-Some.next made
-    steps) program (c.turn-turn.ensures.over free) in
+    steps) (program_now g c) (c.turn-turn.ensures.over free) in
     passing_turn c.args.quantum start c.loop-made.after c.in-Some.next made
     (moves c.next_ready.new.self.schedule) steps
     (passing_now g (goal.at.After-turn-turn g c).After-next_ready none c.loop-made-test.true)
     (least_now g c) c.turn-turn.ensures.takes
-    (omega (arith, c.turn-turn.ensures.within, within_quantum g c)) (c.turn-turn.ensures.some free)
+    (omega (arith, c.turn-turn.ensures.within, within_quantum g c)) (only_last_now g c)
+    (c.turn-turn.ensures.some free)
     (over_turn c.args.quantum start c.if-quantum-left.turn c.in-Some.next made
     (c.args.steps - c.loop-made.made) steps (bound g c) (omega (arith, less)) over)
 
@@ -146,7 +158,10 @@ returns-then-turn-clause-owed g c = λ held none.
           (moves c.turn-turn.new.self.schedule)
           (passing_now g (goal.at.After-turn-turn g at).After-next_ready none
           c.loop-made-test.true) (least_now g at) c.turn-turn.ensures.takes
-          (omega (arith, less)) less,
+          (omega (arith, less)) (only_last_now g at) less
+          (subst (λ (p : List ℕ). NoneEnds (starting_world p)
+          (moves c.next_ready.new.self.schedule) (moves c.turn-turn.new.self.schedule))
+          (program_now g at) (c.turn-turn.ensures.keeps c.if-turn.true)),
       c.turn-turn.ensures.starved c.if-turn.true,
     )
 
@@ -158,15 +173,13 @@ pub loop-made-preserved : goal.loop-made-preserved
 loop-made-preserved g c =
     let at = (goal.at.loop-made-preserved g c).After-turn-turn in
     let same : c.next_ready.new.self ≡ c.loop-made.self = c.next_ready.ensures.same in
-    let program : c.next_ready.new.self.program ≡ c.args.self.now.program =
-    ap (λ (s : Story). s.program) same ∙ c.loop-made.invariant.program in
     let count : count_of c.next_ready.new.self.schedule ≡ count_of c.loop-made.self.schedule =
     ap (λ (s : Story). count_of s.schedule) same in
     let within : c.turn-turn.result.made ≤ c.args.steps - c.loop-made.made =
     omega (arith, c.turn-turn.ensures.within, within_left g at) in
     record {
       within = omega (arith, within, c.loop-made.invariant.within);
-      program = c.turn-turn.ensures.program ∙ program;
+      program = c.turn-turn.ensures.program ∙ program_now g at;
       counted = omega (arith, count, c.turn-turn.ensures.counted, c.loop-made.invariant.counted);
       ordinary = λ plain. c.turn-turn.ensures.ordinary
           (ap (λ (s : Story). are_ordinary (moves s.schedule)) same

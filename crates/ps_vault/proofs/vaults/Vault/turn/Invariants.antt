@@ -1,12 +1,13 @@
 use Rattle.std.proofs.Common.{◌≡◌, ◌≤◌, ◌+◌, ◌-◌, false, true}
 use Rattle.ps_language.specs.Locks as locks
 use Rattle.ps_language.specs.Schedules.{count_of, moves}
-use Rattle.ps_vault.specs.Order.{AddsSteps}
+use Rattle.ps_language.specs.Worlds.{starting_world}
+use Rattle.ps_vault.specs.Order.{AddsSteps, NoneEnds}
 use Rattle.ps_vault.specs.Reports.{are_ordinary}
 use Rattle.ps_vault.specs.Stories.{world_at}
 use Rattle.ps_vault.proofs.vaults.Vault.turn.Given as goal
 
--- the steps so far were made; before the first the context is ready
+-- the steps so far were made, and none ended the turn; before the first the context is ready
 abbrev pub invariant-loop-made : goal.invariant-loop-made
 invariant-loop-made g l = record {
   within : l.made ≤ l.most;
@@ -15,6 +16,8 @@ invariant-loop-made g l = record {
   ordinary : are_ordinary (moves l.fn.self.schedule) ≡ true
       → are_ordinary (moves l.self.schedule) ≡ true;
   takes : AddsSteps l.context l.made (moves l.fn.self.schedule) (moves l.self.schedule);
+  keeps : NoneEnds (starting_world l.fn.self.program) (moves l.fn.self.schedule)
+      (moves l.self.schedule);
   calling : l.self.is_calling ≡ false;
   first : l.made ≡ 0 → locks.is_ready (world_at l.self) l.context ≡ true;
 }
