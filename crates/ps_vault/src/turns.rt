@@ -48,7 +48,7 @@ impl<S: Interpret + Drop, D: Deeds + Drop> Vault<'_, S, D> {
             self.new.schedule }
     {
         let mut made = 0;
-        while made < most && self.is_ready(context) {
+        loop {
             if self.reserve_entries().is_err() {
                 return Turn { made, held: true };
             }
@@ -59,8 +59,13 @@ impl<S: Interpret + Drop, D: Deeds + Drop> Vault<'_, S, D> {
                 Told::TurnEnds => return Turn { made, held: false },
                 Told::HeldUp => return Turn { made, held: true },
             }
+            if made == most {
+                return Turn { made, held: false };
+            }
+            if !self.is_ready(context) {
+                return Turn { made, held: false };
+            }
         }
-        Turn { made, held: false }
     }
 
     /// The ready context of the least identifier above another.

@@ -1,4 +1,4 @@
-use Rattle.std.proofs.Common.{◌≡◌, ◌≤◌, ◌+◌, ◌-◌, false, true}
+use Rattle.std.proofs.Common.{◌≡◌, ◌<◌, ◌+◌, ◌-◌, false, true}
 use Rattle.ps_language.specs.Locks as locks
 use Rattle.ps_language.specs.Schedules.{count_of, moves}
 use Rattle.ps_language.specs.Worlds.{starting_world}
@@ -7,10 +7,10 @@ use Rattle.ps_vault.specs.Reports.{are_ordinary}
 use Rattle.ps_vault.specs.Stories.{world_at}
 use Rattle.ps_vault.proofs.vaults.Vault.turn.Given as goal
 
--- the steps so far were made, and none ended the turn; before the first the context is ready
-abbrev pub invariant-loop-made : goal.invariant-loop-made
-invariant-loop-made g l = record {
-  within : l.made ≤ l.most;
+-- the steps so far were made, none ended the turn, and the context is ready
+abbrev pub invariant-loop-context : goal.invariant-loop-context
+invariant-loop-context g l = record {
+  within : l.made < l.most;
   program : l.self.program ≡ l.fn.self.program;
   counted : count_of l.self.schedule ≡ count_of l.fn.self.schedule + l.made;
   ordinary : are_ordinary (moves l.fn.self.schedule) ≡ true
@@ -19,8 +19,8 @@ invariant-loop-made g l = record {
   keeps : NoneEnds (starting_world l.fn.self.program) (moves l.fn.self.schedule)
       (moves l.self.schedule);
   calling : l.self.is_calling ≡ false;
-  first : l.made ≡ 0 → locks.is_ready (world_at l.self) l.context ≡ true;
+  ready : locks.is_ready (world_at l.self) l.context ≡ true;
 }
 
-abbrev pub decreases-loop-made : goal.decreases-loop-made
-decreases-loop-made g l = l.most - l.made
+abbrev pub decreases-loop-context : goal.decreases-loop-context
+decreases-loop-context g l = l.most - l.made
