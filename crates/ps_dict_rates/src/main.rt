@@ -1,12 +1,14 @@
 //! Makes dictionaries by puts, looks up each of their keys, and prints how many it found; with a
-//! number of rounds it tells the times too.
+//! number of rounds it tells the times too. What their index is, is told by rows (`index_rows`).
 #![tactic(auto)]
 
 mod rates;
+mod rows;
 
 use anyhow::Result;
 
 fn main(rt: HostRuntime) -> Result<()> {
+    rows::index_rows();
     let words = std::env::args(&rt)?;
     let rounds = words
         .skip(1)
