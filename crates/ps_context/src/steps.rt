@@ -14,7 +14,7 @@ use ps_turns::turned::Turned;
 use ps_values::operates::Operate;
 
 /// Makes the steps of contexts by these operators.
-#[derive(Debug, Drop)]
+#[derive(Clone, Debug, Drop)]
 pub struct Steps<O> {
     pub operators: O,
     /// What a string that is executed is read into; it keeps its room.

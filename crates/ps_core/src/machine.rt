@@ -19,7 +19,7 @@ use ps_core_parts::events::{Event, Roots};
 use ps_core_parts::lists::{load, load_field, same_logs, store, store_field};
 use ps_core_seats::collector::Collector;
 use ps_core_seats::mutator::Mutator;
-use ps_record::{Record, SPACES_START, ring_place};
+use ps_record::{Record, SLOTS, SPACES_START, ring_place};
 use std::alloc::{AllocError, Global};
 use std::marker::Model;
 
@@ -77,7 +77,7 @@ impl Machine {
     }
 
     fn finds_record(&self, slot: u64, word: u64) -> bool
-        requires { slot < 32 }
+        requires { slot < SLOTS }
         ensures { Decides result (BothMay self.now.words self.now.vm self.now.gc
             (TakeLoad slot word)) }
     {
@@ -155,7 +155,7 @@ impl Machine {
     }
 
     fn log(&mut self, slot: u64, logged: Record) -> Result<(), AllocError>
-        requires slot { slot < 32 }
+        requires slot { slot < SLOTS }
         requires logs { slot < length self.old.vm.logs }
         requires fits { layout.IsRecord logged }
         ensures { OnOk result (self.new ≡ happens self.old (RecordStore slot logged)) }

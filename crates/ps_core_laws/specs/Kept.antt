@@ -2,7 +2,7 @@
 use Rattle.std.specs.Prelude.{◌≡◌, ◌≢◌, ℕ, ◌+◌, ◌^◌, ◌<◌, ◌≤◌, ◌==◌, true, false, List, length, Some, None, MatchBool, MatchOption, slice_get, slice_index}
 use Rattle.ps_word.specs.Headers.{kind_in, birth_in}
 use Rattle.ps_record.specs.declared.Record.{Record}
-use Rattle.ps_record.specs.Format.{ring_place, lap_in, lap_of, IsRecord}
+use Rattle.ps_record.specs.Format.{slots, ring_length, ring_place, lap_in, lap_of, IsRecord}
 use Rattle.ps_core_parts.specs.declared.events.Object.{Object}
 use Rattle.ps_core_parts.specs.declared.events.Carried.{Carried}
 use Rattle.ps_core_parts.specs.declared.events.Half.{Half}
@@ -41,20 +41,20 @@ abbrev pub IsNumbered : State → ℕ → Type 0
 IsNumbered s header = MatchBool (kind_in header == 11)
     (HasDictionary s.vm.objects (birth_in header)) (birth_in header ≡ s.vm.next_birth)
 
--- the slot's log: the head last loaded is within it and at most 256 records behind; it was closed
+-- the slot's log: the head last loaded is within it and at most a ring behind; it was closed
 -- in each cycle that was flipped, at most once in the open one; its records are of the format
 pub record LogKept (v : Vm) (slot : ℕ) : Type 0 where
   pub seen : slice_index v.heads slot ≤ length (log_of v.logs slot)
-  pub room : length (log_of v.logs slot) ≤ slice_index v.heads slot + 256
+  pub room : length (log_of v.logs slot) ≤ slice_index v.heads slot + ring_length
   pub short : length (log_of v.logs slot) ≤ 2 ^ 63
   pub flipped : v.cycle ≤ closes (log_of v.logs slot)
   pub opened : closes (log_of v.logs slot) ≤ v.epoch
   pub records : (k : ℕ) (r : Record) → slice_get (log_of v.logs slot) k ≡ Some r → IsRecord r
 
 pub record LogsKept (v : Vm) : Type 0 where
-  pub heads : length v.heads ≡ 32
-  pub logs : length v.logs ≡ 32
-  pub each : (slot : ℕ) → slot < 32 → LogKept v slot
+  pub heads : length v.heads ≡ slots
+  pub logs : length v.logs ≡ slots
+  pub each : (slot : ℕ) → slot < slots → LogKept v slot
 
 -- where an object is being made, its cleared words are in the space, behind what stands
 abbrev pub IsMaking : Vm → Type 0
@@ -86,7 +86,7 @@ HeadersKept g = (a header : ℕ) → seen_at g.headers a ≡ Some header → IsH
 
 -- the record being taken is one of the format, and has a slot
 abbrev pub TakingKept : Gc → Type 0
-TakingKept g = (h : Half) → g.taking ≡ Some h → (h.slot < 32) × IsRecord h.what
+TakingKept g = (h : Half) → g.taking ≡ Some h → (h.slot < slots) × IsRecord h.what
 
 -- the place being copied is a field of an original
 abbrev pub CopyingKept : Gc → Type 0
@@ -95,7 +95,7 @@ CopyingKept g = (k : Carried) → g.copying ≡ Some k → IsPairField g k.addre
 pub record GcKnows (g : Gc) : Type 0 where
   pub size : IsSpace g.space
   pub cycles : CycleKept g.cycle g.epoch
-  pub taken : length g.taken ≡ 32
+  pub taken : length g.taken ≡ slots
   pub taking : TakingKept g
   pub copying : CopyingKept g
   pub known : KnownLie g
@@ -112,8 +112,8 @@ IsNext s h = slice_get (log_of s.vm.logs h.slot) (length (log_of s.gc.taken h.sl
 
 -- a ring place that has yet to be written has the other lap bit
 abbrev pub Unwritten : State → Type 0
-Unwritten s = (slot k : ℕ) → slot < 32 → length (log_of s.vm.logs slot) ≤ k
-    → k < length (log_of s.vm.logs slot) + 256
+Unwritten s = (slot k : ℕ) → slot < slots → length (log_of s.vm.logs slot) ≤ k
+    → k < length (log_of s.vm.logs slot) + ring_length
     → lap_in (slice_index s.words (ring_place slot k)) ≢ lap_of k
 
 -- what was named in this cycle stands, and isn't new
@@ -134,7 +134,7 @@ pub record PartsMeet (s : State) : Type 0 where
   pub space : s.gc.space ≡ s.vm.space
   pub cycle : s.gc.cycle ≡ s.vm.cycle
   pub epoch : s.gc.epoch ≤ s.vm.epoch
-  pub heads : (slot : ℕ) → slot < 32 → slice_index s.vm.heads slot ≤ length (log_of s.gc.taken slot)
+  pub heads : (slot : ℕ) → slot < slots → slice_index s.vm.heads slot ≤ length (log_of s.gc.taken slot)
   pub next : (h : Half) → s.gc.taking ≡ Some h → IsNext s h
   pub unwritten : Unwritten s
   pub known : KnownStand s

@@ -2,7 +2,7 @@
 use Rattle.std.specs.Prelude.{◌≡◌, ◌≢◌, ◌⊎◌, ℕ, ◌+◌, ◌<◌, ◌≤◌, true, false, List, [], ◌∷◌, ◌++◌, length, drop, map, Option, Some, None, MatchOption, slice_get, slice_index, slice_index_or}
 use Rattle.ps_word.specs.Headers.{cycle_in}
 use Rattle.ps_record.specs.declared.Record.{Record}
-use Rattle.ps_record.specs.Format.{ring_place, packed}
+use Rattle.ps_record.specs.Format.{slots, ring_length, ring_place, packed}
 use Rattle.ps_core_parts.specs.declared.events.Event.{Event}
 use Rattle.ps_core_parts.specs.declared.events.Event.TheVariants.{CycleStore}
 use Rattle.ps_core_parts.specs.declared.events.Object.{Object}
@@ -86,7 +86,7 @@ IsBeginningOf xs ys = (rest : List Record) × (ys ≡ xs ++ rest)
 
 -- each record once, in order: equal records at two positions are two
 abbrev pub TakenBegins : State → Type 0
-TakenBegins s = (slot : ℕ) → slot < 32
+TakenBegins s = (slot : ℕ) → slot < slots
     → IsBeginningOf (log_of s.gc.taken slot) (log_of s.vm.logs slot)
 
 -- in the open cycle
@@ -111,8 +111,8 @@ IsOld s a = among s.vm.fresh a ≡ false
 
 -- before a flip
 pub record IsReadyToFlip (s : State) (roots : List ℕ) : Type 0 where
-  pub closed : (slot : ℕ) → slot < 32 → IsClosed s slot
-  pub drained : (slot : ℕ) → slot < 32 → log_of s.gc.taken slot ≡ log_of s.vm.logs slot
+  pub closed : (slot : ℕ) → slot < slots → IsClosed s slot
+  pub drained : (slot : ℕ) → slot < slots → log_of s.gc.taken slot ≡ log_of s.vm.logs slot
   pub filled : all_filled s.gc.pairs ≡ true
   pub logged : s.vm.written ≡ None
   pub copied : s.gc.copying ≡ None
@@ -154,10 +154,10 @@ pub record ShowsReplica (s : State) (p : Pair) : Type 0 where
   pub fields : (i : ℕ) → i < length p.fields → slice_index_or p.filled i false ≡ true
       → slice_index s.words (p.replica + 2 + i) ≡ slice_index p.fields i
 
--- the last 256 records of each log stand in its ring
+-- the last records of each log stand in its ring, as many as it holds
 abbrev pub ShowsRings : List ℕ → List (List Record) → Type 0
-ShowsRings words logs = (slot k : ℕ) (r : Record) → slot < 32
-    → slice_get (log_of logs slot) k ≡ Some r → length (log_of logs slot) ≤ k + 256
+ShowsRings words logs = (slot k : ℕ) (r : Record) → slot < slots
+    → slice_get (log_of logs slot) k ≡ Some r → length (log_of logs slot) ≤ k + ring_length
     → slice_index words (ring_place slot k) ≡ packed k r
 
 -- the words follow from the two parts: control words, rings, standing objects and replicas
@@ -165,7 +165,7 @@ pub record WordsFollow (s : State) : Type 0 where
   pub table : length s.words ≡ table_size s.vm.space
   pub cycle : slice_index s.words 0 ≡ s.vm.cycle
   pub epoch : slice_index s.words 1 ≡ s.vm.epoch
-  pub heads : (slot : ℕ) → slot < 32
+  pub heads : (slot : ℕ) → slot < slots
       → slice_index s.words (2 + slot) ≡ length (log_of s.gc.taken slot)
   pub rings : ShowsRings s.words s.vm.logs
   pub objects : (a : ℕ) (o : Object) → object_at s.vm.objects a ≡ Some o → ShowsObject s o

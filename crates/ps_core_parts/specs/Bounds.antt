@@ -1,6 +1,7 @@
 -- How large the numbers of a state are, so that the machine's sums don't wrap.
 use Rattle.std.specs.Prelude.{◌≤◌, ◌<◌, ◌^◌, ◌+◌, ℕ, Option, Some, None}
 use Rattle.std.specs.Prelude.{Bool, List, length, ◌≡◌}
+use Rattle.ps_record.specs.Format.{slots}
 use Rattle.ps_core_parts.specs.declared.events.Pair.{Pair}
 use Rattle.ps_core_parts.specs.declared.events.Event.{Event}
 use Rattle.ps_core_parts.specs.declared.events.Event.TheVariants.{FieldStore, RecordStore, ForwardStore, HeadStore, CycleStore}
@@ -42,7 +43,7 @@ pub record GcBounded (g : Gc) : Type 0 where
 -- the record being taken has a slot
 abbrev pub HasSlot : Gc → Option Half → Type 0
 HasSlot g None = Unit {0}
-HasSlot g (Some h) = (h.slot < 32) × (h.slot < length g.taken)
+HasSlot g (Some h) = (h.slot < slots) × (h.slot < length g.taken)
 
 abbrev pub IsSlot : Gc → Type 0
 IsSlot g = HasSlot g g.taking

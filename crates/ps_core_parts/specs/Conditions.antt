@@ -6,7 +6,7 @@ use Rattle.std.specs.List.{list_any}
 use Rattle.ps_word.specs.Headers.{kind_in, fields_in, birth_in}
 use Rattle.ps_record.specs.declared.Record.{Record}
 use Rattle.ps_record.specs.declared.Record.TheVariants.{Place, Close}
-use Rattle.ps_record.specs.Format.{ring_place, IsRecord}
+use Rattle.ps_record.specs.Format.{slots, ring_length, ring_place, IsRecord}
 use Rattle.ps_core_parts.specs.declared.events.Event.{Event}
 use Rattle.ps_core_parts.specs.declared.events.Event.TheVariants.{VmLoad, GcLoad, TakeLoad, CopyLoad, HandOver, ClearStore, HeaderStore, FieldStore, RecordStore, EpochStore, ReplicaHeaderStore, ReplicaFieldStore, ForwardStore, HeadStore, CycleStore}
 use Rattle.ps_core_parts.specs.declared.events.Object.{Object}
@@ -55,7 +55,7 @@ IsNamed written Close = Unit {0}
 
 -- the slot's ring has a free place, by its head as it was last loaded
 abbrev pub HasRoom : Vm → ℕ → Type 0
-HasRoom v slot = length (log_of v.logs slot) < slice_index v.heads slot + 256
+HasRoom v slot = length (log_of v.logs slot) < slice_index v.heads slot + ring_length
 
 -- the number of the slot's next record has 63 bits
 abbrev pub HasNumber : Vm → ℕ → Type 0
@@ -63,7 +63,7 @@ HasNumber v slot = length (log_of v.logs slot) < 2 ^ 63
 
 -- in an open cycle a log that isn't closed gets a record
 pub record CanLog (v : Vm) (slot : ℕ) (r : Record) : Type 0 where
-  pub in_range : slot < 32
+  pub in_range : slot < slots
   pub opened : is_open v ≡ true
   pub not_closed : closes (log_of v.logs slot) ≢ v.epoch
   pub room : HasRoom v slot
@@ -73,7 +73,7 @@ pub record CanLog (v : Vm) (slot : ℕ) (r : Record) : Type 0 where
 
 -- each log is closed in the open cycle
 abbrev pub AllClosed : Vm → Type 0
-AllClosed v = (slot : ℕ) → slot < 32 → closes (log_of v.logs slot) ≡ v.epoch
+AllClosed v = (slot : ℕ) → slot < slots → closes (log_of v.logs slot) ≡ v.epoch
 
 -- what the mutator's seat has to know of its own part
 abbrev pub VmMay : Vm → Event → Type 0
@@ -113,7 +113,7 @@ IsPairField g a i = MatchOption (pair_of g.pairs a) ⊥ (λ p. i < length p.fiel
 -- what the collector's seat has to know of its own part
 abbrev pub GcMay : Gc → Event → Type 0
 GcMay g (GcLoad place word) = place < table_size g.space
-GcMay g (TakeLoad slot word) = (slot < 32) × (g.taking ≡ None)
+GcMay g (TakeLoad slot word) = (slot < slots) × (g.taking ≡ None)
 GcMay g (CopyLoad a i word) = (g.copying ≡ None) × IsPairField g a i
 GcMay g (ReplicaHeaderStore place word) = (other_base g.space g.cycle ≤ place)
     × (place < other_base g.space g.cycle + g.space) × (is_in_replica g.pairs place ≡ false)

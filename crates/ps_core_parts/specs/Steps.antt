@@ -4,7 +4,7 @@ use Rattle.std.specs.Prelude.{ℕ, ◌+◌, ◌-◌, ◌*◌, ◌%◌, ◌==◌,
 use Rattle.ps_word.specs.Headers.{kind_in, fields_in, forward_packed}
 use Rattle.ps_record.specs.declared.Record.{Record}
 use Rattle.ps_record.specs.declared.Record.TheVariants.{Place, Close}
-use Rattle.ps_record.specs.Format.{spaces_start, ring_place, packed, read_record}
+use Rattle.ps_record.specs.Format.{slots, spaces_start, ring_place, packed, read_record}
 use Rattle.ps_core_parts.specs.declared.events.Event.{Event}
 use Rattle.ps_core_parts.specs.declared.events.Event.TheVariants.{VmLoad, GcLoad, TakeLoad, CopyLoad, HandOver, ClearStore, HeaderStore, FieldStore, RecordStore, EpochStore, ReplicaHeaderStore, ReplicaFieldStore, ForwardStore, HeadStore, CycleStore}
 use Rattle.ps_core_parts.specs.declared.events.Object.{Object}
@@ -41,8 +41,8 @@ start space = record {
     space = space;
     cycle = 0;
     epoch = 0;
-    heads = replicate 32 0;
-    logs = replicate 32 [];
+    heads = replicate slots 0;
+    logs = replicate slots [];
     written = None;
     objects = [];
     fresh = [];
@@ -56,7 +56,7 @@ start space = record {
     space = space;
     cycle = 0;
     epoch = 0;
-    taken = replicate 32 [];
+    taken = replicate slots [];
     taking = None;
     copying = None;
     pairs = [];

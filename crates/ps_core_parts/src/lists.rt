@@ -6,11 +6,13 @@
 
 ghost use Rattle.std.specs.Prelude.{◌≡◌, ◌+◌, ◌<◌, ◌^◌, ◌++◌, replicate, slice_set, IfOk, [], slice_index, option_copied, MatchBool};
 ghost use Rattle.std.specs.Option.{SomeIff};
+ghost use Rattle.ps_record.specs.Format.{slots};
 ghost use Rattle.ps_core_parts.specs.Conditions as conditions;
 ghost use Rattle.ps_core_parts.specs.Objects as objects;
 
 use crate::events::Seen;
 use crate::parts::{Log, Replica, StandingObject};
+use ps_record::SLOTS;
 use std::alloc::{AllocError, Global};
 
 /// Whether the address is in the list.
@@ -118,12 +120,12 @@ pub fn dictionary_stands(list: &[StandingObject], birth: u64) -> bool
     list.iter().any(|o| o.header() / (1 << 60) == 8 && o.header() % (1 << 40) == birth)
 }
 
-/// A log with no record for each of the 32 slots.
+/// A log with no record for each slot.
 pub fn empty_logs(alloc: Global) -> Result<Vec<Log, Global>, AllocError>
-    ensures { IfOk result (λ v. v.items ≡ replicate 32 []) }
+    ensures { IfOk result (λ v. v.items ≡ replicate slots []) }
 {
-    let mut logs = Vec::with_capacity(alloc, 32)?;
-    for _ in 0..32u64 {
+    let mut logs = Vec::with_capacity(alloc, SLOTS as usize)?;
+    for _ in 0..SLOTS {
         logs.push(Log::new(alloc))?;
     }
     Ok(logs)

@@ -27,7 +27,7 @@ use ps_core_parts::lists::{
     with_front,
 };
 use ps_core_parts::parts::{Log, Replica, fields_in};
-use ps_record::SPACES_START;
+use ps_record::{SLOTS, SPACES_START};
 use std::alloc::{AllocError, Global};
 use std::marker::Model;
 use std::mem;
@@ -224,7 +224,7 @@ impl Collector {
     {
         match event {
             Event::GcLoad { place, .. } => *place < SPACES_START + 2 * self.space,
-            Event::TakeLoad { slot, .. } => *slot < 32 && self.taking.is_none(),
+            Event::TakeLoad { slot, .. } => *slot < SLOTS && self.taking.is_none(),
             Event::CopyLoad { address, field, .. } => self.copying.is_none()
                 && self.is_pair_field(*address, *field),
             Event::ReplicaHeaderStore { place, .. } => self.can_place(*place),

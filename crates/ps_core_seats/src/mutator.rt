@@ -21,7 +21,7 @@ use ps_core_parts::lists::{
     object_at, replicas, store, with_field,
 };
 use ps_core_parts::parts::{Log, Replica, StandingObject, fields_in};
-use ps_record::{Record, SPACES_START};
+use ps_record::{RING, Record, SLOTS, SPACES_START};
 use std::alloc::{AllocError, Global};
 use std::marker::Model;
 use std::mem;
@@ -75,7 +75,7 @@ impl Mutator {
             space,
             cycle: 0,
             epoch: 0,
-            heads: Vec::from_elem(alloc, 0u64, 32)?,
+            heads: Vec::from_elem(alloc, 0u64, SLOTS as usize)?,
             logs: empty_logs(alloc)?,
             written: None,
             objects: Vec::new(alloc),
@@ -128,7 +128,7 @@ impl Mutator {
         ensures { Decides result (HasRoom self.now slot) }
     {
         let length = self.log_length(slot);
-        length < 256 || length - 256 < load(self.heads.as_slice(), slot)
+        length < RING || length - RING < load(self.heads.as_slice(), slot)
     }
 
     /// Whether the number of the slot's next record has 63 bits.
@@ -197,7 +197,7 @@ impl Mutator {
     fn can_log(&self, slot: u64, logged: Record) -> bool
         ensures { Decides result (conditions.CanLog self.now slot logged) }
     {
-        slot < 32
+        slot < SLOTS
             && self.is_open()
             && !self.is_closed(slot)
             && self.has_room(slot)

@@ -31,7 +31,7 @@ pub fn is_reference(word: u64) -> bool
 pub fn address_in(word: u64) -> u64
     ensures { result ≡ format.address_in word }
 {
-    (word / (1 << 32)) % (1 << 24)
+    Word(word).low_address() as u64
 }
 
 /// Whether the reference, if it is one, names a standing object.
@@ -103,15 +103,6 @@ pub fn addresses_named(alloc: Global, words: &[u64]) -> Result<Vec<u64, Global>,
         .collect(alloc)
 }
 
-/// The reference with another address, below 2^24.
-#[tactic(auto, unfolding(ps_word::specs::Readers::readdressed))]
-fn readdressed(word: u64, address: u64) -> u64
-    requires { address < 2 ^ 24 }
-    ensures { result ≡ readers.readdressed word address }
-{
-    (word / (1 << 56)) * (1 << 56) + address * (1 << 32) + word % (1 << 32)
-}
-
 /// A value where a reference to an original becomes one to its replica.
 pub fn renamed_value(list: &[Replica], word: u64) -> u64
     requires { AllLow list.now }
@@ -122,7 +113,7 @@ pub fn renamed_value(list: &[Replica], word: u64) -> u64
     }
     match pair_of(list, address_in(word)) {
         None => word,
-        Some(p) => readdressed(word, p.replica()),
+        Some(p) => Word(word).readdressed(p.replica() as u32).0,
     }
 }
 

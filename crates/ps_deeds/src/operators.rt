@@ -20,7 +20,7 @@ use ps_world::notes::Note;
 use std::alloc::Global;
 
 /// Who does them; the stacks of a new context have their room from this allocator.
-#[derive(Drop)]
+#[derive(Clone, Copy)]
 pub struct WorldOperators {
     pub alloc: Global,
 }

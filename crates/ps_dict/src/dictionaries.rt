@@ -27,14 +27,6 @@ pub(crate) const ACCESS: u32 = 2;
 
 pub(crate) const BODY: u32 = 3;
 
-/// The low 32 bits of a word are a natural number's.
-const NATURAL: u64 = 1 << 32;
-
-/// An address stands in 24 bits of a word, from bit 32 on.
-const ADDRESS: u64 = 1 << 32;
-
-const ADDRESSES: u64 = 1 << 24;
-
 /// The natural number in a field: in a sound memory it needs no test of its type.
 #[inline(always)]
 fn natural<M: Memory>(memory: &mut M, address: u32, place: u32) -> u32
@@ -45,7 +37,7 @@ fn natural<M: Memory>(memory: &mut M, address: u32, place: u32) -> u32
     ensures grants { M.grants memory.new ≡ M.grants memory.old }
     ensures value { result ≡ natural_in (fields_at (M.heap memory.old) address) place }
 {
-    (memory.load(address, place).0 % NATURAL) as u32
+    memory.load(address, place).low_natural()
 }
 
 /// How many pairs a dictionary has (PLRM2, 8 'length'). A sound memory has at most 2^31 - 1.
@@ -113,7 +105,7 @@ pub(crate) fn body<M: Memory>(memory: &mut M, address: u32) -> u32
     ensures grants { M.grants memory.new ≡ M.grants memory.old }
     ensures words { result ≡ body_at (M.heap memory.old) address }
 {
-    ((memory.load(address, BODY).0 / ADDRESS) % ADDRESSES) as u32
+    memory.load(address, BODY).low_address()
 }
 
 /// The place of the first pair whose key is the same, counted from 0 in the order of insertion. In

@@ -96,7 +96,7 @@ module _ (now : World) (identifier : ℕ) (refused : Bool) (shown : Option (ℤ 
       (turn_as-keeps (around_of now.program (machine_of now context)) context.status context.frames
       (scene_of (machine_of now context)))
 
-stepped-alike : (now : World) (identifier : ℕ) (refused : Bool) (shown : Option (ℤ × ℤ))
+pub stepped-alike : (now : World) (identifier : ℕ) (refused : Bool) (shown : Option (ℤ × ℤ))
     → AreAlike (stepped now identifier refused None) (stepped now identifier refused shown)
 unfolding stepped
 stepped-alike now identifier refused shown =
@@ -114,7 +114,7 @@ stepped-alike now identifier refused shown =
     by true None = one
     by true (Some context) = moved-alike now identifier refused shown context.status context
 
-kept-same : (now : World) (identifier : ℕ) (refused : Bool) (shown : Option (ℤ × ℤ)) (a b : Stepped)
+pub kept-same : (now : World) (identifier : ℕ) (refused : Bool) (shown : Option (ℤ × ℤ)) (a b : Stepped)
     → AreAlike a b → stepped now identifier refused None ≡ a
     → stepped now identifier refused shown ≡ b
     → stepped now identifier refused (kept_pair b.note shown) ≡ b

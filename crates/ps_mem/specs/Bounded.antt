@@ -1,5 +1,6 @@
 -- The space of a memory that is bounded, and what it grants.
 use Rattle.std.specs.Prelude.{ℕ, ◌-◌, ◌^◌, Bool, true, false, ◌&&◌, List, nat_le, ◌≡◌, replicate, slice_index, slice_index_or, if◌then◌else◌}
+use Rattle.ps_record.specs.Format.{slots, ring_length}
 use Rattle.ps_mem.specs.Heap.{Space, Grants, birth_limit}
 
 abbrev pub bounded_space : ℕ → Space
@@ -36,24 +37,24 @@ bounded_grants size used next fresh_from logs = record {
   closed = is_closed logs;
 }
 
--- outside a cycle, and at its opening: there are 256 places in the log of each of 32 slots, and no
--- record was put
+-- outside a cycle, and at its opening: the log of each slot has the places of a ring, and no record
+-- was put
 abbrev pub no_logs : Logs
 no_logs = record {
   cycle_open = false;
-  places = replicate 32 256;
-  put = replicate 32 0;
+  places = replicate slots ring_length;
+  put = replicate slots 0;
   closed =
-      replicate 32 false;
+      replicate slots false;
 }
 
 abbrev pub open_logs : Logs
 open_logs = record {
   cycle_open = true;
-  places = replicate 32 256;
-  put = replicate 32 0;
+  places = replicate slots ring_length;
+  put = replicate slots 0;
   closed =
-      replicate 32 false;
+      replicate slots false;
 }
 
 -- what was granted stays, but for the logs

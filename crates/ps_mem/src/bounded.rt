@@ -27,9 +27,9 @@ pub struct BoundedMemory {
     size: u32,
     fresh_from: u32,
     cycle_open: bool,
-    places: [u32; 32],
-    put: [u32; 32],
-    closed: [bool; 32],
+    places: [u32; SLOTS as usize],
+    put: [u32; SLOTS as usize],
+    closed: [bool; SLOTS as usize],
     ghost sized: { size ≤ length region.words },
     ghost filled: { region.used ≤ size },
     ghost fresh_within: { fresh_from ≤ region.used },
@@ -51,9 +51,9 @@ impl BoundedMemory {
             size,
             fresh_from: 0,
             cycle_open: false,
-            places: [RING; 32],
-            put: [0; 32],
-            closed: [false; 32],
+            places: [RING; SLOTS as usize],
+            put: [0; SLOTS as usize],
+            closed: [false; SLOTS as usize],
         })
     }
 
@@ -66,9 +66,9 @@ impl BoundedMemory {
         ensures open { self.new.cycle_open ≡ true }
     {
         self.cycle_open = true;
-        self.places = [RING; 32];
-        self.put = [0; 32];
-        self.closed = [false; 32];
+        self.places = [RING; SLOTS as usize];
+        self.put = [0; SLOTS as usize];
+        self.closed = [false; SLOTS as usize];
     }
 
     /// Ends the cycle.
@@ -80,7 +80,7 @@ impl BoundedMemory {
         ensures over { self.new.cycle_open ≡ false }
     {
         self.cycle_open = false;
-        self.put = [0; 32];
+        self.put = [0; SLOTS as usize];
     }
 
     /// Whether a cycle is open.

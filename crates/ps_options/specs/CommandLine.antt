@@ -8,10 +8,13 @@ use Rattle.clap.specs.declared.builder.action.ArgAction.TheVariants.{SetTrue}
 use Rattle.clap.specs.declared.error.kind.ErrorKind.TheVariants.{ArgumentConflict}
 use Rattle.clap.specs.declared.builder.value_parser.ValueParser.TheVariants.{Unsigned}
 
--- an option with a value, and its text where it is left out
+-- an option with a value
+abbrev pub valued_rule : Text → Rule
+valued_rule name = record (new_rule name) { long = Some name; value_names = 1 }
+
+-- and its text where it is left out
 abbrev pub option_rule : Text → Text → Rule
-option_rule name default =
-    record (new_rule name) { long = Some name; value_names = 1; defaults = default ∷ [] }
+option_rule name default = record (valued_rule name) { defaults = default ∷ [] }
 
 -- a number from least to most
 abbrev pub within : Rule → ℕ → ℕ → Rule
@@ -23,10 +26,6 @@ number_rule name default least most = within (option_rule name default) least mo
 -- an option without a value
 abbrev pub flag_rule : Text → Rule
 flag_rule name = record (new_rule name) { long = Some name; action = Some SetTrue }
-
--- an option with the name of a file
-abbrev pub file_option_rule : Text → Rule
-file_option_rule name = record (new_rule name) { long = Some name; value_names = 1 }
 
 -- the program's file, which must be there
 abbrev pub file_rule : Rule
@@ -47,10 +46,11 @@ with_limits app = with_rule
 abbrev pub with_flags : App → App
 with_flags app = with_rule (with_rule app (flag_rule (codes "plain"))) (flag_rule (codes "stats"))
 
--- the files of schedules
+-- the schedules: the files that have them, and how many are chosen by chance
 abbrev pub with_schedules : App → App
 with_schedules app = with_rule
-    (with_rule app (file_option_rule (codes "record"))) (file_option_rule (codes "replay"))
+    (with_rule (with_rule app (valued_rule (codes "record"))) (valued_rule (codes "replay")))
+    (within (valued_rule (codes "explore")) 1 65535)
 
 abbrev pub nameless : App → App
 nameless app = record app { top = record app.top { no_binary_name = true } }
@@ -64,7 +64,7 @@ command_line = with_rule (with_schedules (with_flags
 abbrev pub file_in : List Text → Text
 file_in words = unwrap_or (first_of (codes "FILE") (matches_of command_line words)) []
 
--- the first text of an option in such words, as the name of a schedule's file
+-- the first text of an option in such words, such as the name of a schedule's file
 abbrev pub named_in : Text → List Text → Option Text
 named_in name words = first_of name (matches_of command_line words)
 
@@ -74,12 +74,13 @@ is_set None = false
 is_set (Some text) = bytes_eq text (codes "true")
 
 -- a schedule is given, and something with which none can be
-abbrev pub excludes : (replay plain recorded : Option Text) → Bool
-excludes replay plain recorded = is_some replay && (is_set plain || is_some recorded)
+abbrev pub excludes : (replay plain recorded explored : Option Text) → Bool
+excludes replay plain recorded explored =
+    is_some replay && (is_set plain || is_some recorded || is_some explored)
 
 abbrev pub is_excluded : List Text → Bool
 is_excluded words = excludes (named_in (codes "replay") words) (named_in (codes "plain") words)
-    (named_in (codes "record") words)
+    (named_in (codes "record") words) (named_in (codes "explore") words)
 
 -- the faults of such words: those by the rules, or that a schedule is excluded
 abbrev pub faults_in : List Text → Kinds
@@ -111,6 +112,12 @@ pub record AreNumbers (words : List Text) (numbers : Numbers) : Type 0 where
   pub workers : IsNumber (codes "workers") words numbers.workers
   pub quantum : IsNumber (codes "quantum") words numbers.quantum
   pub steps : IsNumber (codes "steps") words numbers.steps
+
+-- how many schedules are chosen by chance, as such words ask for it
+abbrev pub IsExplored : List Text → Option ℕ → Type 0
+IsExplored words None = named_in (codes "explore") words ≡ None
+IsExplored words (Some count) =
+    (is_some (named_in (codes "explore") words) ≡ true) × IsNumber (codes "explore") words count
 
 -- whether a flag stands in such words, by its text
 pub record IsFlag (name : Text) (words : List Text) (truth : Bool) : Type 0 where

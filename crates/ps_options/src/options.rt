@@ -1,6 +1,6 @@
 //! The command line.
 
-ghost use Rattle.std.specs.Prelude.{◌≡◌, Some, true, false, codes, map, IfOk};
+ghost use Rattle.std.specs.Prelude.{◌≡◌, ◌≤◌, Some, true, false, codes, map, IfOk, IfSome};
 ghost use Rattle.std.specs.Option.{option_map};
 ghost use Rattle.clap.specs.Words.{app_of, rule_of, with_rule, first_value, found_of, FailsBy};
 ghost use Rattle.ps_options.specs.CommandLine as spec;
@@ -11,8 +11,8 @@ use clap::{Arg, ArgAction, ArgMatches, Command, Error};
 use std::alloc::{AllocError, Global};
 
 /// What is told of a schedule that is given beside what excludes it.
-const EXCLUDED: &str =
-    "the argument '--replay <FILE>' cannot be used with '--plain' or '--record <FILE>'";
+const EXCLUDED: &str = "the argument '--replay <FILE>' cannot be used with '--plain', \
+    '--record <FILE>' or '--explore <N>'";
 
 /// What the command line asks for.
 #[derive(Debug, Drop)]
@@ -27,9 +27,13 @@ pub struct Options<'a> {
     pub steps: u32,
     /// Whether the counts are told at the end.
     pub stats: bool,
-    /// The name of the file that the schedule of the run is written to, if it is.
+    /// How many schedules the program is run under, if they are chosen by chance: from 1 to 65,535.
+    pub explore: Option<u32>,
+    /// The name of the file that the schedule of the run is written to, if it is. Where schedules
+    /// are chosen by chance, those of the endings are written, to files of this name with numbers.
     pub record_file: Option<&'a str>,
-    /// The name of the file whose schedule is followed, if one is. Nothing is recorded then.
+    /// The name of the file whose schedule is followed, if one is. Nothing is recorded then, and
+    /// nothing is chosen by chance.
     pub replay_file: Option<&'a str>,
     /// The name of the program's file.
     pub file: &'a str,
@@ -95,17 +99,33 @@ fn with_flags<'a>(alloc: Global, command: Command<'a>) -> Result<Command<'a>, Al
         ))
 }
 
-/// The files of schedules.
+/// The schedules: the files that have them, and how many are chosen by chance.
 fn with_schedules<'a>(alloc: Global, command: Command<'a>) -> Result<Command<'a>, AllocError>
     ensures { IfOk result (λ made. app_of made ≡ spec.with_schedules (app_of command.entry)) }
 {
+    let record = valued(
+        alloc,
+        "record",
+        "FILE",
+        "write the schedule of the run to FILE; with --explore, those of the endings to FILE.1, \
+            FILE.2, ..",
+    );
+    let replay = valued(
+        alloc,
+        "replay",
+        "FILE",
+        "make the steps of the schedule in FILE; not with --plain, --record or --explore",
+    );
+    let explore = valued(
+        alloc,
+        "explore",
+        "N",
+        "run the program under N schedules chosen by chance, and tell how many endings there were",
+    );
     command
-        .arg(file(alloc, "record", "write the schedule of the run to FILE"))?
-        .arg(file(
-            alloc,
-            "replay",
-            "make the steps of the schedule in FILE; not with --plain or --record",
-        ))
+        .arg(record)?
+        .arg(replay)?
+        .arg(within(explore, 1, 65535))
 }
 
 /// The program's file.
@@ -115,16 +135,23 @@ fn with_file<'a>(alloc: Global, command: Command<'a>) -> Result<Command<'a>, All
     command.arg(Arg::new(alloc, "FILE").help("the program").required(true))
 }
 
-/// An option with a number, of any range.
-fn number<'a>(alloc: Global, name: &'a str, default: &'a str, help: &'a str) -> Arg<'a>
-    ensures rule { rule_of result ≡ spec.option_rule name.entry.now default.entry.now }
+/// An option with a value, which the help calls `value`.
+fn valued<'a>(alloc: Global, name: &'a str, value: &'a str, help: &'a str) -> Arg<'a>
+    ensures rule { rule_of result ≡ spec.valued_rule name.entry.now }
     ensures local { result.global ≡ false }
 {
     Arg::new(alloc, name)
         .long(name)
-        .value_name("N")
-        .default_value(default)
+        .value_name(value)
         .help(help)
+}
+
+/// An option with a number, of any range, which is `default` where it is left out.
+fn number<'a>(alloc: Global, name: &'a str, default: &'a str, help: &'a str) -> Arg<'a>
+    ensures rule { rule_of result ≡ spec.option_rule name.entry.now default.entry.now }
+    ensures local { result.global ≡ false }
+{
+    valued(alloc, name, "N", help).default_value(default)
 }
 
 /// The option, with a number from `least` to `most`.
@@ -133,17 +160,6 @@ fn within<'a>(option: Arg<'a>, least: u64, most: u64) -> Arg<'a>
     ensures local { result.global ≡ option.entry.global }
 {
     option.value_parser(ValueParser::unsigned(least, most))
-}
-
-/// An option with the name of a file.
-fn file<'a>(alloc: Global, name: &'a str, help: &'a str) -> Arg<'a>
-    ensures rule { rule_of result ≡ spec.file_option_rule name.entry.now }
-    ensures local { result.global ≡ false }
-{
-    Arg::new(alloc, name)
-        .long(name)
-        .value_name("FILE")
-        .help(help)
 }
 
 /// An option without a value.
@@ -171,15 +187,18 @@ fn is_set(matches: &ArgMatches<'_>, name: &str) -> bool
 fn is_excluded(matches: &ArgMatches<'_>) -> bool
     ensures { result ≡ spec.excludes (first_value (found_of matches.now) (codes "replay"))
         (first_value (found_of matches.now) (codes "plain"))
-        (first_value (found_of matches.now) (codes "record")) }
+        (first_value (found_of matches.now) (codes "record"))
+        (first_value (found_of matches.now) (codes "explore")) }
 {
     matches.get_str("replay").is_some()
-        && (is_set(matches, "plain") || matches.get_str("record").is_some())
+        && (is_set(matches, "plain")
+            || matches.get_str("record").is_some()
+            || matches.get_str("explore").is_some())
 }
 
 /// Reads the words of a command line, without the program's name. The error is the first fault of
-/// the words by the rules of the command line, or that a schedule is given and `--plain` or
-/// `--record` stands there too, or want of memory.
+/// the words by the rules of the command line, or that a schedule is given and `--plain`,
+/// `--record` or `--explore` stands there too, or want of memory.
 pub fn parse<'a>(alloc: Global, words: &'a [&'a str]) -> Result<Options<'a>, Error>
     ensures fault { FailsBy (spec.faults_in (map (λ word. word.now) words.entry.now)) result }
     ensures file { IfOk result
@@ -203,6 +222,10 @@ pub fn parse<'a>(alloc: Global, words: &'a [&'a str]) -> Result<Options<'a>, Err
           quantum = options.quantum;
           steps = options.steps;
         })) }
+    ensures explore { IfOk result
+        (λ options. spec.IsExplored (map (λ word. word.now) words.entry.now) options.explore) }
+    ensures explore_range { IfOk result
+        (λ options. IfSome options.explore (λ count. (1 ≤ count) × (count ≤ 65535))) }
 {
     let mut line = command(alloc)?;
     let matches = line.try_get_matches_from_mut(words)?;
@@ -215,6 +238,7 @@ pub fn parse<'a>(alloc: Global, words: &'a [&'a str]) -> Result<Options<'a>, Err
         quantum: matches.get_one::<u32>("quantum").unwrap_or(100),
         steps: matches.get_one::<u32>("steps").unwrap_or(1_000_000_000),
         stats: matches.get_flag("stats"),
+        explore: matches.get_one::<u32>("explore"),
         record_file: matches.get_str("record"),
         replay_file: matches.get_str("replay"),
         file: matches.get_str("FILE").unwrap_or(""),

@@ -11,6 +11,7 @@ use Rattle.ps_mem.specs.Bounded.{bounded_space}
 use Rattle.ps_mem.specs.Objects.{kind_of_number, word_of}
 use Rattle.ps_mem.specs.References.{NamesStanding}
 use Rattle.ps_record.specs.declared.Record.TheVariants.{Place, Close}
+use Rattle.ps_record.specs.Format.{slots, ring_length}
 use Rattle.ps_core_parts.specs.declared.events.Event.{Event}
 use Rattle.ps_core_parts.specs.declared.events.Event.TheVariants.{VmLoad, ClearStore, HeaderStore, FieldStore, RecordStore, EpochStore}
 use Rattle.ps_core_parts.specs.declared.events.Vm.{Vm}
@@ -198,10 +199,10 @@ Copies v = (source place target i count : ℕ) → CanCopy v source place target
 pub record GrantsRecords (v : Vm) (slot : ℕ) : Type 0 where
   pub shut : is_shut v slot ≡ true → records_left v slot ≡ 0
   pub left : is_shut v slot ≡ false → records_left v slot + length (log_of v.logs slot)
-      ≡ min (slice_index v.heads slot + 256) (2 ^ 63)
+      ≡ min (slice_index v.heads slot + ring_length) (2 ^ 63)
 
 abbrev pub GrantsLogs : Vm → Type 0
-GrantsLogs v = (slot : ℕ) → slot < 32 → is_open v ≡ true → GrantsRecords v slot
+GrantsLogs v = (slot : ℕ) → slot < slots → is_open v ≡ true → GrantsRecords v slot
 
 -- ---- a new object
 
@@ -280,7 +281,7 @@ pub record SeesHead (v : Vm) (g : Gc) (slot n : ℕ) : Type 0 where
   pub settled : (seen v g slot n).written ≡ v.written
 
 abbrev pub SeesHeads : Vm → Type 0
-SeesHeads v = (g : Gc) (slot n : ℕ) → slot < 32 → VmFinds v (2 + slot) n → SeesHead v g slot n
+SeesHeads v = (g : Gc) (slot n : ℕ) → slot < slots → VmFinds v (2 + slot) n → SeesHead v g slot n
 
 -- in a cycle just opened no log is closed, and no object may be filled; nothing was put
 pub record AfterOpen (old new : Grants) : Type 0 where

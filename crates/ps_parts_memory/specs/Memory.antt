@@ -2,6 +2,7 @@
 use Rattle.std.specs.Prelude.{ℕ, ◌+◌, ◌-◌, ◌^◌, ◌==◌, ◌&&◌, Bool, not, nat_lt, min, length, map, slice_index, if◌then◌else◌}
 use Rattle.std.specs.Option.{option_map}
 use Rattle.ps_word.specs.Headers.{kind_in, birth_in}
+use Rattle.ps_record.specs.Format.{slots, ring_length}
 use Rattle.ps_mem.specs.Heap.{Heap, Standing, Grants, birth_limit}
 use Rattle.ps_mem.specs.Objects.{kind_of_number, word_of}
 use Rattle.ps_mem.specs.Bounded.{bounded_space}
@@ -38,8 +39,8 @@ is_shut v slot = is_open v && (closes (log_of v.logs slot) == v.epoch)
 -- in a cycle a log that isn't closed gets as many records as have a free place by the head last
 -- loaded, and no log has more than 2^63
 abbrev pub records_free : Vm → ℕ → ℕ
-records_free v slot = if nat_lt slot 32 && not (closes (log_of v.logs slot) == v.epoch)
-    then min (slice_index v.heads slot + 256) (2 ^ 63) - length (log_of v.logs slot) else 0
+records_free v slot = if nat_lt slot slots && not (closes (log_of v.logs slot) == v.epoch)
+    then min (slice_index v.heads slot + ring_length) (2 ^ 63) - length (log_of v.logs slot) else 0
 
 -- outside a cycle no record is put, and any number may be asked for
 abbrev pub records_left : Vm → ℕ → ℕ

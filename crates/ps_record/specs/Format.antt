@@ -4,9 +4,17 @@ use Rattle.std.specs.Prelude.{ℕ, ◌+◌, ◌*◌, ◌/◌, ◌%◌, ◌^◌, 
 use Rattle.ps_record.specs.declared.Record.{Record}
 use Rattle.ps_record.specs.declared.Record.TheVariants.{Place, Close}
 
+-- each context that isn't ended has a slot of these, with a log and a ring of its own
+abbrev pub slots : ℕ
+slots = 32
+
+-- how many records a ring holds
+abbrev pub ring_length : ℕ
+ring_length = 256
+
 -- the lap bit of record k, bit 63: 1 in the laps 0, 2, 4 and so on of its ring
 abbrev pub lap_of : ℕ → ℕ
-lap_of k = (k / 256 + 1) % 2
+lap_of k = (k / ring_length + 1) % 2
 
 -- a close is bit 62; a place has its address from bit 32 on, its first field from bit 16 on and its
 -- count from bit 0 on
@@ -23,13 +31,13 @@ abbrev pub IsRecord : Record → Type 0
 IsRecord (Place address first count) = (address < 2 ^ 24) × (0 < count) × (first + count < 2 ^ 16)
 IsRecord Close = Unit {0}
 
--- the spaces begin behind 64 control words and 32 rings of 256 records
+-- the spaces begin behind 64 control words and the rings
 abbrev pub spaces_start : ℕ
-spaces_start = 8256
+spaces_start = 64 + slots * ring_length
 
 -- where record k of a slot stands in the table
 abbrev pub ring_place : ℕ → ℕ → ℕ
-ring_place slot k = 64 + 256 * slot + k % 256
+ring_place slot k = 64 + ring_length * slot + k % ring_length
 
 -- ---- what a number says
 

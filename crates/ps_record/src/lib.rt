@@ -176,14 +176,14 @@ pub fn laws()
     ensures close { (k : ℕ) → layout.close_in (layout.packed k Record.Close) ≡ 1 }
     ensures lap { (k : ℕ) (r : Record) → layout.IsRecord r
         → layout.lap_in (layout.packed k r) ≡ layout.lap_of k }
-    ensures next_lap { (k : ℕ) → (layout.lap_of (k + 256) ≢ layout.lap_of k)
-        × ((slot : ℕ) → layout.ring_place slot (k + 256) ≡ layout.ring_place slot k) }
+    ensures next_lap { (k : ℕ) → (layout.lap_of (k + layout.ring_length) ≢ layout.lap_of k)
+        × ((slot : ℕ) → layout.ring_place slot (k + layout.ring_length) ≡ layout.ring_place slot k) }
     ensures reads { (k : ℕ) (r : Record) → layout.IsRecord r
         → layout.read_record k (layout.packed k r) ≡ Some r }
     ensures stale { (k : ℕ) (r : Record) → layout.IsRecord r
-        → layout.read_record (k + 256) (layout.packed k r) ≡ None }
-    ensures zeros { (k : ℕ) → k < 256 → layout.read_record k 0 ≡ None }
+        → layout.read_record (k + layout.ring_length) (layout.packed k r) ≡ None }
+    ensures zeros { (k : ℕ) → k < layout.ring_length → layout.read_record k 0 ≡ None }
     ensures slots { (s t j k : ℕ) → s ≢ t → layout.ring_place s j ≢ layout.ring_place t k }
-    ensures turn { (s j k : ℕ) → j < k → k < j + 256
+    ensures turn { (s j k : ℕ) → j < k → k < j + layout.ring_length
         → layout.ring_place s j ≢ layout.ring_place s k }
 {}

@@ -1,5 +1,7 @@
 -- What a command line comes to, for other words of what it asks.
-use Rattle.std.proofs.Common.{◌≡◌, ◌≢◌, ℕ, List, [], ◌∷◌, Bool, Option, inl, inr, subst}
+use Rattle.std.proofs.Common.{◌≡◌, ◌≢◌, ℕ, List, [], ◌∷◌, Bool, true, false, Option, Some, None, inl, inr, ap, subst}
+use Rattle.std.specs.Prelude.{codes, is_some}
+use Rattle.ps_options.specs.CommandLine.{IsExplored, named_in}
 use Rattle.ps_language.specs.Effect.{Around, Scene}
 use Rattle.ps_language.specs.World as world
 use Rattle.ps_acts.specs.Acts as acts
@@ -11,7 +13,7 @@ use Rattle.clap.specs.Values.{kind_of}
 use Rattle.clap.specs.declared.error.Error.{Error}
 use Rattle.clap.specs.declared.error.kind.ErrorKind.TheVariants as kind
 use Rattle.ps_run.specs.declared.statuses.Status.{Status}
-use Rattle.ps_run.specs.Driving.{Asked, Contents, Names, Outputs, IsDriven, IsWritten}
+use Rattle.ps_run.specs.Driving.{Asked, Contents, Names, Outputs, IsDriven, IsRecordName, IsWritten}
 
 pub driven_more : (asks : world.Status → Around → Scene → acts.Asked) (names other : Names)
     (A B : Asked → Type 0) (F G : Type 0) (told : Status) (outputs : Outputs) → names ≡ other
@@ -23,15 +25,48 @@ driven_more asks names other A B F G told outputs same more fault driven =
     with_more : IsDriven asks other A F told outputs → IsDriven asks other B G told outputs
     with_more (inl usage) = inl (usage.0, usage.1, usage.2, fault usage.3)
     with_more (inr (inl memory)) = inr (inl memory)
-    with_more (inr (inr run)) = inr (inr (record {
+    with_more (inr (inr (inl run))) = inr (inr (inl (record {
       asked = run.asked;
       is_asked = more run.asked run.is_asked;
+      is_single = run.is_single;
       printed = run.printed;
       schedule = run.schedule;
       outcome = run.outcome;
       run = run.run;
       written = run.written;
-    }))
+    })))
+    with_more (inr (inr (inr runs))) = inr (inr (inr (record {
+      asked = runs.asked;
+      is_asked = more runs.asked runs.is_asked;
+      runs = runs.runs;
+      are_many = runs.are_many;
+      program = runs.program;
+      is_file = runs.is_file;
+      few = runs.few;
+      endings = runs.endings;
+      are = runs.are;
+      entries = runs.entries;
+      written = runs.written;
+    })))
+
+-- whether many are asked for, as the words tell it
+pub none_explored : (words : List Text) (explored : Option ℕ) → explored ≡ None
+    → IsExplored words explored → is_some (named_in (codes "explore") words) ≡ false
+none_explored words None none given = ap is_some given
+none_explored words (Some count) none given = cc
+
+pub some_explored : (words : List Text) (explored : Option ℕ) (count : ℕ) → explored ≡ Some count
+    → IsExplored words explored → is_some (named_in (codes "explore") words) ≡ true
+some_explored words None count some given = cc
+some_explored words (Some other) count some given = given.0
+
+-- the name of a record, by other words of it
+pub record_named : (recorded other : Option Text) (are_many many : Bool) (name : Text)
+    → recorded ≡ other → are_many ≡ many → IsRecordName recorded are_many name
+    → IsRecordName other many name
+record_named recorded other are_many many name same equal is =
+    subst (λ (m : Bool). IsRecordName other m name) equal
+    (subst (λ (r : Option Text). IsRecordName r are_many name) same is)
 
 -- what was written, where what stood before is told of what stood earlier
 pub written_from : (recorded : Option Text) (stats : Bool) (printed : List ℕ)

@@ -2,3 +2,4 @@ pub mod Counting
 pub mod Written
 pub mod Driven
 pub mod Ranges
+pub mod ManyRuns

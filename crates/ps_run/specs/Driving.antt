@@ -1,5 +1,5 @@
 -- What a run from a command line is, its exit status, and what is written.
-use Rattle.std.specs.Prelude.{◌≡◌, ◌<◌, ◌≤◌, ◌⊎◌, ◌++◌, ◌-◌, ◌^◌, ⊤, min, ℕ, Bool, true, false, not, List, [], Option, Some, None, IsSome, IfSome, option_map, length, codes, if◌then◌else◌}
+use Rattle.std.specs.Prelude.{◌≡◌, ◌<◌, ◌≤◌, ◌+◌, ◌⊎◌, ◌++◌, ◌-◌, ◌^◌, ⊤, min, ℕ, Bool, true, false, not, All, List, [], ◌∷◌, slice_index_or, Option, Some, None, IsSome, IfSome, option_map, length, codes, if◌then◌else◌}
 use Rattle.std.specs.Fmt.{decimal}
 use Rattle.std.specs.Io.KnownBytes.{Appends}
 use Rattle.ps_language.specs.declared.schedules.Entry.{Entry}
@@ -9,12 +9,14 @@ use Rattle.ps_language.specs.World as world
 use Rattle.ps_language.specs.Worlds as worlds
 use Rattle.ps_acts.specs.Acts as acts
 use Rattle.ps_options.specs.declared.options.Options.{Options}
-use Rattle.ps_options.specs.CommandLine.{IsNumber, IsFlag, AreNumbers, file_in, named_in}
+use Rattle.ps_options.specs.CommandLine.{IsNumber, IsFlag, IsExplored, AreNumbers, file_in, named_in}
 use Rattle.ps_schedules.specs.Texts.{AreEntries, IsBadAt, text_of}
 use Rattle.clap.specs.Words.{Text}
 use Rattle.ps_vault.specs.declared.reports.Config.{Config}
 use Rattle.ps_vault.specs.declared.reports.Outcome.{Outcome}
+use Rattle.ps_vault.specs.declared.reports.Report.{Report}
 use Rattle.ps_vault.specs.declared.reports.Outcome.TheVariants.{Finished, Faulted, AllWaiting, StepsOut, Memory}
+use Rattle.ps_vault.specs.Endings.{AreEndings}
 use Rattle.ps_vault.specs.Order.{InOrder}
 use Rattle.ps_vault.specs.Reports.{EndsAs, IsRunOf, IsWithin, is_memory, is_next_refused}
 use Rattle.ps_run.specs.declared.files.ReadFault.{ReadFault}
@@ -87,15 +89,17 @@ most_program_bytes = 16777215
 abbrev pub most_schedule_bytes : ℕ
 most_schedule_bytes = 2 ^ 40
 
--- what the words ask for of a run
+-- what the words ask for of a run; explored: under how many schedules, if they are chosen by chance
 pub record Asked : Type 0 where
   pub steps : ℕ
   pub quantum : ℕ
   pub stats : Bool
+  pub explored : Option ℕ
 
 abbrev pub AreAsked : List Text → Asked → Type 0
 AreAsked words asked = IsNumber (codes "steps") words asked.steps
     × IsNumber (codes "quantum") words asked.quantum × IsFlag (codes "stats") words asked.stats
+    × IsExplored words asked.explored
 
 -- the names of files that they give: the program's, and where they are given that of the record and
 -- that of the schedule to follow
@@ -121,8 +125,12 @@ config_in options = record {
 }
 
 abbrev pub asked_of : Options → Asked
-asked_of options =
-    record { steps = options.steps; quantum = options.quantum; stats = options.stats }
+asked_of options = record {
+  steps = options.steps;
+  quantum = options.quantum;
+  stats = options.stats;
+  explored = options.explore;
+}
 
 abbrev pub names_of : Options → Names
 names_of options = record {
@@ -228,6 +236,59 @@ IsWritten recorded stats printed schedule outcome told outputs =
     ⊎ ((told ≡ status_of outcome) × IsRecorded outputs.files_new recorded schedule
     × AppendsPart outputs.err_old outputs.err_new (counts_of stats schedule ++ line_of told))))
 
+-- ---- many runs
+
+-- the name of the record of an ending, by its number from 1 on
+abbrev pub numbered : Text → ℕ → Text
+numbered prefix number = prefix ++ (codes "." ++ decimal number)
+
+-- the files that are written: that of the record, or of many runs those of their endings' records
+abbrev pub IsRecordName : (recorded : Option Text) → (are_many : Bool) → Text → Type 0
+IsRecordName None are_many name = ⊥
+IsRecordName (Some recorded) false name = name ≡ recorded
+IsRecordName (Some prefix) true name = (number : ℕ) × (name ≡ numbered prefix number)
+
+-- files hold the texts of the endings' schedules, if their names are asked for
+abbrev pub AreRecorded : Contents → Option Text → List Report → Type 0
+AreRecorded contents recorded endings =
+    (place : ℕ) (default : Report) → place < length endings
+    → IsRecorded contents (option_map (λ prefix. numbered prefix (place + 1)) recorded)
+    (slice_index_or endings place default).schedule.items
+
+-- what the first of them printed
+abbrev pub first_printed : List Report → List ℕ
+first_printed [] = []
+first_printed (ending ∷ rest) = ending.printed.items
+
+-- the exit status of runs that ended so: 0 where all ended alike, else 1
+abbrev pub agreement : List Report → Status
+agreement (ending ∷ []) = status.Finished
+agreement _ = status.Faulted
+
+-- the lines of standard error: how many runs there were, and how many endings
+abbrev pub ending_lines : (runs count : ℕ) → List ℕ
+ending_lines runs count =
+    number_line (codes "runs ") runs ++ number_line (codes "endings ") count
+
+-- a record can't be written, or memory is wanted for it
+abbrev pub IsUnwritten : Status → Type 0
+IsUnwritten told = (told ≡ status.Usage) ⊎ (told ≡ status.Memory)
+
+-- as of one run (IsWritten), with a record for each ending; where one can't be made, those before
+-- it may have been
+abbrev pub AreWritten : (recorded : Option Text) → (runs : ℕ) → List Report → Status → Outputs
+    → Type 0
+AreWritten recorded runs endings told outputs =
+    ((told ≡ status.Usage)
+    × AppendsPart outputs.out_old outputs.out_new (first_printed endings)
+    × (outputs.files_new ≡ outputs.files_old))
+    ⊎ (Appends outputs.out_old outputs.out_new (first_printed endings)
+    × (outputs.flushed ≡ true)
+    × ((IsSome recorded × IsUnwritten told)
+    ⊎ ((told ≡ agreement endings) × AreRecorded outputs.files_new recorded endings
+    × AppendsPart outputs.err_old outputs.err_new
+    (ending_lines runs (length endings)))))
+
 -- ---- faults
 
 -- the file can't be read for what it holds: more than so many bytes
@@ -253,18 +314,33 @@ module _ (asks : world.Status → Around → Scene → acts.Asked) (names : Name
   pub record IsRunWritten (told : Status) (outputs : Outputs) : Type 0 where
     pub asked : Asked
     pub is_asked : IsAsked asked
+    pub is_single : asked.explored ≡ None
     pub printed : List ℕ
     pub schedule : List Entry
     pub outcome : Outcome
     pub run : IsFileRun asks outputs.files_old names asked printed schedule outcome
     pub written : IsWritten names.recorded asked.stats printed schedule outcome told outputs
 
-  -- a fault of the words or a file, or want of memory before the run: nothing is written; else a
-  -- run. IsFault: of the words or a file
+  -- many runs of a file's bytes, under schedules that can be read again, that were written
+  pub record AreRunsWritten (told : Status) (outputs : Outputs) : Type 0 where
+    pub asked : Asked
+    pub is_asked : IsAsked asked
+    pub runs : ℕ
+    pub are_many : asked.explored ≡ Some runs
+    pub program : List ℕ
+    pub is_file : IfSome (outputs.files_old names.file) (λ bytes. program ≡ bytes)
+    pub few : length program ≤ most_program_bytes
+    pub endings : List Report
+    pub are : AreEndings asks program asked.steps runs endings
+    pub entries : All (λ ending. AreEntries ending.schedule.items) endings
+    pub written : AreWritten names.recorded runs endings told outputs
+
+  -- a fault of the words or a file, or want of memory before the output: nothing is written; else a
+  -- run, or many. IsFault: of the words or a file
   abbrev pub IsDriven : (IsFault : Type 0) → (told : Status) → Outputs → Type 0
   IsDriven IsFault told outputs =
       ((told ≡ status.Usage) × (outputs.out_new ≡ outputs.out_old)
       × (outputs.files_new ≡ outputs.files_old) × IsFault)
       ⊎ (((told ≡ status.Memory) × (outputs.out_new ≡ outputs.out_old)
       × (outputs.files_new ≡ outputs.files_old))
-      ⊎ IsRunWritten told outputs)
+      ⊎ (IsRunWritten told outputs ⊎ AreRunsWritten told outputs))

@@ -1,12 +1,13 @@
 //! A run from the words of a command line to an exit status.
 
-ghost use Rattle.std.specs.Prelude.{◌≡◌, ◌≢◌, ◌⊎◌, [], ℕ, List, true, false, Some, Err, map, option_map, IfOk, IfSome, None, codes, vec_capacity};
+ghost use Rattle.std.specs.Prelude.{◌≡◌, ◌≢◌, ◌⊎◌, [], is_some, ℕ, List, true, false, Some, Err, map, option_map, IfOk, IfSome, None, codes, vec_capacity};
 ghost use Rattle.ps_options.specs.CommandLine.{faults_in, named_in};
 ghost use Rattle.clap.specs.Values.{kind_of};
 ghost use Rattle.ps_vault.specs.Reports.{IsWithin};
 ghost use Rattle.ps_run.specs.Driving as driving;
-ghost use Rattle.ps_run.specs.Driving.{AreAsked, AreOutOfRange, HasNoSchedule, IsDriven, IsMade, IsTooLong, asked_of, config_in, most_program_bytes, names_in, names_of};
+ghost use Rattle.ps_run.specs.Driving.{AreAsked, AreOutOfRange, HasNoSchedule, IsDriven, IsMade, IsRecordName, IsTooLong, asked_of, config_in, most_program_bytes, names_in, names_of};
 
+use crate::exploring::explore;
 use crate::files::{FileSet, MOST_PROGRAM_BYTES};
 use crate::finishing::finish;
 use crate::outputs::Flushing;
@@ -23,21 +24,30 @@ use std::hash::RandomState;
 use std::io::Write;
 
 /// Runs the program that the words name, by steps that `interpret` makes and operators on contexts
-/// that `deeds` does, or follows the schedule that they name. Writes what it printed to `out`, the
-/// schedule to the file that the words name for a record, and statistics and faults to `err`. The
-/// words are without the program's name; the keys are for the table of names alone.
+/// that `deeds` does, or follows the schedule that they name, or runs it many times under schedules
+/// chosen by chance. Writes what it printed to `out`, the schedule to the file that the words name
+/// for a record, and statistics and faults to `err`. The words are without the program's name; the
+/// keys are for the table of names alone.
 ///
 /// What is printed is what the definitions print for the run's schedule. The record has the text of
-/// that schedule.
+/// that schedule. Of many runs the first one's bytes are printed, each ending has a record, and
+/// `err` is told how many runs and endings there were.
 ///
 /// The result is the exit status: 0 where every context finished, 1 where an error was printed too,
 /// 2 for a fault of the command line, of a file or of the output, 3 where a context is left and all
-/// wait, 4 where the steps are used up, 5 for want of memory, before the run or in it. With 2 the
+/// wait, 4 where the steps are used up, 5 for want of memory, before the run or in it. Of many runs
+/// it is 0 where all ended alike, and 1 where they did not. With 2 the
 /// output has a beginning of what was printed, which is nothing where the words or a file that is
 /// read were at fault, and all of it where the record can't be written. After a run whose output
 /// took everything the output is flushed. A write to `err` that fails changes nothing else. No file
 /// changes but that of the record.
-pub fn drive<S: Interpret + Drop, D: Deeds + Drop, F: FileSet, W: Flushing, X: Write>(
+pub fn drive<
+    S: Interpret + Clone + Drop,
+    D: Deeds + Clone + Drop,
+    F: FileSet,
+    W: Flushing,
+    X: Write,
+>(
     alloc: Global,
     interpret: S,
     deeds: D,
@@ -51,7 +61,8 @@ pub fn drive<S: Interpret + Drop, D: Deeds + Drop, F: FileSet, W: Flushing, X: W
         → ((result ≡ 2) ⊎ (result ≡ 5)) × (W.contents out.new ≡ W.contents out.old)
         × (files.new ≡ files.old) }
     ensures files { (name : List ℕ)
-        → named_in (codes "record") (map (λ word. word.now) words.now) ≢ Some name
+        → ¬ IsRecordName (named_in (codes "record") (map (λ word. word.now) words.now))
+        (is_some (named_in (codes "explore") (map (λ word. word.now) words.now))) name
         → F.contents files.new name ≡ F.contents files.old name }
     ensures unread { F.last_fault files.old ≡ None
         → IfSome (F.last_fault files.new)
@@ -78,7 +89,12 @@ pub fn drive<S: Interpret + Drop, D: Deeds + Drop, F: FileSet, W: Flushing, X: W
         }) }
 {
     match parse(alloc, words) {
-        Ok(options) => number_of(run(alloc, interpret, deeds, keys, &options, files, out, err)),
+        Ok(options) => match options.explore {
+            None => number_of(run(alloc, interpret, deeds, keys, &options, files, out, err)),
+            Some(runs) => number_of(explore(
+                alloc, &interpret, &deeds, keys, &options, runs, files, out, err,
+            )),
+        },
         Err(error) => number_of(refuse(&error, err)),
     }
 }
@@ -107,7 +123,8 @@ fn run<S: Interpret + Drop, D: Deeds + Drop, F: FileSet, W: Flushing, X: Write>(
     out: &mut W,
     err: &mut X,
 ) -> Status
-    ensures files { (name : List ℕ) → (names_of options.now).recorded ≢ Some name
+    requires single { options.now.explore ≡ None }
+    ensures files { (name : List ℕ) → ¬ IsRecordName (names_of options.now).recorded false name
         → F.contents files.new name ≡ F.contents files.old name }
     ensures unread { F.last_fault files.old ≡ None
         → IfSome (F.last_fault files.new) (λ fault. result ≡ driving.unread fault) }
@@ -177,7 +194,7 @@ fn make<S: Interpret + Drop, D: Deeds + Drop>(
 }
 
 /// The numbers of the run.
-fn config_of(options: &Options<'_>) -> Config
+pub(crate) fn config_of(options: &Options<'_>) -> Config
     ensures { result ≡ config_in options.now }
 {
     Config {

@@ -1,10 +1,10 @@
 //! What is written at the end of a run: the printed bytes, the record and the counts.
 
-ghost use Rattle.std.specs.Prelude.{◌≡◌, ◌≢◌, ◌++◌, ◌-◌, ◌^◌, ℕ, Bool, false, true, List, Some, Err, min, OnOk, OnErr, IsSome};
+ghost use Rattle.std.specs.Prelude.{◌≡◌, ◌≢◌, ◌++◌, ◌-◌, ◌^◌, ℕ, Bool, false, true, List, Some, Err, min, OnOk, OnErr, IfErr, IsSome};
 ghost use Rattle.std.specs.Io.KnownBytes.{Appends};
 ghost use Rattle.ps_language.specs.Schedules.{count_of};
 ghost use Rattle.ps_run.specs.Driving as driving;
-ghost use Rattle.ps_run.specs.Driving.{AppendsPart, IsRecorded, IsWritten, names_of};
+ghost use Rattle.ps_run.specs.Driving.{AppendsPart, IsRecorded, IsRecordName, IsUnwritten, IsWritten, names_of};
 
 use crate::files::FileSet;
 use crate::outputs::Flushing;
@@ -15,16 +15,6 @@ use ps_schedules::append_schedule;
 use ps_vault::{Entry, Outcome, Report};
 use std::alloc::Global;
 use std::io::{self, Write};
-use thiserror::Error;
-
-/// Why a schedule was not recorded.
-#[derive(Clone, Copy, Debug, PartialEq, Eq, Error)]
-enum RecordFault {
-    #[error("the record can't be written")]
-    NoWrite,
-    #[error("out of memory")]
-    Memory,
-}
 
 /// Writes the printed bytes, then the record and the counts where they are asked for, then the line
 /// that belongs to the status.
@@ -38,7 +28,7 @@ pub(crate) fn finish<F: FileSet, W: Flushing, X: Write>(
 ) -> Status
     requires flips { report.now.flips ≡ 0 }
     requires taken { report.now.taken ≡ 0 }
-    ensures others { (other : List ℕ) → (names_of options.now).recorded ≢ Some other
+    ensures others { (other : List ℕ) → ¬ IsRecordName (names_of options.now).recorded false other
         → F.contents files.new other ≡ F.contents files.old other }
     ensures reads { F.last_fault files.new ≡ F.last_fault files.old }
     ensures unwritten { F.is_unwritten files.old ≡ false → F.is_unwritten files.new ≡ true
@@ -59,56 +49,72 @@ pub(crate) fn finish<F: FileSet, W: Flushing, X: Write>(
         let _ = writeln!(err, "dpsrun: cannot write output");
         return Status::Usage;
     }
-    if let Err(fault) = record_schedule(alloc, options, report.schedule.as_slice(), files) {
-        return end_unrecorded(fault, options, err);
+    if let Err(status) = record_schedule(alloc, options, report.schedule.as_slice(), files, err) {
+        return status;
     }
     let status = status_of(report.outcome);
     let _ = tell(report, options.stats, status, err);
     status
 }
 
-/// Writes the text of a schedule to the file that is named for it, if one is. Fails where memory is
-/// wanted, and then no file has changed, or where the file can't be written.
-fn record_schedule<F: FileSet>(
+/// Writes the text of a schedule to the file that is named for it, if one is. Where it can't be
+/// written, or memory is wanted, that is told, and the status is the error; where memory is wanted
+/// no file has changed.
+fn record_schedule<F: FileSet, X: Write>(
     alloc: Global,
     options: &Options<'_>,
     schedule: &[Entry],
     files: &mut F,
-) -> Result<(), RecordFault>
+    err: &mut X,
+) -> Result<(), Status>
     ensures recorded { OnOk result
         (IsRecorded (F.contents files.new) (names_of options.now).recorded schedule.now) }
     ensures asked { OnErr result (IsSome (names_of options.now).recorded) }
-    ensures others { (other : List ℕ) → (names_of options.now).recorded ≢ Some other
+    ensures told { OnOk result (err.new ≡ err.old) }
+    ensures status { IfErr result IsUnwritten }
+    ensures memory { result ≡ Err Status.Memory → files.new ≡ files.old }
+    ensures others { (other : List ℕ) → ¬ IsRecordName (names_of options.now).recorded false other
         → F.contents files.new other ≡ F.contents files.old other }
-    ensures memory { result ≡ Err RecordFault.Memory → files.new ≡ files.old }
     ensures reads { F.last_fault files.new ≡ F.last_fault files.old }
     ensures unwritten { F.is_unwritten files.old ≡ false → F.is_unwritten files.new ≡ true
-        → result ≡ Err RecordFault.NoWrite }
+        → result ≡ Err Status.Usage }
 {
-    let Some(name) = options.record_file else {
-        return Ok(());
-    };
-    let mut text = Vec::new(alloc);
-    if append_schedule(schedule, &mut text).is_err() {
-        return Err(RecordFault::Memory);
-    }
-    match files.write(name, text.as_slice()) {
-        Ok(()) => Ok(()),
-        Err(_) => Err(RecordFault::NoWrite),
+    match options.record_file {
+        Some(name) => write_schedule(alloc, name, schedule, files, err),
+        None => Ok(()),
     }
 }
 
-/// Tells why no schedule was recorded, and gives the status.
-fn end_unrecorded<X: Write>(fault: RecordFault, options: &Options<'_>, err: &mut X) -> Status
-    ensures unwritten { fault ≡ RecordFault.NoWrite → result ≡ Status.Usage }
-    ensures memory { fault ≡ RecordFault.Memory → result ≡ Status.Memory }
+/// Writes the text of a schedule to the file of a name. Where it can't be written, or memory is
+/// wanted, that is told, and the status is the error; where memory is wanted no file has changed.
+pub(crate) fn write_schedule<F: FileSet, X: Write>(
+    alloc: Global,
+    name: &str,
+    schedule: &[Entry],
+    files: &mut F,
+    err: &mut X,
+) -> Result<(), Status>
+    ensures recorded { OnOk result
+        (IsRecorded (F.contents files.new) (Some name.now) schedule.now) }
+    ensures told { OnOk result (err.new ≡ err.old) }
+    ensures status { IfErr result IsUnwritten }
+    ensures memory { result ≡ Err Status.Memory → files.new ≡ files.old }
+    ensures others { (other : List ℕ) → other ≢ name.now
+        → F.contents files.new other ≡ F.contents files.old other }
+    ensures reads { F.last_fault files.new ≡ F.last_fault files.old }
+    ensures writes { OnOk result (F.is_unwritten files.new ≡ F.is_unwritten files.old) }
+    ensures unwritten { F.is_unwritten files.old ≡ false → F.is_unwritten files.new ≡ true
+        → result ≡ Err Status.Usage }
 {
-    match fault {
-        RecordFault::Memory => end(err, Status::Memory),
-        RecordFault::NoWrite => {
-            let name = options.record_file.unwrap_or("");
+    let mut text = Vec::new(alloc);
+    if append_schedule(schedule, &mut text).is_err() {
+        return Err(end(err, Status::Memory));
+    }
+    match files.write(name, text.as_slice()) {
+        Ok(()) => Ok(()),
+        Err(_) => {
             let _ = writeln!(err, "dpsrun: cannot write {name}");
-            Status::Usage
+            Err(Status::Usage)
         }
     }
 }

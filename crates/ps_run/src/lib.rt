@@ -2,7 +2,10 @@
 //! (the profile's own).
 #![tactic(auto)]
 
+mod chances;
 mod driver;
+mod endings;
+mod exploring;
 mod files;
 mod finishing;
 mod outputs;

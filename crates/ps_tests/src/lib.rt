@@ -7,6 +7,8 @@
 mod command_lines;
 #[cfg(test)]
 mod driven;
+#[cfg(test)]
+mod explorations;
 pub mod fakes;
 #[cfg(test)]
 mod schedule_files;

@@ -7,3 +7,4 @@ pub mod Advancing
 pub mod Readiness
 pub mod Ordering
 pub mod NextStep
+pub mod Endings

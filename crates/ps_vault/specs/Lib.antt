@@ -2,3 +2,4 @@ pub mod Reports
 pub mod Stories
 pub mod Turns
 pub mod Order
+pub mod Endings

@@ -1,6 +1,9 @@
-//! Runs of a program: under a schedule of their own, and under one that is given (PLRM2, 3.5, 7.1).
+//! Runs of a program: under a schedule of their own, under one that is given, and many in orders
+//! that a caller chooses (PLRM2, 3.5, 7.1).
 #![tactic(auto)]
 
+mod exploring;
+mod orders;
 mod plain;
 mod replays;
 mod reports;
@@ -8,6 +11,8 @@ mod schedules;
 mod turns;
 mod vaults;
 
+pub use exploring::explore;
+pub use orders::{Choice, TurnOrder, run_in_order};
 pub use plain::run_plain;
 pub use ps_language::schedules::Entry;
 pub use replays::replay;

@@ -1,12 +1,14 @@
 //! A run under a schedule of its own.
 
-ghost use Rattle.std.specs.Prelude.{◌≡◌, ℕ, ◌↔◌, true, false, Err, IfOk, vec_capacity};
-ghost use Rattle.ps_language.specs.Schedules.{moves};
+ghost use Rattle.std.specs.Prelude.{◌≡◌, ◌<◌, ◌≤◌, ℕ, ◌↔◌, true, false, Err, IfOk, vec_capacity};
+ghost use Rattle.ps_language.specs.Schedules.{count_of, moves};
 ghost use Rattle.ps_language.specs.Worlds.{starting_world, world};
-ghost use Rattle.ps_vault.specs.Order.{HasTurn, InOrder};
-ghost use Rattle.ps_vault.specs.Reports.{is_memory, IsRunOf, IsStarved, IsWithin};
+ghost use Rattle.ps_vault.specs.Order.{HasTurn, InOrder, IsNoneAbove};
+ghost use Rattle.ps_vault.specs.Reports.{are_ordinary, is_memory, IsOneStarved, IsRunOf, IsStarved, IsWithin};
+ghost use Rattle.ps_vault.specs.Stories.{world_at};
 
 use crate::reports::{Config, Outcome, Report, RunFault};
+use crate::turns::Turn;
 use crate::vaults::Vault;
 use ps_interpreter::interprets::Interpret;
 use ps_world::deeds::Deeds;
@@ -50,9 +52,33 @@ pub fn run_plain<S: Interpret + Drop, D: Deeds + Drop>(
         return Err(RunFault::Memory);
     };
     let run = vault.run(config.steps, config.quantum);
-    if run.held {
-        return Ok(vault.into_report(config.steps, Outcome::Memory));
+    Ok(vault.into_run(run, config.steps))
+}
+
+impl<S: Interpret + Drop, D: Deeds + Drop> Vault<'_, S, D> {
+    /// The report of a run that had no steps before, with a budget: where none was held up either
+    /// all steps were made, or no context is ready.
+    pub fn into_run(mut self, run: Turn, steps: u32) -> Report
+        requires counted { count_of self.schedule ≡ run.made }
+        requires within { run.made ≤ steps }
+        requires ordinary { are_ordinary (moves self.schedule) ≡ true }
+        requires calling { run.held ≡ false → self.is_calling ≡ false }
+        requires fewer { run.held ≡ true → run.made < steps }
+        requires starved { run.held ≡ true
+            → IsOneStarved S.asks false (world_at self) self.capacity self.schedule }
+        requires ended { run.held ≡ false → run.made < steps → IsNoneAbove (world_at self) 0 }
+        ensures run { IsRunOf S.asks self.entry.program steps result.printed.items
+            (vec_capacity result.schedule) result.schedule.items result.outcome }
+        ensures schedule { result.schedule.items ≡ self.entry.schedule }
+        ensures capacity { vec_capacity result.schedule ≡ self.entry.capacity }
+        ensures memory { is_memory result.outcome ≡ run.held }
+        ensures flips { result.flips ≡ 0 }
+        ensures taken { result.taken ≡ 0 }
+    {
+        if run.held {
+            return self.into_report(steps, Outcome::Memory);
+        }
+        let outcome = self.outcome(run.made == steps);
+        self.into_report(steps, outcome)
     }
-    let outcome = vault.outcome(run.made == config.steps);
-    Ok(vault.into_report(config.steps, outcome))
 }

@@ -1,7 +1,7 @@
 //! What a run is given, and what it gives.
 
 ghost use Rattle.std.specs.Prelude.{◌≡◌, ◌↔◌, IsTrue};
-ghost use Rattle.ps_vault.specs.Reports.{IsWithin};
+ghost use Rattle.ps_vault.specs.Reports.{is_memory, IsWithin};
 
 use ps_language::schedules::Entry;
 use thiserror::Error;
@@ -61,6 +61,18 @@ pub enum Outcome {
     StepsOut,
     /// A growth was refused before any of these.
     Memory,
+}
+
+impl Outcome {
+    /// Whether it is for want of memory.
+    pub fn is_memory(self) -> bool
+        ensures { result ≡ is_memory self }
+    {
+        match self {
+            Outcome::Memory => true,
+            Outcome::Finished | Outcome::Faulted | Outcome::AllWaiting | Outcome::StepsOut => false,
+        }
+    }
 }
 
 /// What a run gives.

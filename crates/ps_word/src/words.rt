@@ -1,7 +1,7 @@
 //! Packed words: made of values, read back, and read and changed in place.
 #![tactic(auto)]
 
-ghost use Rattle.std.specs.Prelude.{◌≡◌, ◌↔◌, ◌<◌, ◌^◌, ◌&&◌, true, false, IsSome, IsTrue, IfSome, is_some};
+ghost use Rattle.std.specs.Prelude.{◌≡◌, ◌↔◌, ◌<◌, ◌%◌, ◌^◌, ◌&&◌, true, false, IsSome, IsTrue, IfSome, is_some};
 ghost use Rattle.ps_word.specs.Format as layout;
 ghost use Rattle.ps_word.specs.Format.{value_in, content_in, IsWord, IsInFormat, IsContent};
 ghost use Rattle.ps_word.specs.Readers as readers;
@@ -178,15 +178,24 @@ impl Word {
         (self.0 / EXECUTABLE) % 2 == 1
     }
 
+    /// What the low 32 bits say as a natural number, whatever the word is.
+    #[inline(always)]
+    pub fn low_natural(self) -> u32
+        ensures { result ≡ self.0 % 2 ^ 32 }
+    {
+        (self.0 % (1 << 32)) as u32
+    }
+
     #[inline]
     fn low_integer(self) -> i32
         ensures { result ≡ layout.integer_in self.0 }
     {
-        ((self.0 % (1 << 32)) as u32).cast_signed()
+        self.low_natural().cast_signed()
     }
 
-    #[inline]
-    fn low_address(self) -> u32
+    /// What stands in the places of a reference's address, whatever the word is.
+    #[inline(always)]
+    pub fn low_address(self) -> u32
         ensures { result ≡ layout.address_in self.0 }
     {
         ((self.0 / ADDRESS) % (1 << 24)) as u32
@@ -415,6 +424,16 @@ impl Word {
         Word((self.0 / EXECUTABLE) * EXECUTABLE + access_number(access) * ACCESS + self.0 % ACCESS)
     }
 
+    /// The word with this address, which is below 2^24, in the places of a reference's.
+    #[inline]
+    #[tactic(auto, unfolding(crate::specs::Readers::readdressed))]
+    pub fn readdressed(self, address: u32) -> Word
+        requires { address < 2 ^ 24 }
+        ensures { result.0 ≡ readers.readdressed self.0 address }
+    {
+        Word((self.0 / REFERENCE) * REFERENCE + address as u64 * ADDRESS + self.0 % ADDRESS)
+    }
+
     /// The same reference with this address, which is below 2^24.
     #[inline]
     pub fn with_address(self, address: u32) -> Word
@@ -429,6 +448,6 @@ impl Word {
             } }
         ensures word { IsWord result.0 }
     {
-        Word((self.0 / REFERENCE) * REFERENCE + address as u64 * ADDRESS + self.0 % ADDRESS)
+        self.readdressed(address)
     }
 }

@@ -1,4 +1,4 @@
-use Rattle.std.proofs.Common.{arith}
+use Rattle.std.proofs.Common.{arith, ◌∙◌}
 use Rattle.ps_dict.proofs.Shapes.{four}
 use Rattle.ps_dict.proofs.Fields.{body_field}
 use Rattle.ps_dict.proofs.dictionaries.body.Goals as goal
@@ -8,5 +8,6 @@ load-requires g c = record { place = let fields = four (g.M.Memory.heap c.args.m
 
 pub returns-clause-words : goal.returns-clause-words
 returns-clause-words g c =
-    body_field (g.M.Memory.heap c.args.memory.now) c.args.address c.requires.known
+    c.low_address.ensures
+    ∙ body_field (g.M.Memory.heap c.args.memory.now) c.args.address c.requires.known
     c.requires.sound c.load.result c.load.ensures.answer

@@ -1,4 +1,4 @@
-use Rattle.std.proofs.Common.{arith}
+use Rattle.std.proofs.Common.{arith, ◌∙◌}
 use Rattle.ps_dict.proofs.Shapes.{four}
 use Rattle.ps_dict.proofs.Fields.{natural_field}
 use Rattle.ps_dict.proofs.dictionaries.natural.Goals as goal
@@ -12,5 +12,6 @@ load-requires g c =
 
 pub returns-clause-value : goal.returns-clause-value
 returns-clause-value g c =
-    natural_field (g.M.Memory.heap c.args.memory.now) c.args.address c.requires.known
+    c.low_natural.ensures
+    ∙ natural_field (g.M.Memory.heap c.args.memory.now) c.args.address c.requires.known
     c.requires.sound c.load.result c.args.place c.requires.place c.load.ensures.answer

@@ -1,16 +1,23 @@
-use Rattle.std.proofs.Common.{◌≡◌, ◌<◌, ◌^◌, ℕ, ap, sym, subst, ◌∙◌, refl, codes, rules, true, map, List, [], ◌∷◌, Bool, false, Option, Some, None, inl, inr}
-use Rattle.std.specs.Prelude.{option_map, unwrap_or, Result, Err, if◌then◌else◌}
+use Rattle.std.proofs.Common.{◌≡◌, ◌<◌, ◌≤◌, ◌^◌, ℕ, ap, sym, subst, ◌∙◌, refl, arith, codes, rules, true, true≢false, map, List, [], ◌∷◌, Bool, false, Option, Some, None, is_some, IfSome, inl, inr}
+use Rattle.std.specs.Prelude.{find, option_and_then, option_map, slice_get, unwrap_or, Result, Err, if◌then◌else◌}
+use Rattle.std.specs.List.{list_all}
+use Rattle.std.specs.Str.{bytes_eq}
 use Rattle.std.specs.Str.Parse.{IsNumeral, ParsesUnsigned, ExplainsUnsignedError, HasUnsignedDigitsIfOk, digits_value, without_leading_plus}
 use Rattle.std.specs.Borrow.{Bor}
-use Rattle.clap.specs.Words.{App, Text, app_of, fault_of, found_of, first_value, first_of, one_text, one_of, is_simple, is_simple_and_free, matches_of, rows_of, HasKind, HasMatchesOf, Kinds, ReadsOne}
+use Rattle.clap.specs.Words.{App, BuildsTo, IsParsed, IsUnsignedIn, Row, Rule, Text, app_of, read_as, fault_of, found_of, first_value, first_of, one_text, one_of, is_simple, is_simple_and_free, matches_of, rows_of, HasKind, HasMatchesOf, Kinds, ReadsOne}
 use Rattle.clap.specs.Kinds.{or_else}
 use Rattle.clap.specs.declared.error.Error.{Error}
 use Rattle.clap.specs.declared.error.kind.ErrorKind.TheVariants.{ArgumentConflict}
 use Rattle.clap.specs.declared.builder.command.Command.{Command}
+use Rattle.clap.specs.declared.builder.command.Command.TheViews.{out-Command}
 use Rattle.clap.specs.declared.parser.matches.ArgMatches.{ArgMatches}
+use Rattle.clap.specs.Walk.{row_text}
+use Rattle.clap.specs.declared.builder.value_parser.Reading.{Reading}
 use Rattle.clap.proofs.OnLiterals.{clap_on_literals}
 use Rattle.clap.proofs.WalkLemmas.{first_value-rows, one_text-rows}
-use Rattle.ps_options.specs.CommandLine.{command_line, flag_in, excludes, is_excluded}
+use Rattle.clap.proofs.SimpleLemmas.{plain_fields, simple_groups}
+use Rattle.ps_options.specs.CommandLine.{IsExplored, command_line, flag_in, excludes, is_excluded}
+use Rattle.ps_options.proofs.Ranges.{HasRange, text_in_range}
 use Rattle.ps_options.proofs.options.parse.Goals as goal
 
 -- the command line is one whose matches and faults the rules decide
@@ -82,12 +89,13 @@ excluded_is : (made : Command) (words : List Text) (m : ArgMatches) → app_of m
     → HasMatchesOf (app_of made) words m
     → excludes (first_value (found_of m) (codes "replay"))
     (first_value (found_of m) (codes "plain")) (first_value (found_of m) (codes "record"))
-    ≡ is_excluded words
+    (first_value (found_of m) (codes "explore")) ≡ is_excluded words
 excluded_is made words m is has =
     let replay = name_is made words m (codes "replay") is has in
     let plain = name_is made words m (codes "plain") is has in
     let recorded = name_is made words m (codes "record") is has in
-    λ i. excludes (replay i) (plain i) (recorded i)
+    let explored = name_is made words m (codes "explore") is has in
+    λ i. excludes (replay i) (plain i) (recorded i) (explored i)
 
 pub returns-then-is_excluded-clause-fault : goal.returns-then-is_excluded-clause-fault
 returns-then-is_excluded-clause-fault c =
@@ -174,3 +182,139 @@ returns-clause-numbers c =
           (c.get_one-4.ensures.value text (flag_is _ _ _ (codes "steps") made found ∙ is)) numeral
           small;
     }
+
+-- an option whose text is read has a first text, and one whose text isn't has none
+text_or_none : (id : Text) (rows : List Row) → is_some (first_of id rows) ≡ is_some (one_of id rows)
+text_or_none id rows = go (find (λ r. bytes_eq r.id id) rows)
+  where
+    same : (how : Reading) (o : Option Text) → is_some o ≡ is_some (option_map (read_as how) o)
+    same how None = refl
+    same how (Some text) = refl
+
+    go : (o : Option Row) → is_some (option_and_then (λ r. slice_get r.values 0) o)
+        ≡ is_some (option_and_then row_text o)
+    go None = refl
+    go (Some row) = same row.reading (slice_get row.values 0)
+
+none_is : (o : Option Text) → is_some o ≡ false → o ≡ None
+none_is None absent = refl
+none_is (Some text) absent = absurd (true≢false absent)
+
+-- the number of a text that passed its range, and none where there is no text
+abbrev IsRead : Option Text → Option ℕ → Type 0
+IsRead None found = found ≡ None
+IsRead (Some text) found = (number : ℕ) × (found ≡ Some number) × IsUnsignedIn 1 65535 text
+    × (number ≡ digits_value 10 (without_leading_plus text))
+
+is_read : {E : Type 0} (A B : Text → Result ℕ E → Type 0) (text : Option Text) (found : Option ℕ)
+    → (text ≡ None → found ≡ None)
+    → ((t : Text) → text ≡ Some t
+    → ReadsOne (λ t r. ParsesUnsigned 32 10 t r × A t r × B t r) t found)
+    → ((t : Text) → text ≡ Some t → IsUnsignedIn 1 65535 t) → IsRead text found
+is_read A B None found none reads passes = none refl
+is_read A B (Some t) (Some number) none reads passes =
+    (number, refl, passes t refl, (reads t refl).0.1)
+is_read A B (Some t) None none reads passes =
+    let passed = passes t refl in
+    absurd ((reads t refl).1.0 (passed.0, omega arith))
+
+explored : (words : List Text) (text : Option Text) (found : Option ℕ)
+    → one_of (codes "explore") (matches_of command_line words) ≡ text → IsRead text found
+    → IsExplored words found
+explored words None found is none =
+    let no = text_or_none (codes "explore") (matches_of command_line words) ∙ ap is_some is in
+    subst (IsExplored words) (sym none) (none_is _ no)
+explored words (Some text) found is read =
+    let has = text_or_none (codes "explore") (matches_of command_line words) ∙ ap is_some is in
+    subst (IsExplored words) (sym read.1) (
+      has,
+      λ t also numeral small. read.3
+          ∙ ap (λ (o : Option Text). digits_value 10 (without_leading_plus (unwrap_or o t)))
+          (sym is ∙ also),
+    )
+
+abbrev IsInRange : Option ℕ → Type 0
+IsInRange found = IfSome found (λ number. (1 ≤ number) × (number ≤ 65535))
+
+in_range : (text : Option Text) (found : Option ℕ) → IsRead text found → IsInRange found
+in_range None found none = subst IsInRange (sym none) tt
+in_range (Some text) found read =
+    subst IsInRange (sym read.1) (rw read.3 read.2.2, rw read.3 read.2.3)
+
+-- the rules of the line ask for such a number of schedules
+explore_rules : HasRange (codes "explore") 1 65535 command_line.top.rules
+explore_rules = (
+  λ e. cc,
+  (
+    λ e. cc,
+    (
+      λ e. cc,
+      (
+        λ e. cc,
+        (
+          λ e. cc,
+          (
+            λ e. cc,
+            (
+              λ e. cc,
+              (
+                λ e. cc,
+                (λ e. refl, (λ e. cc, tt)),
+              ),
+            ),
+          ),
+        ),
+      ),
+    ),
+  ),
+)
+
+-- and so a text that a parse took is one
+explore_passes : (made new : Command) (m : ArgMatches) (has : Bool) → app_of made ≡ command_line
+    → BuildsTo made new → ((out-Command new).has_globals ≡ false → IsParsed new (found_of m) has)
+    → (t : Text) → one_text (found_of m) (codes "explore") ≡ Some t → IsUnsignedIn 1 65535 t
+explore_passes made new m has is builds parsed =
+    let plain = plain_fields made (ap (λ (app : App). app.top.is_plain) is) in
+    let simple = simple_groups made
+    (ap (λ (app : App). list_all (λ (r : Rule). r.is_simple) app.top.rules) is) in
+    text_in_range made new (found_of m) (codes "explore") 1 65535 builds
+    (subst (λ (app : App). HasRange (codes "explore") 1 65535 app.top.rules) (sym is)
+    explore_rules)
+    (record { named = λ e. cc; no_help = refl; no_version = refl })
+    ((builds.same_groups simple).1 ∙ plain.groups)
+    (parsed (builds.globals ∙ plain.globals)).values
+
+-- what is read of the words
+explore_read : (made new : Command) (words : List Text) (m : ArgMatches) (has : Bool) {E : Type 0}
+    (A B : Text → Result ℕ E → Type 0) (found : Option ℕ) → app_of made ≡ command_line
+    → BuildsTo made new → ((out-Command new).has_globals ≡ false → IsParsed new (found_of m) has)
+    → HasMatchesOf (app_of made) words m
+    → (one_text (found_of m) (codes "explore") ≡ None → found ≡ None)
+    → ((t : Text) → one_text (found_of m) (codes "explore") ≡ Some t
+    → ReadsOne (λ t r. ParsesUnsigned 32 10 t r × A t r × B t r) t found)
+    → IsRead (one_of (codes "explore") (matches_of command_line words)) found
+explore_read made new words m has A B found is builds parsed matches none reads =
+    let same = flag_is made words m (codes "explore") is matches in
+    is_read A B (one_of (codes "explore") (matches_of command_line words)) found
+    (λ e. none (same ∙ e)) (λ t e. reads t (same ∙ e))
+    (λ t e. explore_passes made new m has is builds parsed t (same ∙ e))
+
+pub returns-clause-explore : goal.returns-clause-explore
+returns-clause-explore c =
+    let words : List Text = map {A = Bor Text} {B = Text} (λ (word : Bor Text). word.now)
+    c.args.words.now in
+    explored words _ c.get_one-5.result refl
+    (explore_read c.in_ok-line.line _ words c.in_ok-matches.matches _
+    (λ t r. ExplainsUnsignedError 10 t r) (λ t r. HasUnsignedDigitsIfOk t r) c.get_one-5.result
+    c.in_ok-line.ensures c.in_ok-matches.ensures.ok.0 c.in_ok-matches.ensures.ok.1
+    c.in_ok-matches.ensures.ok.2 c.get_one-5.ensures.none c.get_one-5.ensures.value)
+
+pub returns-clause-explore_range : goal.returns-clause-explore_range
+returns-clause-explore_range c =
+    let words : List Text = map {A = Bor Text} {B = Text} (λ (word : Bor Text). word.now)
+    c.args.words.now in
+    in_range _ c.get_one-5.result
+    (explore_read c.in_ok-line.line _ words c.in_ok-matches.matches _
+    (λ t r. ExplainsUnsignedError 10 t r) (λ t r. HasUnsignedDigitsIfOk t r) c.get_one-5.result
+    c.in_ok-line.ensures c.in_ok-matches.ensures.ok.0 c.in_ok-matches.ensures.ok.1
+    c.in_ok-matches.ensures.ok.2 c.get_one-5.ensures.none c.get_one-5.ensures.value)

@@ -1,49 +1,106 @@
-use Rattle.std.proofs.Common.{Option, inl, inr, refl, ap, subst, ◌∙◌}
+use Rattle.std.proofs.Common.{◌≡◌, List, ℕ, Option, map, inl, inr, refl, sym, ap, subst, ◌∙◌}
+use Rattle.std.specs.Prelude.{◌⊎◌}
 use Rattle.clap.specs.Words.{Text}
-use Rattle.ps_run.specs.Driving.{Asked, HasNoSchedule, IsTooLong, config_in, most_program_bytes}
-use Rattle.ps_run.proofs.Driven.{driven_more, faulty}
+use Rattle.ps_options.specs.CommandLine.{IsExplored}
+use Rattle.ps_vault.specs.Reports.{IsWithin}
+use Rattle.ps_run.specs.Driving.{AreAsked, AreOutOfRange, Asked, HasNoSchedule, IsTooLong, asked_of, config_in, most_program_bytes, names_in, names_of}
+use Rattle.ps_run.proofs.Driven.{driven_more, faulty, none_explored, record_named, some_explored}
+use Rattle.ps_run.proofs.driver.drive.Given as givens
 use Rattle.ps_run.proofs.driver.drive.Goals as goal
+use Rattle.ps_run.proofs.driver.drive.Goals.{In-Ok}
 
-pub returns-in-Ok-clause-run : goal.returns-in-Ok-clause-run
-returns-in-Ok-clause-run g c = (
-  c.run.result,
-  c.number_of.ensures,
-  driven_more _ _ _ _ _ _ _ _ _
-      (λ i. record {
-        file = c.in-Ok.ensures.file i;
-        recorded = c.in-Ok.ensures.record_file i;
-        replayed = c.in-Ok.ensures.replay_file i;
-      })
-      (λ asked is. (
-        λ text found numeral small.
-            ap (λ (a : Asked). a.steps) is
-            ∙ c.in-Ok.ensures.numbers.steps text found numeral small,
-        λ text found numeral small.
-            ap (λ (a : Asked). a.quantum) is
-            ∙ c.in-Ok.ensures.numbers.quantum text found numeral small,
-        record {
-          set = λ found. ap (λ (a : Asked). a.stats) is ∙ c.in-Ok.ensures.stats found;
-          unset = λ found. ap (λ (a : Asked). a.stats) is ∙ c.in-Ok.ensures.no_stats found;
-        },
-      ))
-      (λ fault. inr (elim fault [
-        | inl long ↦
-            inl (subst (λ (name : Text). IsTooLong most_program_bytes (g.F.FileSet.contents c.args.files.now name))
-            c.in-Ok.ensures.file long)
-        | inr other ↦ inr (elim other [
-          | inl none ↦
-              inl (subst (λ (name : Option Text). HasNoSchedule
-              (g.F.FileSet.contents c.args.files.now) name (g.X.Write.contents c.args.err.now)
-              (g.X.Write.contents c.run.new.err)) c.in-Ok.ensures.replay_file none)
-          | inr outside ↦ inr (record {
-            config = config_in c.in-Ok.options;
-            numbers = c.in-Ok.ensures.numbers;
-            outside = outside;
-          })
-        ])
-      ]))
-      c.run.ensures.run,
+-- ---- what the options are, by the words
+
+same_names : (g : givens.Over) (c : In-Ok g)
+    → names_of c.in-Ok.options ≡ names_in (map (λ word. word.now) c.args.words.now)
+same_names g c = λ i. record {
+  file = c.in-Ok.ensures.file i;
+  recorded = c.in-Ok.ensures.record_file i;
+  replayed = c.in-Ok.ensures.replay_file i;
+}
+
+are_asked : (g : givens.Over) (c : In-Ok g) (asked : Asked) → asked ≡ asked_of c.in-Ok.options
+    → AreAsked (map (λ word. word.now) c.args.words.now) asked
+are_asked g c asked is = (
+  λ text found numeral small.
+      ap (λ (a : Asked). a.steps) is
+      ∙ c.in-Ok.ensures.numbers.steps text found numeral small,
+  λ text found numeral small.
+      ap (λ (a : Asked). a.quantum) is
+      ∙ c.in-Ok.ensures.numbers.quantum text found numeral small,
+  record {
+    set = λ found. ap (λ (a : Asked). a.stats) is ∙ c.in-Ok.ensures.stats found;
+    unset = λ found. ap (λ (a : Asked). a.stats) is ∙ c.in-Ok.ensures.no_stats found;
+  },
+  subst (IsExplored (map (λ word. word.now) c.args.words.now))
+      (sym (ap (λ (a : Asked). a.explored) is)) c.in-Ok.ensures.explore,
 )
+
+is_fault : (g : givens.Over) (c : In-Ok g) (err : Option (List ℕ))
+    → IsTooLong most_program_bytes
+    (g.F.FileSet.contents c.args.files.now (names_of c.in-Ok.options).file)
+    ⊎ (HasNoSchedule (g.F.FileSet.contents c.args.files.now) (names_of c.in-Ok.options).replayed
+    (g.X.Write.contents c.args.err.now) err ⊎ ¬ IsWithin (config_in c.in-Ok.options))
+    → IsTooLong most_program_bytes (g.F.FileSet.contents c.args.files.now
+    (names_in (map (λ word. word.now) c.args.words.now)).file)
+    ⊎ (HasNoSchedule (g.F.FileSet.contents c.args.files.now)
+    (names_in (map (λ word. word.now) c.args.words.now)).replayed
+    (g.X.Write.contents c.args.err.now) err
+    ⊎ AreOutOfRange (map (λ word. word.now) c.args.words.now))
+is_fault g c err fault = elim fault [
+  | inl long ↦
+      inl (subst (λ (name : Text). IsTooLong most_program_bytes
+      (g.F.FileSet.contents c.args.files.now name)) c.in-Ok.ensures.file long)
+  | inr other ↦ inr (elim other [
+    | inl none ↦
+        inl (subst (λ (name : Option Text). HasNoSchedule
+        (g.F.FileSet.contents c.args.files.now) name (g.X.Write.contents c.args.err.now) err)
+        c.in-Ok.ensures.replay_file none)
+    | inr outside ↦ inr (record {
+      config = config_in c.in-Ok.options;
+      numbers = c.in-Ok.ensures.numbers;
+      outside = outside;
+    })
+  ])
+]
+
+-- ---- one run
+
+pub returns-in-None-clause-run : goal.returns-in-None-clause-run
+returns-in-None-clause-run g c =
+    let at = (goal.at.returns-in-None-clause-run g c).In-Ok in (
+      c.run.result,
+      c.number_of.ensures,
+      driven_more _ _ _ _ _ _ _ _ _ (same_names g at) (are_asked g at)
+          (λ fault. inr (is_fault g at _ fault)) c.run.ensures.run,
+    )
+
+pub returns-in-None-clause-files : goal.returns-in-None-clause-files
+returns-in-None-clause-files g c = λ name other.
+    c.run.ensures.files name (λ is.
+    other (record_named _ _ _ _ name c.in-Ok.ensures.record_file
+    (sym (none_explored (map (λ word. word.now) c.args.words.now) c.in-Ok.options.explore
+    c.in-None.is c.in-Ok.ensures.explore)) is))
+
+-- ---- many
+
+pub returns-in-Some-clause-run : goal.returns-in-Some-clause-run
+returns-in-Some-clause-run g c =
+    let at = (goal.at.returns-in-Some-clause-run g c).In-Ok in (
+      c.explore.result,
+      c.number_of-in-Some.ensures,
+      driven_more _ _ _ _ _ _ _ _ _ (same_names g at) (are_asked g at)
+          (λ fault. inr (is_fault g at _ fault)) c.explore.ensures.run,
+    )
+
+pub returns-in-Some-clause-files : goal.returns-in-Some-clause-files
+returns-in-Some-clause-files g c = λ name other.
+    c.explore.ensures.files name (λ is.
+    other (record_named _ _ _ _ name c.in-Ok.ensures.record_file
+    (sym (some_explored (map (λ word. word.now) c.args.words.now) c.in-Ok.options.explore
+    c.in-Some.runs c.in-Some.is c.in-Ok.ensures.explore)) is))
+
+-- ---- faulty words
 
 pub returns-in-Err-clause-run : goal.returns-in-Err-clause-run
 returns-in-Err-clause-run g c = (

@@ -1,13 +1,14 @@
-use Rattle.std.proofs.Common.{inr, refl, ap, subst, ◌∙◌, arith, length}
+use Rattle.std.proofs.Common.{inl, inr, refl, ap, subst, ◌∙◌, arith, length}
 use Rattle.std.specs.Prelude.{option_map, vec_capacity}
 use Rattle.ps_run.specs.Driving.{Contents, IsGiven, asked_of, names_of}
 use Rattle.ps_run.proofs.Driven.{written_from}
 use Rattle.ps_run.proofs.driver.run.Goals as goal
 
 pub returns-in-Ok-make-clause-run : goal.returns-in-Ok-make-clause-run
-returns-in-Ok-make-clause-run g c = inr (inr (record {
+returns-in-Ok-make-clause-run g c = inr (inr (inl (record {
   asked = asked_of c.args.options.now;
   is_asked = refl;
+  is_single = c.requires.single;
   printed = c.in-Ok-make.report.printed.items;
   schedule = c.in-Ok-make.report.schedule.items;
   outcome = c.in-Ok-make.report.outcome;
@@ -32,4 +33,4 @@ returns-in-Ok-make-clause-run g c = inr (inr (record {
       written_from _ _ _ _ _ _ _ _ _
       (ap g.X.Write.contents (c.in-Ok-read_given.ensures.told ∙ c.in-Ok.ensures.told))
       (c.in-Ok-read_given.ensures.kept ∙ c.in-Ok.ensures.kept) c.finish.ensures.written;
-}))
+})))

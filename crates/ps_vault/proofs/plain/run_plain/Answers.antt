@@ -22,55 +22,14 @@ counted g c =
     ap count_of c.in-Ok.ensures.schedule ∙ count_of-nil in
     omega (arith, none, c.run-run.ensures.counted)
 
-few : (g : givens.Over) (c : After-run-run g)
-    → count_of c.run-run.new.self.schedule ≤ c.args.config.steps
-few g c = omega (arith, counted g c, c.run-run.ensures.within)
+pub into_run-requires-clause-counted : goal.into_run-requires-clause-counted
+into_run-requires-clause-counted g c =
+    counted g (goal.at.into_run-requires-clause-counted g c).After-run-run
 
-plain : (g : givens.Over) (c : After-run-run g)
-    → are_ordinary (moves c.run-run.new.self.schedule) ≡ true
+pub into_run-requires-clause-ordinary : goal.into_run-requires-clause-ordinary
 unfolding moves
-plain g c = c.run-run.ensures.ordinary
+into_run-requires-clause-ordinary g c = c.run-run.ensures.ordinary
     (ap (λ (entries : List Entry). are_ordinary (moves entries)) c.in-Ok.ensures.schedule)
-
-pub into_report-requires-clause-few : goal.into_report-requires-clause-few
-into_report-requires-clause-few g c =
-    few g (goal.at.into_report-requires-clause-few g c).After-run-run
-
-pub into_report-requires-clause-ordinary : goal.into_report-requires-clause-ordinary
-into_report-requires-clause-ordinary g c =
-    plain g (goal.at.into_report-requires-clause-ordinary g c).After-run-run
-
-pub into_report-requires-clause-ends : goal.into_report-requires-clause-ends
-into_report-requires-clause-ends g c =
-    let count = counted g (goal.at.into_report-requires-clause-ends g c).After-run-run in
-    let less : count_of c.run-run.new.self.schedule < c.args.config.steps =
-    omega (arith, count, c.run-run.ensures.fewer c.if-run.true) in
-    let starved = c.run-run.ensures.starved c.if-run.true in (
-      grind (arith, nat_tests),
-      ready_not_over (world_at c.run-run.new.self) starved.0 starved.1.ready,
-      starved,
-    )
-
-pub into_report-requires-2-clause-few : goal.into_report-requires-2-clause-few
-into_report-requires-2-clause-few g c =
-    subst (λ (s : Story). count_of s.schedule ≤ c.args.config.steps)
-    (sym c.outcome-outcome.ensures.same)
-    (few g (goal.at.into_report-requires-2-clause-few g c).After-run-run)
-
-pub into_report-requires-2-clause-ordinary : goal.into_report-requires-2-clause-ordinary
-into_report-requires-2-clause-ordinary g c =
-    ap (λ (s : Story). are_ordinary (moves s.schedule)) c.outcome-outcome.ensures.same
-    ∙ plain g (goal.at.into_report-requires-2-clause-ordinary g c).After-run-run
-
-pub into_report-requires-2-clause-ends : goal.into_report-requires-2-clause-ends
-into_report-requires-2-clause-ends g c =
-    let count = counted g (goal.at.into_report-requires-2-clause-ends g c).After-run-run in
-    subst (λ (s : Story). EndsAs g.S.Interpret.asks (world_at s) s.capacity s.schedule
-    (count_of s.schedule == c.args.config.steps) false c.outcome-outcome.result)
-    (sym c.outcome-outcome.ensures.same)
-    (subst (λ n. EndsAs g.S.Interpret.asks (world_at c.run-run.new.self)
-    c.run-run.new.self.capacity c.run-run.new.self.schedule (n == c.args.config.steps) false
-    c.outcome-outcome.result) (sym count) (c.outcome-outcome.ensures.ends false))
 
 -- the order of the turns
 ordered : (g : givens.Over) (c : After-run-run g)
@@ -82,27 +41,20 @@ ordered g c =
     (moves c.run-run.new.self.schedule)) c.in-Ok.ensures.program
     (c.run-run.ensures.order (ap moves c.in-Ok.ensures.schedule))
 
-pub returns-then-run-clause-order : goal.returns-then-run-clause-order
-returns-then-run-clause-order g c =
-    subst (λ (entries : List Entry). InOrder c.args.config.quantum
-    (starting_world c.args.program.now) (moves entries)) (sym c.into_report.ensures.schedule)
-    (ordered g (goal.at.returns-then-run-clause-order g c).After-run-run)
-
 pub returns-clause-order : goal.returns-clause-order
 returns-clause-order g c =
     subst (λ (entries : List Entry). InOrder c.args.config.quantum
-    (starting_world c.args.program.now) (moves entries))
-    (sym (c.into_report-2.ensures.schedule
-    ∙ ap (λ (s : Story). s.schedule) c.outcome-outcome.ensures.same))
+    (starting_world c.args.program.now) (moves entries)) (sym c.into_run.ensures.schedule)
     (ordered g (goal.at.returns-clause-order g c).After-run-run)
 
 -- whose turn it was
-pub returns-then-run-clause-starved : goal.returns-then-run-clause-starved
+pub returns-clause-starved : goal.returns-clause-starved
 unfolding moves
-returns-then-run-clause-starved g c = λ _.
-    let owed = c.run-run.ensures.owed c.if-run.true (ap moves c.in-Ok.ensures.schedule) in
+returns-clause-starved g c = λ memory.
+    let held : c.run-run.result.held ≡ true = sym c.into_run.ensures.memory ∙ memory in
+    let owed = c.run-run.ensures.owed held (ap moves c.in-Ok.ensures.schedule) in
     let made = c.run-run.new.self in
-    let same = c.into_report.ensures.schedule in
+    let same = c.into_run.ensures.schedule in
     let program : made.program ≡ c.args.program.now =
     c.run-run.ensures.program ∙ c.in-Ok.ensures.program in (
       owed.0,
@@ -111,15 +63,10 @@ returns-then-run-clause-starved g c = λ _.
           (subst (λ (p : List ℕ). HasTurn c.args.config.quantum (starting_world p) owed.0
           (moves made.schedule)) c.in-Ok.ensures.program owed.1),
       subst (λ (entries : List Entry). IsStarved g.S.Interpret.asks owed.0 false
-          (world c.args.program.now entries) (vec_capacity c.into_report.result.schedule) entries)
+          (world c.args.program.now entries) (vec_capacity c.into_run.result.schedule) entries)
           (sym same) (subst (λ n. IsStarved g.S.Interpret.asks owed.0 false
           (world c.args.program.now made.schedule) n made.schedule)
-          (sym c.into_report.ensures.capacity)
+          (sym c.into_run.ensures.capacity)
           (subst (λ (p : List ℕ). IsStarved g.S.Interpret.asks owed.0 false
           (world p made.schedule) made.capacity made.schedule) program owed.2)),
     )
-
-pub returns-clause-starved : goal.returns-clause-starved
-returns-clause-starved g c = λ memory.
-    absurd (true≢false (sym memory
-    ∙ (ap is_memory c.into_report-2.ensures.outcome ∙ c.outcome-outcome.ensures.known)))

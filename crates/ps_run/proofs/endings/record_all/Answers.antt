@@ -1,0 +1,37 @@
+-- Each round writes one record, to a file of its own.
+use Rattle.std.proofs.Common.{◌≡◌, ◌+◌, Option, Some, refl, sym, ap, subst, ◌∙◌, arith}
+use Rattle.std.specs.Prelude.{option_map, slice_index_or}
+use Rattle.std.proofs.lemmas.List.{get_or_default}
+use Rattle.clap.specs.Words.{Text}
+use Rattle.ps_language.specs.declared.schedules.Entry.{Entry}
+use Rattle.ps_vault.specs.declared.reports.Report.{Report}
+use Rattle.ps_run.specs.Driving.{IsRecorded, IsRecordName, numbered}
+use Rattle.ps_run.proofs.ManyRuns.{named_record, recorded_more}
+use Rattle.ps_run.proofs.endings.record_all.Goals as goal
+
+pub loop-number-preserved : goal.loop-number-preserved
+loop-number-preserved g c =
+    let endings = c.args.endings.now in
+    let count = c.loop-number.number in
+    let prefix = c.in-Some.prefix.now in
+    record {
+      within = omega (arith, c.loop-number-test.true);
+      recorded = recorded_more (g.F.FileSet.contents c.loop-number.files)
+          (g.F.FileSet.contents c.record_ending.new.files) prefix endings count c.requires.few
+          c.loop-number-test.true c.loop-number.invariant.recorded c.record_ending.ensures.others
+          (λ default.
+          subst (λ (entries : _). IsRecorded (g.F.FileSet.contents c.record_ending.new.files)
+          (Some (numbered prefix (count + 1))) entries)
+          (c.as_slice-schedule.ensures.value ∙ ap (λ (r : Report). r.schedule.items)
+          (get_or_default endings count c.index-endings-number.result default
+          c.loop-number-test.true))
+          c.in_ok-record_ending.ensures.recorded);
+      told = c.in_ok-record_ending.ensures.told ∙ c.loop-number.invariant.told;
+      others = λ other none.
+          c.record_ending.ensures.others other (λ same.
+          none (named_record c.args.options.now.record_file c.in-Some.prefix other (count + 1)
+          c.in-Some.is same))
+          ∙ c.loop-number.invariant.others other none;
+      reads = c.record_ending.ensures.reads ∙ c.loop-number.invariant.reads;
+      writes = c.in_ok-record_ending.ensures.writes ∙ c.loop-number.invariant.writes;
+    }

@@ -1,0 +1,132 @@
+//! What is written at the end of many runs: the bytes that the first printed, a record of each
+//! ending, and how many there were.
+
+ghost use Rattle.std.specs.Prelude.{◌≡◌, ◌≤◌, ◌<◌, ◌^◌, ℕ, Bool, false, true, List, Some, Err, length, IsSome, OnOk, OnErr, IfErr};
+ghost use Rattle.std.specs.Io.KnownBytes.{Appends};
+ghost use Rattle.ps_run.specs.Driving as driving;
+ghost use Rattle.ps_run.specs.Driving.{AppendsPart, AreRecorded, AreWritten, IsRecorded, IsRecordName, IsUnwritten, names_of, numbered};
+
+use crate::files::FileSet;
+use crate::finishing::write_schedule;
+use crate::outputs::Flushing;
+use crate::statuses::{Status, end};
+use crate::writing::{write_number, write_part};
+use ps_options::Options;
+use ps_vault::{Entry, Report};
+use std::alloc::Global;
+use std::io::{self, Write};
+
+/// Writes what the first of these endings printed, then the record of each where that is asked for,
+/// then how many runs and endings there were.
+pub(crate) fn finish_all<F: FileSet, W: Flushing, X: Write>(
+    alloc: Global,
+    endings: &[Report],
+    runs: u32,
+    options: &Options<'_>,
+    files: &mut F,
+    out: &mut W,
+    err: &mut X,
+) -> Status
+    requires some { 1 ≤ length endings.now }
+    requires few { length endings.now < 2 ^ 32 }
+    ensures others { (other : List ℕ) → ¬ IsRecordName (names_of options.now).recorded true other
+        → F.contents files.new other ≡ F.contents files.old other }
+    ensures reads { F.last_fault files.new ≡ F.last_fault files.old }
+    ensures unwritten { F.is_unwritten files.old ≡ false → F.is_unwritten files.new ≡ true
+        → result ≡ Status.Usage }
+    ensures written { AreWritten (names_of options.now).recorded runs
+        endings.now result (record {
+          out_old = W.contents out.old;
+          out_new = W.contents out.new;
+          err_old = X.contents err.old;
+          err_new = X.contents err.new;
+          files_old = F.contents files.old;
+          files_new = F.contents files.new;
+          flushed = W.is_flushed out.new;
+        }) }
+{
+    if write_part(out, endings[0].printed.as_slice()).is_err() || out.hand_on().is_err() {
+        let _ = writeln!(err, "dpsrun: cannot write output");
+        return Status::Usage;
+    }
+    if let Err(status) = record_all(alloc, endings, options, files, err) {
+        return status;
+    }
+    let _ = tell_endings(runs, endings.len(), err);
+    if endings.len() == 1 {
+        Status::Finished
+    } else {
+        Status::Faulted
+    }
+}
+
+/// Writes the texts of the endings' schedules to files by their numbers, if they are asked for.
+/// Where one can't be written, or memory is wanted, that is told, and the status is the error; those
+/// before it are written then.
+fn record_all<F: FileSet, X: Write>(
+    alloc: Global,
+    endings: &[Report],
+    options: &Options<'_>,
+    files: &mut F,
+    err: &mut X,
+) -> Result<(), Status>
+    requires few { length endings.now < 2 ^ 32 }
+    ensures recorded { OnOk result (AreRecorded (F.contents files.new)
+        (names_of options.now).recorded endings.now) }
+    ensures told { OnOk result (err.new ≡ err.old) }
+    ensures asked { OnErr result (IsSome (names_of options.now).recorded) }
+    ensures status { IfErr result IsUnwritten }
+    ensures others { (other : List ℕ) → ¬ IsRecordName (names_of options.now).recorded true other
+        → F.contents files.new other ≡ F.contents files.old other }
+    ensures reads { F.last_fault files.new ≡ F.last_fault files.old }
+    ensures unwritten { F.is_unwritten files.old ≡ false → F.is_unwritten files.new ≡ true
+        → result ≡ Err Status.Usage }
+{
+    let Some(prefix) = options.record_file else {
+        return Ok(());
+    };
+    let mut number = 0;
+    while number < endings.len() {
+        let schedule = endings[number].schedule.as_slice();
+        record_ending(alloc, prefix, number as u64 + 1, schedule, files, err)?;
+        number += 1;
+    }
+    Ok(())
+}
+
+/// Writes the text of an ending's schedule to the file of its number. Where it can't be written, or
+/// memory is wanted, that is told, and the status is the error.
+fn record_ending<F: FileSet, X: Write>(
+    alloc: Global,
+    prefix: &str,
+    number: u64,
+    schedule: &[Entry],
+    files: &mut F,
+    err: &mut X,
+) -> Result<(), Status>
+    ensures recorded { OnOk result (IsRecorded (F.contents files.new)
+        (Some (numbered prefix.now number)) schedule.now) }
+    ensures told { OnOk result (err.new ≡ err.old) }
+    ensures status { IfErr result IsUnwritten }
+    ensures others { (other : List ℕ) → ¬ (other ≡ numbered prefix.now number)
+        → F.contents files.new other ≡ F.contents files.old other }
+    ensures reads { F.last_fault files.new ≡ F.last_fault files.old }
+    ensures unwritten { F.is_unwritten files.old ≡ false → F.is_unwritten files.new ≡ true
+        → result ≡ Err Status.Usage }
+    ensures writes { OnOk result (F.is_unwritten files.new ≡ F.is_unwritten files.old) }
+{
+    let Ok(name) = format!(in alloc; "{prefix}.{number}") else {
+        return Err(end(err, Status::Memory));
+    };
+    write_schedule(alloc, name.as_str(), schedule, files, err)
+}
+
+/// Writes how many runs and endings there were. Fails where a write fails; a beginning is written
+/// then.
+fn tell_endings<X: Write>(runs: u32, endings: usize, err: &mut X) -> io::Result<()>
+    ensures { AppendsPart (X.contents err.old) (X.contents err.new)
+        (driving.ending_lines runs endings) }
+{
+    write_number(err, b"runs ", u64::from(runs))?;
+    write_number(err, b"endings ", endings as u64)
+}

@@ -1,0 +1,84 @@
+//! Many runs of the program's file, under schedules that are chosen by chance.
+
+ghost use Rattle.std.specs.Prelude.{◌≡◌, ◌≤◌, ◌⊎◌, ℕ, List, true, false, Some, None, IfSome};
+ghost use Rattle.ps_vault.specs.Reports.{IsWithin};
+ghost use Rattle.ps_run.specs.Driving as driving;
+ghost use Rattle.ps_run.specs.Driving.{HasNoSchedule, IsDriven, IsRecordName, IsTooLong, asked_of, config_in, most_program_bytes, names_of};
+
+use crate::chances::Chances;
+use crate::driver::config_of;
+use crate::endings::finish_all;
+use crate::files::{FileSet, MOST_PROGRAM_BYTES};
+use crate::outputs::Flushing;
+use crate::reading::read;
+use crate::statuses::{Status, end};
+use ps_interpreter::interprets::Interpret;
+use ps_options::Options;
+use ps_world::deeds::Deeds;
+use std::alloc::Global;
+use std::hash::RandomState;
+use std::io::Write;
+
+/// Reads the program, runs it so many times, at least once, and writes what the first run printed,
+/// the record of each ending where that is asked for, and how many endings there were.
+pub(crate) fn explore<
+    S: Interpret + Clone + Drop,
+    D: Deeds + Clone + Drop,
+    F: FileSet,
+    W: Flushing,
+    X: Write,
+>(
+    alloc: Global,
+    interpret: &S,
+    deeds: &D,
+    keys: RandomState,
+    options: &Options<'_>,
+    runs: u32,
+    files: &mut F,
+    out: &mut W,
+    err: &mut X,
+) -> Status
+    requires some { 1 ≤ runs }
+    requires many { options.now.explore ≡ Some runs }
+    ensures files { (name : List ℕ) → ¬ IsRecordName (names_of options.now).recorded true name
+        → F.contents files.new name ≡ F.contents files.old name }
+    ensures unread { F.last_fault files.old ≡ None
+        → IfSome (F.last_fault files.new) (λ fault. result ≡ driving.unread fault) }
+    ensures unwritten { F.is_unwritten files.old ≡ false → F.is_unwritten files.new ≡ true
+        → result ≡ Status.Usage }
+    ensures run { IsDriven S.asks (names_of options.now)
+        (λ asked. asked ≡ asked_of options.now)
+        (IsTooLong most_program_bytes (F.contents files.old (names_of options.now).file)
+        ⊎ (HasNoSchedule (F.contents files.old) (names_of options.now).replayed
+        (X.contents err.old) (X.contents err.new)
+        ⊎ ¬ IsWithin (config_in options.now)))
+        result (record {
+          out_old = W.contents out.old;
+          out_new = W.contents out.new;
+          err_old = X.contents err.old;
+          err_new = X.contents err.new;
+          files_old = F.contents files.old;
+          files_new = F.contents files.new;
+          flushed = W.is_flushed out.new;
+        }) }
+{
+    let program = match read(alloc, options.file, MOST_PROGRAM_BYTES, files, err) {
+        Ok(program) => program,
+        Err(status) => return status,
+    };
+    let config = config_of(options);
+    let mut order = Chances::new(config.quantum);
+    match ps_vault::explore(
+        alloc,
+        interpret,
+        deeds,
+        program.as_slice(),
+        config.steps,
+        runs,
+        keys,
+        &mut order,
+    ) {
+        Ok(endings) => finish_all(alloc, endings.as_slice(), runs, options, files, out, err),
+        Err(_) => end(err, Status::Memory),
+    }
+}

@@ -1,0 +1,17 @@
+use Rattle.std.proofs.Common.{◌≡◌, List, ap, ◌∙◌, arith}
+use Rattle.ps_language.specs.declared.schedules.Entry.{Entry}
+use Rattle.ps_language.specs.Schedules.{count_of, moves}
+use Rattle.ps_language.proofs.ScheduleLaws.{count_of-nil}
+use Rattle.ps_vault.specs.Reports.{are_ordinary}
+use Rattle.ps_vault.proofs.orders.run_in_order.Goals as goal
+
+pub into_run-requires-clause-counted : goal.into_run-requires-clause-counted
+into_run-requires-clause-counted g c =
+    let none : count_of c.in_ok-vault.vault.schedule ≡ 0 =
+    ap count_of c.in_ok-vault.ensures.schedule ∙ count_of-nil in
+    omega (arith, none, c.run_by-run.ensures.counted)
+
+pub into_run-requires-clause-ordinary : goal.into_run-requires-clause-ordinary
+unfolding moves
+into_run-requires-clause-ordinary g c = c.run_by-run.ensures.ordinary
+    (ap (λ (entries : List Entry). are_ordinary (moves entries)) c.in_ok-vault.ensures.schedule)

@@ -1,0 +1,83 @@
+//! Many runs of a program, in orders that a caller chooses, and how they ended.
+
+ghost use Rattle.std.specs.Prelude.{◌≡◌, ◌↔◌, ◌⊎◌, ◌++◌, ◌∷◌, [], Any, IsTrue, IfOk, OnOk};
+ghost use Rattle.ps_vault.specs.Endings.{AreEndings, IsAlike};
+
+use crate::orders::{TurnOrder, run_in_order};
+use crate::reports::Report;
+use ps_interpreter::interprets::Interpret;
+use ps_world::deeds::Deeds;
+use std::alloc::{AllocError, Global};
+use std::hash::RandomState;
+
+/// Whether two runs printed the same and had the same outcome.
+fn is_alike(a: &Report, b: &Report) -> bool
+    ensures { IsTrue result ↔ IsAlike a.now b.now }
+{
+    a.outcome == b.outcome && a.printed.as_slice() == b.printed.as_slice()
+}
+
+/// Whether one of these runs ended like another.
+fn has_alike(endings: &[Report], report: &Report) -> bool
+    ensures { IsTrue result ↔ Any (IsAlike report.now) endings.now }
+{
+    for ending in endings {
+        if is_alike(report, ending) {
+            return true;
+        }
+    }
+    false
+}
+
+/// Keeps a run behind others, where none of them ended like it. Fails where it finds no room.
+fn keep(endings: &mut Vec<Report>, report: Report) -> Result<(), AllocError>
+    ensures { OnOk result
+        ((Any (IsAlike report) endings.old.items × (endings.new.items ≡ endings.old.items))
+        ⊎ ((¬ Any (IsAlike report) endings.old.items)
+        × (endings.new.items ≡ endings.old.items ++ report ∷ []))) }
+{
+    if has_alike(endings.as_slice(), &report) {
+        return Ok(());
+    }
+    endings.push(report)?;
+    Ok(())
+}
+
+/// Runs a program so many times, each time for at most so many steps, over memory that is never
+/// collected, in orders that are chosen turn by turn. The keys are for the names alone.
+///
+/// Gives the first of those runs that ended alike, in the order in which they were made. `AllocError`
+/// where a run ended for want of memory, or the room of what is given can't be had.
+pub fn explore<S: Interpret + Clone + Drop, D: Deeds + Clone + Drop, O: TurnOrder>(
+    alloc: Global,
+    interpret: &S,
+    deeds: &D,
+    program: &[u8],
+    steps: u32,
+    runs: u32,
+    keys: RandomState,
+    order: &mut O,
+) -> Result<Vec<Report>, AllocError>
+    ensures { IfOk result
+        (λ endings. AreEndings S.asks program.now steps runs endings.items) }
+{
+    let mut endings = Vec::new(alloc);
+    let mut made = 0;
+    while made < runs {
+        let report = run_in_order(
+            alloc,
+            interpret.clone()?,
+            deeds.clone()?,
+            program,
+            steps,
+            keys,
+            order,
+        )?;
+        if report.outcome.is_memory() {
+            return Err(AllocError);
+        }
+        keep(&mut endings, report)?;
+        made += 1;
+    }
+    Ok(endings)
+}

@@ -1,0 +1,124 @@
+//! Runs in an order that a caller chooses, turn by turn (PLRM2, 7.1).
+
+ghost use Rattle.std.specs.Prelude.{◌≡◌, ℕ, ◌+◌, ◌<◌, ◌≤◌, false, true, IfOk, IfSome, IfNone, vec_capacity};
+ghost use Rattle.ps_language.specs.Locks as locks;
+ghost use Rattle.ps_language.specs.Schedules.{count_of, moves};
+ghost use Rattle.ps_vault.specs.Order.{IsNoneAbove};
+ghost use Rattle.ps_vault.specs.Reports.{are_ordinary, IsOneStarved, IsRunOf};
+ghost use Rattle.ps_vault.specs.Stories.{world_at};
+
+use crate::reports::Report;
+use crate::turns::Turn;
+use crate::vaults::Vault;
+use ps_interpreter::interprets::Interpret;
+use ps_world::deeds::Deeds;
+use std::alloc::{AllocError, Global};
+use std::hash::RandomState;
+
+/// Whose turn is next, and of how many steps.
+#[derive(Clone, Copy, Debug, PartialEq, Eq)]
+pub struct Choice {
+    /// How many contexts that are ready are passed over, by rising identifier and going round: at
+    /// most 31.
+    pub passed: u32,
+    /// The most steps of the turn, at least 1.
+    pub steps: u32,
+}
+
+/// Chooses turns.
+pub trait TurnOrder {
+    /// The next turn.
+    fn choose(&mut self) -> Choice
+        ensures passed { result.passed < 32 }
+        ensures some { 1 ≤ result.steps };
+}
+
+impl<S: Interpret + Drop, D: Deeds + Drop> Vault<'_, S, D> {
+    /// The ready context of the least identifier above another, or of the least of all where none
+    /// is above it.
+    fn next_round(&mut self, after: u32) -> Option<u32>
+        requires { self.old.is_calling ≡ false }
+        ensures same { self.new ≡ self.old }
+        ensures ready { IfSome result (λ next. locks.is_ready (world_at self.old) next ≡ true) }
+        ensures none { IfNone result (IsNoneAbove (world_at self.old) 0) }
+    {
+        match self.next_ready(after) {
+            Some(next) => Some(next),
+            None => self.next_ready(0),
+        }
+    }
+
+    /// The ready context behind so many others, by rising identifier and going round.
+    fn ready_behind(&mut self, passed: u32) -> Option<u32>
+        requires { self.old.is_calling ≡ false }
+        ensures same { self.new ≡ self.old }
+        ensures ready { IfSome result (λ next. locks.is_ready (world_at self.old) next ≡ true) }
+        ensures none { IfNone result (IsNoneAbove (world_at self.old) 0) }
+    {
+        let mut next = self.next_round(0)?;
+        for _ in 0..passed {
+            next = self.next_round(next)?;
+        }
+        Some(next)
+    }
+
+    /// Runs contexts for at most so many steps, turn by turn as they are chosen.
+    fn run_by<O: TurnOrder>(&mut self, steps: u32, order: &mut O) -> Turn
+        requires calling { self.old.is_calling ≡ false }
+        ensures program { self.new.program ≡ self.old.program }
+        ensures within { result.made ≤ steps }
+        ensures counted { count_of self.new.schedule ≡ count_of self.old.schedule + result.made }
+        ensures ordinary { are_ordinary (moves self.old.schedule) ≡ true
+            → are_ordinary (moves self.new.schedule) ≡ true }
+        ensures calling_on { result.held ≡ false → self.new.is_calling ≡ false }
+        ensures fewer { result.held ≡ true → result.made < steps }
+        ensures starved { result.held ≡ true
+            → IsOneStarved S.asks false (world_at self.new) self.new.capacity self.new.schedule }
+        ensures ended { result.held ≡ false → result.made < steps
+            → IsNoneAbove (world_at self.new) 0 }
+    {
+        let mut made = 0;
+        while made < steps {
+            let choice = order.choose();
+            let Some(next) = self.ready_behind(choice.passed) else {
+                return Turn { made, held: false };
+            };
+            let left = steps - made;
+            let turn = self.turn(
+                next,
+                if choice.steps < left {
+                    choice.steps
+                } else {
+                    left
+                },
+            );
+            made += turn.made;
+            if turn.held {
+                return Turn { made, held: true };
+            }
+        }
+        Turn { made, held: false }
+    }
+}
+
+/// Runs a program for at most so many steps, over memory that is never collected, turn by turn as
+/// they are chosen. The keys are for the names alone.
+///
+/// `AllocError` where the room that the run starts with can't be had. A growth that is refused
+/// later ends the run: the outcome is `Memory` then, and the report has what was made so far.
+pub fn run_in_order<S: Interpret + Drop, D: Deeds + Drop, O: TurnOrder>(
+    alloc: Global,
+    interpret: S,
+    deeds: D,
+    program: &[u8],
+    steps: u32,
+    keys: RandomState,
+    order: &mut O,
+) -> Result<Report, AllocError>
+    ensures run { IfOk result (λ report. IsRunOf S.asks program.now steps report.printed.items
+        (vec_capacity report.schedule) report.schedule.items report.outcome) }
+{
+    let mut vault = Vault::new(alloc, interpret, deeds, program, keys, 0)?;
+    let run = vault.run_by(steps, order);
+    Ok(vault.into_run(run, steps))
+}
