@@ -1,11 +1,14 @@
 //! A table of items by identifiers that rise from 1 and are never used again.
 //!
 //! It is seen as the list of all that were made, with nothing where one is gone. What is left, at
-//! most 32 items, stands in the order of the identifiers, so that one is found by halves. All room
+//! most 32 items, stands in the order of the identifiers, so that one is found at its own number,
+//! or by halves where one before it is gone. All room
 //! is reserved when the table is made: no later call takes memory, and what is gone holds nothing.
 
 ghost use Rattle.std.specs.Prelude.{◌≡◌, ℕ, MatchOption, ◌+◌, ◌<◌, ◌≤◌, [], ◌∷◌, ◌++◌, length, map, IfOk, IfErr, IfNone, OnOk, OnSome, IsSome, Some, None, option_map};
 ghost use Rattle.std.specs.Borrow.{sem};
+ghost use Rattle.std.specs.Ordering.{nat_cmp};
+ghost use Rattle.std.specs.List.Sorted.{IsBinarySearchResult, IsSearchInRange};
 ghost use Rattle.ps_contexts.specs.Seats.{item_at, with_item, count_left, items_left};
 
 use std::alloc::{AllocError, Global};
@@ -35,6 +38,20 @@ fn change_all<T, C: Change<T>>(items: &mut [T], change: &C)
     for item in items.iter_mut() {
         change.change(item);
     }
+}
+
+/// Where an identifier stands among identifiers that rise, or else where it would. Where none
+/// before it is gone, it stands at its own number: there it is looked for first.
+#[inline]
+fn place_of(identifiers: &[u32], identifier: u32) -> Result<usize, usize>
+    ensures bound { IsSearchInRange result (length identifiers.now) }
+    ensures position { IsBinarySearchResult (λ one. nat_cmp one identifier) identifiers.now result }
+{
+    let place = (identifier as usize).wrapping_sub(1);
+    if place < identifiers.len() && identifiers[place] == identifier {
+        return Ok(place);
+    }
+    identifiers.binary_search(&identifier)
 }
 
 /// Items by identifiers.
@@ -86,7 +103,7 @@ impl<T> Table<T> {
     pub fn get(&self, identifier: u32) -> Option<&T>
         ensures { option_map (λ item. item.now) result ≡ item_at self.now identifier }
     {
-        match self.identifiers.binary_search(&identifier) {
+        match place_of(&self.identifiers, identifier) {
             Ok(place) => Some(&self.items[place]),
             Err(_) => None,
         }
@@ -98,7 +115,7 @@ impl<T> Table<T> {
         ensures* writes_back { sem 𝓛 (lends_item T.row identifier self.entry result) }
         ensures value { Some result.now ≡ item_at self.old identifier }
     {
-        let place = match self.identifiers.binary_search(&identifier) {
+        let place = match place_of(&self.identifiers, identifier) {
             Ok(place) => place,
             Err(place) => place,
         };
@@ -112,7 +129,7 @@ impl<T> Table<T> {
             (λ next. (identifier < next) × IsSome (item_at self.now next)
             × ((k : ℕ) → identifier < k → k < next → item_at self.now k ≡ None)) }
     {
-        let place = match self.identifiers.binary_search(&identifier) {
+        let place = match place_of(&self.identifiers, identifier) {
             Ok(place) => place + 1,
             Err(place) => place,
         };
@@ -164,7 +181,7 @@ impl<T> Table<T> {
         ensures absent { IfErr result (λ back. (back ≡ item)
             × (None ≡ item_at self.old identifier) × (self.new ≡ self.old)) }
     {
-        match self.identifiers.binary_search(&identifier) {
+        match place_of(&self.identifiers, identifier) {
             Ok(place) => {
                 let old = replace(&mut self.items[place], item);
                 Ok(old)
@@ -179,7 +196,7 @@ impl<T> Table<T> {
         ensures after { OnSome result (self.new ≡ with_item self.old identifier None) }
         ensures gone { IfNone result (self.new ≡ self.old) }
     {
-        match self.identifiers.binary_search(&identifier) {
+        match place_of(&self.identifiers, identifier) {
             Ok(place) => {
                 let _ = self.identifiers.remove(place);
                 let item = self.items.remove(place);

@@ -1,5 +1,5 @@
 -- What many runs leave behind.
-use Rattle.std.proofs.Common.{◌≡◌, ◌≢◌, ◌+◌, ◌<◌, ◌≤◌, ◌^◌, ℕ, suc, List, [], ◌∷◌, ◌++◌, length, Option, Some, None, Bool, true, Bor, inl, inr, refl, sym, ap, ◌∙◌, subst, arith}
+use Rattle.std.proofs.Common.{◌≡◌, ◌+◌, ◌<◌, ◌≤◌, ◌^◌, ℕ, suc, List, ◌++◌, length, Option, Some, true, Bor, inl, inr, sym, subst, arith}
 use Rattle.std.specs.Prelude.{All, codes, option_map, slice_index_or, IfSome}
 use Rattle.std.specs.Fmt.{decimal}
 use Rattle.std.proofs.Math.Nat.{eq-or-lt_of_le}
@@ -11,7 +11,7 @@ use Rattle.ps_language.specs.World as world
 use Rattle.ps_acts.specs.Acts as acts
 use Rattle.ps_schedules.specs.Texts.{AreEntries, text_of}
 use Rattle.ps_vault.specs.declared.reports.Report.{Report}
-use Rattle.ps_vault.specs.Endings.{AreEndings, IsEnding}
+use Rattle.ps_vault.specs.Endings.{AreEndings}
 use Rattle.ps_vault.proofs.Endings.{each_ending}
 use Rattle.ps_run.specs.declared.statuses.Status.{Status}
 use Rattle.ps_run.specs.Driving.{AreWritten, Contents, IsRecorded, IsRecordName, Outputs, numbered}

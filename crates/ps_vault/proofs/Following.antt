@@ -233,6 +233,32 @@ after_idle_part old new entry made less is unready =
     after_idle old new entry made entry.steps
     (is ∙ ap (after_moves old) (sym (taken_part entry made entry.steps less))) unready
 
+-- all steps of an entry whose last is an ordinary one are ordinary
+ordinary_steps : (entry : Entry) (n : ℕ) → last_move entry ≡ plain_move entry.context
+    → moves_of entry n ≡ replicate n (plain_move entry.context)
+ordinary_steps entry zero last = refl
+ordinary_steps entry (suc before) last =
+    ap (λ (move : Move). replicate before (plain_move entry.context) ++ move ∷ []) last
+    ∙ plain_entry entry.context (suc before)
+
+-- so they may be made one after another, as far as the context is ready
+pub after_ordinary : (old new : World) (entry : Entry) (made : ℕ) → made ≤ entry.steps
+    → last_move entry ≡ plain_move entry.context
+    → new ≡ after_moves old (replicate made (plain_move entry.context))
+    → (made < entry.steps → is_ready new entry.context ≡ false)
+    → new ≡ after_moves old (moves_of entry entry.steps)
+after_ordinary old new entry made within last is unready = by (nat_lt made entry.steps) refl
+  where
+    by : (test : Bool) → nat_lt made entry.steps ≡ test
+        → new ≡ after_moves old (moves_of entry entry.steps)
+    by true test = let less : made < entry.steps = grind (arith, nat_tests) in
+        after_idle_part old new entry made less is (unready less)
+    by false test = let past : entry.steps ≤ made = grind (arith, nat_tests) in
+        let all : made ≡ entry.steps = omega (arith, past, within) in
+        is ∙ ap (after_moves old)
+        (ap (λ n. replicate n (plain_move entry.context)) all
+        ∙ sym (ordinary_steps entry entry.steps last))
+
 -- a context that isn't ready before the first step
 pub after_unready : (now : World) (entry : Entry) → is_ready now entry.context ≡ false
     → now ≡ after_moves now (moves_of entry entry.steps)

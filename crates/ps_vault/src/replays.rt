@@ -3,7 +3,7 @@
 ghost use Rattle.std.specs.Prelude.{◌≡◌, ◌≢◌, ◌+◌, ◌<◌, ◌≤◌, ◌++◌, ◌&&◌, ◌==◌, ℕ, List, vec_len, vec_capacity, length, true, false, not, replicate, IfOk, Err};
 ghost use Rattle.ps_language.specs.declared.schedules.Entry.{Entry as EntryOf};
 ghost use Rattle.ps_language.specs.Locks as locks;
-ghost use Rattle.ps_language.specs.Schedules.{plain_move, moves_of, moves, count_of, Begins};
+ghost use Rattle.ps_language.specs.Schedules.{last_move, plain_move, moves_of, moves, count_of, Begins};
 ghost use Rattle.ps_language.specs.Worlds as worlds;
 ghost use Rattle.ps_language.specs.Worlds.{after_moves};
 ghost use Rattle.ps_vault.specs.Reports.{EndsAs, MayWant, is_memory, is_next_refused, next_identifier};
@@ -11,7 +11,7 @@ ghost use Rattle.ps_vault.specs.Stories.{world_at};
 ghost use Rattle.ps_vault.specs.Turns.{added_times};
 
 use crate::reports::{Outcome, Report, RunFault};
-use crate::schedules::push_within;
+use crate::schedules::{is_ordinary, push_within};
 use crate::turns::Turn;
 use crate::vaults::{Told, Vault};
 use ps_interpreter::interprets::Interpret;
@@ -56,6 +56,35 @@ fn steps<S: Interpret + Drop, D: Deeds + Drop>(
     Turn { made, held: false }
 }
 
+/// Makes the steps of an entry that are all ordinary ones, as far as memory goes, and tells how many
+/// were made; those of a context that isn't ready are counted and change nothing.
+fn follow_ordinary<S: Interpret + Drop, D: Deeds + Drop>(
+    vault: &mut Vault<S, D>,
+    entry: Entry,
+) -> u32
+    requires calling { vault.old.is_calling ≡ false }
+    requires room { length vault.old.schedule + 3 ≤ vault.old.capacity }
+    requires ordinary { last_move entry ≡ plain_move entry.context }
+    ensures program { vault.new.program ≡ vault.old.program }
+    ensures longer { length vault.new.schedule ≤ length vault.old.schedule + 1 }
+    ensures capacity { vault.old.capacity ≤ vault.new.capacity }
+    ensures within { result ≤ entry.steps }
+    ensures all { result ≡ entry.steps
+        → world_at vault.new ≡ after_moves (world_at vault.old) (moves_of entry entry.steps) }
+    ensures calling_on { result ≡ entry.steps → vault.new.is_calling ≡ false }
+    ensures part { result < entry.steps
+        → world_at vault.new ≡ after_moves (world_at vault.old)
+        (replicate result (plain_move entry.context)) }
+    ensures starved { result < entry.steps
+        → MayWant S.asks entry.context false (world_at vault.new) }
+{
+    let turn = steps(vault, entry.context, entry.steps);
+    if turn.held {
+        return turn.made;
+    }
+    entry.steps
+}
+
 /// Makes the steps of an entry, of which the last may be refused and may show a pair, as far as
 /// memory goes, and tells how many were made; a step of a context that isn't ready is counted and
 /// changes nothing, nor do those behind it in the entry.
@@ -75,6 +104,9 @@ fn follow_entry<S: Interpret + Drop, D: Deeds + Drop>(vault: &mut Vault<S, D>, e
     ensures starved { result < entry.steps → MayWant S.asks entry.context
         (entry.refused && (result + 1 == entry.steps)) (world_at vault.new) }
 {
+    if is_ordinary(&entry) {
+        return follow_ordinary(vault, entry);
+    }
     if entry.steps == 0 || !vault.is_ready(entry.context) {
         return entry.steps;
     }

@@ -1,8 +1,8 @@
 //! Schedules of the longest entries.
 
-ghost use Rattle.std.specs.Prelude.{◌≡◌, false, ◌+◌, ◌<◌, ◌≤◌, ◌++◌, ◌∷◌, [], vec_len, vec_capacity};
+ghost use Rattle.std.specs.Prelude.{◌≡◌, ◌↔◌, IsTrue, false, ◌+◌, ◌<◌, ◌≤◌, ◌++◌, ◌∷◌, [], vec_len, vec_capacity};
 ghost use Rattle.ps_language.specs.Schedules as schedules;
-ghost use Rattle.ps_language.specs.Schedules.{plain_move};
+ghost use Rattle.ps_language.specs.Schedules.{last_move, plain_move};
 ghost use Rattle.ps_language.specs.Worlds.{kept_pair};
 ghost use Rattle.ps_world.specs.Notes.{note_of};
 ghost use Rattle.ps_vault.specs.Stories.{move_of};
@@ -11,6 +11,14 @@ ghost use Rattle.ps_vault.specs.Turns.{added_times};
 
 use ps_language::schedules::Entry;
 use ps_world::notes::Note;
+
+/// Whether each step of an entry is an ordinary one: none is refused, and none shows a pair.
+#[inline]
+pub fn is_ordinary(entry: &Entry) -> bool
+    ensures { IsTrue result ↔ (last_move entry.now ≡ plain_move entry.now.context) }
+{
+    !entry.refused && entry.shown.is_none()
+}
 
 /// Whether a further step of a context joins an entry.
 fn joins(entry: &Entry, context: u32) -> bool

@@ -1,11 +1,8 @@
 -- Each round writes one record, to a file of its own.
-use Rattle.std.proofs.Common.{◌≡◌, ◌+◌, Option, Some, refl, sym, ap, subst, ◌∙◌, arith}
-use Rattle.std.specs.Prelude.{option_map, slice_index_or}
+use Rattle.std.proofs.Common.{◌+◌, Some, ap, subst, ◌∙◌, arith}
 use Rattle.std.proofs.lemmas.List.{get_or_default}
-use Rattle.clap.specs.Words.{Text}
-use Rattle.ps_language.specs.declared.schedules.Entry.{Entry}
 use Rattle.ps_vault.specs.declared.reports.Report.{Report}
-use Rattle.ps_run.specs.Driving.{IsRecorded, IsRecordName, numbered}
+use Rattle.ps_run.specs.Driving.{IsRecorded, numbered}
 use Rattle.ps_run.proofs.ManyRuns.{named_record, recorded_more}
 use Rattle.ps_run.proofs.endings.record_all.Goals as goal
 

@@ -1,5 +1,5 @@
-use Rattle.std.proofs.Common.{◌≡◌, ◌≤◌, ℕ, inr, refl, sym, ap, subst, ◌∙◌, arith, length}
-use Rattle.ps_run.specs.Driving.{asked_of, names_of}
+use Rattle.std.proofs.Common.{◌≡◌, ℕ, inr, refl, ap, subst, arith, length}
+use Rattle.ps_run.specs.Driving.{asked_of}
 use Rattle.ps_vault.specs.declared.reports.Config.{Config}
 use Rattle.ps_vault.specs.Endings.{AreEndings}
 use Rattle.ps_vault.proofs.Endings.{endings_few}

@@ -1,4 +1,4 @@
-use Rattle.std.proofs.Common.{◌≡◌, ◌+◌, sym, ◌∙◌, subst, arith}
+use Rattle.std.proofs.Common.{sym, ◌∙◌, subst, arith}
 use Rattle.ps_vault.specs.Endings.{AreEndings, no_run}
 use Rattle.ps_vault.proofs.Endings.{one_run_more}
 use Rattle.ps_vault.proofs.exploring.explore.Goals as goal

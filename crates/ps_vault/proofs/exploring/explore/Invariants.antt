@@ -1,4 +1,4 @@
-use Rattle.std.proofs.Common.{◌≡◌, ◌≤◌, ◌-◌}
+use Rattle.std.proofs.Common.{◌≤◌, ◌-◌}
 use Rattle.ps_vault.specs.Endings.{AreEndings}
 use Rattle.ps_vault.proofs.exploring.explore.Given as goal
 

@@ -1,15 +1,11 @@
-use Rattle.std.proofs.Common.{◌≡◌, ◌==◌, ◌<◌, ◌≤◌, ℕ, List, false, true, sym, ap, ◌∙◌, subst, arith}
+use Rattle.std.proofs.Common.{◌≡◌, ℕ, List, false, true, sym, ap, ◌∙◌, subst, arith}
 use Rattle.std.specs.Prelude.{vec_capacity}
-use Rattle.std.proofs.lemmas.Bool.{true≢false}
-use Rattle.std.proofs.lemmas.Bool.Decides.{nat_tests}
 use Rattle.ps_language.specs.declared.schedules.Entry.{Entry}
 use Rattle.ps_language.specs.Schedules.{count_of, moves}
 use Rattle.ps_language.proofs.ScheduleLaws.{count_of-nil}
 use Rattle.ps_language.specs.Worlds.{starting_world, world}
 use Rattle.ps_vault.specs.Order.{HasTurn, InOrder}
-use Rattle.ps_vault.specs.Reports.{are_ordinary, is_memory, EndsAs, IsStarved}
-use Rattle.ps_vault.specs.Stories.{Story, world_at}
-use Rattle.ps_vault.proofs.Following.{ready_not_over}
+use Rattle.ps_vault.specs.Reports.{are_ordinary, IsStarved}
 use Rattle.ps_vault.proofs.plain.run_plain.Given as givens
 use Rattle.ps_vault.proofs.plain.run_plain.Goals as goal
 use Rattle.ps_vault.proofs.plain.run_plain.Goals.{After-run-run}

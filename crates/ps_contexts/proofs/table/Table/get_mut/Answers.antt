@@ -9,9 +9,9 @@ index_mut-requires g c =
     let inside = c.self.inside in
     let seats = inside.identifiers.items in
     let are = c.self.invariant.0 in
-    let found : (c.match-binary_search.place < length seats)
-    × (get_or seats c.match-binary_search.place 0 ≡ c.args.identifier) =
-    elim c.match-binary_search.branch [
+    let found : (c.match-place_of.place < length seats)
+    × (get_or seats c.match-place_of.place 0 ≡ c.args.identifier) =
+    elim c.match-place_of.branch [
       | in-Ok w ↦ subst
           (λ n. (n < length seats) × (get_or seats n 0 ≡ c.args.identifier)) (sym w.place-is)
           (search_found seats c.deref.result.now inside.made c.args.identifier are.rising
@@ -30,9 +30,9 @@ returns g c =
     let inside = c.self.inside in
     let seats = inside.identifiers.items in
     let are = c.self.invariant.0 in
-    let found : (c.match-binary_search.place < length seats)
-    × (get_or seats c.match-binary_search.place 0 ≡ c.args.identifier) =
-    elim c.match-binary_search.branch [
+    let found : (c.match-place_of.place < length seats)
+    × (get_or seats c.match-place_of.place 0 ≡ c.args.identifier) =
+    elim c.match-place_of.branch [
       | in-Ok w ↦ subst
           (λ n. (n < length seats) × (get_or seats n 0 ≡ c.args.identifier)) (sym w.place-is)
           (search_found seats c.deref.result.now inside.made c.args.identifier are.rising
@@ -46,13 +46,13 @@ returns g c =
       (
         refl,
         λ item. listed_set seats inside.items.items inside.made are c.args.identifier
-            c.match-binary_search.place found.0 found.1 item
+            c.match-place_of.place found.0 found.1 item
             ∙ ap (λ list. with_item list c.args.identifier (Some item)) c.self.view_is,
       ),
       record {
         writes_back = tt;
         value = listed_found seats inside.items.items inside.made are.rising are.same
-            c.args.identifier c.match-binary_search.place c.index_mut.result.now found.0 found.1
+            c.args.identifier c.match-place_of.place c.index_mut.result.now found.0 found.1
             c.index_mut.ensures.value
             ∙ ap (λ list. item_at list c.args.identifier) c.self.view_is;
       },

@@ -10,8 +10,8 @@ returns-then-place-len g c =
     let inside = c.self.inside in
     let seats = inside.identifiers.items in
     let are = c.self.invariant.0 in
-    let cut : IsCut seats c.args.identifier c.match-binary_search.place =
-    elim c.match-binary_search.branch [
+    let cut : IsCut seats c.args.identifier c.match-place_of.place =
+    elim c.match-place_of.branch [
       | in-Ok w ↦ subst (IsCut seats c.args.identifier) (sym w.place-is)
           (cut_found seats c.deref.result.now inside.made c.args.identifier are.rising
           c.deref.ensures.value w.in-Ok.place w.in-Ok.ensures.position)
@@ -19,15 +19,15 @@ returns-then-place-len g c =
           (cut_none seats c.deref.result.now inside.made c.args.identifier are.rising
           c.deref.ensures.value w.in-Err.place w.in-Err.ensures.position)
     ] in
-    let within : c.match-binary_search.place < length seats =
+    let within : c.match-place_of.place < length seats =
     let test = c.if-place-len.true in let counted = c.len.ensures in
     let all = inside.identifiers.ok.0 in omega (arith, test, counted, all) in
     let there = next_there seats inside.items.items inside.made are c.args.identifier
-    c.match-binary_search.place cut c.index.result.now within c.index.ensures in
+    c.match-place_of.place cut c.index.result.now within c.index.ensures in
     let between = next_between seats inside.items.items inside.made are c.args.identifier
-    c.match-binary_search.place cut c.index.result.now within c.index.ensures in (
+    c.match-place_of.place cut c.index.result.now within c.index.ensures in (
       next_above seats inside.items.items inside.made are c.args.identifier
-          c.match-binary_search.place cut c.index.result.now within c.index.ensures,
+          c.match-place_of.place cut c.index.result.now within c.index.ensures,
       subst (λ list. IsSome (item_at list c.index.result.now)) c.self.view_is there,
       λ k above below. subst (λ list. item_at list k ≡ None) c.self.view_is (between k above below),
     )
@@ -37,8 +37,8 @@ returns-else-place-len g c = λ k above.
     let inside = c.self.inside in
     let seats = inside.identifiers.items in
     let are = c.self.invariant.0 in
-    let cut : IsCut seats c.args.identifier c.match-binary_search.place =
-    elim c.match-binary_search.branch [
+    let cut : IsCut seats c.args.identifier c.match-place_of.place =
+    elim c.match-place_of.branch [
       | in-Ok w ↦ subst (IsCut seats c.args.identifier) (sym w.place-is)
           (cut_found seats c.deref.result.now inside.made c.args.identifier are.rising
           c.deref.ensures.value w.in-Ok.place w.in-Ok.ensures.position)
@@ -46,9 +46,9 @@ returns-else-place-len g c = λ k above.
           (cut_none seats c.deref.result.now inside.made c.args.identifier are.rising
           c.deref.ensures.value w.in-Err.place w.in-Err.ensures.position)
     ] in
-    let past : length seats ≤ c.match-binary_search.place =
+    let past : length seats ≤ c.match-place_of.place =
     let test = c.if-place-len.false in let counted = c.len.ensures in
     let all = inside.identifiers.ok.0 in omega (arith, test, counted, all) in
     subst (λ list. item_at list k ≡ None) c.self.view_is
     (next_none seats inside.items.items inside.made are c.args.identifier
-    c.match-binary_search.place cut past k above)
+    c.match-place_of.place cut past k above)

@@ -1,7 +1,7 @@
-use Rattle.std.proofs.Common.{◌≡◌, ◌==◌, ◌<◌, ◌≤◌, ℕ, false, true, sym, ap, ◌∙◌, subst, arith}
+use Rattle.std.proofs.Common.{◌==◌, ◌<◌, ◌≤◌, false, sym, ap, ◌∙◌, subst, arith}
 use Rattle.std.proofs.lemmas.Bool.Decides.{nat_tests}
 use Rattle.ps_language.specs.Schedules.{count_of, moves}
-use Rattle.ps_vault.specs.Reports.{are_ordinary, is_memory, EndsAs}
+use Rattle.ps_vault.specs.Reports.{are_ordinary, EndsAs}
 use Rattle.ps_vault.specs.Stories.{Story, world_at}
 use Rattle.ps_vault.proofs.Following.{ready_not_over}
 use Rattle.ps_vault.proofs.vaults.Vault.into_run.Goals as goal

@@ -1,0 +1,9 @@
+use Rattle.ps_vault.specs.Stories.{world_at}
+use Rattle.ps_vault.proofs.Following.{after_ordinary}
+use Rattle.ps_vault.proofs.replays.follow_ordinary.Goals as goal
+
+pub returns-clause-all : goal.returns-clause-all
+returns-clause-all g c = λ _.
+    after_ordinary (world_at c.args.vault.now) (world_at c.steps-turn.new.vault) c.args.entry
+    c.steps-turn.result.made c.steps-turn.ensures.within c.requires.ordinary
+    c.steps-turn.ensures.world (c.steps-turn.ensures.unready c.if-turn.false)
