@@ -1,0 +1,90 @@
+-- What the collector's seat knows of its own part, since it is that of a run.
+use Rattle.std.proofs.Common.{◌≡◌, ◌^◌, ℕ, ◌+◌, ◌*◌, ◌<◌, ◌≤◌, true, refl, sym, ap, ◌∙◌, subst, arith}
+use Rattle.std.specs.Prelude.{not}
+use Rattle.std.proofs.Common.{nat_eq}
+use native.Mathlib.Decide.{ℕ_discrete}
+use Rattle.ps_core_laws.proofs.HeapTests.{eq_true, number_not}
+use Rattle.std.proofs.Math.Logic.{∥∥₁_elim}
+use Rattle.std.proofs.Props.{props}
+use Rattle.ps_word.specs.Headers.{forward_address_in, forward_packed}
+use Rattle.ps_word.proofs.HeaderPlaces.{forward_address_in-packed}
+use Rattle.ps_core_parts.specs.declared.events.Event.TheVariants.{ForwardStore}
+use Rattle.ps_core_parts.specs.declared.events.Gc.{Gc}
+use Rattle.ps_core_parts.specs.Objects.{among, seen_at}
+use Rattle.ps_core_parts.specs.Steps.{table_size, other_base, forwarding}
+use Rattle.ps_core_parts.specs.Conditions.{GcMay, IsReady}
+use Rattle.ps_core_laws.specs.Runs.{IsSpace}
+use Rattle.ps_core_laws.proofs.Bases.{spaces_wide, some_match}
+use Rattle.ps_core_laws.specs.Kept.{GcKnows}
+use Rattle.ps_core_laws.proofs.KeptFacts.{kept}
+use Rattle.ps_table.specs.Shown.{GcRuns, GcFinds}
+use Rattle.ps_table.proofs.Facts.{words}
+
+-- what the steps of the seat rest on
+pub record GcFacts (g : Gc) : Type 0 where
+  pub size : IsSpace g.space
+  pub epoch_small : g.epoch < 2 ^ 32
+  pub known : (a : ℕ) → among g.known a ≡ true → a + 2 ≤ table_size g.space
+
+facts : (g : Gc) → GcKnows g → GcFacts g
+facts g k = record {
+  size = k.size;
+  epoch_small = k.cycles.small;
+  known = λ a is. let hi = (k.known a is).1 in let wide = (spaces_wide g.space g.cycle).0 in
+      omega arith;
+}
+
+runs_know : (g : Gc) → GcRuns g → GcFacts g
+runs_know g r = facts g
+    (subst GcKnows r.is (kept g.space r.size r.events r.is_run).collector)
+
+pub gc_knows : (g : Gc) → ∥ GcRuns g ∥₁ → GcFacts g
+gc_knows g t = ∥∥₁_elim t (hlevel props) (runs_know g)
+
+-- ---- what a control word that is found tells
+
+pub cycle_found : (g : Gc) (n : ℕ) → GcFinds g 0 n → n ≡ g.cycle
+cycle_found g n f =
+    let w = words g.space f.size f.events f.is_run in
+    let k = kept g.space f.size f.events f.is_run in
+    sym f.found ∙ (w.cycle ∙ (sym k.both.cycle ∙ ap (λ (h : Gc). h.cycle) f.is))
+
+pub epoch_found : (g : Gc) (n : ℕ) → GcFinds g 1 n → (g.cycle ≤ n) × (n ≤ g.cycle + 1)
+epoch_found g n f =
+    let w = words g.space f.size f.events f.is_run in
+    let k = kept g.space f.size f.events f.is_run in
+    let is = sym f.found ∙ w.epoch in
+    let low = k.mutator.cycles.low in let high = k.mutator.cycles.high in
+    let same = sym k.both.cycle ∙ ap (λ (h : Gc). h.cycle) f.is in
+    (omega arith, omega arith)
+
+pub other_inside : (g : Gc) (place : ℕ) → other_base g.space g.cycle ≤ place → place < other_base g.space g.cycle + g.space → place < table_size g.space
+other_inside g place lo hi = let wide = (spaces_wide g.space g.cycle).1 in omega arith
+
+pub forward_inside : (g : Gc) (a c : ℕ) → ∥ GcRuns g ∥₁ → GcMay g (ForwardStore a c) → a + 1 < table_size g.space
+forward_inside g a c r may = let k = (gc_knows g r).known a may.known in omega arith
+
+pub forward_small : (g : Gc) (a c : ℕ) → ∥ GcRuns g ∥₁ → GcMay g (ForwardStore a c) → (g.epoch < 2 ^ 32) × (c < 2 ^ 24)
+forward_small g a c r may =
+    let k = gc_knows g r in
+    let m = some_match (IsReady g a c) (seen_at g.headers a) may.headed in
+    let hi = m.2.high in let wide = (spaces_wide g.space g.cycle).1 in let size = k.size.1 in
+    (k.epoch_small, omega arith)
+
+pub address_back : (epoch c : ℕ) → epoch < 2 ^ 32 → c < 2 ^ 24 → forward_address_in (forwarding epoch c) ≡ c
+address_back epoch c e small = forward_address_in-packed (record { cycle = epoch; address = c }) (record { cycle = e; address = small })
+
+pub packed_is : (epoch c : ℕ) → epoch * 16777216 + c ≡ forwarding epoch c
+unfolding forward_packed
+packed_is epoch c = refl
+
+-- the epoch word differs from the cycle word just in a cycle
+pub open_told : (n m e c : ℕ) → e ≡ n → c ≡ m → m ≤ n → n ≤ m + 1
+    → not (nat_eq n m) ≡ nat_eq e (c + 1)
+open_told n m e c is_n is_m low high = elim (ℕ_discrete n m) as
+    (λ _. not (nat_eq n m) ≡ nat_eq e (c + 1)) [
+      | yes is ↦ let t = eq_true n m is in
+          let f = number_not e (c + 1) (λ x. omega arith) in rw (t, f) refl
+      | no ne ↦ let f = number_not n m ne in let t = eq_true e (c + 1) (omega arith) in
+          rw (f, t) refl
+    ]

@@ -1,0 +1,11 @@
+pub mod Allows
+pub mod CopySteps
+pub mod Counts
+pub mod Facts
+pub mod GcFacts
+pub mod GcMoves
+pub mod Made
+pub mod Mirrored
+pub mod Moves
+pub mod Seats
+pub mod Storing

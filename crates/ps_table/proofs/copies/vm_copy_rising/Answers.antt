@@ -1,0 +1,97 @@
+use Rattle.std.proofs.Common.{arith, ◌≡◌, ◌+◌, ℕ, [], ◌∷◌, sym, ap, ◌∙◌, subst}
+use Rattle.ps_core_parts.specs.declared.events.Event.TheVariants.{FieldStore}
+use Rattle.ps_core_parts.specs.declared.events.Vm.{Vm}
+use Rattle.ps_core_parts.specs.Conditions.{VmMay}
+use Rattle.ps_core_parts.specs.Steps.{table_size, field_stored}
+use Rattle.ps_table.proofs.CopySteps.{rises}
+use Rattle.ps_table.proofs.Facts.{field_place, vm_facts}
+use Rattle.ps_table.proofs.Storing.{space_stored}
+use Rattle.ps_table.proofs.copies.vm_copy_rising.Goals as goal
+
+pub overflow_add-from : goal.overflow_add-from
+overflow_add-from c =
+    let cur = c.loop-done.seat.me.0.vm in
+    let i = c.loop-done.invariant in
+    let one = rises c.args.seat.now.me.0.vm c.requires.runs c.args.from c.args.from_place c.args.to
+    c.args.to_place c.args.count c.requires.can c.requires.order cur c.loop-done.done
+    c.loop-done-test.true i.5 i.6 in
+    let place = one.inside in let size = (vm_facts cur i.5).size.1 in
+    omega arith
+
+pub overflow_add-from_place : goal.overflow_add-from_place
+overflow_add-from_place c =
+    let cur = c.loop-done.seat.me.0.vm in
+    let i = c.loop-done.invariant in
+    let one = rises c.args.seat.now.me.0.vm c.requires.runs c.args.from c.args.from_place c.args.to
+    c.args.to_place c.args.count c.requires.can c.requires.order cur c.loop-done.done
+    c.loop-done-test.true i.5 i.6 in
+    let place = one.inside in let size = (vm_facts cur i.5).size.1 in
+    omega arith
+
+pub overflow_add-from-in-loop-done : goal.overflow_add-from-in-loop-done
+overflow_add-from-in-loop-done c =
+    let cur = c.loop-done.seat.me.0.vm in
+    let i = c.loop-done.invariant in
+    let one = rises c.args.seat.now.me.0.vm c.requires.runs c.args.from c.args.from_place c.args.to
+    c.args.to_place c.args.count c.requires.can c.requires.order cur c.loop-done.done
+    c.loop-done-test.true i.5 i.6 in
+    let place = one.inside in let size = (vm_facts cur i.5).size.1 in
+    omega arith
+
+pub vm_load-word-requires-clause-may : goal.vm_load-word-requires-clause-may
+vm_load-word-requires-clause-may c =
+    let cur = c.loop-done.seat.me.0.vm in
+    let i = c.loop-done.invariant in
+    (rises c.args.seat.now.me.0.vm c.requires.runs c.args.from c.args.from_place c.args.to
+    c.args.to_place c.args.count c.requires.can c.requires.order cur c.loop-done.done
+    c.loop-done-test.true i.5 i.6).inside
+
+pub overflow_add-to_place : goal.overflow_add-to_place
+overflow_add-to_place c =
+    let cur = c.loop-done.seat.me.0.vm in
+    let i = c.loop-done.invariant in
+    let n = c.vm_load-word.result in
+    let one = rises c.args.seat.now.me.0.vm c.requires.runs c.args.from c.args.from_place c.args.to
+    c.args.to_place c.args.count c.requires.can c.requires.order cur c.loop-done.done
+    c.loop-done-test.true i.5 i.6 in
+    let small = (field_place cur c.args.to (c.args.to_place + c.loop-done.done) n i.5
+    (one.may n c.vm_load-word.ensures.does.finds)).1 in
+    omega arith
+
+pub vm_field-requires-clause-may : goal.vm_field-requires-clause-may
+vm_field-requires-clause-may c =
+    let cur = c.loop-done.seat.me.0.vm in
+    let i = c.loop-done.invariant in
+    let n = c.vm_load-word.result in
+    let one = rises c.args.seat.now.me.0.vm c.requires.runs c.args.from c.args.from_place c.args.to
+    c.args.to_place c.args.count c.requires.can c.requires.order cur c.loop-done.done
+    c.loop-done-test.true i.5 i.6 in
+    let same : c.vm_load-word.new.seat.me.0.vm ≡ cur =
+    ap (λ m. m.0.vm) c.vm_load-word.ensures.does.did ∙ one.stays c.loop-done.seat.me.0.gc n in
+    subst (λ (x : Vm). VmMay x (FieldStore c.args.to (c.args.to_place + c.loop-done.done) n))
+    (sym same) (one.may n c.vm_load-word.ensures.does.finds)
+
+pub loop-done-preserved : goal.loop-done-preserved
+loop-done-preserved c =
+    let cur = c.loop-done.seat.me.0.vm in
+    let i = c.loop-done.invariant in
+    let n = c.vm_load-word.result in
+    let at : ℕ = c.args.to_place + c.loop-done.done in
+    let lt = c.loop-done-test.true in
+    let one = rises c.args.seat.now.me.0.vm c.requires.runs c.args.from c.args.from_place c.args.to
+    c.args.to_place c.args.count c.requires.can c.requires.order cur c.loop-done.done
+    c.loop-done-test.true i.5 i.6 in
+    let load = c.vm_load-word.ensures.does.did in
+    let did = c.vm_field.ensures.does.did in
+    let same : c.vm_load-word.new.seat.me.0.vm ≡ cur =
+    ap (λ m. m.0.vm) load ∙ one.stays c.loop-done.seat.me.0.gc n in
+    let part : c.vm_field.new.seat.me.0.vm ≡ field_stored cur c.args.to at n =
+    ap (λ m. m.0.vm) did ∙ ap (λ (x : Vm). field_stored x c.args.to at n) same in (
+      omega arith,
+      c.vm_field.ensures.same ∙ (c.vm_load-word.ensures.same ∙ i.1),
+      i.2 ∙ ap table_size (sym (ap (λ (x : Vm). x.space) part ∙ space_stored cur c.args.to at (n ∷ []))),
+      ap (λ m. m.0.acts_vm) did ∙ (ap (λ m. m.0.acts_vm) load ∙ i.3),
+      ap (λ m. m.1) did ∙ (ap (λ m. m.1) load ∙ i.4),
+      ∣ c.vm_field.ensures.does.runs ∣₁,
+      part ∙ one.next_is n c.vm_load-word.ensures.does.finds,
+    )

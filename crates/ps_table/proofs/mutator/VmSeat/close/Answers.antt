@@ -1,0 +1,16 @@
+use Rattle.std.proofs.Common.{ap, subst}
+use Rattle.ps_core_parts.specs.declared.events.Vm.{Vm}
+use Rattle.ps_parts_memory.specs.Laws.{AfterClose}
+use Rattle.ps_parts_memory.specs.Memory.{grants_of}
+use Rattle.ps_table.proofs.Mirrored.{close_seen}
+use Rattle.ps_table.proofs.mutator.VmSeat.close.Goals as goal
+
+pub returns-clause-closed : goal.returns-clause-closed
+returns-clause-closed c =
+    let s = c.args.self.now in
+    let v = s.seat.me.0.vm in
+    let new = grants_of c.put_close.new.self.seat.me.0.vm in
+    λ still done. close_seen v s.seat.me.0.gc c.args.slot c.see_head.result new
+    c.see_head.ensures.sees
+    (subst (λ (x : Vm). AfterClose (grants_of x) new c.args.slot)
+    (ap (λ m. m.vm) c.see_head.ensures.did) c.put_close.ensures.grants)

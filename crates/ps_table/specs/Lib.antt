@@ -1,0 +1,3 @@
+pub mod Events
+pub mod Mirrored
+pub mod Shown

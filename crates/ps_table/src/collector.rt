@@ -1,0 +1,110 @@
+//! The collector's seat.
+//!
+//! Its part is that of some run of the machine, whatever the mutator's seat did meanwhile.
+ghost use Rattle.std.specs.Prelude.{◌≡◌, ◌<◌, ◌+◌, ◌^◌, ℕ, true, [], ◌∷◌, length, Some};
+ghost use Rattle.std.specs.Arc.{arc_value};
+ghost use Rattle.ps_core_parts.specs.declared.events.Half.{Half};
+ghost use Rattle.ps_core_parts.specs.declared.events.Event.TheVariants.{GcLoad, ReplicaHeaderStore, ForwardStore, HeadStore};
+ghost use Rattle.ps_core_parts.specs.Objects.{log_of};
+ghost use Rattle.ps_core_parts.specs.Conditions.{GcMay};
+ghost use Rattle.ps_core_parts.specs.Steps.{table_size, knows_open};
+ghost use Rattle.ps_table.specs.Shown.{GcRuns, GcFinds, gc_did};
+
+use crate::plays::{Advances, Forwards, GcLoads, PlacesHeader, View};
+use crate::steps::Words;
+use atomic_table::Seat;
+use std::alloc::Global;
+use std::sync::Arc;
+
+/// The collector's seat.
+#[derive(Drop)]
+pub struct GcSeat {
+    pub(crate) table: Arc<Words, Global>,
+    /// The seat at the table, with what it knows. It has no bytes.
+    pub seat: Seat<(), View>,
+    ghost wide: { (arc_value table).shared.table_id.words ≡ table_size seat.me.0.gc.space },
+    ghost seated: { seat.table_id ≡ (arc_value table).shared.table_id },
+    ghost acts: { seat.me.0.acts_gc ≡ true },
+    ghost empty: { seat.me.1 ≡ [] },
+    ghost runs: { ∥ GcRuns seat.me.0.gc ∥₁ },
+}
+
+impl GcSeat {
+    /// The seat of a new table.
+    pub(crate) fn seated(table: Arc<Words, Global>, seat: Seat<(), View>) -> GcSeat
+        requires wide { (arc_value table).shared.table_id.words ≡ table_size seat.me.0.gc.space }
+        requires seated { seat.table_id ≡ (arc_value table).shared.table_id }
+        requires acts { seat.me.0.acts_gc ≡ true }
+        requires empty { seat.me.1 ≡ [] }
+        requires runs { ∥ GcRuns seat.me.0.gc ∥₁ }
+        ensures { result.seat ≡ seat }
+    {
+        GcSeat { table, seat }
+    }
+
+    /// The word at a place. The epoch word, and the first header of an object that the collector
+    /// knows, are kept.
+    pub fn load(&mut self, place: u64) -> u64
+        requires inside { place < table_size self.old.seat.me.0.gc.space }
+        ensures did { self.new.seat.me.0 ≡ gc_did self.old.seat.me.0 (GcLoad place result) }
+        ensures finds { GcFinds self.old.seat.me.0.gc place result }
+        ensures same { self.new.seat.table_id ≡ self.old.seat.table_id }
+    {
+        self.table
+            .shared
+            .load::<GcLoads>(&mut self.seat, place as usize)
+    }
+
+    /// Whether a cycle is open: its number, the epoch, is kept.
+    pub fn begin_cycle(&mut self) -> bool
+        ensures did { (cycle epoch : ℕ) × (self.new.seat.me.0
+            ≡ gc_did (gc_did self.old.seat.me.0 (GcLoad 0 cycle)) (GcLoad 1 epoch)) }
+        ensures answer { result ≡ knows_open self.new.seat.me.0.gc }
+        ensures same { self.new.seat.table_id ≡ self.old.seat.table_id }
+    {
+        let cycle = self.load(0);
+        let epoch = self.load(1);
+        epoch != cycle
+    }
+
+    /// Puts a word into the other space, for the header of a replica to be.
+    pub fn store_to(&mut self, place: u64, word: u64)
+        requires may { GcMay self.old.seat.me.0.gc (ReplicaHeaderStore place word) }
+        ensures did { self.new.seat.me.0
+            ≡ gc_did self.old.seat.me.0 (ReplicaHeaderStore place word) }
+        ensures same { self.new.seat.table_id ≡ self.old.seat.table_id }
+    {
+        self.table
+            .shared
+            .store::<PlacesHeader>(&mut self.seat, place as usize, word);
+    }
+
+    /// The record being taken, which has this number in its slot's log, is taken.
+    pub fn advance_head(&mut self, slot: u64, number: u64)
+        requires takes { (h : Half) × (self.old.seat.me.0.gc.taking ≡ Some h) × (slot ≡ h.slot)
+            × (number ≡ length (log_of self.old.seat.me.0.gc.taken slot)) }
+        requires may { GcMay self.old.seat.me.0.gc HeadStore }
+        requires few { (slot < 32) × (number + 1 < 2 ^ 64) }
+        ensures did { self.new.seat.me.0 ≡ gc_did self.old.seat.me.0 HeadStore }
+        ensures same { self.new.seat.table_id ≡ self.old.seat.table_id }
+    {
+        self.table
+            .shared
+            .store::<Advances>(&mut self.seat, (2 + slot) as usize, number + 1);
+    }
+
+    /// Makes a pair of an original and its replica, whose headers stand.
+    pub fn forward(&mut self, original: u64, replica: u64, epoch: u64)
+        requires is { epoch ≡ self.old.seat.me.0.gc.epoch }
+        requires may { GcMay self.old.seat.me.0.gc (ForwardStore original replica) }
+        ensures did { self.new.seat.me.0
+            ≡ gc_did self.old.seat.me.0 (ForwardStore original replica) }
+        ensures same { self.new.seat.table_id ≡ self.old.seat.table_id }
+    {
+        self.table.shared.store::<Forwards>(
+            &mut self.seat,
+            (original + 1) as usize,
+            epoch * (1 << 24) + replica,
+        );
+    }
+}

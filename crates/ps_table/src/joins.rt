@@ -1,0 +1,65 @@
+//! The two seats joined, and apart again.
+ghost use Rattle.std.specs.Prelude.{◌≡◌, true, []};
+ghost use Rattle.ps_core_parts.specs.declared.events.Event.TheVariants.{HandOver};
+ghost use Rattle.ps_core_parts.specs.Objects.{values_stand};
+ghost use Rattle.ps_core_parts.specs.Steps.{table_size};
+ghost use Rattle.ps_parts_memory.specs.Stores.{numbers};
+ghost use Rattle.ps_table.specs.Shown.{BothDo, both_sides, vm_side, gc_side};
+
+use crate::plays::{HandsOver, Naming, Parts, Spares, View};
+use crate::steps::Words;
+use atomic_table::Seat;
+use ps_word::words::Word;
+use std::marker::Brand;
+use std::mem;
+
+/// The second seat's part goes to the first, and an empty seat stands in its place.
+pub(crate) fn join(words: &Words, vm: &mut Seat<(), View>, gc: &mut Seat<(), View>)
+    requires same { (vm.old.table_id ≡ words.now.shared.table_id)
+        × (gc.old.table_id ≡ words.now.shared.table_id)
+        × (words.now.shared.table_id.words ≡ table_size vm.old.me.0.vm.space) }
+    requires acts { (vm.old.me.0.acts_vm ≡ true) × (gc.old.me.0.acts_gc ≡ true)
+        × (gc.old.me.1 ≡ []) }
+    ensures same { (vm.new.table_id ≡ vm.old.table_id) × (gc.new.table_id ≡ gc.old.table_id) }
+    ensures joined { vm.new.me ≡ (both_sides vm.old.me.0 gc.old.me.0, vm.old.me.1) }
+{
+    let spare = words.shared.split_seat::<Spares>(vm);
+    let other = mem::replace(gc, spare);
+    words.shared.join_seat::<Parts>(vm, other);
+}
+
+/// The collector's part goes back.
+pub(crate) fn part(words: &Words, vm: &mut Seat<(), View>, gc: &mut Seat<(), View>)
+    requires same { (vm.old.table_id ≡ words.now.shared.table_id)
+        × (words.now.shared.table_id.words ≡ table_size vm.old.me.0.vm.space) }
+    requires acts { (vm.old.me.0.acts_vm ≡ true) × (vm.old.me.0.acts_gc ≡ true) }
+    ensures same { (vm.new.table_id ≡ vm.old.table_id) × (gc.new.table_id ≡ vm.old.table_id) }
+    ensures vm { vm.new.me ≡ (vm_side vm.old.me.0, vm.old.me.1) }
+    ensures gc { gc.new.me ≡ (gc_side vm.old.me.0, []) }
+{
+    *gc = words.shared.split_seat::<Parts>(vm);
+}
+
+fn hand_named<N: Naming>(words: &Words, seat: &mut Seat<(), View>, roots: &[Word]) -> u64
+    requires named { N.roots ≡ numbers roots.now }
+    requires same { (seat.old.table_id ≡ words.now.shared.table_id)
+        × (words.now.shared.table_id.words ≡ table_size seat.old.me.0.vm.space) }
+    requires acts { (seat.old.me.0.acts_vm ≡ true) × (seat.old.me.0.acts_gc ≡ true) }
+    requires may { values_stand seat.old.me.0.vm.objects (numbers roots.now) ≡ true }
+    ensures same { seat.new.table_id ≡ seat.old.table_id }
+    ensures does { BothDo seat.old.me (HandOver result (numbers roots.now)) seat.new.me }
+{
+    words.shared.load::<HandsOver<N>>(seat, 0)
+}
+
+/// Loads the cycle word with the roots, by both seats joined.
+pub(crate) fn hand(words: &Words, seat: &mut Seat<(), View>, roots: &[Word]) -> u64
+    requires same { (seat.old.table_id ≡ words.now.shared.table_id)
+        × (words.now.shared.table_id.words ≡ table_size seat.old.me.0.vm.space) }
+    requires acts { (seat.old.me.0.acts_vm ≡ true) × (seat.old.me.0.acts_gc ≡ true) }
+    requires may { values_stand seat.old.me.0.vm.objects (numbers roots.now) ≡ true }
+    ensures same { seat.new.table_id ≡ seat.old.table_id }
+    ensures does { BothDo seat.old.me (HandOver result (numbers roots.now)) seat.new.me }
+{
+    hand_named::<Brand>(words, seat, roots)
+}
