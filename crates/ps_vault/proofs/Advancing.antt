@@ -12,21 +12,22 @@ use Rattle.ps_language.proofs.ScheduleLaws.{moves-added, count_of-added, longest
 use Rattle.ps_language.proofs.WorldLaws.{after_moves-append, all_ready-append}
 use Rattle.ps_acts.specs.Acts.{Asked}
 use Rattle.ps_language.specs.Worlds.{kept_pair}
-use Rattle.ps_mem.specs.Heap.{Heap}
+use Rattle.ps_mem.specs.Heap.{Heap, Grants}
 use Rattle.ps_ops.specs.declared.failure.NotMade.{NotMade as Reason}
-use Rattle.ps_ops.specs.Does.{most_records}
 use Rattle.ps_world.specs.declared.notes.Note.{Note}
 use Rattle.ps_world.specs.declared.notes.Note.TheVariants.{Nothing, TurnEnds, ShowsMemory, Wishes}
 use Rattle.ps_world.specs.Held.{Held, IsAt}
 use Rattle.ps_world.specs.Notes.{note_of}
 use Rattle.ps_world.specs.Steps.{AreQuiet, AreShown, HasMade, IsUnready, StepsBehind, ordinary, words_shown}
 use Rattle.ps_language.specs.Step.{stepped}
+use Rattle.ps_vault.specs.Holds as holds
+use Rattle.ps_vault.specs.Holds.{IsHeldUp}
 use Rattle.ps_vault.specs.Order.{AllKeepTurn, NoneEnds, OnlyLastMayEnd, EndsTurn}
-use Rattle.ps_vault.specs.Reports.{are_ordinary, are_words, is_number_of_words, is_ordinary, MayWant}
+use Rattle.ps_vault.specs.Reports.{are_ordinary, are_words, is_number_of_words, is_ordinary}
 use Rattle.ps_vault.specs.Stories.{Keeps, move_of}
 use Rattle.ps_vault.specs.Turns.{added_times}
 use Rattle.ps_vault.proofs.Following.{times_moves}
-use Rattle.ps_vault.proofs.Keeping.{and_both, keeps_noted, keeps_unmade, starved_step}
+use Rattle.ps_vault.proofs.Keeping.{and_both, keeps_noted, keeps_unmade, held_step}
 use Rattle.ps_vault.proofs.Ordering.{none_ends_more}
 
 -- the world after so many more
@@ -267,15 +268,12 @@ module _ (asks : Status → Around → Scene → Asked) (context slot made : ℕ
         keeps_unmade asks context (ordinary slot) shown behind.mid new so_far
         (keeps_mid (Err reason) behind) (ready_mid (Err reason) behind) reason behind.steps
 
-    pub starved_behind : new.desk.grants.closed slot ≡ false
-        → most_records ≤ new.desk.grants.records slot → new.desk.heap.space.grows ≡ true
-        → MayWant asks context false (world new.desk.program so_far)
-    starved_behind opened free grows =
-        subst (λ (p : List ℕ). MayWant asks context false (world p so_far))
-        (sym behind.steps.program)
-        (starved_step asks context (ordinary slot) shown behind.mid new so_far
+    pub held_behind : {M : Type 0} (heap : M → Heap) (grants : M → Grants) (memory : M)
+        → new.desk.heap ≡ heap memory → new.desk.grants ≡ grants memory → slot ≡ holds.slot
+        → IsHeldUp heap grants asks context false (world new.desk.program so_far) reason
+    held_behind =
+        held_step asks context (ordinary slot) shown behind.mid new so_far
         (keeps_mid (Err reason) behind) (ready_mid (Err reason) behind) reason behind.steps
-        opened free grows)
 
 -- of a pair that isn't there none is kept
 pub kept_none : (note : Note) (shown : Option (ℤ × ℤ)) → shown ≡ None

@@ -1,5 +1,5 @@
 -- The world after the steps of entries.
-use Rattle.std.proofs.Common.{◌≡◌, ◌⊎◌, inl, inr, ℕ, ℤ, zero, suc, ◌+◌, ◌<◌, ◌≤◌, Bool, true, false, Option, Some, None, List, [], ◌∷◌, ◌++◌, length, take, drop, get_or, refl, sym, ◌∙◌, ap, arith, add-one, append-nil, drop-cons, length-append, append_assoc}
+use Rattle.std.proofs.Common.{◌≡◌, inl, inr, ℕ, ℤ, zero, suc, ◌+◌, ◌<◌, ◌≤◌, Bool, true, false, Option, Some, None, List, [], ◌∷◌, ◌++◌, length, take, drop, get_or, refl, sym, ◌∙◌, ap, arith, add-one, append-nil, drop-cons, length-append, append_assoc}
 use Rattle.std.specs.Prelude.{◌==◌, ◌&&◌, nat_lt, not, replicate, slice_get}
 use Rattle.std.specs.Option.{option_map_or}
 use Rattle.std.proofs.lemmas.List.{length-replicate, replicate_more, take-append-drop, take_more, drop_all}
@@ -21,7 +21,7 @@ use Rattle.ps_vault.specs.Stories.{Story, world_at, move_of}
 use Rattle.ps_vault.specs.Turns.{added_times}
 use Rattle.ps_language.proofs.ScheduleLaws.{moves-single, moves-append, moves-added, plain_entry, begins-part}
 use Rattle.ps_language.proofs.WorldLaws.{step-unready, after_moves-append, world-append}
-use Rattle.ps_vault.proofs.Turning.{times_sum, turn_joined, turn_crossing, times_apart, times_alone}
+use Rattle.ps_vault.proofs.Turning.{last_of, length_push, times_sum, turn_joined, turn_crossing, times_apart, times_alone}
 
 -- ---- many equal steps
 
@@ -65,20 +65,6 @@ times_noted made old now new context shown was none is =
     is ∙ (ap (λ (pair : Option (ℤ × ℤ)). added now (move_of context false pair)) none
     ∙ (ap (λ (entries : List Entry). added entries (plain_move context)) was
     ∙ ap (λ k. added_times k old (plain_move context)) (sym (add-one made))))
-
--- a list is empty, or has a last element
-last_of : (entries : List Entry) → (entries ≡ []) ⊎ ((before : List Entry) × (last : Entry)
-    × (entries ≡ before ++ last ∷ []))
-last_of [] = inl refl
-last_of (entry ∷ entries) = elim (last_of entries) [
-  | inl none ↦ inr ([], entry, ap (λ (rest : List Entry). entry ∷ rest) none)
-  | inr (before, last, is) ↦
-      inr (entry ∷ before, last, ap (λ (rest : List Entry). entry ∷ rest) is)
-]
-
-length_push : (before : List Entry) (entry : Entry)
-    → length (before ++ entry ∷ []) ≡ length before + 1
-length_push before entry = length-append before (entry ∷ [])
 
 -- of an entry that they join, by whether it has no room for all
 longer_joined : (old before : List Entry) (entry : Entry) (context n : ℕ) (test : Bool)

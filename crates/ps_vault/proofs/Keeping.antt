@@ -17,10 +17,9 @@ use Rattle.ps_language.proofs.ScheduleLaws.{moves-added, longest-added}
 use Rattle.ps_language.proofs.WorldLaws.{after_moves-append, all_ready-append}
 use Rattle.ps_ops.specs.declared.failure.NotMade.{NotMade as Reason}
 use Rattle.ps_ops.specs.declared.failure.NotMade.TheVariants.{LogFull, LogClosed, NeedSpace, Memory}
-use Rattle.ps_ops.specs.Does.{most_records}
 use Rattle.ps_acts.specs.declared.lent.Trial.{Trial}
 use Rattle.ps_acts.specs.Acts.{Asked}
-use Rattle.ps_mem.specs.Heap.{Heap}
+use Rattle.ps_mem.specs.Heap.{Heap, Grants}
 use Rattle.ps_contexts.specs.declared.members.Member.{Member}
 use Rattle.ps_contexts.specs.Seats.{item_at}
 use Rattle.ps_contexts.specs.Worlds.{context_of, contexts_in}
@@ -37,6 +36,7 @@ use Rattle.ps_world.specs.Needs.{step_wants}
 use Rattle.ps_world.specs.Notes.{note_of}
 use Rattle.ps_world.specs.Steps.{Steps}
 use Rattle.ps_vault.specs.declared.reports.Outcome.{Outcome}
+use Rattle.ps_vault.specs.Holds.{slot, Grows, IsHeldUp, OnlyGrows}
 use Rattle.ps_vault.specs.Reports.{are_ordinary, EndsAs, IsRunOf, MayWant}
 use Rattle.ps_vault.specs.Stories.{Story, Keeps, move_of, world_at}
 
@@ -151,26 +151,41 @@ module _ (asks : Status → Around → Scene → Asked) (context : ℕ) (trial :
       longest = keeps.longest;
     }
 
-    -- in a memory that grows and keeps no log
-    wants_of : (why : Reason) → new.desk.grants.closed trial.slot ≡ false
-        → most_records ≤ new.desk.grants.records trial.slot
-        → new.desk.heap.space.grows ≡ true → (wants : Bool)
-        → IsHeldUpAs wants trial.slot new.desk.heap new.desk.grants why → IsTrue wants
-    wants_of LogFull opened free grows wants held =
-        let less = held.1 in absurd (omega (arith, less, free))
-    wants_of LogClosed opened free grows wants held = absurd (true≢false (sym held ∙ opened))
-    wants_of (NeedSpace words) opened free grows wants held = held.0
-    wants_of Memory opened free grows wants held = held
+    -- there is a reason
+    pub held_step : {M : Type 0} (heap : M → Heap) (grants : M → Grants) (memory : M)
+        → new.desk.heap ≡ heap memory → new.desk.grants ≡ grants memory → trial.slot ≡ slot
+        → IsHeldUp heap grants asks context trial.refused (world new.desk.program schedule) reason
+    held_step heap grants memory same_heap same_grants logged =
+        subst (λ (p : List ℕ).
+        IsHeldUp heap grants asks context trial.refused (world p schedule) reason)
+        (sym steps.program)
+        (record {
+          ready = ready;
+          memory = memory;
+          held_up = rw (← same_heap, ← same_grants, ← logged)
+              (steps.held_up reason refl here keeps.at ready);
+        })
 
-    pub starved_step : new.desk.grants.closed trial.slot ≡ false
-        → most_records ≤ new.desk.grants.records trial.slot
-        → new.desk.heap.space.grows ≡ true
-        → MayWant asks context trial.refused here
-    starved_step opened free grows = record {
-      ready = ready;
-      wants = wants_of reason opened free grows (step_wants asks context trial.refused here)
-          (steps.held_up reason refl here keeps.at ready);
-    }
+-- ---- a memory that only grows
+
+wants_of : (heap : Heap) (grants : Grants) (wants : Bool) (reason : Reason) → Grows heap grants
+    → IsHeldUpAs wants slot heap grants reason → IsTrue wants
+wants_of heap grants wants LogFull grows held =
+    let less = held.1 in let free = grows.free in absurd (omega (arith, less, free))
+wants_of heap grants wants LogClosed grows held = absurd (true≢false (sym held ∙ grows.opened))
+wants_of heap grants wants (NeedSpace words) grows held = held.0
+wants_of heap grants wants Memory grows held = held
+
+-- a step over it is held up for want of memory alone
+pub may_want : {M : Type 0} (heap : M → Heap) (grants : M → Grants)
+    (asks : Status → Around → Scene → Asked) (context : ℕ) (refused : Bool) (w : World)
+    (reason : Reason) → OnlyGrows heap grants
+    → IsHeldUp heap grants asks context refused w reason → MayWant asks context refused w
+may_want heap grants asks context refused w reason grows held = record {
+  ready = held.ready;
+  wants = wants_of (heap held.memory) (grants held.memory) (step_wants asks context refused w)
+      reason (grows held.memory) held.held_up;
+}
 
 -- ---- what is told of its world
 

@@ -1,11 +1,12 @@
 -- Many steps at once are so many single ones.
-use Rattle.std.proofs.Common.{◌≡◌, ℕ, ℤ, zero, suc, ◌+◌, ◌-◌, ◌<◌, ◌≤◌, true, false, Option, Some, None, List, [], ◌∷◌, ◌++◌, refl, sym, ◌∙◌, ap, arith, append_assoc}
-use Rattle.std.specs.Prelude.{is_none}
+use Rattle.std.proofs.Common.{◌≡◌, ◌⊎◌, inl, inr, ℕ, ℤ, zero, suc, ◌+◌, ◌-◌, ◌<◌, ◌≤◌, true, false, Option, Some, None, List, [], ◌∷◌, ◌++◌, length, refl, sym, ◌∙◌, ap, arith, append_assoc, length-append}
+use Rattle.std.specs.Prelude.{is_none, slice_get}
+use Rattle.std.specs.Option.{option_map_or}
 use Rattle.std.proofs.lemmas.Bool.Decides.{nat_tests}
 use Rattle.ps_language.specs.declared.schedules.Entry.{Entry}
 use Rattle.ps_language.specs.Schedules.{Move, plain_move, added, joins, steps_limit}
 use Rattle.ps_language.proofs.ScheduleLaws.{added-last}
-use Rattle.ps_vault.specs.Turns.{added_times, plain_entry}
+use Rattle.ps_vault.specs.Turns.{added_times, plain_entry, joins_last}
 
 none_shown : (shown : Option (ℤ × ℤ)) → is_none shown ≡ true → shown ≡ None
 none_shown None h = refl
@@ -107,9 +108,67 @@ turn_crossing old before entry context n is test h most =
     ∙ (sym (times_sum room (n - room) old (plain_move context))
     ∙ ap (λ k. added_times k old (plain_move context)) (sym parts))
 
+-- a list is empty, or has a last element
+pub last_of : (entries : List Entry) → (entries ≡ []) ⊎ ((before : List Entry) × (last : Entry)
+    × (entries ≡ before ++ last ∷ []))
+last_of [] = inl refl
+last_of (entry ∷ entries) = elim (last_of entries) [
+  | inl none ↦ inr ([], entry, ap (λ (rest : List Entry). entry ∷ rest) none)
+  | inr (before, last, is) ↦
+      inr (entry ∷ before, last, ap (λ (rest : List Entry). entry ∷ rest) is)
+]
+
+pub length_push : (before : List Entry) (entry : Entry)
+    → length (before ++ entry ∷ []) ≡ length before + 1
+length_push before entry = length-append before (entry ∷ [])
+
+-- the last element
+last_at : (before : List Entry) (entry : Entry)
+    → slice_get (before ++ entry ∷ []) (length before) ≡ Some entry
+last_at [] entry = refl
+last_at (first ∷ before) entry = last_at before entry
+
+joins_as : (old before : List Entry) (entry : Entry) (context : ℕ) → old ≡ before ++ entry ∷ []
+    → joins_last old context ≡ joins entry context
+joins_as old before entry context is =
+    let size : length (before ++ entry ∷ []) ≡ length before + 1 = length_push before entry in
+    let place : length (before ++ entry ∷ []) - 1 ≡ length before = omega (arith, size) in
+    ap (λ (entries : List Entry). joins_last entries context) is
+    ∙ ap (λ (last : Option Entry). option_map_or (λ it. joins it context) last false)
+    (ap (slice_get (before ++ entry ∷ [])) place ∙ last_at before entry)
+
+-- of an entry that no step joins, the first of many is an entry of its own
+pub turn_apart : (old : List Entry) (context n : ℕ) → joins_last old context ≡ false → 1 ≤ n
+    → n ≤ steps_limit → old ++ plain_entry context n ∷ [] ≡ added_times n old (plain_move context)
+turn_apart old context n apart some most = elim (last_of old) [
+  | inl none ↦ ap (λ (entries : List Entry). entries ++ plain_entry context n ∷ []) none
+      ∙ times_alone old context n none some most
+  | inr (before, last, is) ↦
+      ap (λ (entries : List Entry). entries ++ plain_entry context n ∷ []) is
+      ∙ times_apart old before last context n is (sym (joins_as old before last context is) ∙ apart)
+      some most
+]
+
+-- an entry that they join
+pub turn_fits : (old before : List Entry) (entry : Entry) (context n : ℕ) → old ≡ before ++ entry
+    ∷ [] → joins_last old context ≡ true → entry.steps + n ≤ steps_limit
+    → before ++ plain_entry context (entry.steps + n) ∷ [] ≡ added_times n old (plain_move context)
+turn_fits old before entry context n is test h =
+    turn_joined old before entry context n is (sym (joins_as old before entry context is) ∙ test) h
+
+pub turn_crosses : (old before : List Entry) (entry : Entry) (context n : ℕ) → old ≡ before
+    ++ entry ∷ [] → joins_last old context ≡ true
+    → steps_limit < entry.steps + n → n ≤ steps_limit
+    → (before ++ plain_entry context steps_limit ∷ [])
+    ++ plain_entry context (n - (steps_limit - entry.steps))
+    ∷ [] ≡ added_times n old (plain_move context)
+turn_crosses old before entry context n is test h most =
+    turn_crossing old before entry context n is
+    (sym (joins_as old before entry context is) ∙ test) h most
+
 -- none
 pub times_none : (n : ℕ) (old : List Entry) (move : Move) → n ≡ 0 → old ≡ added_times n old move
 unfolding added_times
 times_none n old move is = rw is refl
 
-pub ruleset turn_lemmas = (times_none, turn_joined, turn_crossing, times_apart, times_alone)
+pub ruleset turn_lemmas = (times_none, turn_fits, turn_crosses, turn_apart, times_alone)

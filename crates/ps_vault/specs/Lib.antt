@@ -1,3 +1,4 @@
+pub mod Holds
 pub mod Reports
 pub mod Stories
 pub mod Turns

@@ -17,3 +17,5 @@ pub use plain::run_plain;
 pub use ps_language::schedules::Entry;
 pub use replays::replay;
 pub use reports::{Config, Outcome, Report, RunFault};
+pub use turns::Turn;
+pub use vaults::{Advanced, Told, Vault};

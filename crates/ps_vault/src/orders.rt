@@ -3,6 +3,7 @@
 ghost use Rattle.std.specs.Prelude.{◌≡◌, ℕ, ◌+◌, ◌<◌, ◌≤◌, false, true, IfOk, IfSome, IfNone, vec_capacity};
 ghost use Rattle.ps_language.specs.Locks as locks;
 ghost use Rattle.ps_language.specs.Schedules.{count_of, moves};
+ghost use Rattle.ps_vault.specs.Holds.{OnlyGrows};
 ghost use Rattle.ps_vault.specs.Order.{IsNoneAbove};
 ghost use Rattle.ps_vault.specs.Reports.{are_ordinary, IsOneStarved, IsRunOf};
 ghost use Rattle.ps_vault.specs.Stories.{world_at};
@@ -11,6 +12,8 @@ use crate::reports::Report;
 use crate::turns::Turn;
 use crate::vaults::Vault;
 use ps_interpreter::interprets::Interpret;
+use ps_mem::Memory;
+use ps_mem::plain::PlainMemory;
 use ps_world::deeds::Deeds;
 use std::alloc::{AllocError, Global};
 use std::hash::RandomState;
@@ -33,7 +36,7 @@ pub trait TurnOrder {
         ensures some { 1 ≤ result.steps };
 }
 
-impl<S: Interpret + Drop, D: Deeds + Drop> Vault<'_, S, D> {
+impl<M: Memory + Drop, S: Interpret + Drop, D: Deeds + Drop> Vault<'_, M, S, D> {
     /// The ready context of the least identifier above another, or of the least of all where none
     /// is above it.
     fn next_round(&mut self, after: u32) -> Option<u32>
@@ -72,7 +75,7 @@ impl<S: Interpret + Drop, D: Deeds + Drop> Vault<'_, S, D> {
             → are_ordinary (moves self.new.schedule) ≡ true }
         ensures calling_on { result.held ≡ false → self.new.is_calling ≡ false }
         ensures fewer { result.held ≡ true → result.made < steps }
-        ensures starved { result.held ≡ true
+        ensures starved { OnlyGrows M.heap M.grants → result.held ≡ true
             → IsOneStarved S.asks false (world_at self.new) self.new.capacity self.new.schedule }
         ensures ended { result.held ≡ false → result.made < steps
             → IsNoneAbove (world_at self.new) 0 }
@@ -118,7 +121,8 @@ pub fn run_in_order<S: Interpret + Drop, D: Deeds + Drop, O: TurnOrder>(
     ensures run { IfOk result (λ report. IsRunOf S.asks program.now steps report.printed.items
         (vec_capacity report.schedule) report.schedule.items report.outcome) }
 {
-    let mut vault = Vault::new(alloc, interpret, deeds, program, keys, 0)?;
+    let memory = PlainMemory::new(alloc);
+    let mut vault = Vault::new(alloc, memory, interpret, deeds, program, keys, 0)?;
     let run = vault.run_by(steps, order);
     Ok(vault.into_run(run, steps))
 }

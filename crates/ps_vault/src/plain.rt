@@ -11,6 +11,8 @@ use crate::reports::{Config, Outcome, Report, RunFault};
 use crate::turns::Turn;
 use crate::vaults::Vault;
 use ps_interpreter::interprets::Interpret;
+use ps_mem::Memory;
+use ps_mem::plain::PlainMemory;
 use ps_world::deeds::Deeds;
 use std::alloc::Global;
 use std::hash::RandomState;
@@ -48,14 +50,15 @@ pub fn run_plain<S: Interpret + Drop, D: Deeds + Drop>(
     if !config.is_within() {
         return Err(RunFault::Config);
     }
-    let Ok(mut vault) = Vault::new(alloc, interpret, deeds, program, keys, 0) else {
+    let memory = PlainMemory::new(alloc);
+    let Ok(mut vault) = Vault::new(alloc, memory, interpret, deeds, program, keys, 0) else {
         return Err(RunFault::Memory);
     };
     let run = vault.run(config.steps, config.quantum);
     Ok(vault.into_run(run, config.steps))
 }
 
-impl<S: Interpret + Drop, D: Deeds + Drop> Vault<'_, S, D> {
+impl<M: Memory + Drop, S: Interpret + Drop, D: Deeds + Drop> Vault<'_, M, S, D> {
     /// The report of a run that had no steps before, with a budget: where none was held up either
     /// all steps were made, or no context is ready.
     pub fn into_run(mut self, run: Turn, steps: u32) -> Report

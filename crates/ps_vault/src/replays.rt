@@ -16,6 +16,7 @@ use crate::turns::Turn;
 use crate::vaults::{Told, Vault};
 use ps_interpreter::interprets::Interpret;
 use ps_language::schedules::Entry;
+use ps_mem::plain::PlainMemory;
 use ps_world::deeds::Deeds;
 use std::alloc::Global;
 use std::hash::RandomState;
@@ -24,7 +25,7 @@ use std::hash::RandomState;
 /// turn would end; a `vmstatus` in them is shown zeros. Fewer, and none held up: the context isn't
 /// ready. Held up: fewer, and the next may want memory, whatever room the schedule has.
 fn steps<S: Interpret + Drop, D: Deeds + Drop>(
-    vault: &mut Vault<S, D>,
+    vault: &mut Vault<PlainMemory, S, D>,
     context: u32,
     most: u32,
 ) -> Turn
@@ -50,7 +51,7 @@ fn steps<S: Interpret + Drop, D: Deeds + Drop>(
         made += advanced.made;
         match advanced.told {
             Told::Goes | Told::TurnEnds => {}
-            Told::HeldUp => return Turn { made, held: true },
+            Told::HeldUp(_) => return Turn { made, held: true },
         }
     }
     Turn { made, held: false }
@@ -59,7 +60,7 @@ fn steps<S: Interpret + Drop, D: Deeds + Drop>(
 /// Makes the steps of an entry that are all ordinary ones, as far as memory goes, and tells how many
 /// were made; those of a context that isn't ready are counted and change nothing.
 fn follow_ordinary<S: Interpret + Drop, D: Deeds + Drop>(
-    vault: &mut Vault<S, D>,
+    vault: &mut Vault<PlainMemory, S, D>,
     entry: Entry,
 ) -> u32
     requires calling { vault.old.is_calling ≡ false }
@@ -88,7 +89,10 @@ fn follow_ordinary<S: Interpret + Drop, D: Deeds + Drop>(
 /// Makes the steps of an entry, of which the last may be refused and may show a pair, as far as
 /// memory goes, and tells how many were made; a step of a context that isn't ready is counted and
 /// changes nothing, nor do those behind it in the entry.
-fn follow_entry<S: Interpret + Drop, D: Deeds + Drop>(vault: &mut Vault<S, D>, entry: Entry) -> u32
+fn follow_entry<S: Interpret + Drop, D: Deeds + Drop>(
+    vault: &mut Vault<PlainMemory, S, D>,
+    entry: Entry,
+) -> u32
     requires calling { vault.old.is_calling ≡ false }
     requires room { length vault.old.schedule + 3 ≤ vault.old.capacity }
     ensures program { vault.new.program ≡ vault.old.program }
@@ -165,22 +169,22 @@ pub fn replay<S: Interpret + Drop, D: Deeds + Drop>(
     let Some(entries) = twice.checked_add(1) else {
         return Err(RunFault::Memory);
     };
-    let Ok(mut vault) = Vault::new(alloc, interpret, deeds, program, keys, entries) else {
+    let memory = PlainMemory::new(alloc);
+    let Ok(mut vault) = Vault::new(alloc, memory, interpret, deeds, program, keys, entries) else {
         return Err(RunFault::Memory);
     };
-    let Ok(mut followed) = Vec::with_capacity(alloc, schedule.len()) else {
-        return Err(RunFault::Memory);
-    };
-    for entry in schedule {
-        let made = follow_entry(&mut vault, *entry);
+    for place in 0..schedule.len() {
+        let entry = schedule[place];
+        let made = follow_entry(&mut vault, entry);
         if made < entry.steps {
+            let (printed, mut followed) = vault.into_followed(&schedule[..place]);
             push_part(&mut followed, entry.context, made);
-            return Ok(report_of(vault, followed, Outcome::Memory));
+            return Ok(report_of(printed, followed, Outcome::Memory));
         }
-        push_within(&mut followed, *entry);
     }
     let outcome = vault.outcome(true);
-    Ok(report_of(vault, followed, outcome))
+    let (printed, followed) = vault.into_followed(schedule);
+    Ok(report_of(printed, followed, outcome))
 }
 
 /// Pushes an entry of so many ordinary steps, if there are any.
@@ -203,20 +207,16 @@ fn push_part(schedule: &mut Vec<Entry>, context: u32, made: u32)
     }
 }
 
-/// A report with a vault's printed bytes.
-fn report_of<S: Interpret + Drop, D: Deeds + Drop>(
-    vault: Vault<S, D>,
-    schedule: Vec<Entry>,
-    outcome: Outcome,
-) -> Report
-    ensures printed { result.printed.items ≡ (world_at vault.entry).printed }
+/// The report of a run without a collector.
+fn report_of(printed: Vec<u8>, schedule: Vec<Entry>, outcome: Outcome) -> Report
+    ensures printed { result.printed ≡ printed }
     ensures schedule { result.schedule ≡ schedule }
     ensures outcome { result.outcome ≡ outcome }
     ensures flips { result.flips ≡ 0 }
     ensures taken { result.taken ≡ 0 }
 {
     Report {
-        printed: vault.into_printed(),
+        printed,
         schedule,
         outcome,
         flips: 0,

@@ -27,6 +27,16 @@ fn joins(entry: &Entry, context: u32) -> bool
     entry.context == context && !entry.refused && entry.shown.is_none() && entry.steps < u32::MAX
 }
 
+/// Whether a further step of a context joins the last entry.
+fn joins_last(schedule: &[Entry], context: u32) -> bool
+    ensures { result ≡ turning.joins_last schedule.now context }
+{
+    match schedule.last() {
+        Some(last) => joins(last, context),
+        None => false,
+    }
+}
+
 /// What a schedule keeps of the pair that a step was shown: the pair, where a `vmstatus` acted
 /// (PLRM2, 8 'vmstatus').
 pub fn kept(told: Note, shown: Option<(i32, i32)>) -> Option<(i32, i32)>
@@ -97,15 +107,14 @@ pub fn note_turn(schedule: &mut Vec<Entry>, context: u32, steps: u32)
     if steps == 0 {
         return;
     }
+    if !joins_last(schedule, context) {
+        push_within(schedule, plain_entry(context, steps));
+        return;
+    }
     let Some(last) = schedule.pop() else {
         push_within(schedule, plain_entry(context, steps));
         return;
     };
-    if !joins(&last, context) {
-        push_within(schedule, last);
-        push_within(schedule, plain_entry(context, steps));
-        return;
-    }
     let free = u32::MAX - last.steps;
     if steps <= free {
         push_within(schedule, plain_entry(context, last.steps + steps));
@@ -122,5 +131,5 @@ pub fn push_within(schedule: &mut Vec<Entry>, entry: Entry)
     ensures len { vec_len schedule.new ≡ vec_len schedule.old + 1 }
     ensures capacity { vec_capacity schedule.old ≤ vec_capacity schedule.new }
 {
-    let _ = schedule.push(entry);
+    schedule.push_reserved(entry);
 }

@@ -4,25 +4,27 @@ ghost use Rattle.std.specs.Prelude.{◌≡◌, ℕ, ◌+◌, ◌<◌, ◌≤◌,
 ghost use Rattle.ps_language.specs.Locks as locks;
 ghost use Rattle.ps_language.specs.Schedules.{count_of, moves};
 ghost use Rattle.ps_language.specs.Worlds.{starting_world};
+ghost use Rattle.ps_vault.specs.Holds.{OnlyGrows};
 ghost use Rattle.ps_vault.specs.Order.{IsNoneAbove, IsLeastAbove, AddsSteps, NoneEnds, OnlyLastMayEnd, IsOver, HasTurn, InOrder};
 ghost use Rattle.ps_vault.specs.Reports.{are_ordinary, IsStarved, IsOneStarved};
 ghost use Rattle.ps_vault.specs.Stories.{world_at};
 
 use crate::vaults::{Told, Vault};
 use ps_interpreter::interprets::Interpret;
+use ps_mem::Memory;
 use ps_world::deeds::Deeds;
 
-/// The steps of a turn, or of a run, and whether the next one was held up for want of memory.
+/// The steps of a turn, or of a run, and whether the next one was held up.
 #[derive(Clone, Copy, Debug, PartialEq, Eq)]
 pub struct Turn {
     pub made: u32,
     pub held: bool,
 }
 
-impl<S: Interpret + Drop, D: Deeds + Drop> Vault<'_, S, D> {
+impl<M: Memory + Drop, S: Interpret + Drop, D: Deeds + Drop> Vault<'_, M, S, D> {
     /// The turn of a context that is ready: ordinary steps, at most so many, as long as it is
-    /// ready, ended early by `yield` or where it waits. Held up: fewer, and the next may want
-    /// memory, or the schedule has no room for it.
+    /// ready, ended early by `yield` or where it waits. Held up: fewer; over a memory that only
+    /// grows the next may want a growth, or the schedule has no room for it.
     pub fn turn(&mut self, context: u32, most: u32) -> Turn
         requires calling { self.old.is_calling ≡ false }
         requires ready { locks.is_ready (world_at self.old) context ≡ true }
@@ -43,7 +45,7 @@ impl<S: Interpret + Drop, D: Deeds + Drop> Vault<'_, S, D> {
             result.made (moves self.new.schedule) }
         ensures calling_on { result.held ≡ false → self.new.is_calling ≡ false }
         ensures fewer { result.held ≡ true → result.made < most }
-        ensures starved { result.held ≡ true
+        ensures starved { OnlyGrows M.heap M.grants → result.held ≡ true
             → IsStarved S.asks context false (world_at self.new) self.new.capacity
             self.new.schedule }
     {
@@ -57,7 +59,7 @@ impl<S: Interpret + Drop, D: Deeds + Drop> Vault<'_, S, D> {
             match advanced.told {
                 Told::Goes => {}
                 Told::TurnEnds => return Turn { made, held: false },
-                Told::HeldUp => return Turn { made, held: true },
+                Told::HeldUp(_) => return Turn { made, held: true },
             }
             if made == most {
                 return Turn { made, held: false };
@@ -99,9 +101,10 @@ impl<S: Interpret + Drop, D: Deeds + Drop> Vault<'_, S, D> {
             → InOrder quantum (starting_world self.old.program) (moves self.new.schedule) }
         ensures calling_on { result.held ≡ false → self.new.is_calling ≡ false }
         ensures fewer { result.held ≡ true → result.made < steps }
-        ensures starved { result.held ≡ true
+        ensures starved { OnlyGrows M.heap M.grants → result.held ≡ true
             → IsOneStarved S.asks false (world_at self.new) self.new.capacity self.new.schedule }
-        ensures owed { result.held ≡ true → moves self.old.schedule ≡ [] → (context : ℕ)
+        ensures owed { OnlyGrows M.heap M.grants → result.held ≡ true
+            → moves self.old.schedule ≡ [] → (context : ℕ)
             × HasTurn quantum (starting_world self.old.program) context (moves self.new.schedule)
             × IsStarved S.asks context false (world_at self.new) self.new.capacity
             self.new.schedule }

@@ -1,12 +1,15 @@
-//! All contexts and their memory, with the program and the schedule that they stand for.
+//! All contexts and their memory, with the program and the schedule that they stand for: after
+//! each call they are at the world of that program and that schedule, whatever the memory is.
 
-ghost use Rattle.std.specs.Prelude.{◌≡◌, ◌≢◌, ◌↔◌, ◌+◌, ◌<◌, ◌≤◌, ℕ, ℤ, false, true, Bool, OnOk, OnErr, IfOk, IfSome, IfNone, IsTrue, Option, None, [], ◌==◌, not, nat_eq, vec_capacity, length};
+ghost use Rattle.std.specs.Prelude.{◌≡◌, ◌≢◌, ◌↔◌, ◌+◌, ◌<◌, ◌≤◌, ℕ, ℤ, false, true, Bool, OnOk, OnErr, IfOk, IfErr, IfSome, IfNone, IsTrue, Option, None, [], ◌==◌, not, nat_eq, vec_capacity, length};
 ghost use Rattle.ps_language.specs.Locks as locks;
 ghost use Rattle.ps_language.specs.Schedules.{added, count_of, moves, plain_move};
 ghost use Rattle.ps_language.specs.Worlds as worlds;
 ghost use Rattle.ps_language.specs.Worlds.{after_move, after_moves, starting_world};
 ghost use Rattle.ps_vault.specs.Order.{IsNoneAbove, AddsSteps, NoneEnds, OnlyLastMayEnd, EndsTurn};
-ghost use Rattle.ps_vault.specs.Reports.{are_ordinary, is_memory, EndsAs, IsRunOf, IsShort, MayWant};
+ghost use Rattle.ps_start.specs.Starts.{IsEmptyHeap};
+ghost use Rattle.ps_vault.specs.Holds.{IfHeldUp, IsHeldUp, is_held_up};
+ghost use Rattle.ps_vault.specs.Reports.{are_ordinary, is_memory, EndsAs, IsRunOf, IsShort};
 ghost use Rattle.ps_vault.specs.Stories.{Story, HasRoom, world_at, move_of};
 ghost use Rattle.ps_vault.specs.Turns.{added_times};
 
@@ -17,7 +20,7 @@ use ps_contexts::contexts::Contexts;
 use ps_interpreter::interprets::Interpret;
 use ps_language::schedules::Entry;
 use ps_mem::Memory;
-use ps_mem::plain::PlainMemory;
+use ps_ops::failure::NotMade;
 use ps_world::deeds::Deeds;
 use ps_world::notes::Note;
 use ps_world::runs::Advance;
@@ -27,21 +30,21 @@ use std::alloc::{AllocError, Global};
 use std::hash::RandomState;
 use std::marker::Model;
 
-/// The slot of the steps; the memory keeps no log.
+/// The slot of the log that the records of all steps go into.
 const SLOT: u32 = 0;
 
 /// All contexts, who makes their steps, their memory, and the steps that they made: seen as the
 /// program, the schedule, how many entries find room, and whether a call waits.
 #[derive(Drop)]
-pub struct Vault<'a, S: Interpret + Drop, D: Deeds + Drop> {
+pub struct Vault<'a, M: Memory + Drop, S: Interpret + Drop, D: Deeds + Drop> {
     interpret: S,
     deeds: D,
     world: World<'a>,
-    memory: PlainMemory,
+    memory: M,
     schedule: Vec<Entry>,
 }
 
-impl<'a, S: Interpret + Drop, D: Deeds + Drop> Model for Vault<'a, S, D> {
+impl<'a, M: Memory + Drop, S: Interpret + Drop, D: Deeds + Drop> Model for Vault<'a, M, S, D> {
     ghost use Rattle.std.specs.Prelude.{is_some, vec_capacity};
     ghost use Rattle.ps_world.specs.Calls.{over};
     ghost use Rattle.ps_world.specs.Held.{held};
@@ -56,9 +59,8 @@ impl<'a, S: Interpret + Drop, D: Deeds + Drop> Model for Vault<'a, S, D> {
       is_calling = is_some v.world.calling;
     } };
 
-    ghost invariant = { λ v. Keeps (held (over (⟦<PlainMemory as Memory>⟧.heap v.memory)
-        (⟦<PlainMemory as Memory>⟧.grants v.memory) v.world.contexts) v.world.calling)
-        v.schedule.items };
+    ghost invariant = { λ v. Keeps (held (over (M.heap v.memory) (M.grants v.memory)
+        v.world.contexts) v.world.calling) v.schedule.items };
 }
 
 /// What steps of a context came to.
@@ -68,14 +70,14 @@ pub enum Told {
     Goes,
     /// Its turn ends.
     TurnEnds,
-    /// The next one was held up for want of memory.
-    HeldUp,
+    /// The next one was held up.
+    HeldUp(NotMade),
 }
 
 impl Told {
     /// What a step came to that was made.
     fn of(note: Note) -> Told
-        ensures made { result ≢ Told.HeldUp }
+        ensures made { is_held_up result ≡ false }
         ensures ends { (result ≡ Told.TurnEnds) ↔ (note ≡ Note.TurnEnds) }
     {
         match note {
@@ -92,24 +94,25 @@ pub struct Advanced {
     pub told: Told,
 }
 
-impl<'a, S: Interpret + Drop, D: Deeds + Drop> Vault<'a, S, D> {
-    /// The first context before its first step, over a memory in which nothing else stands, and an
-    /// empty schedule with room for so many entries. The keys are for the names alone. Fails where
-    /// that room, or the context's, can't be had.
+impl<'a, M: Memory + Drop, S: Interpret + Drop, D: Deeds + Drop> Vault<'a, M, S, D> {
+    /// The first context before its first step, over a memory in which nothing stands, and an empty
+    /// schedule with room for so many entries. The keys are for the names alone. Fails where that
+    /// room, or the first objects' or the context's, can't be had.
     pub fn new(
         alloc: Global,
+        mut memory: M,
         interpret: S,
         deeds: D,
         program: &'a [u8],
         keys: RandomState,
         entries: usize,
-    ) -> Result<Vault<'a, S, D>, AllocError>
+    ) -> Result<Vault<'a, M, S, D>, AllocError>
+        requires empty { IsEmptyHeap (M.heap memory) }
         ensures program { IfOk result (λ vault. vault.program ≡ program.now) }
         ensures schedule { IfOk result (λ vault. vault.schedule ≡ []) }
         ensures room { IfOk result (λ vault. entries ≤ vault.capacity) }
         ensures calling { IfOk result (λ vault. vault.is_calling ≡ false) }
     {
-        let mut memory = PlainMemory::new(alloc);
         let Ok(world) = start_world(alloc, &mut memory, program, keys) else {
             return Err(AllocError);
         };
@@ -124,7 +127,7 @@ impl<'a, S: Interpret + Drop, D: Deeds + Drop> Vault<'a, S, D> {
     }
 }
 
-impl<S: Interpret + Drop, D: Deeds + Drop> Vault<'_, S, D> {
+impl<M: Memory + Drop, S: Interpret + Drop, D: Deeds + Drop> Vault<'_, M, S, D> {
     /// Whether a context is ready.
     pub fn is_ready(&mut self, context: u32) -> bool
         requires { self.old.is_calling ≡ false }
@@ -158,14 +161,14 @@ impl<S: Interpret + Drop, D: Deeds + Drop> Vault<'_, S, D> {
     }
 
     /// Makes a step of a context that is ready; a refused one makes no object, and a `vmstatus`
-    /// shows the given pair. Not made, at the same world, where a growth was refused that the step
-    /// may want.
+    /// shows the given pair. Not made, at the same world, for the reason that is told: room for
+    /// records, or for words, or a growth that the step may want.
     pub fn step(
         &mut self,
         context: u32,
         refused: bool,
         shown: Option<(i32, i32)>,
-    ) -> Result<(), AllocError>
+    ) -> Result<(), NotMade>
         requires calling { self.old.is_calling ≡ false }
         requires ready { locks.is_ready (world_at self.old) context ≡ true }
         requires room { HasRoom self.old }
@@ -178,8 +181,8 @@ impl<S: Interpret + Drop, D: Deeds + Drop> Vault<'_, S, D> {
         ensures capacity { self.old.capacity ≤ self.new.capacity }
         ensures calling_on { OnOk result (self.new.is_calling ≡ false) }
         ensures not_made { OnErr result (self.new.schedule ≡ self.old.schedule) }
-        ensures starved { OnErr result
-            (MayWant S.asks context refused (world_at self.old)) }
+        ensures held_up { IfErr result
+            (IsHeldUp M.heap M.grants S.asks context refused (world_at self.new)) }
     {
         let trial = Trial {
             slot: SLOT,
@@ -198,13 +201,13 @@ impl<S: Interpret + Drop, D: Deeds + Drop> Vault<'_, S, D> {
                 note(&mut self.schedule, context, refused, shown);
                 Ok(())
             }
-            Err(_) => Err(AllocError),
+            Err(reason) => Err(reason),
         }
     }
 
     /// Makes steps of a context that is ready, at most so many, as far as it goes on by itself, and
     /// the step behind them; shows says whether a `vmstatus` is shown the memory, or zeros. One is
-    /// made at least, but where it is held up for want of memory.
+    /// made at least, but where it is held up, for the reason that is told.
     pub fn advance(&mut self, context: u32, most: u32, shows: bool) -> Advanced
         requires calling { self.old.is_calling ≡ false }
         requires ready { locks.is_ready (world_at self.old) context ≡ true }
@@ -212,8 +215,8 @@ impl<S: Interpret + Drop, D: Deeds + Drop> Vault<'_, S, D> {
         requires some { 1 ≤ most }
         ensures program { self.new.program ≡ self.old.program }
         ensures within { result.made ≤ most }
-        ensures some { result.told ≢ Told.HeldUp → 1 ≤ result.made }
-        ensures fewer { result.told ≡ Told.HeldUp → result.made < most }
+        ensures some { is_held_up result.told ≡ false → 1 ≤ result.made }
+        ensures fewer { is_held_up result.told ≡ true → result.made < most }
         ensures counted { count_of self.new.schedule ≡ count_of self.old.schedule + result.made }
         ensures ordinary { are_ordinary (moves self.old.schedule) ≡ true
             → are_ordinary (moves self.new.schedule) ≡ true }
@@ -229,9 +232,9 @@ impl<S: Interpret + Drop, D: Deeds + Drop> Vault<'_, S, D> {
             ≡ added_times result.made self.old.schedule (plain_move context) }
         ensures longer { length self.new.schedule ≤ length self.old.schedule + 2 }
         ensures capacity { self.old.capacity ≤ self.new.capacity }
-        ensures calling_on { result.told ≢ Told.HeldUp → self.new.is_calling ≡ false }
-        ensures starved { result.told ≡ Told.HeldUp
-            → MayWant S.asks context false (world_at self.new) }
+        ensures calling_on { is_held_up result.told ≡ false → self.new.is_calling ≡ false }
+        ensures held_up { IfHeldUp
+            (IsHeldUp M.heap M.grants S.asks context false (world_at self.new)) result.told }
     {
         let Advance { made, next } = self.world.go_on(
             &mut self.interpret,
@@ -251,10 +254,10 @@ impl<S: Interpret + Drop, D: Deeds + Drop> Vault<'_, S, D> {
         };
         let told = match next.told {
             Ok(told) => told,
-            Err(_) => {
+            Err(reason) => {
                 return Advanced {
                     made,
-                    told: Told::HeldUp,
+                    told: Told::HeldUp(reason),
                 };
             }
         };
@@ -303,15 +306,24 @@ impl<S: Interpret + Drop, D: Deeds + Drop> Vault<'_, S, D> {
         self.world.contexts.has_faulted
     }
 
-    /// The printed bytes, at the end.
-    pub fn into_printed(self) -> Vec<u8>
-        ensures { result.items ≡ (world_at self.entry).printed }
+    /// The printed bytes, at the end, and these entries in the room of the schedule.
+    pub fn into_followed(self, entries: &[Entry]) -> (Vec<u8>, Vec<Entry>)
+        requires { length entries.now ≤ self.capacity }
+        ensures printed { result.0.items ≡ (world_at self.entry).printed }
+        ensures entries { result.1.items ≡ entries.now }
+        ensures capacity { self.entry.capacity ≤ vec_capacity result.1 }
     {
-        let Vault { world, .. } = self;
+        let Vault {
+            world,
+            schedule: mut room,
+            ..
+        } = self;
+        room.clear();
+        let _ = room.extend_from_slice(entries);
         let World { contexts, .. } = world;
         let Contexts { shared, .. } = contexts;
         let Shared { printed, .. } = shared;
-        printed
+        (printed, room)
     }
 
     /// The report of a run of ordinary steps with a budget, at the end.

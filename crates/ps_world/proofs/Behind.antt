@@ -1,5 +1,5 @@
 -- The step behind many own ones.
-use Rattle.std.proofs.Common.{◌≡◌, ◌≢◌, ℕ, ℤ, true, Option, Some, None, Ok, Err, refl, sym, ap, subst, ◌∙◌, List, [], ◌∷◌}
+use Rattle.std.proofs.Common.{◌≡◌, ◌≢◌, ℕ, ℤ, Bool, true, Option, Some, None, Ok, Err, refl, sym, ap, subst, ◌∙◌, List, [], ◌∷◌}
 use Rattle.std.specs.Prelude.{Result, IsSome, ◌&&◌, if◌then◌else◌}
 use Rattle.ps_language.specs.Effect.{Around, Scene}
 use Rattle.ps_language.specs.Locks.{is_ready}
@@ -16,7 +16,7 @@ use Rattle.ps_acts.specs.Lent.{Lent}
 use Rattle.ps_acts.proofs.Meeting.{keeps-same}
 use Rattle.ps_turns.specs.declared.turned.Turned.{Turned}
 use Rattle.ps_turns.specs.declared.turned.Turned.TheVariants.{Goes, Calls, Breaks, Ends}
-use Rattle.ps_interpreter.specs.Makes.{TurnsBehind}
+use Rattle.ps_interpreter.specs.Makes.{Runs, TurnsBehind}
 use Rattle.ps_interpreter.specs.OwnSteps.{HasRun}
 use Rattle.ps_contexts.specs.declared.members.Course.{Course}
 use Rattle.ps_contexts.specs.declared.members.Course.TheVariants.{Running}
@@ -24,7 +24,7 @@ use Rattle.ps_contexts.specs.declared.members.Member.{Member}
 use Rattle.ps_contexts.specs.Moves.{plain_moves}
 use Rattle.ps_contexts.specs.Seats.{item_at, with_item}
 use Rattle.ps_contexts.specs.Worlds.{status_of, context_of}
-use Rattle.ps_contexts.specs.Desks.{Desk, returned, desk_of, desk_after, has_finished, IsWorld, member_left, course_after}
+use Rattle.ps_contexts.specs.Desks.{Desk, lent_to, returned, desk_of, desk_after, has_finished, IsWorld, member_left, course_after}
 use Rattle.ps_contexts.proofs.Owning.{own_ready}
 use Rattle.ps_contexts.proofs.Places.{with_item-twice, item_at-with_item, one_there}
 use Rattle.ps_contexts.proofs.Settled.{turned_changed}
@@ -32,7 +32,7 @@ use Rattle.ps_contexts.proofs.Stepping.{context_there}
 use Rattle.ps_world.specs.declared.notes.Note.{Note}
 use Rattle.ps_world.specs.Finishes.{settled_desk, settled_held, Finishes}
 use Rattle.ps_world.specs.Held.{Held, held, CourseAt, IsSteadyHeld, course_in}
-use Rattle.ps_world.specs.Lending.{LendsDesk, TurnsSo}
+use Rattle.ps_world.specs.Lending.{LendsDesk, RunsSo, TurnsSo}
 use Rattle.ps_world.specs.Steps.{HasMade, ordinary, StepsBehind, Steps}
 use Rattle.ps_world.proofs.Calling.{none_left}
 use Rattle.ps_world.proofs.Running.{or_false, run_desk, run_steady, run_world, run_made}
@@ -69,6 +69,50 @@ run_settles before after identifier made steady course lends =
     (ap (λ (m : Member). m.course)
     (one_there before.members identifier lends.member course.member lends.found course.found)
     ∙ course.is) lends.after lends.goes_on)
+
+-- where a frame is left, it still runs
+run_framed : (before after : Desk) (identifier : ℕ) (made : ℕ)
+    → IsSteadyHeld (held before None) → CourseAt identifier Running before.members
+    → (lends : LendsDesk identifier (HasRun made) before after) → lends.after.frames ≢ []
+    → HasMade identifier made (held before None) (held after None)
+run_framed before after identifier made steady course lends some =
+    let runs : lends.member.course ≡ Running =
+    ap (λ (m : Member). m.course)
+    (one_there before.members identifier lends.member course.member lends.found course.found)
+    ∙ course.is in
+    let still : course_after Goes lends.after.frames ≡ Running =
+    course_framed lends.after.frames some in
+    let now : Member = record lends.member {
+      context = returned lends.after;
+      course = course_after Goes lends.after.frames;
+    } in
+    let left : member_left now ≡ Some (record lends.member { context = returned lends.after }) =
+    ap (λ (c : Course). if lends.member.is_detached && has_finished c then None else Some now) still
+    ∙ (none_left lends.member.is_detached now
+    ∙ (λ i. Some (record lends.member {
+      context = returned lends.after;
+      course = (still ∙ sym runs) i;
+    }))) in
+    subst (λ (d : Desk). HasMade identifier made (held before None) (held d None))
+    (sym (lends.is ∙ ap (λ item. desk_of lends.after (with_item before.members identifier item)
+    before.has_faulted) (sym left)))
+    (run_made before steady.steady steady.framed identifier made lends.member lends.found runs
+    lends.after lends.goes_on)
+
+pub run_left : (asks : Status → Around → Scene → Asked) (before after : Desk)
+    (identifier slot most made : ℕ) (next : Option (Result Turned Reason)) (framed : Bool)
+    → IsSteadyHeld (held before None) → CourseAt identifier Running before.members
+    → LendsDesk identifier (RunsSo asks slot most made next framed) before after
+    → next ≡ None → framed ≡ true → HasMade identifier made (held before None) (held after None)
+run_left asks before after identifier slot most made next framed steady course lends none some =
+    run_framed before after identifier made steady course (record {
+      member = lends.member;
+      found = lends.found;
+      after = lends.after;
+      goes_on = subst (λ told. Runs asks slot made told (lent_to before lends.member.context)
+          lends.after) none lends.goes_on.runs;
+      is = lends.is;
+    }) (lends.goes_on.left some)
 
 -- it is still there
 pub still_there : (members : List (Option Member)) (after : List (Option Member)) (identifier : ℕ)

@@ -1,5 +1,5 @@
 -- A step by the turn of one context, over the table.
-use Rattle.std.proofs.Common.{◌≡◌, ℕ, ℤ, Option, Some, None, Ok, Err, refl, sym, ap, subst, ◌∙◌, arith}
+use Rattle.std.proofs.Common.{◌≡◌, ℕ, ℤ, Bool, Option, Some, None, Ok, Err, refl, sym, ap, subst, ◌∙◌, arith}
 use Rattle.std.specs.Prelude.{Result}
 use Rattle.ps_language.specs.declared.operators.Operator.{Operator}
 use Rattle.ps_language.specs.Effect.{Around, Scene}
@@ -15,6 +15,7 @@ use Rattle.ps_acts.specs.Lent.{Lent, lent}
 use Rattle.ps_acts.proofs.Meeting.{logs_then}
 use Rattle.ps_turns.specs.declared.turned.Turned.{Turned}
 use Rattle.ps_turns.specs.declared.turned.Turned.TheVariants.{Goes, Calls, Breaks, Ends}
+use Rattle.ps_interpreter.specs.Makes.{Runs}
 use Rattle.ps_contexts.specs.declared.contexts.Contexts.{Contexts}
 use Rattle.ps_contexts.specs.declared.members.Member.{Member}
 use Rattle.ps_contexts.specs.Seats.{with_item}
@@ -28,7 +29,7 @@ use Rattle.ps_world.specs.declared.notes.Note.TheVariants.{Nothing}
 use Rattle.ps_world.specs.Calls.{over}
 use Rattle.ps_world.specs.Finishes.{calling_after, settled_desk, settled_held, Finishes}
 use Rattle.ps_world.specs.Held.{Held, held, CourseAt, IsSteadyHeld, course_in}
-use Rattle.ps_world.specs.Lending.{Lends, LendsDesk, TurnsSo}
+use Rattle.ps_world.specs.Lending.{Lends, LendsDesk, RunsSo, TurnsSo}
 use Rattle.ps_world.specs.Steps.{Steps}
 use Rattle.ps_world.proofs.Owning.{own_made, calls_logs, own_calls, own_steady, own_unmade, unmade_is_steady}
 use Rattle.ps_world.proofs.Starving.{own_held}
@@ -53,6 +54,19 @@ lends_desk identifier goes old_heap new_heap old_grants new_grants old new lends
     members = lends.table i;
     has_faulted = lends.faulted i;
   };
+}
+
+-- the steps of it that were made
+pub lends_runs : (asks : Status → Around → Scene → Asked) (identifier slot most made : ℕ)
+    (next : Option (Result Turned Reason)) (framed : Bool) (old new : Desk)
+    → LendsDesk identifier (RunsSo asks slot most made next framed) old new
+    → LendsDesk identifier (Runs asks slot made next) old new
+lends_runs asks identifier slot most made next framed old new lends = record {
+  member = lends.member;
+  found = lends.found;
+  after = lends.after;
+  goes_on = lends.goes_on.runs;
+  is = lends.is;
 }
 
 module _ (asks : Status → Around → Scene → Asked) (unwinding : Option Cause)

@@ -1,5 +1,5 @@
 -- When steps were made of one context of a table (PLRM2, 7.1).
-use Rattle.std.specs.Prelude.{◌≡◌, ◌<◌, ℕ, Option, Some, None, Result, []}
+use Rattle.std.specs.Prelude.{◌≡◌, ◌≢◌, ◌<◌, ℕ, Bool, true, Option, Some, None, Result, []}
 use Rattle.ps_language.specs.Effect.{Around, Scene}
 use Rattle.ps_language.specs.World.{Status}
 use Rattle.ps_mem.specs.Heap.{Heap, Grants}
@@ -12,6 +12,7 @@ use Rattle.ps_acts.specs.Lent.{Lent, lent}
 use Rattle.ps_turns.specs.declared.turned.Turned.{Turned}
 use Rattle.ps_turns.specs.Turns.{Turns}
 use Rattle.ps_interpreter.specs.Interprets.{asks_in, own_turn}
+use Rattle.ps_interpreter.specs.Makes.{Runs}
 use Rattle.ps_contexts.specs.declared.contexts.Contexts.{Contexts}
 use Rattle.ps_contexts.specs.declared.members.Member.{Member}
 use Rattle.ps_contexts.specs.Desks.{Desk, lent_to, returned, desk_of}
@@ -40,10 +41,13 @@ pub record LendsDesk (identifier : ℕ) (goes : (old new : Lent) → Type 0) (ol
         (with_item old.members identifier (Some (record member { context = returned after })))
         old.has_faulted
 
--- of ordinary steps, at most so many: where no turn behind them is told, all were made, or no frame
--- is left
-abbrev pub RunsOut : (most made : ℕ) → Option (Result Turned Reason) → (old new : Lent) → Type 0
-RunsOut most made next old new = next ≡ None → made < most → new.frames ≡ []
+-- Of ordinary steps, at most so many: where no turn behind them is told, all were made, or no frame
+-- is left. Framed says that one is
+pub record RunsSo (asks : Status → Around → Scene → Asked) (slot most made : ℕ)
+    (next : Option (Result Turned Reason)) (framed : Bool) (old new : Lent) : Type 0 where
+  pub runs : Runs asks slot made next old new
+  pub out : next ≡ None → made < most → new.frames ≡ []
+  pub left : framed ≡ true → new.frames ≢ []
 
 -- its turn
 abbrev pub TurnsSo : (asks : Status → Around → Scene → Asked) → (unwinding : Option Cause) → Trial

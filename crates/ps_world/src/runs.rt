@@ -9,11 +9,11 @@ ghost use Rattle.ps_world.specs.Steps.{AreShown, GoesOn, IsUnready};
 
 use crate::deeds::Deeds;
 use crate::notes::Note;
-use crate::turns::run_of;
+use crate::turns::{Ran, run_of};
 use crate::worlds::World;
 use ps_acts::lent::Trial;
 use ps_contexts::members::Course;
-use ps_interpreter::interprets::{Interpret, Run};
+use ps_interpreter::interprets::Interpret;
 use ps_mem::{Memory, SLOTS};
 use ps_ops::failure::NotMade;
 use ps_turns::turned::Turned;
@@ -141,8 +141,12 @@ impl World<'_> {
             self.new.calling) }
     {
         let contexts = &mut self.contexts;
-        let Run { made, next } = run_of(contexts, identifier, interpret, memory, slot, most);
-        let Some(next) = next else {
+        let Ran { run, framed } = run_of(contexts, identifier, interpret, memory, slot, most);
+        let made = run.made;
+        let Some(next) = run.next else {
+            if framed {
+                return Advance { made, next: None };
+            }
             self.contexts.settle(identifier, Turned::Goes);
             return Advance { made, next: None };
         };

@@ -2,10 +2,9 @@
 
 ghost use Rattle.std.specs.Prelude.{◌≡◌, ◌<◌, ◌≤◌, None, IsSome};
 ghost use Rattle.ps_contexts.specs.Desks.{IsSteady, AreFramed};
-ghost use Rattle.ps_interpreter.specs.Makes.{Runs};
 ghost use Rattle.ps_world.specs.Calls.{over};
 ghost use Rattle.ps_world.specs.Held.{CourseAt, course_in};
-ghost use Rattle.ps_world.specs.Lending.{Lends, RunsOut, TurnsSo};
+ghost use Rattle.ps_world.specs.Lending.{Lends, RunsSo, TurnsSo};
 
 use ps_acts::lent::Trial;
 use ps_contexts::contexts::Contexts;
@@ -42,6 +41,13 @@ pub fn turn_of<S: Interpret, M: Memory>(
     )
 }
 
+/// Ordinary steps that were made of a context, and whether it has a frame left.
+#[derive(Clone, Copy, Debug, PartialEq, Eq)]
+pub struct Ran {
+    pub run: Run,
+    pub framed: bool,
+}
+
 /// Ordinary steps of a running context, one after another, at most so many.
 pub fn run_of<S: Interpret, M: Memory>(
     contexts: &mut Contexts,
@@ -50,24 +56,25 @@ pub fn run_of<S: Interpret, M: Memory>(
     memory: &mut M,
     slot: u32,
     most: u32,
-) -> Run
+) -> Ran
     requires slot { slot < SLOTS }
     requires course { CourseAt identifier (course_in None) contexts.old.table }
     requires steady { IsSteady
         (over (M.heap memory.old) (M.grants memory.old) contexts.old) }
-    ensures within { result.made ≤ most }
-    ensures fewer { IsSome result.next → result.made < most }
-    ensures lends { Lends identifier (Runs S.asks slot result.made result.next) (M.heap memory.old)
-        (M.heap memory.new) (M.grants memory.old) (M.grants memory.new) contexts.old contexts.new }
-    ensures ended { Lends identifier (RunsOut most result.made result.next) (M.heap memory.old)
+    ensures within { result.run.made ≤ most }
+    ensures fewer { IsSome result.run.next → result.run.made < most }
+    ensures lends { Lends identifier
+        (RunsSo S.asks slot most result.run.made result.run.next result.framed) (M.heap memory.old)
         (M.heap memory.new) (M.grants memory.old) (M.grants memory.new) contexts.old contexts.new }
 {
     let member = contexts.table.get_mut(identifier);
-    interpret.run(
+    let run = interpret.run(
         most,
         slot,
         &mut member.context,
         &mut contexts.shared,
         memory,
-    )
+    );
+    let framed = !member.context.frames.is_empty();
+    Ran { run, framed }
 }

@@ -2,8 +2,17 @@ use Rattle.std.proofs.Common.{◌≡◌, List, ap, ◌∙◌, arith}
 use Rattle.ps_language.specs.declared.schedules.Entry.{Entry}
 use Rattle.ps_language.specs.Schedules.{count_of, moves}
 use Rattle.ps_language.proofs.ScheduleLaws.{count_of-nil}
+use Rattle.ps_mem.specs.Objects.{heap_in}
 use Rattle.ps_vault.specs.Reports.{are_ordinary}
+use Rattle.ps_vault.proofs.Beginning.{nothing_stands, plain_grows}
 use Rattle.ps_vault.proofs.orders.run_in_order.Goals as goal
+
+pub new-requires : goal.new-requires
+unfolding heap_in
+new-requires g c = record { empty = nothing_stands _ _ c.new-memory.ensures }
+
+pub into_run-requires-clause-starved : goal.into_run-requires-clause-starved
+into_run-requires-clause-starved g c = c.run_by-run.ensures.starved (λ m. plain_grows _ _ _ _)
 
 pub into_run-requires-clause-counted : goal.into_run-requires-clause-counted
 into_run-requires-clause-counted g c =

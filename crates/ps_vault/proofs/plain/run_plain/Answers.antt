@@ -4,8 +4,10 @@ use Rattle.ps_language.specs.declared.schedules.Entry.{Entry}
 use Rattle.ps_language.specs.Schedules.{count_of, moves}
 use Rattle.ps_language.proofs.ScheduleLaws.{count_of-nil}
 use Rattle.ps_language.specs.Worlds.{starting_world, world}
+use Rattle.ps_mem.specs.Objects.{heap_in}
 use Rattle.ps_vault.specs.Order.{HasTurn, InOrder}
 use Rattle.ps_vault.specs.Reports.{are_ordinary, IsStarved}
+use Rattle.ps_vault.proofs.Beginning.{nothing_stands, plain_grows}
 use Rattle.ps_vault.proofs.plain.run_plain.Given as givens
 use Rattle.ps_vault.proofs.plain.run_plain.Goals as goal
 use Rattle.ps_vault.proofs.plain.run_plain.Goals.{After-run-run}
@@ -17,6 +19,13 @@ counted g c =
     let none : count_of c.in-Ok.vault.schedule ≡ 0 =
     ap count_of c.in-Ok.ensures.schedule ∙ count_of-nil in
     omega (arith, none, c.run-run.ensures.counted)
+
+pub new-requires : goal.new-requires
+unfolding heap_in
+new-requires g c = record { empty = nothing_stands _ _ c.new-memory.ensures }
+
+pub into_run-requires-clause-starved : goal.into_run-requires-clause-starved
+into_run-requires-clause-starved g c = c.run-run.ensures.starved (λ m. plain_grows _ _ _ _)
 
 pub into_run-requires-clause-counted : goal.into_run-requires-clause-counted
 into_run-requires-clause-counted g c =
@@ -48,7 +57,8 @@ pub returns-clause-starved : goal.returns-clause-starved
 unfolding moves
 returns-clause-starved g c = λ memory.
     let held : c.run-run.result.held ≡ true = sym c.into_run.ensures.memory ∙ memory in
-    let owed = c.run-run.ensures.owed held (ap moves c.in-Ok.ensures.schedule) in
+    let owed = c.run-run.ensures.owed (λ m. plain_grows _ _ _ _) held
+    (ap moves c.in-Ok.ensures.schedule) in
     let made = c.run-run.new.self in
     let same = c.into_run.ensures.schedule in
     let program : made.program ≡ c.args.program.now =

@@ -1,14 +1,16 @@
 -- Each entry followed is one entry more of the schedule; where memory runs out a part of one is.
-use Rattle.std.proofs.Common.{inl, ℕ, ◌≡◌, ◌<◌, ◌+◌, ◌++◌, List, [], ◌∷◌, take, length, get_or, Bool, true, false, None, refl, sym, ◌∙◌, ap, subst, arith}
+use Rattle.std.proofs.Common.{inl, ℕ, ◌≡◌, ◌<◌, ◌+◌, ◌++◌, List, take, length, get_or, Bool, true, false, None, refl, sym, ◌∙◌, ap, subst, arith}
 use Rattle.std.specs.Prelude.{◌&&◌, ◌==◌, replicate}
-use Rattle.std.proofs.lemmas.List.{take_more}
+use Rattle.std.proofs.lemmas.List.{take_all}
 use Rattle.std.proofs.lemmas.Bool.{true≢false}
 use Rattle.ps_language.specs.declared.schedules.Entry.{Entry}
 use Rattle.ps_language.specs.Schedules.{plain_move, moves_of, moves}
 use Rattle.ps_language.specs.World.{World}
 use Rattle.ps_language.specs.Worlds.{after_moves, world, printed}
+use Rattle.ps_mem.specs.Objects.{heap_in}
 use Rattle.ps_vault.specs.Stories.{world_at}
 use Rattle.ps_vault.specs.Reports.{EndsAs, MayWant, is_memory, is_next_refused, next_identifier}
+use Rattle.ps_vault.proofs.Beginning.{nothing_stands}
 use Rattle.ps_vault.proofs.Following.{after_next, after_part, begins_with_part, fewer_with_part, ready_not_over, ends_used}
 use Rattle.ps_vault.proofs.NextStep.{refused_behind, context_behind_part}
 use Rattle.ps_vault.proofs.replays.replay.Given as givens
@@ -19,56 +21,57 @@ use Rattle.ps_vault.proofs.replays.replay.Goals.{After-report_of, After-report_o
 abbrev none : Entry
 none = record { context = 0; steps = 0; refused = false; shown = None }
 
-pub loop-entry-preserved : goal.loop-entry-preserved
-loop-entry-preserved g c =
+pub new-requires : goal.new-requires
+unfolding heap_in
+new-requires g c = record { empty = nothing_stands _ _ c.new-memory.ensures }
+
+pub loop-place-preserved : goal.loop-place-preserved
+loop-place-preserved g c =
     let given = c.args.schedule.now in
-    let i = c.loop-entry.entry-index in
+    let i = c.loop-place.place in
     let entry : Entry = get_or given i none in
-    let lt : i < length given = c.loop-entry-test.true in
-    let more : take (i + 1) given ≡ take i given ++ entry ∷ [] = take_more given i none lt in
+    let lt : i < length given = c.loop-place-test.true in
     let all : c.follow_entry-made.result ≡ entry.steps =
     omega (arith, c.follow_entry-made.ensures.within, c.if-made-entry.false) in
     record {
-      program = c.follow_entry-made.ensures.program ∙ c.loop-entry.invariant.program;
+      program = c.follow_entry-made.ensures.program ∙ c.loop-place.invariant.program;
       calling = c.follow_entry-made.ensures.calling_on all;
-      followed = c.push_within.ensures.items
-          ∙ (ap (λ (entries : List Entry). entries ++ entry ∷ []) c.loop-entry.invariant.followed
-          ∙ sym more);
-      count = c.push_within.ensures.len ∙ ap (λ n. n + 1) c.loop-entry.invariant.count;
-      room = omega (arith, c.push_within.ensures.capacity, c.loop-entry.invariant.room);
+      room = omega (arith, c.follow_entry-made.ensures.capacity, c.loop-place.invariant.room);
       spare = omega (
         arith,
         lt,
         c.follow_entry-made.ensures.longer,
         c.follow_entry-made.ensures.capacity,
-        c.loop-entry.invariant.spare,
+        c.loop-place.invariant.spare,
       );
       at = after_next c.args.program.now given i none _ lt
           (c.follow_entry-made.ensures.all all
           ∙ ap (λ (w : World). after_moves w (moves_of entry entry.steps))
-          c.loop-entry.invariant.at);
+          c.loop-place.invariant.at);
     }
 
 -- the world at the end
 finished_world : (g : givens.Over) (c : After-report_of-2 g)
-    → world_at c.loop-entry.vault ≡ world c.args.program.now
+    → world_at c.loop-place.vault ≡ world c.args.program.now
     c.report_of-2.result.schedule.items
-finished_world g c = c.loop-entry.invariant.at
+finished_world g c = c.loop-place.invariant.at
     ∙ ap (world c.args.program.now)
-    (sym (ap (λ (v : _). v.items) c.report_of-2.ensures.schedule ∙ c.loop-entry.invariant.followed))
+    (take_all c.loop-place.place c.args.schedule.now (omega (arith, c.loop-place-test.false))
+    ∙ sym (ap (λ (v : _). v.items) c.report_of-2.ensures.schedule
+    ∙ c.into_followed-printed-2.ensures.entries))
 
 -- the steps where memory ran out
 stopped_moves : (g : givens.Over) (c : After-report_of g)
     → moves c.report_of.result.schedule.items ≡ moves
-    (take c.loop-entry.entry-index c.args.schedule.now)
+    (take c.loop-place.place c.args.schedule.now)
     ++ replicate c.follow_entry-made.result
-    (plain_move (get_or c.args.schedule.now c.loop-entry.entry-index none).context)
+    (plain_move (get_or c.args.schedule.now c.loop-place.place none).context)
 stopped_moves g c =
-    let entry : Entry = get_or c.args.schedule.now c.loop-entry.entry-index none in
+    let entry : Entry = get_or c.args.schedule.now c.loop-place.place none in
     rw c.report_of.ensures.schedule
     (c.push_part.ensures ∙ ap (λ (entries : List Entry). moves entries
     ++ replicate c.follow_entry-made.result (plain_move entry.context))
-    c.loop-entry.invariant.followed)
+    c.into_followed-printed.ensures.entries)
 
 -- the world where memory ran out
 stopped_world : (g : givens.Over) (c : After-report_of g)
@@ -76,30 +79,31 @@ stopped_world : (g : givens.Over) (c : After-report_of g)
     c.report_of.result.schedule.items
 stopped_world g c =
     let given = c.args.schedule.now in
-    let i = c.loop-entry.entry-index in
+    let i = c.loop-place.place in
     let entry : Entry = get_or given i none in
     after_part c.args.program.now (take i given) c.report_of.result.schedule.items
-    c.follow_entry-made.result entry.context (world_at c.loop-entry.vault)
+    c.follow_entry-made.result entry.context (world_at c.loop-place.vault)
     (world_at c.follow_entry-made.new.vault)
-    c.loop-entry.invariant.at (c.follow_entry-made.ensures.part c.if-made-entry.true)
+    c.loop-place.invariant.at (c.follow_entry-made.ensures.part c.if-made-entry.true)
     (stopped_moves g c)
 
 pub returns-then-made-entry-clause-prints : goal.returns-then-made-entry-clause-prints
 unfolding printed
-returns-then-made-entry-clause-prints g c = c.report_of.ensures.printed
-    ∙ ap (λ (w : World). w.printed)
-    (stopped_world g (goal.at.returns-then-made-entry-clause-prints g c).After-report_of)
+returns-then-made-entry-clause-prints g c =
+    ap (λ (v : _). v.items) c.report_of.ensures.printed
+    ∙ (c.into_followed-printed.ensures.printed ∙ ap (λ (w : World). w.printed)
+    (stopped_world g (goal.at.returns-then-made-entry-clause-prints g c).After-report_of))
 
 pub returns-then-made-entry-clause-begins : goal.returns-then-made-entry-clause-begins
 returns-then-made-entry-clause-begins g c =
-    begins_with_part c.args.schedule.now c.report_of.result.schedule.items c.loop-entry.entry-index
-    c.follow_entry-made.result none c.loop-entry-test.true c.if-made-entry.true
+    begins_with_part c.args.schedule.now c.report_of.result.schedule.items c.loop-place.place
+    c.follow_entry-made.result none c.loop-place-test.true c.if-made-entry.true
     (stopped_moves g (goal.at.returns-then-made-entry-clause-begins g c).After-report_of)
 
 pub returns-then-made-entry-clause-refused : goal.returns-then-made-entry-clause-refused
 returns-then-made-entry-clause-refused g c = λ _.
-    fewer_with_part c.args.schedule.now c.report_of.result.schedule.items c.loop-entry.entry-index
-    c.follow_entry-made.result none c.loop-entry-test.true c.if-made-entry.true
+    fewer_with_part c.args.schedule.now c.report_of.result.schedule.items c.loop-place.place
+    c.follow_entry-made.result none c.loop-place-test.true c.if-made-entry.true
     (stopped_moves g (goal.at.returns-then-made-entry-clause-refused g c).After-report_of)
 
 -- where memory ran out, the next step of the given schedule may want some
@@ -109,15 +113,15 @@ stopped_wants : (g : givens.Over) (c : After-report_of g)
     (is_next_refused c.args.schedule.now c.report_of.result.schedule.items)
     (world c.args.program.now c.report_of.result.schedule.items)
 stopped_wants g c =
-    let entry : Entry = get_or c.args.schedule.now c.loop-entry.entry-index none in
+    let entry : Entry = get_or c.args.schedule.now c.loop-place.place none in
     let made = c.report_of.result.schedule.items in
     let refused : Bool = entry.refused && (c.follow_entry-made.result + 1 == entry.steps) in
     let after : World = world c.args.program.now made in
-    let whose = context_behind_part c.args.schedule.now made c.loop-entry.entry-index
-    c.follow_entry-made.result none c.loop-entry-test.true c.if-made-entry.true
+    let whose = context_behind_part c.args.schedule.now made c.loop-place.place
+    c.follow_entry-made.result none c.loop-place-test.true c.if-made-entry.true
     (stopped_moves g c) in
-    let how = refused_behind c.args.schedule.now made c.loop-entry.entry-index
-    c.follow_entry-made.result none c.loop-entry-test.true c.if-made-entry.true
+    let how = refused_behind c.args.schedule.now made c.loop-place.place
+    c.follow_entry-made.result none c.loop-place-test.true c.if-made-entry.true
     (stopped_moves g c) in
     subst (λ (k : ℕ). MayWant g.S.Interpret.asks k (is_next_refused c.args.schedule.now made) after)
     (sym whose) (subst (λ (b : Bool). MayWant g.S.Interpret.asks entry.context b after) (sym how)
@@ -145,9 +149,11 @@ returns-clause-starved g c = λ memory.
 
 pub returns-clause-prints : goal.returns-clause-prints
 unfolding printed
-returns-clause-prints g c = c.report_of-2.ensures.printed
+returns-clause-prints g c =
+    ap (λ (v : _). v.items) c.report_of-2.ensures.printed
+    ∙ (c.into_followed-printed-2.ensures.printed
     ∙ ap (λ (w : World). w.printed) (ap world_at c.outcome-outcome.ensures.same
-    ∙ finished_world g (goal.at.returns-clause-prints g c).After-report_of-2)
+    ∙ finished_world g (goal.at.returns-clause-prints g c).After-report_of-2))
 
 pub returns-clause-ends : goal.returns-clause-ends
 returns-clause-ends g c =
@@ -155,7 +161,7 @@ returns-clause-ends g c =
     (ends_used g.S.Interpret.asks
     (world c.args.program.now c.report_of-2.result.schedule.items) _ _ _ _ false _
     c.outcome-outcome.result c.outcome-outcome.ensures.known
-    (subst (λ (w : World). EndsAs g.S.Interpret.asks w c.loop-entry.vault.capacity
-    c.loop-entry.vault.schedule true false c.outcome-outcome.result)
+    (subst (λ (w : World). EndsAs g.S.Interpret.asks w c.loop-place.vault.capacity
+    c.loop-place.vault.schedule true false c.outcome-outcome.result)
     (finished_world g (goal.at.returns-clause-ends g c).After-report_of-2)
     (c.outcome-outcome.ensures.ends false)))

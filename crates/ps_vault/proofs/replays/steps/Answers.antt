@@ -1,9 +1,11 @@
 -- Each round adds as many ordinary steps, which are at most one entry more.
-use Rattle.std.proofs.Common.{◌≡◌, ◌+◌, ◌≤◌, length, refl, sym, ◌∙◌, ap, subst, arith, rules}
+use Rattle.std.proofs.Common.{◌≡◌, ◌+◌, ◌≤◌, false, length, refl, sym, ◌∙◌, ap, subst, arith, rules}
 use Rattle.ps_language.specs.Schedules.{plain_move}
 use Rattle.ps_vault.specs.Stories.{Story, HasRoom, world_at}
 use Rattle.ps_vault.specs.Turns.{added_times}
+use Rattle.ps_vault.proofs.Beginning.{plain_grows}
 use Rattle.ps_vault.proofs.Following.{times_more, times_world, times_longer}
+use Rattle.ps_vault.proofs.Keeping.{may_want}
 use Rattle.ps_vault.proofs.replays.steps.Given as givens
 use Rattle.ps_vault.proofs.replays.steps.Goals as goal
 use Rattle.ps_vault.proofs.replays.steps.Goals.{After-is_ready, After-advance-advanced}
@@ -73,6 +75,12 @@ loop-made-preserved g c = record {
 pub returns-in-HeldUp-clause-added : goal.returns-in-HeldUp-clause-added
 returns-in-HeldUp-clause-added g c =
     added_on g (goal.at.returns-in-HeldUp-clause-added g c).After-advance-advanced
+
+pub returns-in-HeldUp-clause-starved : goal.returns-in-HeldUp-clause-starved
+returns-in-HeldUp-clause-starved g c = λ _.
+    may_want _ _ g.S.Interpret.asks c.args.context false
+    (world_at c.advance-advanced.new.self) c.in-HeldUp.field-0 (λ m. plain_grows _ _ _ _)
+    (rw c.in-HeldUp.is at c.advance-advanced.ensures.held_up)
 
 pub returns-in-HeldUp-clause-longer : goal.returns-in-HeldUp-clause-longer
 returns-in-HeldUp-clause-longer g c =

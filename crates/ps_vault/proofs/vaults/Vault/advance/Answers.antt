@@ -5,14 +5,13 @@ use Rattle.ps_language.specs.Locks.{is_ready}
 use Rattle.ps_language.specs.Schedules.{plain_move, count_of, moves}
 use Rattle.ps_language.specs.Worlds.{starting_world, world}
 use Rattle.ps_language.proofs.ScheduleLaws.{count_of-added}
-use Rattle.ps_mem.specs.Objects.{heap_in}
 use Rattle.ps_vault.specs.Order.{AddsSteps, NoneEnds, OnlyLastMayEnd}
 use Rattle.ps_vault.specs.Reports.{are_ordinary, are_words}
 use Rattle.ps_vault.specs.Stories.{Story, world_at, move_of}
 use Rattle.ps_vault.specs.Turns.{added_times}
 use Rattle.ps_vault.proofs.Following.{times_noted}
 use Rattle.ps_vault.proofs.Keeping.{at_story, ready_there}
-use Rattle.ps_vault.proofs.Advancing.{keeps_made, count_times, ordinary_added, ordinary_move, ordinary_times, words_kept, some_made, none_ends_made, none_ends_mid, none_ends_behind, only_last_behind, keeps_behind, ends_behind, keeps_held, starved_behind, kept_none}
+use Rattle.ps_vault.proofs.Advancing.{keeps_made, count_times, ordinary_added, ordinary_move, ordinary_times, words_kept, some_made, none_ends_made, none_ends_mid, none_ends_behind, only_last_behind, keeps_behind, ends_behind, keeps_held, held_behind, kept_none}
 use Rattle.ps_vault.proofs.Ordering.{adds_times, adds_one, adds_more}
 use Rattle.ps_vault.proofs.vaults.Vault.advance.Given as givens
 use Rattle.ps_vault.proofs.vaults.Vault.advance.Goals as goal
@@ -120,7 +119,7 @@ invariant_of-self-in-Err g c =
     (keeps_held g.S.Interpret.asks c.args.context 0 c.go_on-made.result.made c.in-Some.next.shown
     _ _ c.self.inside.schedule.items c.self.invariant
     (ready_before g (goal.at.invariant_of-self-in-Err g c).After-go_on-made)
-    c.in-Err.field-0 (rw (c.in-Some.is, c.in-Err.is) at c.go_on-made.ensures.makes))
+    c.in-Err.reason (rw (c.in-Some.is, c.in-Err.is) at c.go_on-made.ensures.makes))
 
 pub returns-in-Err-clause-counted : goal.returns-in-Err-clause-counted
 returns-in-Err-clause-counted g c =
@@ -134,15 +133,14 @@ pub returns-in-Err-clause-takes : goal.returns-in-Err-clause-takes
 returns-in-Err-clause-takes g c =
     takes g (goal.at.returns-in-Err-clause-takes g c).After-note_turn
 
-pub returns-in-Err-clause-starved : goal.returns-in-Err-clause-starved
-unfolding heap_in
-returns-in-Err-clause-starved g c = λ _.
+pub returns-in-Err-clause-held_up : goal.returns-in-Err-clause-held_up
+returns-in-Err-clause-held_up g c =
     rw c.note_turn.ensures.added
-    (starved_behind g.S.Interpret.asks c.args.context 0 c.go_on-made.result.made
+    (held_behind g.S.Interpret.asks c.args.context 0 c.go_on-made.result.made
     c.in-Some.next.shown _ _ c.self.inside.schedule.items c.self.invariant
-    (ready_before g (goal.at.returns-in-Err-clause-starved g c).After-go_on-made)
-    c.in-Err.field-0 (rw (c.in-Some.is, c.in-Err.is) at c.go_on-made.ensures.makes)
-    (refl {a = false}) (omega arith) (refl {a = true}))
+    (ready_before g (goal.at.returns-in-Err-clause-held_up g c).After-go_on-made)
+    c.in-Err.reason (rw (c.in-Some.is, c.in-Err.is) at c.go_on-made.ensures.makes)
+    g.M.Memory.heap g.M.Memory.grants _ refl refl refl)
 
 pub returns-in-Err-clause-keeps : goal.returns-in-Err-clause-keeps
 returns-in-Err-clause-keeps g c = λ _.
@@ -152,7 +150,7 @@ returns-in-Err-clause-keeps g c = λ _.
     (rw c.note_turn.ensures.added
     (none_ends_mid g.S.Interpret.asks c.args.context 0 c.go_on-made.result.made
     c.in-Some.next.shown _ _ c.self.inside.schedule.items c.self.invariant
-    (ready_before g (goal.at.returns-in-Err-clause-keeps g c).After-go_on-made) (Err c.in-Err.field-0)
+    (ready_before g (goal.at.returns-in-Err-clause-keeps g c).After-go_on-made) (Err c.in-Err.reason)
     (rw (c.in-Some.is, c.in-Err.is) at c.go_on-made.ensures.makes)))
 
 -- ---- the next step was made

@@ -1,12 +1,6 @@
 -- The first context stands in an empty memory.
-use Rattle.ps_mem.specs.Objects.{heap_in}
-use Rattle.ps_vault.proofs.Beginning.{nothing_stands}
 use Rattle.ps_vault.proofs.Keeping.{keeps_start}
 use Rattle.ps_vault.proofs.vaults.Vault.new.Goals as goal
-
-pub start_world-requires : goal.start_world-requires
-unfolding heap_in
-start_world-requires g c = record { heap = nothing_stands _ _ c.new-memory.ensures }
 
 pub invariant_of-result : goal.invariant_of-result
 invariant_of-result g c =

@@ -144,11 +144,11 @@ passing_on g c none free less =
     (c.args.steps - c.loop-made.made) steps (bound g c) (omega (arith, less)) over)
 
 pub returns-then-turn-clause-starved : goal.returns-then-turn-clause-starved
-returns-then-turn-clause-starved g c = λ held.
-    (c.in-Some.next, c.turn-turn.ensures.starved c.if-turn.true)
+returns-then-turn-clause-starved g c = λ grows held.
+    (c.in-Some.next, c.turn-turn.ensures.starved grows c.if-turn.true)
 
 pub returns-then-turn-clause-owed : goal.returns-then-turn-clause-owed
-returns-then-turn-clause-owed g c = λ held none.
+returns-then-turn-clause-owed g c = λ grows held none.
     let at = (goal.at.returns-then-turn-clause-owed g c).After-turn-turn in
     let less : c.turn-turn.result.made < c.args.quantum =
     omega (arith, c.turn-turn.ensures.fewer c.if-turn.true, within_quantum g at) in (
@@ -162,7 +162,7 @@ returns-then-turn-clause-owed g c = λ held none.
           (subst (λ (p : List ℕ). NoneEnds (starting_world p)
           (moves c.next_ready.new.self.schedule) (moves c.turn-turn.new.self.schedule))
           (program_now g at) (c.turn-turn.ensures.keeps c.if-turn.true)),
-      c.turn-turn.ensures.starved c.if-turn.true,
+      c.turn-turn.ensures.starved grows c.if-turn.true,
     )
 
 pub returns-then-turn-clause-order : goal.returns-then-turn-clause-order

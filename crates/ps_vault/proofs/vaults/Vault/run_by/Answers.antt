@@ -8,8 +8,8 @@ use Rattle.ps_vault.proofs.vaults.Vault.run_by.Goals as goal
 use Rattle.ps_vault.proofs.vaults.Vault.run_by.Goals.{After-turn-turn, then-choice-left, else-choice-left}
 
 pub returns-then-turn-clause-starved : goal.returns-then-turn-clause-starved
-returns-then-turn-clause-starved g c = λ held.
-    (c.in-Some.next, c.turn-turn.ensures.starved c.if-turn.true)
+returns-then-turn-clause-starved g c = λ grows held.
+    (c.in-Some.next, c.turn-turn.ensures.starved grows c.if-turn.true)
 
 -- a turn has at most the steps that are left
 within_left : (g : givens.Over) (c : After-turn-turn g)

@@ -1,11 +1,9 @@
 -- A step more of the schedule, or none.
-use Rattle.std.proofs.Common.{◌≡◌, false, true, refl, ap, ◌∙◌, subst, arith}
+use Rattle.std.proofs.Common.{◌≡◌, true, refl, ap, ◌∙◌}
 use Rattle.ps_language.specs.Locks.{is_ready}
 use Rattle.ps_language.specs.Worlds.{after_move, world}
-use Rattle.ps_mem.specs.Objects.{heap_in}
-use Rattle.ps_vault.specs.Reports.{MayWant}
 use Rattle.ps_vault.specs.Stories.{Story, world_at, move_of}
-use Rattle.ps_vault.proofs.Keeping.{at_story, keeps_step, starved_step, ready_there, world_added}
+use Rattle.ps_vault.proofs.Keeping.{at_story, keeps_step, held_step, ready_there, world_added}
 use Rattle.ps_vault.proofs.vaults.Vault.step.Goals as goal
 
 pub step-told-requires-clause-there : goal.step-told-requires-clause-there
@@ -33,13 +31,10 @@ returns-in-Ok-clause-world g c =
     ∙ ap (λ (s : Story). after_move (world_at s)
     (move_of c.args.context c.args.refused c.args.shown)) c.self.view_is)
 
-pub returns-in-Err-clause-starved : goal.returns-in-Err-clause-starved
-unfolding heap_in
-returns-in-Err-clause-starved g c =
-    subst (λ (s : Story). MayWant g.S.Interpret.asks c.args.context c.args.refused (world_at s))
-    c.self.view_is
-    (starved_step g.S.Interpret.asks c.args.context _ c.args.shown _ _
+pub returns-in-Err-clause-held_up : goal.returns-in-Err-clause-held_up
+returns-in-Err-clause-held_up g c =
+    held_step g.S.Interpret.asks c.args.context _ c.args.shown _ _
     c.self.inside.schedule.items c.self.invariant
     (ap (λ (s : Story). is_ready (world_at s) c.args.context) c.self.view_is ∙ c.requires.ready)
-    c.in-Err.field-0 (rw c.in-Err.is at c.step-told.ensures)
-    (refl {a = false}) (omega arith) (refl {a = true}))
+    c.in-Err.reason (rw c.in-Err.is at c.step-told.ensures)
+    g.M.Memory.heap g.M.Memory.grants _ refl refl refl

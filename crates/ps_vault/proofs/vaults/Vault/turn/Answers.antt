@@ -1,5 +1,5 @@
 -- Each round adds steps of the context, and they are over where it isn't ready.
-use Rattle.std.proofs.Common.{◌≡◌, ◌≢◌, ℕ, ◌+◌, List, true, inl, inr, refl, sym, ◌∙◌, ap, subst, arith, rules}
+use Rattle.std.proofs.Common.{◌≡◌, ◌≢◌, ℕ, ◌+◌, List, false, true, inl, inr, refl, sym, ◌∙◌, ap, subst, arith, rules}
 use Rattle.ps_language.specs.declared.schedules.Entry.{Entry}
 use Rattle.ps_language.specs.Locks.{is_ready}
 use Rattle.ps_language.specs.Schedules.{count_of, moves}
@@ -9,6 +9,7 @@ use Rattle.ps_vault.specs.declared.vaults.Told.TheVariants.{TurnEnds}
 use Rattle.ps_vault.specs.Order.{AddsSteps, NoneEnds, OnlyLastMayEnd}
 use Rattle.ps_vault.specs.Reports.{are_ordinary}
 use Rattle.ps_vault.specs.Stories.{Story, world_at}
+use Rattle.ps_vault.proofs.Keeping.{may_want}
 use Rattle.ps_vault.proofs.Ordering.{adds_more, none_ends_more, only_last_more, only_last_of, world_moves}
 use Rattle.ps_vault.proofs.vaults.Vault.turn.Given as givens
 use Rattle.ps_vault.proofs.vaults.Vault.turn.Goals as goal
@@ -122,8 +123,10 @@ returns-in-HeldUp-clause-takes g c =
     takes_on g (goal.at.returns-in-HeldUp-clause-takes g c).After-advance-advanced
 
 pub returns-in-HeldUp-clause-starved : goal.returns-in-HeldUp-clause-starved
-returns-in-HeldUp-clause-starved g c = λ _.
-    let wants = c.advance-advanced.ensures.starved c.in-HeldUp.is in
+returns-in-HeldUp-clause-starved g c = λ grows _.
+    let wants = may_want g.M.Memory.heap g.M.Memory.grants g.S.Interpret.asks c.args.context false
+    (world_at c.advance-advanced.new.self) c.in-HeldUp.field-0 grows
+    (rw c.in-HeldUp.is at c.advance-advanced.ensures.held_up) in
     record { ready = wants.ready; wants = inl wants.wants }
 
 -- ---- the steps so far

@@ -2,9 +2,9 @@
 use Rattle.std.proofs.Common.{sym, ap, ◌∙◌}
 use Rattle.ps_vault.specs.Stories.{Story, world_at}
 use Rattle.ps_vault.proofs.Keeping.{printed_by}
-use Rattle.ps_vault.proofs.vaults.Vault.into_printed.Goals as goal
+use Rattle.ps_vault.proofs.vaults.Vault.into_followed.Goals as goal
 
-pub returns : goal.returns
-returns g c =
+pub returns-clause-printed : goal.returns-clause-printed
+returns-clause-printed g c =
     sym (printed_by _ _ _ c.self.invariant.at)
     ∙ ap (λ (s : Story). (world_at s).printed) c.self.view_is

@@ -1,0 +1,46 @@
+-- When a step is held up.
+use Rattle.std.specs.Prelude.{◌≡◌, ◌≤◌, ℕ, Bool, true, false}
+use Rattle.ps_language.specs.Effect.{Around, Scene}
+use Rattle.ps_language.specs.Locks.{is_ready}
+use Rattle.ps_language.specs.World.{Status, World}
+use Rattle.ps_mem.specs.Heap.{Heap, Grants}
+use Rattle.ps_ops.specs.declared.failure.NotMade.{NotMade}
+use Rattle.ps_ops.specs.Does.{most_records}
+use Rattle.ps_acts.specs.Acts.{Asked}
+use Rattle.ps_world.specs.Calls.{IsHeldUpAs}
+use Rattle.ps_world.specs.Needs.{step_wants}
+use Rattle.ps_vault.specs.declared.vaults.Told.{Told}
+use Rattle.ps_vault.specs.declared.vaults.Told.TheVariants.{HeldUp}
+
+-- the slot of the log that all records go into
+abbrev pub slot : ℕ
+slot = 0
+
+-- the context is ready, and its step is not made for this reason in such a memory: the log is closed,
+-- or takes fewer records than a step may put, or the step may want words or a growth
+pub record IsHeldUp {M : Type 0} (heap : M → Heap) (grants : M → Grants)
+    (asks : Status → Around → Scene → Asked) (context : ℕ) (refused : Bool) (w : World)
+    (reason : NotMade) : Type 0 where
+  pub ready : is_ready w context ≡ true
+  pub memory : M
+  pub held_up : IsHeldUpAs (step_wants asks context refused w) slot (heap memory) (grants memory)
+      reason
+
+-- whether steps were held up, and why
+abbrev pub is_held_up : Told → Bool
+is_held_up (HeldUp reason) = true
+is_held_up _ = false
+
+abbrev pub IfHeldUp : (NotMade → Type 0) → Told → Type 0
+IfHeldUp Why (HeldUp reason) = Why reason
+IfHeldUp Why _ = Unit {0}
+
+-- a memory that grows, and a log that isn't closed and takes as many records as a step may put
+pub record Grows (heap : Heap) (grants : Grants) : Type 0 where
+  pub grows : heap.space.grows ≡ true
+  pub opened : grants.closed slot ≡ false
+  pub free : most_records ≤ grants.records slot
+
+-- each memory of this kind is so
+abbrev pub OnlyGrows : {M : Type 0} → (M → Heap) → (M → Grants) → Type 0
+OnlyGrows heap grants = (m : _) → Grows (heap m) (grants m)
