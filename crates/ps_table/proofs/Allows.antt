@@ -19,30 +19,46 @@ use Rattle.ps_table.specs.Shown.{by_vm, by_gc, Fits, Shows, GcRuns, GcFinds, VmD
 
 -- ---- the parts of a run
 
-pub vm_runs : (space : ℕ) (events : List Event) (v : Vm) → IsSpace space → IsRun space events → (run space events).vm ≡ v → VmRuns v
+pub vm_runs : (space : ℕ) (events : List Event) (v : Vm) → IsSpace space → IsRun space events
+    → (run space events).vm ≡ v → VmRuns v
 vm_runs space events v size r is =
-    let e : v.space ≡ space = ap (λ (w : Vm). w.space) (sym is) ∙ (good space size events r).counted.vm_space_is in
-    let all : IsSpace v.space × IsRun v.space events × ((run v.space events).vm ≡ v) = subst (λ (k : ℕ). IsSpace k × IsRun k events × ((run k events).vm ≡ v)) (sym e) (size, r, is) in
+    let e : v.space ≡ space = ap (λ (w : Vm). w.space) (sym is)
+    ∙ (good space size events r).counted.vm_space_is in
+    let all : IsSpace v.space × IsRun v.space events × ((run v.space events).vm ≡ v) = subst
+    (λ (k : ℕ). IsSpace k × IsRun k events × ((run k events).vm ≡ v)) (sym e) (size, r, is) in
     record { size = all.0; events = events; is_run = all.1; is = all.2 }
 
-pub vm_finds : (space : ℕ) (events : List Event) (v : Vm) (place word : ℕ) → IsSpace space → IsRun space events → (run space events).vm ≡ v → slice_index (run space events).words place ≡ word → VmFinds v place word
+pub vm_finds : (space : ℕ) (events : List Event) (v : Vm) (place word : ℕ) → IsSpace space
+    → IsRun space events → (run space events).vm ≡ v → slice_index (run space events).words place
+    ≡ word → VmFinds v place word
 vm_finds space events v place word size r is found =
-    let e : v.space ≡ space = ap (λ (w : Vm). w.space) (sym is) ∙ (good space size events r).counted.vm_space_is in
-    let all : IsSpace v.space × IsRun v.space events × ((run v.space events).vm ≡ v) × (slice_index (run v.space events).words place ≡ word) =
-    subst (λ (k : ℕ). IsSpace k × IsRun k events × ((run k events).vm ≡ v) × (slice_index (run k events).words place ≡ word)) (sym e) (size, r, is, found) in
+    let e : v.space ≡ space = ap (λ (w : Vm). w.space) (sym is)
+    ∙ (good space size events r).counted.vm_space_is in
+    let all : IsSpace v.space × IsRun v.space events × ((run v.space events).vm ≡ v)
+    × (slice_index (run v.space events).words place ≡ word) =
+    subst (λ (k : ℕ). IsSpace k × IsRun k events × ((run k events).vm ≡ v)
+    × (slice_index (run k events).words place ≡ word)) (sym e) (size, r, is, found) in
     record { size = all.0; events = events; is_run = all.1; is = all.2; found = all.3 }
 
-pub gc_runs : (space : ℕ) (events : List Event) (g : Gc) → IsSpace space → IsRun space events → (run space events).gc ≡ g → GcRuns g
+pub gc_runs : (space : ℕ) (events : List Event) (g : Gc) → IsSpace space → IsRun space events
+    → (run space events).gc ≡ g → GcRuns g
 gc_runs space events g size r is =
-    let e : g.space ≡ space = ap (λ (w : Gc). w.space) (sym is) ∙ (good space size events r).counted.gc_space_is in
-    let all : IsSpace g.space × IsRun g.space events × ((run g.space events).gc ≡ g) = subst (λ (k : ℕ). IsSpace k × IsRun k events × ((run k events).gc ≡ g)) (sym e) (size, r, is) in
+    let e : g.space ≡ space = ap (λ (w : Gc). w.space) (sym is)
+    ∙ (good space size events r).counted.gc_space_is in
+    let all : IsSpace g.space × IsRun g.space events × ((run g.space events).gc ≡ g) = subst
+    (λ (k : ℕ). IsSpace k × IsRun k events × ((run k events).gc ≡ g)) (sym e) (size, r, is) in
     record { size = all.0; events = events; is_run = all.1; is = all.2 }
 
-pub gc_finds : (space : ℕ) (events : List Event) (g : Gc) (place word : ℕ) → IsSpace space → IsRun space events → (run space events).gc ≡ g → slice_index (run space events).words place ≡ word → GcFinds g place word
+pub gc_finds : (space : ℕ) (events : List Event) (g : Gc) (place word : ℕ) → IsSpace space
+    → IsRun space events → (run space events).gc ≡ g → slice_index (run space events).words place
+    ≡ word → GcFinds g place word
 gc_finds space events g place word size r is found =
-    let e : g.space ≡ space = ap (λ (w : Gc). w.space) (sym is) ∙ (good space size events r).counted.gc_space_is in
-    let all : IsSpace g.space × IsRun g.space events × ((run g.space events).gc ≡ g) × (slice_index (run g.space events).words place ≡ word) =
-    subst (λ (k : ℕ). IsSpace k × IsRun k events × ((run k events).gc ≡ g) × (slice_index (run k events).words place ≡ word)) (sym e) (size, r, is, found) in
+    let e : g.space ≡ space = ap (λ (w : Gc). w.space) (sym is)
+    ∙ (good space size events r).counted.gc_space_is in
+    let all : IsSpace g.space × IsRun g.space events × ((run g.space events).gc ≡ g)
+    × (slice_index (run g.space events).words place ≡ word) =
+    subst (λ (k : ℕ). IsSpace k × IsRun k events × ((run k events).gc ≡ g)
+    × (slice_index (run k events).words place ≡ word)) (sym e) (size, r, is, found) in
     record { size = all.0; events = events; is_run = all.1; is = all.2; found = all.3 }
 
 -- ---- the views
@@ -65,24 +81,30 @@ pub record Both (e : Event) : Type 0 where
   pub vm_makes : by_vm e ≡ true
   pub gc_makes : by_gc e ≡ true
 
-part_in : (test : Event → Bool) (e : Event) (es : List Event) → test e ≡ true → filter test (e ∷ es) ≡ e ∷ filter test es
+part_in : (test : Event → Bool) (e : Event) (es : List Event) → test e ≡ true → filter test (e ∷ es)
+    ≡ e ∷ filter test es
 part_in test e es h = rw h refl
 
-part_out : (test : Event → Bool) (e : Event) (es : List Event) → test e ≡ false → filter test (e ∷ es) ≡ filter test es
+part_out : (test : Event → Bool) (e : Event) (es : List Event) → test e ≡ false
+    → filter test (e ∷ es) ≡ filter test es
 part_out test e es h = rw h refl
 
 -- the view of the seat that moved, and those of the others
-vm_moved : (space : ℕ) (events : List Event) (a b at : ℕ) (v : View) (e : Event) → VmAlone e → v.acts_vm ≡ true → Fits space events a b at v → Fits space (e ∷ events) a b at (vm_did v e)
+vm_moved : (space : ℕ) (events : List Event) (a b at : ℕ) (v : View) (e : Event) → VmAlone e
+    → v.acts_vm ≡ true → Fits space events a b at v → Fits space (e ∷ events) a b at (vm_did v e)
 vm_moved space events a b at v e alone acts f = record {
   vm_here = f.vm_here;
-  vm_list = λ h. part_in by_vm e events alone.vm_makes ∙ ap (λ (l : List Event). e ∷ l) (f.vm_list h);
-  vm_is = λ h. alone.vm_own (run space events).vm (run space events).gc v.gc ∙ ap (λ (w : Vm). vm_after w v.gc e) (f.vm_is h);
+  vm_list = λ h. part_in by_vm e events alone.vm_makes ∙ ap (λ (l : List Event). e ∷ l)
+      (f.vm_list h);
+  vm_is = λ h. alone.vm_own (run space events).vm (run space events).gc v.gc
+      ∙ ap (λ (w : Vm). vm_after w v.gc e) (f.vm_is h);
   gc_here = f.gc_here;
   gc_list = λ h. part_out by_gc e events alone.gc_not ∙ f.gc_list h;
   gc_is = λ h. alone.gc_same (run space events).gc (run space events).vm ∙ f.gc_is h;
 }
 
-vm_beside : (space : ℕ) (events : List Event) (a b at : ℕ) (v : View) (e : Event) → VmAlone e → at ≢ a → Fits space events a b at v → Fits space (e ∷ events) a b at v
+vm_beside : (space : ℕ) (events : List Event) (a b at : ℕ) (v : View) (e : Event) → VmAlone e
+    → at ≢ a → Fits space events a b at v → Fits space (e ∷ events) a b at v
 vm_beside space events a b at v e alone off f = record {
   vm_here = f.vm_here;
   vm_list = λ h. absurd (off (f.vm_here h));
@@ -92,17 +114,21 @@ vm_beside space events a b at v e alone off f = record {
   gc_is = λ h. alone.gc_same (run space events).gc (run space events).vm ∙ f.gc_is h;
 }
 
-gc_moved : (space : ℕ) (events : List Event) (a b at : ℕ) (v : View) (e : Event) → GcAlone e → v.acts_gc ≡ true → Fits space events a b at v → Fits space (e ∷ events) a b at (gc_did v e)
+gc_moved : (space : ℕ) (events : List Event) (a b at : ℕ) (v : View) (e : Event) → GcAlone e
+    → v.acts_gc ≡ true → Fits space events a b at v → Fits space (e ∷ events) a b at (gc_did v e)
 gc_moved space events a b at v e alone acts f = record {
   vm_here = f.vm_here;
   vm_list = λ h. part_out by_vm e events alone.vm_not ∙ f.vm_list h;
   vm_is = λ h. alone.vm_same (run space events).vm (run space events).gc ∙ f.vm_is h;
   gc_here = f.gc_here;
-  gc_list = λ h. part_in by_gc e events alone.gc_makes ∙ ap (λ (l : List Event). e ∷ l) (f.gc_list h);
-  gc_is = λ h. alone.gc_own (run space events).gc (run space events).vm v.vm ∙ ap (λ (w : Gc). gc_after w v.vm e) (f.gc_is h);
+  gc_list = λ h. part_in by_gc e events alone.gc_makes ∙ ap (λ (l : List Event). e ∷ l)
+      (f.gc_list h);
+  gc_is = λ h. alone.gc_own (run space events).gc (run space events).vm v.vm
+      ∙ ap (λ (w : Gc). gc_after w v.vm e) (f.gc_is h);
 }
 
-gc_beside : (space : ℕ) (events : List Event) (a b at : ℕ) (v : View) (e : Event) → GcAlone e → at ≢ b → Fits space events a b at v → Fits space (e ∷ events) a b at v
+gc_beside : (space : ℕ) (events : List Event) (a b at : ℕ) (v : View) (e : Event) → GcAlone e
+    → at ≢ b → Fits space events a b at v → Fits space (e ∷ events) a b at v
 gc_beside space events a b at v e alone off f = record {
   vm_here = f.vm_here;
   vm_list = λ h. part_out by_vm e events alone.vm_not ∙ f.vm_list h;
@@ -112,17 +138,24 @@ gc_beside space events a b at v e alone off f = record {
   gc_is = λ h. absurd (off (f.gc_here h));
 }
 
-both_moved : (space : ℕ) (events : List Event) (a b at : ℕ) (v : View) (e : Event) → Both e → v.acts_vm ≡ true → v.acts_gc ≡ true → Fits space events a b at v → Fits space (e ∷ events) a b at (both_did v e)
+both_moved : (space : ℕ) (events : List Event) (a b at : ℕ) (v : View) (e : Event) → Both e
+    → v.acts_vm ≡ true → v.acts_gc ≡ true → Fits space events a b at v → Fits space (e ∷ events) a b
+    at (both_did v e)
 both_moved space events a b at v e both vm gc f = record {
   vm_here = f.vm_here;
-  vm_list = λ h. part_in by_vm e events both.vm_makes ∙ ap (λ (l : List Event). e ∷ l) (f.vm_list h);
-  vm_is = λ h. ap (λ (w : Vm). vm_after w (run space events).gc e) (f.vm_is h) ∙ ap (λ (w : Gc). vm_after v.vm w e) (f.gc_is gc);
+  vm_list = λ h. part_in by_vm e events both.vm_makes ∙ ap (λ (l : List Event). e ∷ l)
+      (f.vm_list h);
+  vm_is = λ h. ap (λ (w : Vm). vm_after w (run space events).gc e) (f.vm_is h)
+      ∙ ap (λ (w : Gc). vm_after v.vm w e) (f.gc_is gc);
   gc_here = f.gc_here;
-  gc_list = λ h. part_in by_gc e events both.gc_makes ∙ ap (λ (l : List Event). e ∷ l) (f.gc_list h);
-  gc_is = λ h. ap (λ (w : Gc). gc_after w (run space events).vm e) (f.gc_is h) ∙ ap (λ (w : Vm). gc_after v.gc w e) (f.vm_is vm);
+  gc_list = λ h. part_in by_gc e events both.gc_makes ∙ ap (λ (l : List Event). e ∷ l)
+      (f.gc_list h);
+  gc_is = λ h. ap (λ (w : Gc). gc_after w (run space events).vm e) (f.gc_is h)
+      ∙ ap (λ (w : Vm). gc_after v.gc w e) (f.vm_is vm);
 }
 
-both_beside : (space : ℕ) (events : List Event) (a b at : ℕ) (v : View) (e : Event) → at ≢ a → at ≢ b → Fits space events a b at v → Fits space (e ∷ events) a b at v
+both_beside : (space : ℕ) (events : List Event) (a b at : ℕ) (v : View) (e : Event) → at ≢ a
+    → at ≢ b → Fits space events a b at v → Fits space (e ∷ events) a b at v
 both_beside space events a b at v e off_a off_b f = record {
   vm_here = f.vm_here;
   vm_list = λ h. absurd (off_a (f.vm_here h));
@@ -133,39 +166,49 @@ both_beside space events a b at v e off_a off_b f = record {
 }
 
 -- the views after one seat moved
-pub re_seated : (P Q : ℕ → View → Type 0) (views : List View) (id : ℕ) (w : View) → Q id w → ((at : ℕ) (v : View) → at ≢ id → P at v → Q at v)
-    → ((at : ℕ) (v : View) → get_elem? views at ≡ some v → P at v) → (at : ℕ) (v : View) → get_elem? (set views id w) at ≡ some v → Q at v
+pub re_seated : (P Q : ℕ → View → Type 0) (views : List View) (id : ℕ) (w : View) → Q id w
+    → ((at : ℕ) (v : View) → at ≢ id → P at v → Q at v)
+    → ((at : ℕ) (v : View) → get_elem? views at ≡ some v → P at v) → (at : ℕ) (v : View)
+    → get_elem? (set views id w) at ≡ some v → Q at v
 re_seated P Q views id w mine others each at v e =
     ⊎_elim
-    (λ (x : (at ≡ id) × (w ≡ v)). subst (λ (y : ℕ × View). Q y.0 y.1) (λ i. (sym x.0 i, x.1 i)) mine)
+    (λ (x : (at ≡ id) × (w ≡ v)). subst (λ (y : ℕ × View). Q y.0 y.1) (λ i. (sym x.0 i, x.1 i))
+    mine)
     (λ (x : (at ≢ id) × (get_elem? views at ≡ some v)). others at v x.0 (each at v x.1))
     (at_set views id at w v e)
 
 -- ---- a step of one seat, whatever the other one did
 
--- where the run's part is this one and the word found is n, the event may happen and makes of the words what the step does
+-- where the run's part is this one and the word found is n, the event may happen and makes of the
+-- words what the step does
 pub record VmStep (v : Vm) (i : ℕ) (f : ℕ → ℕ) (e : ℕ → Event) : Type 0 where
   pub alone : (n : ℕ) → VmAlone (e n)
   pub may : (s : State) (n : ℕ) → s.vm ≡ v → slice_index s.words i ≡ n → Permitted s (e n)
-  pub writes : (s : State) (n : ℕ) → s.vm ≡ v → slice_index s.words i ≡ n → words_after s.words s.vm s.gc (e n) ≡ slice_set s.words i (f n)
+  pub writes : (s : State) (n : ℕ) → s.vm ≡ v → slice_index s.words i ≡ n → words_after s.words s.vm
+      s.gc (e n) ≡ slice_set s.words i (f n)
 
 pub record GcStep (g : Gc) (i : ℕ) (f : ℕ → ℕ) (e : ℕ → Event) : Type 0 where
   pub alone : (n : ℕ) → GcAlone (e n)
   pub may : (s : State) (n : ℕ) → s.gc ≡ g → slice_index s.words i ≡ n → Permitted s (e n)
-  pub writes : (s : State) (n : ℕ) → s.gc ≡ g → slice_index s.words i ≡ n → words_after s.words s.vm s.gc (e n) ≡ slice_set s.words i (f n)
+  pub writes : (s : State) (n : ℕ) → s.gc ≡ g → slice_index s.words i ≡ n → words_after s.words s.vm
+      s.gc (e n) ≡ slice_set s.words i (f n)
 
 pub record BothStep (v : Vm) (g : Gc) (i : ℕ) (f : ℕ → ℕ) (e : ℕ → Event) : Type 0 where
   pub both : (n : ℕ) → Both (e n)
-  pub may : (s : State) (n : ℕ) → s.vm ≡ v → s.gc ≡ g → slice_index s.words i ≡ n → Permitted s (e n)
-  pub writes : (s : State) (n : ℕ) → s.vm ≡ v → s.gc ≡ g → slice_index s.words i ≡ n → words_after s.words s.vm s.gc (e n) ≡ slice_set s.words i (f n)
+  pub may : (s : State) (n : ℕ) → s.vm ≡ v → s.gc ≡ g → slice_index s.words i ≡ n
+      → Permitted s (e n)
+  pub writes : (s : State) (n : ℕ) → s.vm ≡ v → s.gc ≡ g → slice_index s.words i ≡ n
+      → words_after s.words s.vm s.gc (e n) ≡ slice_set s.words i (f n)
 
 module _ (space slots id : ℕ) (me : Sat) (i : ℕ) (f : ℕ → ℕ) (e : ℕ → Event) where
-  pub vm_allows : me.0.acts_vm ≡ true → VmStep me.0.vm i f e → table.Allows (Shows space) slots id me i f (λ n me'. VmDoes me i n (e n) me')
+  pub vm_allows : me.0.acts_vm ≡ true → VmStep me.0.vm i f e → table.Allows (Shows space) slots id
+      me i f (λ n me'. VmDoes me i n (e n) me')
   vm_allows acts step s h _ at _ =
       let n : ℕ = slice_index s.words i in
       let mine = h.each_view id me.0 at in
       let st : State = run space h.events in
-      let found : slice_index st.words i ≡ n = ap (λ (ws : List ℕ). slice_index ws i) (sym h.words_are) in
+      let found : slice_index st.words i ≡ n = ap (λ (ws : List ℕ). slice_index ws i)
+      (sym h.words_are) in
       let is = mine.vm_is acts in
       let next : IsRun space (e n ∷ h.events) = (h.is_run, step.may st n is found) in
       let moved = vm_moved space h.events h.vm_at h.gc_at id me.0 (e n) (step.alone n) acts mine in (
@@ -178,20 +221,30 @@ module _ (space slots id : ℕ) (me : Sat) (i : ℕ) (f : ℕ → ℕ) (e : ℕ 
           vm_at = h.vm_at;
           gc_at = h.gc_at;
           is_run = next;
-          words_are = ap (λ (ws : List ℕ). slice_set ws i (f n)) h.words_are ∙ sym (step.writes st n is found);
-          each_view = re_seated (Fits space h.events h.vm_at h.gc_at) (Fits space (e n ∷ h.events) h.vm_at h.gc_at) s.views id (vm_did me.0 (e n)) moved
-              (λ j v off fits. vm_beside space h.events h.vm_at h.gc_at j v (e n) (step.alone n) (λ same. off (same ∙ sym (mine.vm_here acts))) fits)
+          words_are = ap (λ (ws : List ℕ). slice_set ws i (f n)) h.words_are
+              ∙ sym (step.writes st n is found);
+          each_view = re_seated (Fits space h.events h.vm_at h.gc_at) (Fits space (e n ∷ h.events)
+              h.vm_at h.gc_at) s.views id (vm_did me.0 (e n)) moved
+              (λ j v off fits. vm_beside space h.events h.vm_at h.gc_at j v (e n) (step.alone n)
+              (λ same. off (same ∙ sym (mine.vm_here acts))) fits)
               h.each_view;
         },
-        record { did = refl; finds = vm_finds space h.events me.0.vm i n h.size h.is_run is found; runs = vm_runs space (e n ∷ h.events) (vm_did me.0 (e n)).vm h.size next (moved.vm_is acts) },
+        record {
+          did = refl;
+          finds = vm_finds space h.events me.0.vm i n h.size h.is_run is found;
+          runs = vm_runs space (e n ∷ h.events) (vm_did me.0 (e n)).vm h.size next
+              (moved.vm_is acts);
+        },
       )
 
-  pub gc_allows : me.0.acts_gc ≡ true → GcStep me.0.gc i f e → table.Allows (Shows space) slots id me i f (λ n me'. GcDoes me i n (e n) me')
+  pub gc_allows : me.0.acts_gc ≡ true → GcStep me.0.gc i f e → table.Allows (Shows space) slots id
+      me i f (λ n me'. GcDoes me i n (e n) me')
   gc_allows acts step s h _ at _ =
       let n : ℕ = slice_index s.words i in
       let mine = h.each_view id me.0 at in
       let st : State = run space h.events in
-      let found : slice_index st.words i ≡ n = ap (λ (ws : List ℕ). slice_index ws i) (sym h.words_are) in
+      let found : slice_index st.words i ≡ n = ap (λ (ws : List ℕ). slice_index ws i)
+      (sym h.words_are) in
       let is = mine.gc_is acts in
       let next : IsRun space (e n ∷ h.events) = (h.is_run, step.may st n is found) in
       let moved = gc_moved space h.events h.vm_at h.gc_at id me.0 (e n) (step.alone n) acts mine in (
@@ -204,22 +257,37 @@ module _ (space slots id : ℕ) (me : Sat) (i : ℕ) (f : ℕ → ℕ) (e : ℕ 
           vm_at = h.vm_at;
           gc_at = h.gc_at;
           is_run = next;
-          words_are = ap (λ (ws : List ℕ). slice_set ws i (f n)) h.words_are ∙ sym (step.writes st n is found);
-          each_view = re_seated (Fits space h.events h.vm_at h.gc_at) (Fits space (e n ∷ h.events) h.vm_at h.gc_at) s.views id (gc_did me.0 (e n)) moved
-              (λ j v off fits. gc_beside space h.events h.vm_at h.gc_at j v (e n) (step.alone n) (λ same. off (same ∙ sym (mine.gc_here acts))) fits)
+          words_are = ap (λ (ws : List ℕ). slice_set ws i (f n)) h.words_are
+              ∙ sym (step.writes st n is found);
+          each_view = re_seated (Fits space h.events h.vm_at h.gc_at) (Fits space (e n ∷ h.events)
+              h.vm_at h.gc_at) s.views id (gc_did me.0 (e n)) moved
+              (λ j v off fits. gc_beside space h.events h.vm_at h.gc_at j v (e n) (step.alone n)
+              (λ same. off (same ∙ sym (mine.gc_here acts))) fits)
               h.each_view;
         },
-        record { did = refl; finds = gc_finds space h.events me.0.gc i n h.size h.is_run is found; runs = gc_runs space (e n ∷ h.events) (gc_did me.0 (e n)).gc h.size next (moved.gc_is acts) },
+        record {
+          did = refl;
+          finds = gc_finds space h.events me.0.gc i n h.size h.is_run is found;
+          runs = gc_runs space (e n ∷ h.events) (gc_did me.0 (e n)).gc h.size next
+              (moved.gc_is acts);
+        },
       )
 
-  pub both_allows : me.0.acts_vm ≡ true → me.0.acts_gc ≡ true → BothStep me.0.vm me.0.gc i f e → table.Allows (Shows space) slots id me i f (λ n me'. BothDo me (e n) me')
+  pub both_allows : me.0.acts_vm ≡ true → me.0.acts_gc ≡ true → BothStep me.0.vm me.0.gc i f e
+      → table.Allows (Shows space) slots id me i f (λ n me'. BothDo me (e n) me')
   both_allows vm gc step s h _ at _ =
       let n : ℕ = slice_index s.words i in
       let mine = h.each_view id me.0 at in
       let st : State = run space h.events in
-      let found : slice_index st.words i ≡ n = ap (λ (ws : List ℕ). slice_index ws i) (sym h.words_are) in
-      let next : IsRun space (e n ∷ h.events) = (h.is_run, step.may st n (mine.vm_is vm) (mine.gc_is gc) found) in
-      let moved = both_moved space h.events h.vm_at h.gc_at id me.0 (e n) (step.both n) vm gc mine in (
+      let found : slice_index st.words i ≡ n = ap (λ (ws : List ℕ). slice_index ws i)
+      (sym h.words_are) in
+      let next : IsRun space (e n ∷ h.events) = (
+        h.is_run,
+        step.may st n (mine.vm_is vm)
+            (mine.gc_is gc) found,
+      ) in
+      let moved = both_moved space h.events h.vm_at h.gc_at id me.0 (e n) (step.both n) vm gc mine
+      in (
         both_did me.0 (e n),
         table.keeps,
         tt,
@@ -229,25 +297,35 @@ module _ (space slots id : ℕ) (me : Sat) (i : ℕ) (f : ℕ → ℕ) (e : ℕ 
           vm_at = h.vm_at;
           gc_at = h.gc_at;
           is_run = next;
-          words_are = ap (λ (ws : List ℕ). slice_set ws i (f n)) h.words_are ∙ sym (step.writes st n (mine.vm_is vm) (mine.gc_is gc) found);
-          each_view = re_seated (Fits space h.events h.vm_at h.gc_at) (Fits space (e n ∷ h.events) h.vm_at h.gc_at) s.views id (both_did me.0 (e n)) moved
-              (λ j v off fits. both_beside space h.events h.vm_at h.gc_at j v (e n) (λ same. off (same ∙ sym (mine.vm_here vm))) (λ same. off (same ∙ sym (mine.gc_here gc))) fits)
+          words_are = ap (λ (ws : List ℕ). slice_set ws i (f n)) h.words_are
+              ∙ sym (step.writes st n (mine.vm_is vm) (mine.gc_is gc) found);
+          each_view = re_seated (Fits space h.events h.vm_at h.gc_at) (Fits space (e n ∷ h.events)
+              h.vm_at h.gc_at) s.views id (both_did me.0 (e n)) moved
+              (λ j v off fits. both_beside space h.events h.vm_at h.gc_at j v (e n)
+              (λ same. off (same ∙ sym (mine.vm_here vm)))
+              (λ same. off (same ∙ sym (mine.gc_here gc))) fits)
               h.each_view;
         },
         record {
           did = refl;
-          vm_runs = vm_runs space (e n ∷ h.events) (both_did me.0 (e n)).vm h.size next (moved.vm_is vm);
-          gc_runs = gc_runs space (e n ∷ h.events) (both_did me.0 (e n)).gc h.size next (moved.gc_is gc);
+          vm_runs = vm_runs space (e n ∷ h.events) (both_did me.0 (e n)).vm h.size next
+              (moved.vm_is vm);
+          gc_runs = gc_runs space (e n ∷ h.events) (both_did me.0 (e n)).gc h.size next
+              (moved.gc_is gc);
         },
       )
 
 -- a store tells no word found
-pub vm_store_allows : (space slots id : ℕ) (me : Sat) (i word : ℕ) (e : Event) → me.0.acts_vm ≡ true → VmStep me.0.vm i (λ _. word) (λ _. e) → table.Allows (Shows space) slots id me i (λ _. word) (λ _ me'. VmStores me e me')
+pub vm_store_allows : (space slots id : ℕ) (me : Sat) (i word : ℕ) (e : Event) → me.0.acts_vm ≡ true
+    → VmStep me.0.vm i (λ _. word) (λ _. e) → table.Allows (Shows space) slots id me i (λ _. word)
+    (λ _ me'. VmStores me e me')
 vm_store_allows space slots id me i word e acts step s h n at small =
     let a = vm_allows space slots id me i (λ _. word) (λ _. e) acts step s h n at small in
     (a.0, a.1, a.2, a.3, record { did = a.4.did; runs = a.4.runs })
 
-pub gc_store_allows : (space slots id : ℕ) (me : Sat) (i word : ℕ) (e : Event) → me.0.acts_gc ≡ true → GcStep me.0.gc i (λ _. word) (λ _. e) → table.Allows (Shows space) slots id me i (λ _. word) (λ _ me'. GcStores me e me')
+pub gc_store_allows : (space slots id : ℕ) (me : Sat) (i word : ℕ) (e : Event) → me.0.acts_gc ≡ true
+    → GcStep me.0.gc i (λ _. word) (λ _. e) → table.Allows (Shows space) slots id me i (λ _. word)
+    (λ _ me'. GcStores me e me')
 gc_store_allows space slots id me i word e acts step s h n at small =
     let a = gc_allows space slots id me i (λ _. word) (λ _. e) acts step s h n at small in
     (a.0, a.1, a.2, a.3, record { did = a.4.did; runs = a.4.runs })

@@ -58,21 +58,26 @@ epoch_found g n f =
     let same = sym k.both.cycle ∙ ap (λ (h : Gc). h.cycle) f.is in
     (omega arith, omega arith)
 
-pub other_inside : (g : Gc) (place : ℕ) → other_base g.space g.cycle ≤ place → place < other_base g.space g.cycle + g.space → place < table_size g.space
+pub other_inside : (g : Gc) (place : ℕ) → other_base g.space g.cycle ≤ place → place < other_base
+    g.space g.cycle + g.space → place < table_size g.space
 other_inside g place lo hi = let wide = (spaces_wide g.space g.cycle).1 in omega arith
 
-pub forward_inside : (g : Gc) (a c : ℕ) → ∥ GcRuns g ∥₁ → GcMay g (ForwardStore a c) → a + 1 < table_size g.space
+pub forward_inside : (g : Gc) (a c : ℕ) → ∥ GcRuns g ∥₁ → GcMay g (ForwardStore a c)
+    → a + 1 < table_size g.space
 forward_inside g a c r may = let k = (gc_knows g r).known a may.known in omega arith
 
-pub forward_small : (g : Gc) (a c : ℕ) → ∥ GcRuns g ∥₁ → GcMay g (ForwardStore a c) → (g.epoch < 2 ^ 32) × (c < 2 ^ 24)
+pub forward_small : (g : Gc) (a c : ℕ) → ∥ GcRuns g ∥₁ → GcMay g (ForwardStore a c)
+    → (g.epoch < 2 ^ 32) × (c < 2 ^ 24)
 forward_small g a c r may =
     let k = gc_knows g r in
     let m = some_match (IsReady g a c) (seen_at g.headers a) may.headed in
     let hi = m.2.high in let wide = (spaces_wide g.space g.cycle).1 in let size = k.size.1 in
     (k.epoch_small, omega arith)
 
-pub address_back : (epoch c : ℕ) → epoch < 2 ^ 32 → c < 2 ^ 24 → forward_address_in (forwarding epoch c) ≡ c
-address_back epoch c e small = forward_address_in-packed (record { cycle = epoch; address = c }) (record { cycle = e; address = small })
+pub address_back : (epoch c : ℕ) → epoch < 2 ^ 32 → c < 2 ^ 24 → forward_address_in
+    (forwarding epoch c) ≡ c
+address_back epoch c e small = forward_address_in-packed (record { cycle = epoch; address = c })
+    (record { cycle = e; address = small })
 
 pub packed_is : (epoch c : ℕ) → epoch * 16777216 + c ≡ forwarding epoch c
 unfolding forward_packed

@@ -20,7 +20,8 @@ use Rattle.ps_table.specs.Events.{did_all, object_stores}
 use Rattle.ps_table.specs.Shown.{vm_did}
 
 -- so many words are cleared, and then the header is stored
-cleared : (m : View) (header n : ℕ) → (did_all m (replicate n ClearStore ++ HeaderStore header ∷ [])).vm
+cleared : (m : View) (header n : ℕ)
+    → (did_all m (replicate n ClearStore ++ HeaderStore header ∷ [])).vm
     ≡ vm_after (record m.vm { making = m.vm.making + n }) m.gc (HeaderStore header)
 cleared m header zero = ap (λ (x : ℕ). vm_after (record m.vm { making = x }) m.gc
     (HeaderStore header)) (let z : m.vm.making ≡ m.vm.making + 0 = omega arith in z)
@@ -40,7 +41,8 @@ module _ (kind : Kind) (fields birth header : ℕ)
     (is : header ≡ header_packed (record { kind = kind; fields = fields; birth = birth }))
     (fits : IsHeader (record { kind = kind; fields = fields; birth = birth })) where
   pub kind_is : kind_in header ≡ kind_number kind
-  kind_is = ap kind_in is ∙ kind_in-packed (record { kind = kind; fields = fields; birth = birth }) fits
+  kind_is = ap kind_in is ∙ kind_in-packed (record { kind = kind; fields = fields; birth = birth })
+      fits
 
   pub fields_is : fields_in header ≡ fields
   fields_is = ap fields_in is
@@ -54,7 +56,8 @@ module _ (kind : Kind) (fields birth header : ℕ)
 pub next_new : (birth header : ℕ) (kind : Kind) → kind_in header ≡ kind_number kind → kind ≢ Body
     → birth + 1 ≡ next_birth_after birth header
 next_new birth header kind is ne =
-    let t : nat_eq (kind_in header) 11 ≡ false = ap (λ (n : ℕ). nat_eq n 11) is ∙ not_body kind ne in
+    let t : nat_eq (kind_in header) 11 ≡ false = ap (λ (n : ℕ). nat_eq n 11) is
+    ∙ not_body kind ne in
     rw t refl
 
 pub next_body : (birth header : ℕ) → kind_in header ≡ 11 → birth ≡ next_birth_after birth header

@@ -18,38 +18,101 @@ same_word ws i n at = sym (set-get_or ws i 0) ∙ ap (λ (m : ℕ). slice_set ws
 
 pub vm_load_step : (v : Vm) (i : ℕ) → i < table_size v.space → VmStep v i (λ n. n) (λ n. VmLoad i n)
 vm_load_step v i may = record {
-  alone = λ n. record { vm_makes = refl; gc_not = refl; gc_same = λ g v. refl; vm_own = λ v g h. refl };
-  may = λ s n is at. record { vm = subst (λ (w : Vm). i < table_size w.space) (sym is) may; gc = tt; both = at };
+  alone = λ n. record {
+    vm_makes = refl;
+    gc_not = refl;
+    gc_same = λ g v. refl;
+    vm_own = λ v g h.
+        refl;
+  };
+  may = λ s n is at. record {
+    vm = subst (λ (w : Vm). i < table_size w.space) (sym is) may;
+    gc = tt;
+    both = at;
+  };
   writes = λ s n is at. same_word s.words i n at;
 }
 
 -- a store of the mutator's
-vm_store : (v : Vm) (i word : ℕ) (e : Event) → VmAlone e → ((s : State) → s.vm ≡ v → Permitted s e) → ((s : State) → s.vm ≡ v → words_after s.words s.vm s.gc e ≡ slice_set s.words i word) → VmStep v i (λ _. word) (λ _. e)
-vm_store v i word e alone may writes = record { alone = λ n. alone; may = λ s n is at. may s is; writes = λ s n is at. writes s is }
+vm_store : (v : Vm) (i word : ℕ) (e : Event) → VmAlone e → ((s : State) → s.vm ≡ v → Permitted s e)
+    → ((s : State) → s.vm ≡ v → words_after s.words s.vm s.gc e ≡ slice_set s.words i word)
+    → VmStep v i (λ _. word) (λ _. e)
+vm_store v i word e alone may writes = record {
+  alone = λ n. alone;
+  may = λ s n is at. may s is;
+  writes = λ s n is at. writes s is;
+}
 
-pub vm_clear_step : (v : Vm) (i : ℕ) → VmMay v ClearStore → i ≡ v.end + 1 + v.making → VmStep v i (λ _. 0) (λ _. ClearStore)
-vm_clear_step v i may at = vm_store v i 0 ClearStore record { vm_makes = refl; gc_not = refl; gc_same = λ g v. refl; vm_own = λ v g h. refl }
-    (λ s is. record { vm = subst (λ (w : Vm). VmMay w ClearStore) (sym is) may; gc = tt; both = tt })
-    (λ s is. ap (λ (k : ℕ). slice_set s.words k 0) (ap (λ (w : Vm). w.end + 1 + w.making) is ∙ sym at))
+pub vm_clear_step : (v : Vm) (i : ℕ) → VmMay v ClearStore → i ≡ v.end + 1 + v.making
+    → VmStep v i (λ _. 0) (λ _. ClearStore)
+vm_clear_step v i may at = vm_store v i 0 ClearStore record {
+  vm_makes = refl;
+  gc_not = refl;
+  gc_same = λ g v. refl;
+  vm_own = λ v g h. refl;
+}
+    (λ s is. record {
+      vm = subst (λ (w : Vm). VmMay w ClearStore) (sym is) may;
+      gc = tt;
+      both = tt;
+    })
+    (λ s is. ap (λ (k : ℕ). slice_set s.words k 0) (ap (λ (w : Vm). w.end + 1 + w.making) is
+    ∙ sym at))
 
-pub vm_make_step : (v : Vm) (i header : ℕ) → VmMay v (HeaderStore header) → i ≡ v.end → VmStep v i (λ _. header) (λ _. HeaderStore header)
-vm_make_step v i header may at = vm_store v i header (HeaderStore header) record { vm_makes = refl; gc_not = refl; gc_same = λ g v. refl; vm_own = λ v g h. refl }
-    (λ s is. record { vm = subst (λ (w : Vm). VmMay w (HeaderStore header)) (sym is) may; gc = tt; both = tt })
+pub vm_make_step : (v : Vm) (i header : ℕ) → VmMay v (HeaderStore header) → i ≡ v.end
+    → VmStep v i (λ _. header) (λ _. HeaderStore header)
+vm_make_step v i header may at = vm_store v i header (HeaderStore header) record
+    { vm_makes = refl; gc_not = refl; gc_same = λ g v. refl; vm_own = λ v g h. refl }
+    (λ s is. record {
+      vm = subst (λ (w : Vm). VmMay w (HeaderStore header)) (sym is) may;
+      gc = tt;
+      both = tt;
+    })
     (λ s is. ap (λ (k : ℕ). slice_set s.words k header) (ap (λ (w : Vm). w.end) is ∙ sym at))
 
-pub vm_field_step : (v : Vm) (a i word : ℕ) → VmMay v (FieldStore a i word) → VmStep v (a + 2 + i) (λ _. word) (λ _. FieldStore a i word)
-vm_field_step v a i word may = vm_store v (a + 2 + i) word (FieldStore a i word) record { vm_makes = refl; gc_not = refl; gc_same = λ g v. refl; vm_own = λ v g h. refl }
-    (λ s is. record { vm = subst (λ (w : Vm). VmMay w (FieldStore a i word)) (sym is) may; gc = tt; both = tt })
+pub vm_field_step : (v : Vm) (a i word : ℕ) → VmMay v (FieldStore a i word) → VmStep v (a + 2 + i)
+    (λ _. word) (λ _. FieldStore a i word)
+vm_field_step v a i word may = vm_store v (a + 2 + i) word (FieldStore a i word) record
+    { vm_makes = refl; gc_not = refl; gc_same = λ g v. refl; vm_own = λ v g h. refl }
+    (λ s is. record {
+      vm = subst (λ (w : Vm). VmMay w (FieldStore a i word)) (sym is) may;
+      gc = tt;
+      both = tt;
+    })
     (λ s is. refl)
 
-pub vm_record_step : (v : Vm) (slot number : ℕ) (r : Record) → VmMay v (RecordStore slot r) → number ≡ length (log_of v.logs slot) → VmStep v (ring_place slot number) (λ _. packed number r) (λ _. RecordStore slot r)
-vm_record_step v slot number r may is_number = vm_store v (ring_place slot number) (packed number r) (RecordStore slot r) record { vm_makes = refl; gc_not = refl; gc_same = λ g v. refl; vm_own = λ v g h. refl }
-    (λ s is. record { vm = subst (λ (w : Vm). VmMay w (RecordStore slot r)) (sym is) may; gc = tt; both = tt })
-    (λ s is. ap (λ (k : ℕ). slice_set s.words (ring_place slot k) (packed k r)) (ap (λ (w : Vm). length (log_of w.logs slot)) is ∙ sym is_number))
+pub vm_record_step : (v : Vm) (slot number : ℕ) (r : Record) → VmMay v (RecordStore slot r) → number
+    ≡ length (log_of v.logs slot) → VmStep v (ring_place slot number) (λ _. packed number r)
+    (λ _. RecordStore slot r)
+vm_record_step v slot number r may is_number = vm_store v (ring_place slot number) (packed number r)
+    (RecordStore slot r) record {
+      vm_makes = refl;
+      gc_not = refl;
+      gc_same = λ g v. refl;
+      vm_own = λ
+          v g h. refl;
+    }
+    (λ s is. record {
+      vm = subst (λ (w : Vm). VmMay w (RecordStore slot r)) (sym is) may;
+      gc = tt;
+      both = tt;
+    })
+    (λ s is. ap (λ (k : ℕ). slice_set s.words (ring_place slot k) (packed k r))
+    (ap (λ (w : Vm). length (log_of w.logs slot)) is ∙ sym is_number))
 
-pub vm_epoch_step : (v : Vm) (m : ℕ) → VmMay v EpochStore → m ≡ v.epoch + 1 → VmStep v 1 (λ _. m) (λ _. EpochStore)
-vm_epoch_step v m may at = vm_store v 1 m EpochStore record { vm_makes = refl; gc_not = refl; gc_same = λ g v. refl; vm_own = λ v g h. refl }
-    (λ s is. record { vm = subst (λ (w : Vm). VmMay w EpochStore) (sym is) may; gc = tt; both = tt })
+pub vm_epoch_step : (v : Vm) (m : ℕ) → VmMay v EpochStore → m ≡ v.epoch + 1 → VmStep v 1 (λ _. m)
+    (λ _. EpochStore)
+vm_epoch_step v m may at = vm_store v 1 m EpochStore record {
+  vm_makes = refl;
+  gc_not = refl;
+  gc_same = λ g v. refl;
+  vm_own = λ v g h. refl;
+}
+    (λ s is. record {
+      vm = subst (λ (w : Vm). VmMay w EpochStore) (sym is) may;
+      gc = tt;
+      both = tt;
+    })
     (λ s is. ap (λ (k : ℕ). slice_set s.words 1 k) (ap (λ (w : Vm). w.epoch + 1) is ∙ sym at))
 
 -- a ring place tells its slot

@@ -66,13 +66,15 @@ module _ (words : ℕ) (m : Sat) (n : Mirror) (s : Sits words m n) (slot a i : �
     so = stores m.0.vm facts a i items can
 
     pub few : (i + length items < 2 ^ 16) × (a < 2 ^ 24)
-    few = let t = at in let count = length_numbers items in let fits = t.fits in let small = t.few in (omega arith, t.low)
+    few = let t = at in let count = length_numbers items in let fits = t.fits in let small = t.few
+        in (omega arith, t.low)
 
     by_number : among m.0.vm.fresh a ≡ nat_le n.fresh_from a
     by_number = s.mirrors.fresh_is a at.object at.at
 
     is_old : nat_lt a n.fresh_from ≡ true → among m.0.vm.fresh a ≡ false
-    is_old t = let lt = lt_is a n.fresh_from t in by_number ∙ elim (bool_cases (nat_le n.fresh_from a))
+    is_old t = let lt = lt_is a n.fresh_from t in by_number
+        ∙ elim (bool_cases (nat_le n.fresh_from a))
         [ inl t ↦ (let x = le_is n.fresh_from a t in absurd (omega arith)) | inr f ↦ f ]
 
     is_new : nat_lt a n.fresh_from ≡ false → among m.0.vm.fresh a ≡ true
@@ -124,7 +126,8 @@ module _ (words : ℕ) (m : Sat) (n : Mirror) (s : Sits words m n) (slot a i : �
           put = ap (λ (x : Vm). length (log_of x.logs slot)) part'
               ∙ (ap (λ ls. length (log_of ls slot)) so.logs
               ∙ (let z : length (log_of m.0.vm.logs slot) ≡
-              length (log_of m.0.vm.logs slot) + records_put (grants_of m.0.vm) a = omega arith in z));
+              length (log_of m.0.vm.logs slot) + records_put (grants_of m.0.vm) a = omega arith in
+              z));
         }
 
     stored_out : (m1 : Sat) → m1.0.vm ≡ fields_stored m.0.vm a i (numbers items)
@@ -169,13 +172,15 @@ module _ (words : ℕ) (m : Sat) (n : Mirror) (s : Sits words m n) (slot a i : �
         let numbered : (x : Mirror) → mirror_stored n slot a ≡ x
         → StoredSo words m.0.vm m2 x slot a i items
         → StoredSo words m.0.vm m2 (mirror_stored n slot a) slot a i items =
-        (λ x is so. subst (λ (y : Mirror). StoredSo words m.0.vm m2 y slot a i items) (sym is) so) in
+        (λ x is so. subst (λ (y : Mirror). StoredSo words m.0.vm m2 y slot a i items) (sym is) so)
+        in
         elim (bool_cases (nat_lt a n.fresh_from)) [
           | inr new ↦ (
               let same' = rw new at same in
               let fresh = is_new new in
               let none : records_put (grants_of m.0.vm) a ≡ 0 =
-              elim (bool_cases (is_open m.0.vm)) [ inl t ↦ rw (t, fresh) refl | inr f ↦ rw f refl ] in
+              elim (bool_cases (is_open m.0.vm)) [ inl t ↦ rw (t, fresh) refl | inr f ↦ rw f refl ]
+              in
               numbered n (numbers_new new) (settled m1 m2 n part acts empty runs same' none
               (mirrors_new m.0.vm n s.mirrors facts a i (numbers items)
               (new_same m.0.vm a i (numbers items) fresh).0 (so.settled none))))
@@ -184,7 +189,8 @@ module _ (words : ℕ) (m : Sat) (n : Mirror) (s : Sits words m n) (slot a i : �
                 let same' = rw (old, out) at same in
                 let shut : is_open m.0.vm ≡ false = sym s.mirrors.open_is ∙ out in
                 let none : records_put (grants_of m.0.vm) a ≡ 0 = rw shut refl in
-                numbered ends (numbers_old false old out) (settled m1 m2 ends part acts empty runs same'
+                numbered ends (numbers_old false old out) (settled m1 m2 ends part acts empty runs
+                same'
                 none (mirrors_old m.0.vm n s.mirrors facts a i (numbers items) (nothing_new old)
                 (so.settled none))))
             | inl is_on ↦ (
@@ -195,13 +201,16 @@ module _ (words : ℕ) (m : Sat) (n : Mirror) (s : Sits words m n) (slot a i : �
                 let lt = (grant owed).in_range in
                 let part' : m2.0.vm ≡ logged m.0.vm g slot a i items =
                 ap (λ (x : Sat). x.0.vm) same'
-                ∙ ap (λ (x : Vm). vm_after x g (RecordStore slot (Place a i (length items)))) part in
+                ∙ ap (λ (x : Vm). vm_after x g (RecordStore slot (Place a i (length items)))) part
+                in
                 numbered counts (numbers_old true old is_on) (record {
                   sits = goes words m n m2 counts s (ap (λ (x : Sat). x.0.acts_vm) same' ∙ acts)
                       (ap (λ (x : Sat). x.1) same' ∙ empty)
-                      (ap (λ (x : Vm). x.space) part' ∙ space_stored m.0.vm a i (numbers items)) runs
+                      (ap (λ (x : Vm). x.space) part' ∙ space_stored m.0.vm a i (numbers items))
+                      runs
                       (subst (λ (x : Vm). Mirrors x counts) (sym part')
-                      (mirrors_logged m.0.vm n s.mirrors facts a i (numbers items) g slot (length items) lt
+                      (mirrors_logged m.0.vm n s.mirrors facts a i (numbers items) g slot
+                      (length items) lt
                       rec.grants));
                   heap = ap heap_of part' ∙ rec.heap;
                   grants = subst (λ (x : Vm). AfterStore (grants_of m.0.vm) (grants_of x) slot)

@@ -14,7 +14,8 @@ pub overflow_add-from : goal.overflow_add-from
 overflow_add-from c =
     let cur = c.loop-left.seat.me.0.vm in
     let i = c.loop-left.invariant in
-    let one = falls_from c.args.seat.now.me.0.vm c.requires.runs c.args.from c.args.from_place c.args.to
+    let one = falls_from c.args.seat.now.me.0.vm c.requires.runs c.args.from c.args.from_place
+    c.args.to
     c.args.to_place c.args.count c.requires.can c.requires.order cur c.loop-left.left
     c.loop-left-test.true i.0 i.5 i.6 in
     let place = one.inside in let size = (vm_facts cur i.5).size.1 in
@@ -24,7 +25,8 @@ pub overflow_add-from_place : goal.overflow_add-from_place
 overflow_add-from_place c =
     let cur = c.loop-left.seat.me.0.vm in
     let i = c.loop-left.invariant in
-    let one = falls_from c.args.seat.now.me.0.vm c.requires.runs c.args.from c.args.from_place c.args.to
+    let one = falls_from c.args.seat.now.me.0.vm c.requires.runs c.args.from c.args.from_place
+    c.args.to
     c.args.to_place c.args.count c.requires.can c.requires.order cur c.loop-left.left
     c.loop-left-test.true i.0 i.5 i.6 in
     let place = one.inside in let size = (vm_facts cur i.5).size.1 in
@@ -34,7 +36,8 @@ pub overflow_add-from-in-loop-left : goal.overflow_add-from-in-loop-left
 overflow_add-from-in-loop-left c =
     let cur = c.loop-left.seat.me.0.vm in
     let i = c.loop-left.invariant in
-    let one = falls_from c.args.seat.now.me.0.vm c.requires.runs c.args.from c.args.from_place c.args.to
+    let one = falls_from c.args.seat.now.me.0.vm c.requires.runs c.args.from c.args.from_place
+    c.args.to
     c.args.to_place c.args.count c.requires.can c.requires.order cur c.loop-left.left
     c.loop-left-test.true i.0 i.5 i.6 in
     let place = one.inside in let size = (vm_facts cur i.5).size.1 in
@@ -53,7 +56,8 @@ overflow_add-to_place c =
     let cur = c.loop-left.seat.me.0.vm in
     let i = c.loop-left.invariant in
     let n = c.vm_load-word.result in
-    let one = falls_from c.args.seat.now.me.0.vm c.requires.runs c.args.from c.args.from_place c.args.to
+    let one = falls_from c.args.seat.now.me.0.vm c.requires.runs c.args.from c.args.from_place
+    c.args.to
     c.args.to_place c.args.count c.requires.can c.requires.order cur c.loop-left.left
     c.loop-left-test.true i.0 i.5 i.6 in
     let small = (field_place cur c.args.to (c.args.to_place + (c.loop-left.left - 1)) n i.5
@@ -65,7 +69,8 @@ vm_field-requires-clause-may c =
     let cur = c.loop-left.seat.me.0.vm in
     let i = c.loop-left.invariant in
     let n = c.vm_load-word.result in
-    let one = falls_from c.args.seat.now.me.0.vm c.requires.runs c.args.from c.args.from_place c.args.to
+    let one = falls_from c.args.seat.now.me.0.vm c.requires.runs c.args.from c.args.from_place
+    c.args.to
     c.args.to_place c.args.count c.requires.can c.requires.order cur c.loop-left.left
     c.loop-left-test.true i.0 i.5 i.6 in
     let same : c.vm_load-word.new.seat.me.0.vm ≡ cur =
@@ -80,7 +85,8 @@ loop-left-preserved c =
     let n = c.vm_load-word.result in
     let at : ℕ = c.args.to_place + (c.loop-left.left - 1) in
     let le = i.0 in
-    let one = falls_from c.args.seat.now.me.0.vm c.requires.runs c.args.from c.args.from_place c.args.to
+    let one = falls_from c.args.seat.now.me.0.vm c.requires.runs c.args.from c.args.from_place
+    c.args.to
     c.args.to_place c.args.count c.requires.can c.requires.order cur c.loop-left.left
     c.loop-left-test.true i.0 i.5 i.6 in
     let load = c.vm_load-word.ensures.does.did in
@@ -91,7 +97,8 @@ loop-left-preserved c =
     ap (λ m. m.0.vm) did ∙ ap (λ (x : Vm). field_stored x c.args.to at n) same in (
       omega arith,
       c.vm_field.ensures.same ∙ (c.vm_load-word.ensures.same ∙ i.1),
-      i.2 ∙ ap table_size (sym (ap (λ (x : Vm). x.space) part ∙ space_stored cur c.args.to at (n ∷ []))),
+      i.2 ∙ ap table_size (sym (ap (λ (x : Vm). x.space) part ∙ space_stored cur c.args.to at
+          (n ∷ []))),
       ap (λ m. m.0.acts_vm) did ∙ (ap (λ m. m.0.acts_vm) load ∙ i.3),
       ap (λ m. m.1) did ∙ (ap (λ m. m.1) load ∙ i.4),
       ∣ c.vm_field.ensures.does.runs ∣₁,

@@ -89,7 +89,8 @@ loop-done-preserved c =
     ap (λ m. m.0.vm) did ∙ ap (λ (x : Vm). field_stored x c.args.to at n) same in (
       omega arith,
       c.vm_field.ensures.same ∙ (c.vm_load-word.ensures.same ∙ i.1),
-      i.2 ∙ ap table_size (sym (ap (λ (x : Vm). x.space) part ∙ space_stored cur c.args.to at (n ∷ []))),
+      i.2 ∙ ap table_size (sym (ap (λ (x : Vm). x.space) part ∙ space_stored cur c.args.to at
+          (n ∷ []))),
       ap (λ m. m.0.acts_vm) did ∙ (ap (λ m. m.0.acts_vm) load ∙ i.3),
       ap (λ m. m.1) did ∙ (ap (λ m. m.1) load ∙ i.4),
       ∣ c.vm_field.ensures.does.runs ∣₁,

@@ -46,7 +46,9 @@ overflow_add-epoch c =
 
 pub store-requires : goal.store-requires
 store-requires c =
-    let wide : c.deref.result.now.shared.table_id.words ≡ table_size c.args.self.now.seat.me.0.gc.space = ap (λ t. t.shared.table_id.words) c.deref.ensures ∙ c.args.self.now.wide in
+    let wide : c.deref.result.now.shared.table_id.words
+    ≡ table_size c.args.self.now.seat.me.0.gc.space = ap (λ t. t.shared.table_id.words)
+    c.deref.ensures ∙ c.args.self.now.wide in
     let g = c.args.self.now.seat.me.0.gc in
     let a = c.args.original in
     let r = c.args.replica in
@@ -55,14 +57,18 @@ store-requires c =
     let size = (gc_knows g c.args.self.now.runs).size.1 in
     let is = c.requires.is in
     let e = small.0 in let low = small.1 in
-    let word : c.args.epoch * 16777216 + r ≡ forwarding g.epoch r = ap (λ (n : ℕ). n * 16777216 + r) c.requires.is ∙ packed_is g.epoch r in
-    let back : forward_address_in (c.args.epoch * 16777216 + r) ≡ r = ap forward_address_in word ∙ address_back g.epoch r e low in
+    let word : c.args.epoch * 16777216 + r ≡ forwarding g.epoch r = ap (λ (n : ℕ). n * 16777216 + r)
+    c.requires.is ∙ packed_is g.epoch r in
+    let back : forward_address_in (c.args.epoch * 16777216 + r) ≡ r = ap forward_address_in word
+    ∙ address_back g.epoch r e low in
     let there : a + 1 - 1 ≡ a = omega arith in
-    let step : GcStep g (a + 1) (λ _. c.args.epoch * 16777216 + r) (λ _. ForwardStore a r) = gc_forward_step g a r _ c.requires.may word in (
+    let step : GcStep g (a + 1) (λ _. c.args.epoch * 16777216 + r) (λ _. ForwardStore a r) =
+    gc_forward_step g a r _ c.requires.may word in (
       search rules,
       omega arith,
       gc_store_allows _ _ _ _ (a + 1) (c.args.epoch * 16777216 + r) _ c.args.self.now.acts
-          (subst (λ (x : ℕ × ℕ). GcStep g (a + 1) (λ _. c.args.epoch * 16777216 + r) (λ _. ForwardStore x.0 x.1)) (λ k. (sym there k, sym back k)) step),
+          (subst (λ (x : ℕ × ℕ). GcStep g (a + 1) (λ _. c.args.epoch * 16777216 + r)
+          (λ _. ForwardStore x.0 x.1)) (λ k. (sym there k, sym back k)) step),
     )
 
 pub returns : goal.returns
@@ -75,7 +81,13 @@ returns c =
     let size = (gc_knows g c.args.self.now.runs).size.1 in
     let is = c.requires.is in
     let e = small.0 in let low = small.1 in
-    let word : c.args.epoch * 16777216 + r ≡ forwarding g.epoch r = ap (λ (n : ℕ). n * 16777216 + r) c.requires.is ∙ packed_is g.epoch r in
-    let back : forward_address_in (c.args.epoch * 16777216 + r) ≡ r = ap forward_address_in word ∙ address_back g.epoch r e low in
+    let word : c.args.epoch * 16777216 + r ≡ forwarding g.epoch r = ap (λ (n : ℕ). n * 16777216 + r)
+    c.requires.is ∙ packed_is g.epoch r in
+    let back : forward_address_in (c.args.epoch * 16777216 + r) ≡ r = ap forward_address_in word
+    ∙ address_back g.epoch r e low in
     let there : a + 1 - 1 ≡ a = omega arith in
-    record { same = c.store.ensures.0; did = ap (λ m. m.0) c.store.ensures.2.did ∙ (λ k. gc_did c.args.self.now.seat.me.0 (ForwardStore (there k) (back k))) }
+    record {
+      same = c.store.ensures.0;
+      did = ap (λ m. m.0) c.store.ensures.2.did
+          ∙ (λ k. gc_did c.args.self.now.seat.me.0 (ForwardStore (there k) (back k)));
+    }

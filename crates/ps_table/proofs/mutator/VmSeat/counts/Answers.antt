@@ -26,7 +26,8 @@ loop-slot-preserved c =
     let long = ap length was.sits.mirrors.heads_are in (
       ap (λ m. heap_of m.vm) did ∙ (c.see_head.ensures.sees.heap ∙ i.0),
       did ∙ (ap (λ m. vm_did m (VmLoad (2 + c.loop-slot.slot) n)) i.1
-          ∙ (one_more_head init c.read-flips.result was.mirror.heads c.loop-slot.slot n (omega arith)
+          ∙ (one_more_head init c.read-flips.result was.mirror.heads c.loop-slot.slot n
+          (omega arith)
           ∙ ap (λ x. did_all init (VmLoad 0 c.read-flips.result
           ∷ head_loads 0 (take (c.loop-slot.slot + 1) x.heads))) (sym c.see_head.ensures.mirror))),
     )

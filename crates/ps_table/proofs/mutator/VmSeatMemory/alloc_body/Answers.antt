@@ -48,7 +48,11 @@ stand-requires-clause-may c =
     (load.word c.read.result c.read.ensures.finds) in
     let is = c.pack.ensures in
     let fits : IsHeader (record { kind = Body; fields = fields; birth = birth }) =
-    record { fields = omega arith; birth = let e = ap (λ h. h.birth) c.header_of-birth.ensures in omega arith } in
+    record {
+      fields = omega arith;
+      birth = let e = ap (λ h. h.birth) c.header_of-birth.ensures in
+          omega arith;
+    } in
     let count = fields_is Body fields birth header is fits in
     let kind_so = kind_is Body fields birth header is fits in
     let can : CanMakeBody w header d fields =
@@ -82,7 +86,11 @@ stand-requires-clause-fields c =
     (load.word c.read.result c.read.ensures.finds) in
     let is = c.pack.ensures in
     let fits : IsHeader (record { kind = Body; fields = fields; birth = birth }) =
-    record { fields = omega arith; birth = let e = ap (λ h. h.birth) c.header_of-birth.ensures in omega arith } in
+    record {
+      fields = omega arith;
+      birth = let e = ap (λ h. h.birth) c.header_of-birth.ensures in
+          omega arith;
+    } in
     let count = fields_is Body fields birth header is fits in
     let kind_so = kind_is Body fields birth header is fits in
     let can : CanMakeBody w header d fields =
@@ -116,7 +124,11 @@ stand-requires-clause-next c =
     (load.word c.read.result c.read.ensures.finds) in
     let is = c.pack.ensures in
     let fits : IsHeader (record { kind = Body; fields = fields; birth = birth }) =
-    record { fields = omega arith; birth = let e = ap (λ h. h.birth) c.header_of-birth.ensures in omega arith } in
+    record {
+      fields = omega arith;
+      birth = let e = ap (λ h. h.birth) c.header_of-birth.ensures in
+          omega arith;
+    } in
     let count = fields_is Body fields birth header is fits in
     let kind_so = kind_is Body fields birth header is fits in
     let can : CanMakeBody w header d fields =
@@ -150,7 +162,11 @@ returns-clause-free c =
     (load.word c.read.result c.read.ensures.finds) in
     let is = c.pack.ensures in
     let fits : IsHeader (record { kind = Body; fields = fields; birth = birth }) =
-    record { fields = omega arith; birth = let e = ap (λ h. h.birth) c.header_of-birth.ensures in omega arith } in
+    record {
+      fields = omega arith;
+      birth = let e = ap (λ h. h.birth) c.header_of-birth.ensures in
+          omega arith;
+    } in
     let count = fields_is Body fields birth header is fits in
     let kind_so = kind_is Body fields birth header is fits in
     let can : CanMakeBody w header d fields =
@@ -185,7 +201,11 @@ returns-clause-heap c =
     (load.word c.read.result c.read.ensures.finds) in
     let is = c.pack.ensures in
     let fits : IsHeader (record { kind = Body; fields = fields; birth = birth }) =
-    record { fields = omega arith; birth = let e = ap (λ h. h.birth) c.header_of-birth.ensures in omega arith } in
+    record {
+      fields = omega arith;
+      birth = let e = ap (λ h. h.birth) c.header_of-birth.ensures in
+          omega arith;
+    } in
     let count = fields_is Body fields birth header is fits in
     let kind_so = kind_is Body fields birth header is fits in
     let can : CanMakeBody w header d fields =
@@ -221,7 +241,11 @@ returns-clause-grants c =
     (load.word c.read.result c.read.ensures.finds) in
     let is = c.pack.ensures in
     let fits : IsHeader (record { kind = Body; fields = fields; birth = birth }) =
-    record { fields = omega arith; birth = let e = ap (λ h. h.birth) c.header_of-birth.ensures in omega arith } in
+    record {
+      fields = omega arith;
+      birth = let e = ap (λ h. h.birth) c.header_of-birth.ensures in
+          omega arith;
+    } in
     let count = fields_is Body fields birth header is fits in
     let kind_so = kind_is Body fields birth header is fits in
     let can : CanMakeBody w header d fields =

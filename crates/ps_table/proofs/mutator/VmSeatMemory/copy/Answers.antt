@@ -126,7 +126,8 @@ invariant_of-self c =
     c.vm_copy.ensures.same.1 c.settle.ensures.runs did in
     record {
       seated = c.settle.ensures.same ∙ (c.vm_copy.ensures.same.0 ∙ s.seated);
-      sits = subst (λ (n : Mirror). Sits (arc_value s.table).shared.table_id.words c.settle.new.seat.me n) (sym c.settle.ensures.mirror)
+      sits = subst (λ (n : Mirror). Sits (arc_value s.table).shared.table_id.words
+          c.settle.new.seat.me n) (sym c.settle.ensures.mirror)
           whole.sits;
     }
 

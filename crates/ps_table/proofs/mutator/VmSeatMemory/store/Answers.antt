@@ -152,7 +152,8 @@ invariant_of-self c =
     c.settle.ensures.runs c.settle.ensures.did in
     record {
       seated = c.settle.ensures.same ∙ (c.vm_fields.ensures.same ∙ s.seated);
-      sits = subst (λ (n : Mirror). Sits (arc_value s.table).shared.table_id.words c.settle.new.seat.me n) (sym c.settle.ensures.mirror)
+      sits = subst (λ (n : Mirror). Sits (arc_value s.table).shared.table_id.words
+          c.settle.new.seat.me n) (sym c.settle.ensures.mirror)
           whole.sits;
     }
 
