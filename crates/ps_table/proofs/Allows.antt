@@ -15,7 +15,7 @@ use Rattle.ps_core_laws.specs.Runs.{run, IsRun, IsSpace}
 use Rattle.ps_core_laws.proofs.Kept.{good}
 use Rattle.ps_parts_memory.specs.Shown.{VmRuns, VmFinds}
 use Rattle.ps_table.specs.declared.plays.View.{View}
-use Rattle.ps_table.specs.Shown.{by_vm, by_gc, Fits, Shows, GcRuns, GcFinds, VmDoes, VmStores, GcDoes, GcStores, BothDo, vm_did, gc_did, both_did, Sat}
+use Rattle.ps_table.specs.Shown.{by_vm, by_gc, Fits, Shows, GcRuns, GcFinds, VmDoes, VmStores, GcDoes, GcStores, BothDo, vm_did, gc_did, both_did, SeatState}
 
 -- ---- the parts of a run
 
@@ -200,7 +200,7 @@ pub record BothStep (v : Vm) (g : Gc) (i : ℕ) (f : ℕ → ℕ) (e : ℕ → E
   pub writes : (s : State) (n : ℕ) → s.vm ≡ v → s.gc ≡ g → slice_index s.words i ≡ n
       → words_after s.words s.vm s.gc (e n) ≡ slice_set s.words i (f n)
 
-module _ (space slots id : ℕ) (me : Sat) (i : ℕ) (f : ℕ → ℕ) (e : ℕ → Event) where
+module _ (space slots id : ℕ) (me : SeatState) (i : ℕ) (f : ℕ → ℕ) (e : ℕ → Event) where
   pub vm_allows : me.0.acts_vm ≡ true → VmStep me.0.vm i f e → table.Allows (Shows space) slots id
       me i f (λ n me'. VmDoes me i n (e n) me')
   vm_allows acts step s h _ at _ =
@@ -316,14 +316,16 @@ module _ (space slots id : ℕ) (me : Sat) (i : ℕ) (f : ℕ → ℕ) (e : ℕ 
       )
 
 -- a store tells no word found
-pub vm_store_allows : (space slots id : ℕ) (me : Sat) (i word : ℕ) (e : Event) → me.0.acts_vm ≡ true
+pub vm_store_allows : (space slots id : ℕ) (me : SeatState) (i word : ℕ) (e : Event) → me.0.acts_vm
+    ≡ true
     → VmStep me.0.vm i (λ _. word) (λ _. e) → table.Allows (Shows space) slots id me i (λ _. word)
     (λ _ me'. VmStores me e me')
 vm_store_allows space slots id me i word e acts step s h n at small =
     let a = vm_allows space slots id me i (λ _. word) (λ _. e) acts step s h n at small in
     (a.0, a.1, a.2, a.3, record { did = a.4.did; runs = a.4.runs })
 
-pub gc_store_allows : (space slots id : ℕ) (me : Sat) (i word : ℕ) (e : Event) → me.0.acts_gc ≡ true
+pub gc_store_allows : (space slots id : ℕ) (me : SeatState) (i word : ℕ) (e : Event) → me.0.acts_gc
+    ≡ true
     → GcStep me.0.gc i (λ _. word) (λ _. e) → table.Allows (Shows space) slots id me i (λ _. word)
     (λ _ me'. GcStores me e me')
 gc_store_allows space slots id me i word e acts step s h n at small =

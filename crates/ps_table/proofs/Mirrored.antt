@@ -26,10 +26,10 @@ use Rattle.ps_parts_memory.proofs.Logged.{part_logged, after_record, length_here
 use Rattle.ps_parts_memory.proofs.Written.{only}
 use Rattle.ps_table.specs.declared.mirror.Mirror.{Mirror}
 use Rattle.ps_table.specs.Mirrored.{Mirrors, Sits}
-use Rattle.ps_table.specs.Shown.{Sat}
+use Rattle.ps_table.specs.Shown.{SeatState}
 
 -- the seat sits as before, with another part of the same space
-pub goes : (words : ℕ) (m : Sat) (n : Mirror) (m' : Sat) (n' : Mirror) → Sits words m n
+pub goes : (words : ℕ) (m : SeatState) (n : Mirror) (m' : SeatState) (n' : Mirror) → Sits words m n
     → m'.0.acts_vm ≡ true → m'.1 ≡ m.1 → m'.0.vm.space ≡ m.0.vm.space → ∥ VmRuns m'.0.vm ∥₁
     → Mirrors m'.0.vm n' → Sits words m' n'
 goes words m n m' n' s acts empty space runs mirrors = record {

@@ -25,7 +25,7 @@ use Rattle.ps_table.specs.declared.mirror.Mirror.{Mirror}
 use Rattle.ps_table.specs.declared.plays.View.{View}
 use Rattle.ps_table.specs.Events.{did_all, field_stores}
 use Rattle.ps_table.specs.Mirrored.{Mirrors, Sits, owes, mirror_stored}
-use Rattle.ps_table.specs.Shown.{Sat, vm_did}
+use Rattle.ps_table.specs.Shown.{SeatState, vm_did}
 use Rattle.ps_table.proofs.Facts.{vm_facts}
 use Rattle.ps_table.proofs.Mirrored.{goes, mirrors_new, mirrors_old, mirrors_logged}
 
@@ -45,7 +45,8 @@ space_stored v a i ws = ap (λ (x : Vm). x.space) (only v a i ws)
 
 -- ---- the whole store
 
-pub record StoredSo (words : ℕ) (v : Vm) (m : Sat) (n : Mirror) (slot a i : ℕ) (items : List Word) :
+pub record StoredSo (words : ℕ) (v : Vm) (m : SeatState) (n : Mirror) (slot a i : ℕ)
+    (items : List Word) :
     Type 0 where
   pub sits : Sits words m n
   pub heap : heap_of m.0.vm ≡ stored (heap_of v) a i items
@@ -53,7 +54,7 @@ pub record StoredSo (words : ℕ) (v : Vm) (m : Sat) (n : Mirror) (slot a i : �
   pub put : (grants_of m.0.vm).put slot
       ≡ (grants_of v).put slot + records_put (grants_of v) a
 
-module _ (words : ℕ) (m : Sat) (n : Mirror) (s : Sits words m n) (slot a i : ℕ)
+module _ (words : ℕ) (m : SeatState) (n : Mirror) (s : Sits words m n) (slot a i : ℕ)
     (items : List Word) (can : CanStore m.0.vm a i items) (some : 1 ≤ records_left m.0.vm slot)
   where
     facts : VmFacts m.0.vm
@@ -108,16 +109,16 @@ module _ (words : ℕ) (m : Sat) (n : Mirror) (s : Sits words m n) (slot a i : �
           ∙ sym (s.mirrors.logged_is slot (grant t).in_range)),
     )
 
-    settled : (m1 m2 : Sat) (n' : Mirror) → m1.0.vm ≡ fields_stored m.0.vm a i (numbers items)
+    settled : (m1 m2 : SeatState) (n' : Mirror) → m1.0.vm ≡ fields_stored m.0.vm a i (numbers items)
         → m1.0.acts_vm ≡ true → m1.1 ≡ m.1 → ∥ VmRuns m2.0.vm ∥₁ → m2 ≡ m1
         → records_put (grants_of m.0.vm) a ≡ 0
         → Mirrors (fields_stored m.0.vm a i (numbers items)) n'
         → StoredSo words m.0.vm m2 n' slot a i items
     settled m1 m2 n' part acts empty runs same none mirrors =
         let part' : m2.0.vm ≡ fields_stored m.0.vm a i (numbers items) =
-        ap (λ (x : Sat). x.0.vm) same ∙ part in record {
-          sits = goes words m n m2 n' s (ap (λ (x : Sat). x.0.acts_vm) same ∙ acts)
-              (ap (λ (x : Sat). x.1) same ∙ empty)
+        ap (λ (x : SeatState). x.0.vm) same ∙ part in record {
+          sits = goes words m n m2 n' s (ap (λ (x : SeatState). x.0.acts_vm) same ∙ acts)
+              (ap (λ (x : SeatState). x.1) same ∙ empty)
               (ap (λ (x : Vm). x.space) part' ∙ space_stored m.0.vm a i (numbers items)) runs
               (subst (λ (x : Vm). Mirrors x n') (sym part') mirrors);
           heap = ap heap_of part' ∙ so.heap;
@@ -130,7 +131,7 @@ module _ (words : ℕ) (m : Sat) (n : Mirror) (s : Sits words m n) (slot a i : �
               z));
         }
 
-    stored_out : (m1 : Sat) → m1.0.vm ≡ fields_stored m.0.vm a i (numbers items)
+    stored_out : (m1 : SeatState) → m1.0.vm ≡ fields_stored m.0.vm a i (numbers items)
         → records_put (grants_of m.0.vm) a ≡ 0
         → (fields_stored m.0.vm a i (numbers items)).written ≡ None
     stored_out m1 is none = so.settled none
@@ -163,7 +164,7 @@ module _ (words : ℕ) (m : Sat) (n : Mirror) (s : Sits words m n) (slot a i : �
         ap (λ (c : Bool). if c then (if n.cycle_open then counts else ends) else n) t
         ∙ ap (λ (c : Bool). if c then counts else ends) is
 
-    pub stored_so : (m1 m2 : Sat) → m1.0.vm ≡ fields_stored m.0.vm a i (numbers items)
+    pub stored_so : (m1 m2 : SeatState) → m1.0.vm ≡ fields_stored m.0.vm a i (numbers items)
         → m1.0.acts_vm ≡ true → m1.1 ≡ m.1 → ∥ VmRuns m2.0.vm ∥₁
         → m2 ≡ (if owes n a
         then (vm_did m1.0 (RecordStore slot (Place a i (length items))), m1.1) else m1)
@@ -200,12 +201,13 @@ module _ (words : ℕ) (m : Sat) (n : Mirror) (s : Sits words m n) (slot a i : �
                 let rec = recorded g owed in
                 let lt = (grant owed).in_range in
                 let part' : m2.0.vm ≡ logged m.0.vm g slot a i items =
-                ap (λ (x : Sat). x.0.vm) same'
+                ap (λ (x : SeatState). x.0.vm) same'
                 ∙ ap (λ (x : Vm). vm_after x g (RecordStore slot (Place a i (length items)))) part
                 in
                 numbered counts (numbers_old true old is_on) (record {
-                  sits = goes words m n m2 counts s (ap (λ (x : Sat). x.0.acts_vm) same' ∙ acts)
-                      (ap (λ (x : Sat). x.1) same' ∙ empty)
+                  sits = goes words m n m2 counts s (ap (λ (x : SeatState). x.0.acts_vm) same'
+                      ∙ acts)
+                      (ap (λ (x : SeatState). x.1) same' ∙ empty)
                       (ap (λ (x : Vm). x.space) part' ∙ space_stored m.0.vm a i (numbers items))
                       runs
                       (subst (λ (x : Vm). Mirrors x counts) (sym part')

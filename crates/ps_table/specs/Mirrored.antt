@@ -8,7 +8,7 @@ use Rattle.ps_core_parts.specs.Steps.{is_open, space_base, table_size}
 use Rattle.ps_parts_memory.specs.Memory.{is_shut}
 use Rattle.ps_parts_memory.specs.Shown.{VmRuns}
 use Rattle.ps_table.specs.declared.mirror.Mirror.{Mirror}
-use Rattle.ps_table.specs.Shown.{Sat}
+use Rattle.ps_table.specs.Shown.{SeatState}
 
 -- each number is what the part says; of what stands, all from an address on is new; no object is
 -- being made, and nothing is written that isn't logged
@@ -33,7 +33,7 @@ pub record Mirrors (v : Vm) (n : Mirror) : Type 0 where
 
 -- a seat with the mutator's part at a table of so many words: it holds no slot, its part is that of
 -- some run, and its numbers are the part's
-pub record Sits (words : ℕ) (m : Sat) (n : Mirror) : Type 0 where
+pub record Sits (words : ℕ) (m : SeatState) (n : Mirror) : Type 0 where
   pub wide : words ≡ table_size m.0.vm.space
   pub acts : m.0.acts_vm ≡ true
   pub empty : m.1 ≡ []

@@ -140,29 +140,30 @@ pub record GcFinds (g : Gc) (place word : ℕ) : Type 0 where
 
 -- ---- what each step tells
 
-abbrev pub Sat : Type 0
-Sat = table.Me (Unit {0}) View
+-- a seat at the table: its view, and what it holds
+abbrev pub SeatState : Type 0
+SeatState = table.Me (Unit {0}) View
 
 -- the mutator's seat makes the event; its part is that of a run before it and after it
-pub record VmDoes (m : Sat) (place found : ℕ) (e : Event) (m' : Sat) : Type 0 where
+pub record VmDoes (m : SeatState) (place found : ℕ) (e : Event) (m' : SeatState) : Type 0 where
   pub did : m' ≡ (vm_did m.0 e, m.1)
   pub finds : VmFinds m.0.vm place found
   pub runs : VmRuns m'.0.vm
 
-pub record GcDoes (m : Sat) (place found : ℕ) (e : Event) (m' : Sat) : Type 0 where
+pub record GcDoes (m : SeatState) (place found : ℕ) (e : Event) (m' : SeatState) : Type 0 where
   pub did : m' ≡ (gc_did m.0 e, m.1)
   pub finds : GcFinds m.0.gc place found
   pub runs : GcRuns m'.0.gc
 
-pub record VmStores (m : Sat) (e : Event) (m' : Sat) : Type 0 where
+pub record VmStores (m : SeatState) (e : Event) (m' : SeatState) : Type 0 where
   pub did : m' ≡ (vm_did m.0 e, m.1)
   pub runs : VmRuns m'.0.vm
 
-pub record GcStores (m : Sat) (e : Event) (m' : Sat) : Type 0 where
+pub record GcStores (m : SeatState) (e : Event) (m' : SeatState) : Type 0 where
   pub did : m' ≡ (gc_did m.0 e, m.1)
   pub runs : GcRuns m'.0.gc
 
-pub record BothDo (m : Sat) (e : Event) (m' : Sat) : Type 0 where
+pub record BothDo (m : SeatState) (e : Event) (m' : SeatState) : Type 0 where
   pub did : m' ≡ (both_did m.0 e, m.1)
   pub vm_runs : VmRuns m'.0.vm
   pub gc_runs : GcRuns m'.0.gc
@@ -170,35 +171,35 @@ pub record BothDo (m : Sat) (e : Event) (m' : Sat) : Type 0 where
 abbrev pub slot_at : ℕ → ℕ
 slot_at place = (place - 64) / 256
 
-abbrev pub vm_loads : table.Step (Unit {0}) → Sat → ℕ → Sat → Type 0
+abbrev pub vm_loads : table.Step (Unit {0}) → SeatState → ℕ → SeatState → Type 0
 vm_loads st m n m' = VmDoes m st.word n (VmLoad st.word n) m'
 
-abbrev pub clears : table.Step (Unit {0}) → Sat → ℕ → Sat → Type 0
+abbrev pub clears : table.Step (Unit {0}) → SeatState → ℕ → SeatState → Type 0
 clears st m n m' = VmStores m ClearStore m'
 
-abbrev pub makes : table.Step (Unit {0}) → Sat → ℕ → Sat → Type 0
+abbrev pub makes : table.Step (Unit {0}) → SeatState → ℕ → SeatState → Type 0
 makes st m n m' = VmStores m (HeaderStore st.first) m'
 
-abbrev pub stores_field : ℕ → ℕ → table.Step (Unit {0}) → Sat → ℕ → Sat → Type 0
+abbrev pub stores_field : ℕ → ℕ → table.Step (Unit {0}) → SeatState → ℕ → SeatState → Type 0
 stores_field a i st m n m' = VmStores m (FieldStore a i st.first) m'
 
-abbrev pub records : table.Step (Unit {0}) → Sat → ℕ → Sat → Type 0
+abbrev pub records : table.Step (Unit {0}) → SeatState → ℕ → SeatState → Type 0
 records st m n m' = VmStores m (RecordStore (slot_at st.word) (record_in st.first)) m'
 
-abbrev pub opens_cycle : table.Step (Unit {0}) → Sat → ℕ → Sat → Type 0
+abbrev pub opens_cycle : table.Step (Unit {0}) → SeatState → ℕ → SeatState → Type 0
 opens_cycle st m n m' = VmStores m EpochStore m'
 
-abbrev pub gc_loads : table.Step (Unit {0}) → Sat → ℕ → Sat → Type 0
+abbrev pub gc_loads : table.Step (Unit {0}) → SeatState → ℕ → SeatState → Type 0
 gc_loads st m n m' = GcDoes m st.word n (GcLoad st.word n) m'
 
-abbrev pub places_header : table.Step (Unit {0}) → Sat → ℕ → Sat → Type 0
+abbrev pub places_header : table.Step (Unit {0}) → SeatState → ℕ → SeatState → Type 0
 places_header st m n m' = GcStores m (ReplicaHeaderStore st.word st.first) m'
 
-abbrev pub forwards : table.Step (Unit {0}) → Sat → ℕ → Sat → Type 0
+abbrev pub forwards : table.Step (Unit {0}) → SeatState → ℕ → SeatState → Type 0
 forwards st m n m' = GcStores m (ForwardStore (st.word - 1) (forward_address_in st.first)) m'
 
-abbrev pub advances : table.Step (Unit {0}) → Sat → ℕ → Sat → Type 0
+abbrev pub advances : table.Step (Unit {0}) → SeatState → ℕ → SeatState → Type 0
 advances st m n m' = GcStores m HeadStore m'
 
-abbrev pub hands : List ℕ → table.Step (Unit {0}) → Sat → ℕ → Sat → Type 0
+abbrev pub hands : List ℕ → table.Step (Unit {0}) → SeatState → ℕ → SeatState → Type 0
 hands roots st m n m' = BothDo m (HandOver n roots) m'

@@ -5,7 +5,7 @@
 ghost use Rattle.std.specs.Prelude.{[], ◌∷◌, slice_set, not, nat_lt, ◌&&◌, ◌≡◌, ◌≢◌, ◌<◌, ◌≤◌, ◌+◌, ◌^◌, ◌↔◌, ℕ, true, false, length, slice_index, IsTrue, if◌then◌else◌};
 ghost use Rattle.std.specs.Arc.{arc_value};
 ghost use Rattle.ps_word.specs.Headers.{kind_in, fields_in, birth_in};
-ghost use Rattle.ps_mem.specs.Heap.{has_room};
+ghost use Rattle.ps_mem.specs.Heap.{has_room, IsLogBounded};
 ghost use Rattle.ps_mem.specs.Objects.{kind_of_number};
 ghost use Rattle.ps_core_parts.specs.Conditions.{VmMay};
 ghost use Rattle.ps_core_parts.specs.Objects.{log_of, values_stand};
@@ -42,8 +42,10 @@ const LONGEST: u64 = 1 << 63;
 /// The cycles that there are.
 const CYCLES: u64 = 1 << 32;
 
+/// What one more of the kind's number is in a first header: the kind is in bits 60 to 63.
 const KIND: u64 = 1 << 60;
 
+/// What one field more is in a first header: their number is in bits 40 to 59.
 const FIELDS: u64 = 1 << 40;
 
 /// The mutator's seat.
@@ -444,12 +446,34 @@ impl Memory for VmSeat {
         );
     }
 
-    fn permit(&mut self, slot: u32, count: u32) -> Permit {
+    /// As the memory's; `LogFull` is answered by the head that is loaded in the call.
+    fn permit(&mut self, slot: u32, count: u32) -> Permit
+        requires slot { slot < SLOTS }
+        ensures heap { heap_of self.new.seat.me.0.vm ≡ heap_of self.old.seat.me.0.vm }
+        ensures grants { grants_of self.new.seat.me.0.vm ≡ record (grants_of self.old.seat.me.0.vm)
+            { records = (grants_of self.new.seat.me.0.vm).records } }
+        ensures others { (s : ℕ) → s ≢ slot → (grants_of self.new.seat.me.0.vm).records s
+            ≡ (grants_of self.old.seat.me.0.vm).records s }
+        ensures more { (grants_of self.old.seat.me.0.vm).records slot
+            ≤ (grants_of self.new.seat.me.0.vm).records slot }
+        ensures limit { IsLogBounded (grants_of self.new.seat.me.0.vm) slot }
+        ensures yes { result ≡ Permit.Yes
+            → count ≤ (grants_of self.new.seat.me.0.vm).records slot }
+        ensures full { result ≡ Permit.LogFull
+            → (grants_of self.new.seat.me.0.vm).records slot < count }
+        ensures closed { (result ≡ Permit.LogClosed) ↔
+            ((1 ≤ count) × IsTrue ((grants_of self.old.seat.me.0.vm).closed slot)) }
+        ensures looked { result ≡ Permit.LogFull → (head : ℕ)
+            × (self.new.seat.me.0 ≡ vm_did self.old.seat.me.0 (VmLoad (2 + slot) head)) }
+    {
         if !self.mirror.cycle_open || count == 0 {
             return Permit::Yes;
         }
         if self.mirror.shut[slot as usize] {
             return Permit::LogClosed;
+        }
+        if count as u64 <= self.left(slot as u64) {
+            return Permit::Yes;
         }
         self.see_head(slot as u64);
         if count as u64 <= self.left(slot as u64) {
