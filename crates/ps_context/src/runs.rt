@@ -23,7 +23,7 @@ use ps_turns::turned::Turned;
 use ps_values::operates::Operate;
 use ps_word::values::Part;
 
-/// The turn of the topmost frame of a running context: a token of a text, an element of a procedure,
+/// The turn of a running context's topmost frame: a token of a text, an element of a procedure,
 /// a value that waits, a turn of a loop, the end of `stopped` or of a monitor, or a part of `bind`.
 #[inline(never)]
 pub fn turn_frame<O: Operate, M: Memory>(

@@ -19,7 +19,7 @@ use ps_core_parts::events::{Event, Roots};
 use ps_core_parts::lists::{load, load_field, same_logs, store, store_field};
 use ps_core_seats::collector::Collector;
 use ps_core_seats::mutator::Mutator;
-use ps_record::{Record, SLOTS, SPACES_START, ring_place};
+use ps_record::{Record, SLOTS, SPACES_START, head_place, ring_place};
 use std::alloc::{AllocError, Global};
 use std::marker::Model;
 
@@ -222,7 +222,7 @@ impl Machine {
     {
         if let Some(slot) = self.gc.taking_slot() {
             let head = self.next_head(slot);
-            store(&mut self.words, 2 + slot, head);
+            store(&mut self.words, head_place(slot), head);
         }
         self.gc.take()
     }

@@ -1,8 +1,8 @@
 -- What each seat knows of its own part, whatever the other did meanwhile, and what ties the parts.
-use Rattle.std.specs.Prelude.{◌≡◌, ◌≢◌, ℕ, ◌+◌, ◌^◌, ◌<◌, ◌≤◌, ◌==◌, true, false, List, length, Some, None, MatchBool, MatchOption, slice_get, slice_index}
-use Rattle.ps_word.specs.Headers.{kind_in, birth_in}
+use Rattle.std.specs.Prelude.{◌≡◌, ◌≢◌, ℕ, ◌+◌, ◌<◌, ◌≤◌, ◌==◌, true, false, List, length, Some, None, MatchBool, MatchOption, slice_get, slice_index}
+use Rattle.ps_word.specs.Headers.{kind_in, birth_in, birth_limit, cycle_limit}
 use Rattle.ps_record.specs.declared.Record.{Record}
-use Rattle.ps_record.specs.Format.{slots, ring_length, ring_place, lap_in, lap_of, IsRecord}
+use Rattle.ps_record.specs.Format.{slots, ring_length, ring_place, lap_in, lap_of, IsRecord, log_limit}
 use Rattle.ps_core_parts.specs.declared.events.Object.{Object}
 use Rattle.ps_core_parts.specs.declared.events.Carried.{Carried}
 use Rattle.ps_core_parts.specs.declared.events.Half.{Half}
@@ -16,11 +16,11 @@ use Rattle.ps_core_laws.specs.Places.{IsHeaded, ObjectsLie, ObjectsApart, AreDis
 
 -- ---- the mutator's part
 
--- a cycle is open or none is, and its number has 32 bits
+-- a cycle is open or none is, and its number is below the limit
 pub record CycleKept (cycle epoch : ℕ) : Type 0 where
   pub low : cycle ≤ epoch
   pub high : epoch ≤ cycle + 1
-  pub small : epoch < 2 ^ 32
+  pub small : epoch < cycle_limit
 
 -- birth numbers were given out before; but for bodies, no two objects have the same
 pub record BirthsKept (v : Vm) : Type 0 where
@@ -29,7 +29,7 @@ pub record BirthsKept (v : Vm) : Type 0 where
   pub single : (a b : ℕ) (o p : Object) → object_at v.objects a ≡ Some o
       → object_at v.objects b ≡ Some p → kind_in o.header ≢ 11 → kind_in p.header ≢ 11
       → birth_in o.header ≡ birth_in p.header → a ≡ b
-  pub limit : v.next_birth ≤ 2 ^ 40
+  pub limit : v.next_birth ≤ birth_limit
 
 -- a dictionary with this birth number stands
 abbrev pub HasDictionary : List Object → ℕ → Type 0
@@ -46,7 +46,7 @@ IsNumbered s header = MatchBool (kind_in header == 11)
 pub record LogKept (v : Vm) (slot : ℕ) : Type 0 where
   pub seen : slice_index v.heads slot ≤ length (log_of v.logs slot)
   pub room : length (log_of v.logs slot) ≤ slice_index v.heads slot + ring_length
-  pub short : length (log_of v.logs slot) ≤ 2 ^ 63
+  pub short : length (log_of v.logs slot) ≤ log_limit
   pub flipped : v.cycle ≤ closes (log_of v.logs slot)
   pub opened : closes (log_of v.logs slot) ≤ v.epoch
   pub records : (k : ℕ) (r : Record) → slice_get (log_of v.logs slot) k ≡ Some r → IsRecord r
@@ -134,7 +134,8 @@ pub record PartsMeet (s : State) : Type 0 where
   pub space : s.gc.space ≡ s.vm.space
   pub cycle : s.gc.cycle ≡ s.vm.cycle
   pub epoch : s.gc.epoch ≤ s.vm.epoch
-  pub heads : (slot : ℕ) → slot < slots → slice_index s.vm.heads slot ≤ length (log_of s.gc.taken slot)
+  pub heads : (slot : ℕ) → slot < slots
+      → slice_index s.vm.heads slot ≤ length (log_of s.gc.taken slot)
   pub next : (h : Half) → s.gc.taking ≡ Some h → IsNext s h
   pub unwritten : Unwritten s
   pub known : KnownStand s

@@ -2,7 +2,7 @@
 use Rattle.std.specs.Prelude.{◌≡◌, ◌≢◌, ◌⊎◌, ℕ, ◌+◌, ◌<◌, ◌≤◌, true, false, List, [], ◌∷◌, ◌++◌, length, drop, map, Option, Some, None, MatchOption, slice_get, slice_index, slice_index_or}
 use Rattle.ps_word.specs.Headers.{cycle_in}
 use Rattle.ps_record.specs.declared.Record.{Record}
-use Rattle.ps_record.specs.Format.{slots, ring_length, ring_place, packed}
+use Rattle.ps_record.specs.Format.{slots, ring_length, ring_place, packed, head_place}
 use Rattle.ps_core_parts.specs.declared.events.Event.{Event}
 use Rattle.ps_core_parts.specs.declared.events.Event.TheVariants.{CycleStore}
 use Rattle.ps_core_parts.specs.declared.events.Object.{Object}
@@ -166,7 +166,7 @@ pub record WordsFollow (s : State) : Type 0 where
   pub cycle : slice_index s.words 0 ≡ s.vm.cycle
   pub epoch : slice_index s.words 1 ≡ s.vm.epoch
   pub heads : (slot : ℕ) → slot < slots
-      → slice_index s.words (2 + slot) ≡ length (log_of s.gc.taken slot)
+      → slice_index s.words (head_place slot) ≡ length (log_of s.gc.taken slot)
   pub rings : ShowsRings s.words s.vm.logs
   pub objects : (a : ℕ) (o : Object) → object_at s.vm.objects a ≡ Some o → ShowsObject s o
   pub replicas_are : (a : ℕ) (p : Pair) → pair_of s.gc.pairs a ≡ Some p → ShowsReplica s p

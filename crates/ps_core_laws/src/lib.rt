@@ -2,7 +2,8 @@
 //!
 //! A run is a list of events from two empty spaces, each permitted where it happened. The laws are
 //! told of the state that it leads to (`Always`), of the state in which an event of some form comes
-//! (`Whenever`), or of the run itself (`EveryRun`); each for every size of a space.
+//! (`Whenever`), or of the run itself (`EveryRun`); each for every size of a space from 4,096 to
+//! 1,048,576 words (`IsSpace`).
 #![tactic(auto)]
 
 ghost use Rattle.std.specs.Prelude.{ℕ};
@@ -16,7 +17,7 @@ ghost use Rattle.ps_core_laws.specs.Reach.{Carries, AreNoted, CopiesReachable};
 ghost use Rattle.ps_core_laws.specs.Runs.{EveryRun, Always, Whenever};
 
 /// The laws of the collector (Nettles and O'Toole, PLDI 1993, 2 and 3), which hold after every list
-/// of permitted events, whatever the size of a space.
+/// of permitted events, for every size of a space from 4,096 to 1,048,576 words.
 pub fn law()
     // Pairs belong to the open cycle; an original stands, isn't new, and has its replica's kind,
     // birth and number of fields; neither is in two pairs.

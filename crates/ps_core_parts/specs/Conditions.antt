@@ -3,10 +3,10 @@
 -- seats joined reads both parts.
 use Rattle.std.specs.Prelude.{◌≡◌, ◌≢◌, ℕ, ◌+◌, ◌^◌, ◌<◌, ◌≤◌, ◌==◌, ◌&&◌, Bool, true, false, List, length, Option, Some, None, MatchOption, slice_index, MatchBool}
 use Rattle.std.specs.List.{list_any}
-use Rattle.ps_word.specs.Headers.{kind_in, fields_in, birth_in}
+use Rattle.ps_word.specs.Headers.{kind_in, fields_in, birth_in, cycle_limit}
 use Rattle.ps_record.specs.declared.Record.{Record}
 use Rattle.ps_record.specs.declared.Record.TheVariants.{Place, Close}
-use Rattle.ps_record.specs.Format.{slots, ring_length, ring_place, IsRecord}
+use Rattle.ps_record.specs.Format.{slots, ring_length, ring_place, IsRecord, log_limit}
 use Rattle.ps_core_parts.specs.declared.events.Event.{Event}
 use Rattle.ps_core_parts.specs.declared.events.Event.TheVariants.{VmLoad, GcLoad, TakeLoad, CopyLoad, HandOver, ClearStore, HeaderStore, FieldStore, RecordStore, EpochStore, ReplicaHeaderStore, ReplicaFieldStore, ForwardStore, HeadStore, CycleStore}
 use Rattle.ps_core_parts.specs.declared.events.Object.{Object}
@@ -57,9 +57,9 @@ IsNamed written Close = Unit {0}
 abbrev pub HasRoom : Vm → ℕ → Type 0
 HasRoom v slot = length (log_of v.logs slot) < slice_index v.heads slot + ring_length
 
--- the number of the slot's next record has 63 bits
+-- the slot's log may get one record more
 abbrev pub HasNumber : Vm → ℕ → Type 0
-HasNumber v slot = length (log_of v.logs slot) < 2 ^ 63
+HasNumber v slot = length (log_of v.logs slot) < log_limit
 
 -- in an open cycle a log that isn't closed gets a record
 pub record CanLog (v : Vm) (slot : ℕ) (r : Record) : Type 0 where
@@ -83,7 +83,7 @@ VmMay v ClearStore = v.end + 1 + v.making < space_base v.space v.cycle + v.space
 VmMay v (HeaderStore header) = CanStand v header
 VmMay v (FieldStore a i w) = CanStoreField v a i w
 VmMay v (RecordStore slot r) = CanLog v slot r
-VmMay v EpochStore = (v.epoch ≡ v.cycle) × (v.epoch + 1 < 2 ^ 32) × (v.written ≡ None)
+VmMay v EpochStore = (v.epoch ≡ v.cycle) × (v.epoch + 1 < cycle_limit) × (v.written ≡ None)
 VmMay v (CycleStore roots) = (is_open v ≡ true) × AllClosed v × (v.written ≡ None)
 VmMay v _ = Unit {0}
 

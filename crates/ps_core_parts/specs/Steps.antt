@@ -4,7 +4,7 @@ use Rattle.std.specs.Prelude.{ℕ, ◌+◌, ◌-◌, ◌*◌, ◌%◌, ◌==◌,
 use Rattle.ps_word.specs.Headers.{kind_in, fields_in, forward_packed}
 use Rattle.ps_record.specs.declared.Record.{Record}
 use Rattle.ps_record.specs.declared.Record.TheVariants.{Place, Close}
-use Rattle.ps_record.specs.Format.{slots, spaces_start, ring_place, packed, read_record}
+use Rattle.ps_record.specs.Format.{slots, spaces_start, ring_place, packed, read_record, heads_start, head_place}
 use Rattle.ps_core_parts.specs.declared.events.Event.{Event}
 use Rattle.ps_core_parts.specs.declared.events.Event.TheVariants.{VmLoad, GcLoad, TakeLoad, CopyLoad, HandOver, ClearStore, HeaderStore, FieldStore, RecordStore, EpochStore, ReplicaHeaderStore, ReplicaFieldStore, ForwardStore, HeadStore, CycleStore}
 use Rattle.ps_core_parts.specs.declared.events.Object.{Object}
@@ -79,7 +79,8 @@ knows_open g = g.epoch == g.cycle + 1
 
 abbrev pub heads_after : List ℕ → ℕ → ℕ → List ℕ
 heads_after heads place word =
-    if nat_le 2 place && nat_lt place 34 then slice_set heads (place - 2) word else heads
+    if nat_le heads_start place && nat_lt place (head_place slots)
+    then slice_set heads (place - heads_start) word else heads
 
 -- a body takes no birth of its own
 abbrev pub next_birth_after : ℕ → ℕ → ℕ
@@ -244,7 +245,8 @@ copy_stored ws g (Some k) =
 
 abbrev pub head_stored : List ℕ → Gc → Option Half → List ℕ
 head_stored ws g None = ws
-head_stored ws g (Some h) = slice_set ws (2 + h.slot) (length (log_of g.taken h.slot) + 1)
+head_stored ws g (Some h) =
+    slice_set ws (head_place h.slot) (length (log_of g.taken h.slot) + 1)
 
 -- record k of a slot in its ring
 abbrev pub record_stored : List ℕ → ℕ → ℕ → Record → List ℕ

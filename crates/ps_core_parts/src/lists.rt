@@ -13,6 +13,7 @@ ghost use Rattle.ps_core_parts.specs.Objects as objects;
 use crate::events::Seen;
 use crate::parts::{Log, Replica, StandingObject};
 use ps_record::SLOTS;
+use ps_word::headers::{birth_in, kind_in};
 use std::alloc::{AllocError, Global};
 
 /// Whether the address is in the list.
@@ -117,7 +118,7 @@ pub fn seen_at(list: &[Seen], place: u64) -> Option<u64>
 pub fn dictionary_stands(list: &[StandingObject], birth: u64) -> bool
     ensures { result ≡ conditions.dictionary_stands list.now birth }
 {
-    list.iter().any(|o| o.header() / (1 << 60) == 8 && o.header() % (1 << 40) == birth)
+    list.iter().any(|o| kind_in(o.header()) == 8 && birth_in(o.header()) == birth)
 }
 
 /// A log with no record for each slot.

@@ -7,6 +7,7 @@ ghost use Rattle.ps_core_parts.specs.Steps.{new_pair};
 ghost use Rattle.ps_word.specs.Headers as headers;
 
 use ps_record::Record;
+use ps_word::headers::fields_in;
 use std::alloc::{AllocError, Global};
 use std::marker::Model;
 
@@ -320,13 +321,6 @@ impl Replica {
             filled: self.filled.clone()?,
         })
     }
-}
-
-/// The number of fields that a first header says.
-pub fn fields_in(header: u64) -> u64
-    ensures { result ≡ headers.fields_in header }
-{
-    (header / (1 << 40)) % (1 << 20)
 }
 
 /// Whether two lists of records are the same.

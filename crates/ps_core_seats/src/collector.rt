@@ -26,8 +26,9 @@ use ps_core_parts::lists::{
     all_filled, among, copy_logs, copy_pairs, empty_logs, is_in_replica, pair_of, seen_at,
     with_front,
 };
-use ps_core_parts::parts::{Log, Replica, fields_in};
+use ps_core_parts::parts::{Log, Replica};
 use ps_record::{SLOTS, SPACES_START};
+use ps_word::headers::fields_in;
 use std::alloc::{AllocError, Global};
 use std::marker::Model;
 use std::mem;

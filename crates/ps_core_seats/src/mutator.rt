@@ -20,8 +20,9 @@ use ps_core_parts::lists::{
     among, copy_logs, copy_objects, dictionary_stands, empty_logs, end_of_replicas, load,
     object_at, replicas, store, with_field,
 };
-use ps_core_parts::parts::{Log, Replica, StandingObject, fields_in};
-use ps_record::{RING, Record, SLOTS, SPACES_START};
+use ps_core_parts::parts::{Log, Replica, StandingObject};
+use ps_record::{HEADS_START, LOG_LIMIT, RING, Record, SLOTS, SPACES_START};
+use ps_word::headers::{CYCLE_LIMIT, birth_in, fields_in, kind_in};
 use std::alloc::{AllocError, Global};
 use std::marker::Model;
 use std::mem;
@@ -131,17 +132,17 @@ impl Mutator {
         length < RING || length - RING < load(self.heads.as_slice(), slot)
     }
 
-    /// Whether the number of the slot's next record has 63 bits.
+    /// Whether the slot's log may get one record more.
     fn has_number(&self, slot: u64) -> bool
         ensures { Decides result (HasNumber self.now slot) }
     {
-        self.log_length(slot) < 1 << 63
+        self.log_length(slot) < LOG_LIMIT
     }
 
     fn all_closed(&self) -> bool
         ensures { Decides result (conditions.AllClosed self.now) }
     {
-        for slot in 0..32u64 {
+        for slot in 0..SLOTS {
             if !self.is_closed(slot) {
                 return false;
             }
@@ -152,9 +153,9 @@ impl Mutator {
     fn can_stand(&self, header: u64) -> bool
         ensures { Decides result (conditions.CanStand self.now header) }
     {
-        let kind = header / (1 << 60);
+        let kind = kind_in(header);
         let count = fields_in(header);
-        let birth = header % (1 << 40);
+        let birth = birth_in(header);
         let born = if kind == 11 {
             dictionary_stands(self.objects.as_slice(), birth)
         } else {
@@ -218,7 +219,7 @@ impl Mutator {
     fn can_open(&self) -> bool
         ensures { Decides result (VmMay self.now EpochStore) }
     {
-        self.epoch == self.cycle && self.epoch < (1 << 32) - 1 && self.written.is_none()
+        self.epoch == self.cycle && self.epoch < CYCLE_LIMIT - 1 && self.written.is_none()
     }
 
     /// Whether the open cycle may be flipped: all logs are closed in it, and nothing is written.
@@ -323,8 +324,8 @@ impl Mutator {
         ensures { self.new
             ≡ record self.old { heads = steps.heads_after self.old.heads place word } }
     {
-        if 2 <= place && place < 34 {
-            store(&mut self.heads, place - 2, word);
+        if HEADS_START <= place && place < HEADS_START + SLOTS {
+            store(&mut self.heads, place - HEADS_START, word);
         }
     }
 
@@ -354,7 +355,7 @@ impl Mutator {
         self.fresh.insert(0, self.end)?;
         self.making = 0;
         self.end = self.end + 2 + fields_in(header);
-        if header / (1 << 60) != 11 {
+        if kind_in(header) != 11 {
             self.next_birth += 1;
         }
         self.stored = true;

@@ -10,6 +10,7 @@ ghost use Rattle.ps_word.specs.Readers as readers;
 
 use ps_core_parts::lists::{object_at, pair_of};
 use ps_core_parts::parts::{Replica, StandingObject};
+use ps_word::headers::kind_in;
 use ps_word::words::Word;
 use std::alloc::{AllocError, Global};
 
@@ -17,7 +18,7 @@ use std::alloc::{AllocError, Global};
 pub fn holds_values(header: u64) -> bool
     ensures { result ≡ objects.holds_values header }
 {
-    !(header / (1 << 60) == 7)
+    !(kind_in(header) == 7)
 }
 
 /// Whether the word is a reference.

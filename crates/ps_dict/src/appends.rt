@@ -1,6 +1,7 @@
 //! Pairs that are put behind those of a dictionary, in the room that there is.
 
 ghost use Rattle.std.specs.Prelude.{◌≡◌, ◌≢◌, ℕ, ◌+◌, ◌*◌, ◌/◌, ◌++◌, ◌≤◌, List, length, map};
+ghost use Rattle.ps_language.specs.Limits.{capacity_limit};
 ghost use Rattle.ps_language.specs.Value.{Store};
 ghost use Rattle.ps_language.specs.Access.{dictionary_at, with_dictionary};
 ghost use Rattle.ps_mem.specs.Heap.{Heap, birth_at, object_at, stored};
@@ -47,7 +48,7 @@ fn index_pairs<M: Memory>(memory: &mut M, slot: u32, address: u32, words: &[Word
 
 /// The word of a number of pairs with some more, given by their words.
 fn count_with(count: u32, words: &[Word]) -> Word
-    requires { count + length words.now / 2 ≤ 21845 }
+    requires { count + length words.now / 2 ≤ capacity_limit }
     ensures value { IsNatural result (count + length words.now / 2) }
     ensures held { (h : Heap) → IsValue h result }
 {

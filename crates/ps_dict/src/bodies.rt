@@ -1,6 +1,7 @@
 //! The words of a whole body, put together in a list outside the memory.
 
 ghost use Rattle.std.specs.Prelude.{◌≡◌, ◌≢◌, ℕ, ◌+◌, ◌*◌, ◌/◌, ◌++◌, ◌<◌, ◌≤◌, List, [], OnOk, OnErr, length, map, replicate, take, vec_capacity};
+ghost use Rattle.ps_language.specs.Limits.{capacity_limit};
 ghost use Rattle.ps_language.specs.Value.{Store};
 ghost use Rattle.ps_language.specs.Access.{dictionary_at, with_dictionary};
 ghost use Rattle.ps_mem.specs.Heap.{birth_at, object_at, zero_word};
@@ -46,7 +47,7 @@ pub(crate) fn complete_body<M: Memory>(
     capacity: u32,
     scratch: &mut Vec<Word>,
 ) -> Result<(), AllocError>
-    requires few { capacity ≤ 21845 }
+    requires few { capacity ≤ capacity_limit }
     requires even { 2 * (length scratch.old.items / 2) ≡ length scratch.old.items }
     requires room { length scratch.old.items / 2 ≤ capacity }
     requires held { AreValues (M.heap memory.old) scratch.old.items }
@@ -128,7 +129,7 @@ pub(crate) fn write_new<M: Memory>(
 )
     requires granted { 1 ≤ (M.grants memory.old).records slot }
     requires words_granted { 2 + 3 * capacity ≤ (M.grants memory.old).words }
-    requires capacity { capacity ≤ 21845 }
+    requires capacity { capacity ≤ capacity_limit }
     requires sound { IsSound (M.heap memory.old) }
     requires known { StandsAs (M.heap memory.old) Kind.Dictionary address 4 }
     requires count { count ≡ length (take count (pairs_of_words words.now)) }

@@ -4,8 +4,8 @@ ghost use Rattle.std.specs.Prelude.{◌≡◌, ◌≢◌, ℕ, ◌+◌, ◌*◌,
 ghost use Rattle.ps_language.specs.Value.{Store, Dictionary};
 ghost use Rattle.ps_language.specs.Dictionaries.{holding, put_pair};
 ghost use Rattle.std.specs.List.{AllPairs};
+ghost use Rattle.ps_language.specs.Limits.{capacity_limit};
 ghost use Rattle.ps_language.specs.Access.{dictionary_at, with_dictionary};
-ghost use Rattle.ps_word.specs.Format as format;
 ghost use Rattle.ps_mem.specs.Heap.{Heap, birth_at, stored, AfterStore};
 ghost use Rattle.ps_mem.specs.Keeps.{Keeps};
 ghost use Rattle.ps_mem.specs.References.{StandsAs};
@@ -22,7 +22,7 @@ use crate::plans::PutPlan;
 use ps_language::access::Access;
 use ps_language::kinds::Kind;
 use ps_mem::Memory;
-use ps_word::values::Content;
+use ps_word::values::{Content, access_number};
 use ps_word::words::Word;
 
 /// The word of a literal natural number.
@@ -35,14 +35,6 @@ pub(crate) fn natural_word(number: u32) -> Word
         → IsWithin births names s result }
 {
     Word::integer(number as i32)
-}
-
-/// The number of an access, as a dictionary's field has it.
-#[inline]
-pub(crate) fn access_number(access: Access) -> u32
-    ensures { result ≡ format.access_number access }
-{
-    access as u32
 }
 
 /// Gives a dictionary another access, which all references to it share, with one record in a cycle
@@ -108,7 +100,7 @@ fn grow_with<M: Memory>(
 )
     requires granted { 1 ≤ (M.grants memory.old).records slot }
     requires words { 2 + 3 * capacity ≤ (M.grants memory.old).words }
-    requires capacity { capacity ≤ 21845 }
+    requires capacity { capacity ≤ capacity_limit }
     requires room { count_at (M.heap memory.old) address < capacity }
     requires sound { IsSound (M.heap memory.old) }
     requires known { StandsAs (M.heap memory.old) Kind.Dictionary address 4 }

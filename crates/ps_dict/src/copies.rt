@@ -3,6 +3,7 @@
 
 ghost use Rattle.std.specs.Prelude.{◌≡◌, ◌≢◌, ◌↔◌, ℕ, ◌+◌, ◌*◌, ◌/◌, ◌^◌, ◌<◌, ◌≤◌, List, [], None, Some, IfOk, OnErr, length, vec_capacity};
 ghost use Rattle.std.specs.List.{AllPairs};
+ghost use Rattle.ps_language.specs.Limits.{capacity_limit};
 ghost use Rattle.ps_language.specs.Value.{Store, Dictionary};
 ghost use Rattle.ps_language.specs.Access.{dictionary_at, with_dictionary};
 ghost use Rattle.ps_language.specs.Dictionaries.{grown_capacity, holding, put_pairs};
@@ -52,7 +53,8 @@ impl MergePlan {
 
     /// How many words of room the put asks for: those of a new body with its header.
     pub fn words(self) -> u32
-        requires { (count capacity : ℕ) → self ≡ MergePlan.Grow count capacity → capacity ≤ 21845 }
+        requires { (count capacity : ℕ) → self ≡ MergePlan.Grow count capacity
+            → capacity ≤ capacity_limit }
         ensures { result ≡ merges.words_of self }
     {
         match self {
@@ -64,9 +66,10 @@ impl MergePlan {
 
 /// What so many pairs, one at least, do to a dictionary of a capacity.
 fn plan_of(count: u32, capacity: u32) -> MergePlan
-    requires { capacity ≤ 21845 }
+    requires { capacity ≤ capacity_limit }
     ensures plan { result ≡ body_plan count capacity }
-    ensures limit { (pairs grown : ℕ) → result ≡ MergePlan.Grow pairs grown → grown ≤ 21845 }
+    ensures limit { (pairs grown : ℕ) → result ≡ MergePlan.Grow pairs grown
+        → grown ≤ capacity_limit }
 {
     if count <= capacity {
         MergePlan::Rewrite { count }
@@ -89,7 +92,7 @@ fn plan_body<M: Memory>(
     capacity: u32,
     scratch: &mut Vec<Word>,
 ) -> Result<MergePlan, AllocError>
-    requires limit { capacity ≤ 21845 }
+    requires limit { capacity ≤ capacity_limit }
     requires few { length scratch.old.items < 2 ^ 31 }
     requires even { 2 * (length scratch.old.items / 2) ≡ length scratch.old.items }
     requires held { AreValues (M.heap memory.old) scratch.old.items }
@@ -138,7 +141,8 @@ pub fn plan_merge<M: Memory>(
     ensures words { IfOk result
         (λ plan. scratch.new.items ≡ merge_words_at (M.heap memory.old) to from plan) }
     ensures limit { IfOk result
-        (λ plan. (count capacity : ℕ) → plan ≡ MergePlan.Grow count capacity → capacity ≤ 21845) }
+        (λ plan. (count capacity : ℕ) → plan ≡ MergePlan.Grow count capacity
+        → capacity ≤ capacity_limit) }
     ensures value { (names : List (List ℕ)) (s : Store) → Shows (M.heap memory.old) names s
         → AllPairs (λ first later. first ≢ later) names → IfOk result
         (λ plan. plan ≡ merge_planned (dictionary_at s (birth_at (M.heap memory.old) to))
@@ -171,7 +175,7 @@ pub fn count_merge<M: Memory>(memory: &mut M, to: u32, from: u32) -> MergePlan
     ensures grants { M.grants memory.new ≡ M.grants memory.old }
     ensures plan { result ≡ merge_plan_at (M.heap memory.old) to from }
     ensures limit { (count capacity : ℕ) → result ≡ MergePlan.Grow count capacity
-        → capacity ≤ 21845 }
+        → capacity ≤ capacity_limit }
     ensures value { (names : List (List ℕ)) (s : Store) → Shows (M.heap memory.old) names s
         → AllPairs (λ first later. first ≢ later) names
         → result ≡ merge_planned (dictionary_at s (birth_at (M.heap memory.old) to))

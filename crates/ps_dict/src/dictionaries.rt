@@ -17,6 +17,7 @@ use crate::keys::is_same_key;
 use ps_language::access::Access;
 use ps_language::kinds::Kind;
 use ps_mem::Memory;
+use ps_word::values::access_of;
 use ps_word::words::Word;
 
 pub(crate) const COUNT: u32 = 0;
@@ -68,18 +69,6 @@ pub fn capacity<M: Memory>(memory: &mut M, address: u32) -> u32
         → result ≡ (dictionary_at s (birth_at (M.heap memory.old) address)).capacity }
 {
     natural(memory, address, CAPACITY)
-}
-
-#[inline(always)]
-fn access_of(number: u32) -> Access
-    ensures { result ≡ format.access_of number }
-{
-    match number {
-        0 => Access::Unlimited,
-        1 => Access::ReadOnly,
-        2 => Access::ExecuteOnly,
-        _ => Access::NoAccess,
-    }
 }
 
 /// The access of a dictionary, which all references to it share (PLRM2, 3.3.2).

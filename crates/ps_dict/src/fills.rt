@@ -1,6 +1,7 @@
 //! Words filled into objects that are new.
 
 ghost use Rattle.std.specs.Prelude.{◌≡◌, ◌≢◌, ℕ, ◌+◌, ◌*◌, ◌++◌, ◌<◌, ◌≤◌, ◌^◌, [], ◌∷◌, None, IsTrue, length, take, drop, replicate};
+ghost use Rattle.ps_language.specs.Limits.{capacity_limit};
 ghost use Rattle.ps_mem.specs.Heap.{object_at, birth_at, fields_at, stored, made_body, AfterNew, IsKind, zero_word};
 ghost use Rattle.ps_mem.specs.Index.{pairs_of_words, index_words};
 ghost use Rattle.ps_mem.specs.References.{StandsAs, AreKnown};
@@ -57,7 +58,7 @@ fn paired_body<M: Memory>(
     value: Word,
 ) -> u32
     requires words { 2 + 3 * capacity ≤ (M.grants memory.old).words }
-    requires capacity { capacity ≤ 21845 }
+    requires capacity { capacity ≤ capacity_limit }
     requires room { count_at (M.heap memory.old) address < capacity }
     requires sound { IsSound (M.heap memory.old) }
     requires known { StandsAs (M.heap memory.old) Kind.Dictionary address 4 }
@@ -85,7 +86,7 @@ fn paired_body<M: Memory>(
 /// many.
 fn fill_index<M: Memory>(memory: &mut M, body: u32, capacity: u32, count: u32)
     requires fresh { IsTrue ((M.grants memory.old).fresh body) }
-    requires few { capacity ≤ 21845 }
+    requires few { capacity ≤ capacity_limit }
     requires room { count ≤ capacity }
     requires stands { IsKind Kind.Body (object_at (M.heap memory.old) body) }
     requires fields { length (fields_at (M.heap memory.old) body) ≡ 3 * capacity }
@@ -114,7 +115,7 @@ pub(crate) fn new_body<M: Memory>(
     value: Word,
 ) -> u32
     requires words { 2 + 3 * capacity ≤ (M.grants memory.old).words }
-    requires capacity { capacity ≤ 21845 }
+    requires capacity { capacity ≤ capacity_limit }
     requires room { count_at (M.heap memory.old) address < capacity }
     requires sound { IsSound (M.heap memory.old) }
     requires known { StandsAs (M.heap memory.old) Kind.Dictionary address 4 }

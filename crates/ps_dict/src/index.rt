@@ -2,6 +2,7 @@
 //! placed by the hash number of its key.
 
 ghost use Rattle.std.specs.Prelude.{◌≡◌, ℕ, ◌+◌, ◌-◌, ◌*◌, ◌%◌, ◌<◌, ◌≤◌, ◌^◌, true, [], ◌∷◌, List, Option, Some, None, drop, length, map, slice_get, slice_set, option_map, if◌then◌else◌, nat_lt};
+ghost use Rattle.ps_language.specs.Limits.{capacity_limit};
 ghost use Rattle.ps_word.specs.declared.words.Word.{Word as TheWord};
 ghost use Rattle.ps_mem.specs.Heap.{birth_at, fields_at};
 ghost use Rattle.ps_mem.specs.Index.{hash_of};
@@ -67,7 +68,7 @@ pub(crate) fn first_place<M: Memory>(memory: &mut M, key: Word, capacity: u32) -
 pub(crate) fn place_behind(start: u32, behind: u32, capacity: u32) -> u32
     requires start { start < capacity }
     requires behind { behind < capacity }
-    requires few { capacity ≤ 21845 }
+    requires few { capacity ≤ capacity_limit }
     ensures answer { result ≡
         (if nat_lt (start + behind) capacity then start + behind else start + behind - capacity) }
     ensures below { result < capacity }
@@ -83,7 +84,7 @@ pub(crate) fn place_behind(start: u32, behind: u32, capacity: u32) -> u32
 /// The free place of a body's index in which the position of a new key goes.
 pub(crate) fn free_place<M: Memory>(memory: &mut M, body: u32, capacity: u32, key: Word) -> u32
     requires some { 0 < capacity }
-    requires few { capacity ≤ 21845 }
+    requires few { capacity ≤ capacity_limit }
     requires held { IsValue (M.heap memory.old) key }
     requires room { 3 * capacity ≤ length (fields_at (M.heap memory.old) body) }
     ensures heap { M.heap memory.new ≡ M.heap memory.old }
@@ -106,7 +107,7 @@ pub(crate) fn free_place<M: Memory>(memory: &mut M, body: u32, capacity: u32, ke
 /// The free place of an index outside the memory in which the next position goes.
 pub(crate) fn free_in(places: &[Word], start: u32, capacity: u32) -> u32
     requires start { start < capacity }
-    requires few { capacity ≤ 21845 }
+    requires few { capacity ≤ capacity_limit }
     requires all { length places.now ≡ capacity }
     ensures below { result < capacity }
     ensures placed { IsPlaceFor places.now capacity start result }

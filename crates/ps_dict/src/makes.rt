@@ -4,6 +4,7 @@ ghost use Rattle.std.specs.Prelude.{◌≡◌, ◌≢◌, ℕ, ◌+◌, ◌*◌,
 ghost use Rattle.ps_language.specs.Value.{Store, dictionary_object};
 ghost use Rattle.ps_language.specs.Access.{empty_dictionary, dictionary_at, with_dictionary};
 ghost use Rattle.std.specs.List.{AllPairs};
+ghost use Rattle.ps_language.specs.Limits.{capacity_limit};
 ghost use Rattle.ps_language.specs.Dictionaries.{body_words, put_pair, put_pairs};
 ghost use Rattle.ps_mem.specs.Heap.{Heap, object_at, birth_at, AfterNew};
 ghost use Rattle.ps_mem.specs.Keeps.{Keeps, Extends};
@@ -14,20 +15,20 @@ ghost use Rattle.ps_dict.specs.Places.{HasNewBody, count_at, capacity_at, body_a
 ghost use Rattle.ps_mem.specs.Index.{pairs_of_words};
 ghost use Rattle.ps_dict.specs.Puts.{with_value};
 
-use crate::changes::{access_number, natural_word};
+use crate::changes::natural_word;
 use crate::dictionaries::{ACCESS, COUNT, body, capacity, length, position};
 use crate::fills::fill_words;
 use crate::index::free_place;
 use ps_language::access::Access;
 use ps_language::kinds::Kind;
 use ps_mem::Memory;
-use ps_word::values::Content;
+use ps_word::values::{Content, access_number};
 use ps_word::words::Word;
 
 /// A new dictionary without pairs, of unlimited access, with room for so many, at most 21,845
 /// (PLRM2, 8 'dict'). It and its body may still be filled.
 pub fn new_dictionary<M: Memory>(memory: &mut M, capacity: u16) -> u32
-    requires limit { capacity ≤ 21845 }
+    requires limit { capacity ≤ capacity_limit }
     requires words { 6 + body_words capacity ≤ (M.grants memory.old).words }
     requires births { 1 ≤ (M.grants memory.old).births }
     requires sound { IsSound (M.heap memory.old) }
@@ -232,7 +233,7 @@ pub fn fill_access<M: Memory>(memory: &mut M, address: u32, access: Access)
 /// values, which are put in order: words of a key, its value, the next key and so on. There are at
 /// most as many keys as the capacity. Nothing is recorded.
 pub fn make_dictionary_with<M: Memory>(memory: &mut M, capacity: u16, words: &[Word]) -> u32
-    requires limit { capacity ≤ 21845 }
+    requires limit { capacity ≤ capacity_limit }
     requires room { length words.now / 2 ≤ capacity }
     requires words { 6 + body_words capacity ≤ (M.grants memory.old).words }
     requires births { 1 ≤ (M.grants memory.old).births }

@@ -3,6 +3,7 @@
 
 ghost use Rattle.std.specs.Prelude.{◌≡◌, ◌≢◌, ◌↔◌, ◌+◌, ◌<◌, ◌≤◌, ◌^◌, ℕ, List, None};
 ghost use Rattle.std.specs.List.{AllPairs};
+ghost use Rattle.ps_language.specs.Limits.{capacity_limit};
 ghost use Rattle.ps_language.specs.Value.{Store, Value};
 ghost use Rattle.ps_language.specs.Access.{dictionary_at};
 ghost use Rattle.ps_language.specs.Dictionaries.{grown_capacity, holding, put_pair};
@@ -48,7 +49,7 @@ impl PutPlan {
 
     /// How many words of room the put asks for: those of a new body with its header.
     pub fn words(self) -> u32
-        requires { (capacity : ℕ) → self ≡ PutPlan.Grow capacity → capacity ≤ 21845 }
+        requires { (capacity : ℕ) → self ≡ PutPlan.Grow capacity → capacity ≤ capacity_limit }
         ensures { result ≡ puts.words_of self }
     {
         match self {
@@ -62,8 +63,8 @@ impl PutPlan {
 /// and four, at most 21,845.
 pub(crate) fn next_capacity(capacity: u32, count: u32) -> u32
     requires full { capacity < count }
-    requires limit { capacity < 21845 }
-    requires few { count ≤ 21845 }
+    requires limit { capacity < capacity_limit }
+    requires few { count ≤ capacity_limit }
     ensures { result ≡ grown_capacity capacity count }
 {
     count.max(2 * capacity + 4).min(CAPACITY_LIMIT)
@@ -77,7 +78,7 @@ pub fn plan_put<M: Memory>(memory: &mut M, address: u32, key: Word) -> PutPlan
     ensures heap { M.heap memory.new ≡ M.heap memory.old }
     ensures grants { M.grants memory.new ≡ M.grants memory.old }
     ensures words { result ≡ plan_at (M.heap memory.old) address key }
-    ensures limit { (capacity : ℕ) → result ≡ PutPlan.Grow capacity → capacity ≤ 21845 }
+    ensures limit { (capacity : ℕ) → result ≡ PutPlan.Grow capacity → capacity ≤ capacity_limit }
     ensures value { (names : List (List ℕ)) (s : Store) → Shows (M.heap memory.old) names s
         → AllPairs (λ first later. first ≢ later) names
         → IsWithin (birth_at (M.heap memory.old)) names s key
@@ -101,7 +102,7 @@ pub fn plan_put<M: Memory>(memory: &mut M, address: u32, key: Word) -> PutPlan
 fn plan_of(place: Option<u32>, count: u32, capacity: u32) -> PutPlan
     requires { count ≤ capacity }
     ensures plan { result ≡ puts.plan_from place count capacity }
-    ensures limit { (grown : ℕ) → result ≡ PutPlan.Grow grown → grown ≤ 21845 }
+    ensures limit { (grown : ℕ) → result ≡ PutPlan.Grow grown → grown ≤ capacity_limit }
 {
     match place {
         Some(place) => PutPlan::Replace(place),

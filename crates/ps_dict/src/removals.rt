@@ -1,6 +1,7 @@
 //! Pairs that are taken out of a dictionary (PLRM2, 8 'undef').
 
 ghost use Rattle.std.specs.Prelude.{◌≡◌, ◌≢◌, ℕ, ◌+◌, ◌-◌, ◌<◌, ◌≤◌, List, [], Some, OnOk, OnErr, length, replicate, vec_capacity, if◌then◌else◌, nat_lt};
+ghost use Rattle.ps_language.specs.Limits.{capacity_limit};
 ghost use Rattle.ps_language.specs.Value.{Store, Value};
 ghost use Rattle.ps_language.specs.Access.{dictionary_at, with_dictionary};
 ghost use Rattle.ps_language.specs.Dictionaries.{without};
@@ -113,7 +114,7 @@ pub fn remove<M: Memory>(
 /// Where a position stands among the pairs before the one at `gone` was taken out.
 #[inline]
 fn place_beside(position: u32, gone: u32) -> u32
-    requires few { position < 21845 }
+    requires few { position < capacity_limit }
     ensures { result ≡ (if nat_lt position gone then position else position + 1) }
 {
     if position < gone {

@@ -2,6 +2,7 @@
 //! Dictionary).
 
 ghost use Rattle.std.specs.Prelude.{◌≡◌, ◌≢◌, ◌<◌, ◌≤◌, ℕ, IsTrue, List, None, length, OnOk, IfErr, true, false};
+ghost use Rattle.ps_language.specs.Limits.{capacity_limit};
 ghost use Rattle.ps_language.specs.Value.{Store};
 ghost use Rattle.ps_mem.specs.Heap.{birth_at};
 ghost use Rattle.ps_mem.specs.References.{StandsAs};
@@ -79,7 +80,7 @@ fn put_planned<M: Memory>(
         (lent (M.heap memory.old) (M.grants memory.old) context.old shared.old) }
     requires plan { plan ≡ plan_at (M.heap memory.old) entry.address entry.key }
     requires possible { plan ≢ PutPlan.Full }
-    requires limit { (capacity : ℕ) → plan ≡ PutPlan.Grow capacity → capacity ≤ 21845 }
+    requires limit { (capacity : ℕ) → plan ≡ PutPlan.Grow capacity → capacity ≤ capacity_limit }
     requires known { StandsAs (M.heap memory.old) Kind.Dictionary entry.address 4 }
     requires key { IsValue (M.heap memory.old) entry.key }
     requires value { IsValue (M.heap memory.old) entry.value }
@@ -110,7 +111,7 @@ fn put_planned<M: Memory>(
 /// Whether a step is refused the room of a new body.
 #[inline]
 fn is_refused(trial: Trial, plan: PutPlan) -> bool
-    requires limit { (capacity : ℕ) → plan ≡ PutPlan.Grow capacity → capacity ≤ 21845 }
+    requires limit { (capacity : ℕ) → plan ≡ PutPlan.Grow capacity → capacity ≤ capacity_limit }
     ensures yes { IsTrue result → (trial.refused ≡ true) × (0 < puts.words_of plan) }
     ensures no { result ≡ false → IsTrue trial.refused → puts.words_of plan ≡ 0 }
 {

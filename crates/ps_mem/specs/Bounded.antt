@@ -1,7 +1,8 @@
 -- The space of a memory that is bounded, and what it grants.
-use Rattle.std.specs.Prelude.{ℕ, ◌-◌, ◌^◌, Bool, true, false, ◌&&◌, List, nat_le, ◌≡◌, replicate, slice_index, slice_index_or, if◌then◌else◌}
+use Rattle.std.specs.Prelude.{ℕ, ◌-◌, Bool, true, false, ◌&&◌, List, nat_le, ◌≡◌, replicate, slice_index, slice_index_or, if◌then◌else◌}
 use Rattle.ps_record.specs.Format.{slots, ring_length}
-use Rattle.ps_mem.specs.Heap.{Space, Grants, birth_limit}
+use Rattle.ps_word.specs.Headers.{birth_limit}
+use Rattle.ps_mem.specs.Heap.{Space, Grants, unlogged_records}
 
 abbrev pub bounded_space : ℕ → Space
 bounded_space size = record { size = size; grows = false }
@@ -14,11 +15,11 @@ pub record Logs : Type 0 where
   pub put : List ℕ
   pub closed : List Bool
 
--- outside a cycle no record is put, and any number may be asked for
+-- in a cycle a log that isn't closed takes as many records as it has free places
 abbrev pub records_of : Logs → ℕ → ℕ
 records_of logs slot = if logs.cycle_open then
     (if slice_index_or logs.closed slot true then 0 else slice_index logs.places slot - slice_index
-    logs.put slot) else 2 ^ 64
+    logs.put slot) else unlogged_records
 
 -- a log is closed in a cycle alone
 abbrev pub is_closed : Logs → ℕ → Bool

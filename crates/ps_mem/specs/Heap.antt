@@ -5,6 +5,8 @@ use Rattle.ps_language.specs.declared.kinds.Kind.{Kind}
 use Rattle.ps_language.specs.declared.kinds.Kind.TheVariants.{Body}
 use Rattle.ps_language.specs.Access.{splice}
 use Rattle.ps_word.specs.declared.words.Word.{Word}
+use Rattle.ps_word.specs.Headers.{birth_limit}
+use Rattle.ps_record.specs.Format.{log_limit}
 
 -- ---- what stands
 
@@ -110,10 +112,6 @@ made_body h address birth count = record h {
 
 -- ---- room
 
--- birth numbers are below it
-abbrev pub birth_limit : ℕ
-birth_limit = 2 ^ 40
-
 -- so many words fit the space beside what stands, and so many birth numbers are left
 unfoldable pub has_room : Heap → ℕ → ℕ → Bool
 has_room h words births =
@@ -133,11 +131,15 @@ pub record Grants : Type 0 where
   pub put : ℕ → ℕ
   pub closed : ℕ → Bool
 
+-- outside a cycle no record is put, and any number may be asked for: so many are granted
+abbrev pub unlogged_records : ℕ
+unlogged_records = 2 ^ 64
+
 -- the records of an open log that were put and those that may be, together
 abbrev pub IsLogBounded : Grants → (slot : ℕ) → Type 0
 IsLogBounded grants slot =
     IsTrue grants.cycle_open → 1 ≤ grants.records slot
-    → grants.put slot + grants.records slot ≤ 2 ^ 63
+    → grants.put slot + grants.records slot ≤ log_limit
 
 -- no record was put, none was granted or lost, and no cycle or log was opened or closed
 pub record SameLogs (old new : Grants) : Type 0 where

@@ -1,6 +1,7 @@
 -- The space of a memory that grows, and what it grants.
-use Rattle.std.specs.Prelude.{ℕ, ◌-◌, ◌^◌, true, false}
-use Rattle.ps_mem.specs.Heap.{Space, Grants, birth_limit}
+use Rattle.std.specs.Prelude.{ℕ, ◌-◌, true, false}
+use Rattle.ps_word.specs.Headers.{birth_limit}
+use Rattle.ps_mem.specs.Heap.{Space, Grants, unlogged_records}
 
 -- at most so many words
 abbrev pub plain_space : Space
@@ -14,7 +15,7 @@ plain_grants size used next = record {
   words = size - used;
   births = birth_limit - next;
   cycle_open = false;
-  records = λ slot. 2 ^ 64;
+  records = λ slot. unlogged_records;
   put = λ slot. 0;
   closed = λ slot. false;
 }

@@ -2,6 +2,7 @@
 #![tactic(auto)]
 
 ghost use Rattle.std.specs.Prelude.{◌≡◌, ℕ, ◌+◌, ◌^◌, ◌<◌, ◌≤◌, ◌↔◌, ◌≢◌, List, [], ◌∷◌, Bool, true, false, IsTrue, length, slice_get, Option, Some, None, OnOk, OnErr, IsOk, IsErr, IfSome, IsSome, slice_range};
+ghost use Rattle.ps_word.specs.Headers.{birth_limit};
 ghost use Rattle.ps_mem.specs.Heap.{Heap, Grants, AfterNew, AfterStore, object_at, fields_at, birth_at, stored, made, made_body, IsKind, has_room, standing_words, records_put, IsLogBounded};
 ghost use Rattle.ps_mem.specs.References.{NamesStanding};
 
@@ -125,7 +126,7 @@ pub trait Memory {
         requires stands { IsSome (object_at (heap self.old) address) }
         ensures heap { heap self.new ≡ heap self.old }
         ensures grants { grants self.new ≡ grants self.old }
-        ensures birth { result.birth < 2 ^ 40 }
+        ensures birth { result.birth < birth_limit }
         ensures answer { IfSome (object_at (heap self.old) address)
             (λ o. result ≡ record { kind = o.kind; fields = length o.fields; birth = o.birth }) };
 

@@ -25,16 +25,16 @@ pub struct PlainMemory {
 /// The words of a memory that has so many and is to have `wanted`: at least double, as far as the
 /// limit lets it.
 fn grown(size: u32, wanted: u32) -> u32
-    requires size { size ≤ 16777215 }
-    requires wanted { wanted ≤ 16777215 }
+    requires size { size ≤ plain_space.size }
+    requires wanted { wanted ≤ plain_space.size }
     ensures enough { wanted ≤ result }
-    ensures limit { result ≤ 16777215 }
+    ensures limit { result ≤ plain_space.size }
 {
     wanted.max(2 * size).max(FIRST_SIZE).min(REGION_LIMIT)
 }
 
 impl PlainMemory {
-    /// A memory in which nothing stands. It takes no memory until the first `need`.
+    /// A memory in which nothing stands.
     pub fn new(alloc: Global) -> PlainMemory
         ensures { ⟦<PlainMemory as Memory>⟧.heap result ≡ empty_heap plain_space }
     {

@@ -1,6 +1,7 @@
 //! Words in which objects stand one after another, with blank words behind them.
 
 ghost use Rattle.std.specs.Prelude.{◌≡◌, ◌≢◌, ℕ, true, ◌+◌, ◌-◌, ◌^◌, ◌<◌, ◌≤◌, List, [], ◌∷◌, take, drop, replicate, length, slice_get, slice_range, Option, Some, None, OnOk, OnErr, IfOk, IfSome, IsSome};
+ghost use Rattle.ps_word.specs.Headers.{birth_limit};
 ghost use Rattle.ps_mem.specs.Objects.{wanting, all_headers, heap_in};
 ghost use Rattle.ps_mem.specs.Heap.{Space, object_at, fields_at, birth_at, stored, made, made_body, IsKind, standing_words};
 
@@ -115,7 +116,7 @@ impl Region {
     pub(crate) fn header(&self, address: u32) -> Header
         requires { (s : Space)
             → IsSome (object_at (heap_in self.now.words self.now.used self.now.next s) address) }
-        ensures birth { result.birth < 2 ^ 40 }
+        ensures birth { result.birth < birth_limit }
         ensures answer { (space : Space)
             → IfSome (object_at (heap_in self.now.words self.now.used self.now.next space) address)
             (λ o. result ≡ record { kind = o.kind; fields = length o.fields; birth = o.birth }) }
@@ -188,7 +189,7 @@ impl Region {
     /// A new object of zero words behind what stands, with the next birth number.
     pub(crate) fn alloc(&mut self, kind: Kind, fields: u32) -> u32
         requires room { self.old.used + (2 + fields) ≤ length self.old.words }
-        requires fields { fields < 2 ^ 20 }
+        requires fields { fields < 2 ^ 16 }
         requires kind { kind ≢ Kind.Body }
         ensures address { result ≡ self.old.used }
         ensures free { (space : Space)
@@ -215,8 +216,8 @@ impl Region {
     /// A new body of zero words behind what stands, with this birth number.
     pub(crate) fn alloc_body(&mut self, birth: u64, fields: u32) -> u32
         requires room { self.old.used + (2 + fields) ≤ length self.old.words }
-        requires fields { fields < 2 ^ 20 }
-        requires birth { birth < 2 ^ 40 }
+        requires fields { fields < 2 ^ 16 }
+        requires birth { birth < birth_limit }
         ensures address { result ≡ self.old.used }
         ensures free { (space : Space)
             → object_at (heap_in self.old.words self.old.used self.old.next space) result ≡ None }

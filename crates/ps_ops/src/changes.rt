@@ -25,7 +25,7 @@ use ps_mem::{Memory, Permit, SLOTS};
 use ps_seq::arrays::{copy_elements, interval, set_element};
 use ps_word::values::Part;
 
-/// The most records that a step puts into the log of its slot; the note of an error asks for as many
+/// The most records that a step puts into its slot's log; the note of an error asks for as many
 /// at once.
 pub const MOST_RECORDS: u32 = 5;
 

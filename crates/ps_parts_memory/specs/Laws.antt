@@ -4,14 +4,14 @@ use Rattle.ps_language.specs.declared.kinds.Kind.{Kind}
 use Rattle.ps_language.specs.declared.kinds.Kind.TheVariants.{Dictionary, Body}
 use Rattle.ps_word.specs.declared.words.Word.{Word}
 use Rattle.ps_word.specs.declared.headers.Header.{Header}
-use Rattle.ps_word.specs.Headers.{kind_in, fields_in, birth_in, kind_number}
+use Rattle.ps_word.specs.Headers.{kind_in, fields_in, birth_in, kind_number, cycle_limit}
 use Rattle.ps_mem.specs.Heap.{Standing, standing_words, fields_at, stored, made, made_body, birth_at, IsKind, has_room, empty_heap, Grants, AfterNew, AfterStore, records_put}
 use Rattle.ps_mem.specs.Heap as memory
 use Rattle.ps_mem.specs.Bounded.{bounded_space}
 use Rattle.ps_mem.specs.Objects.{kind_of_number, word_of}
 use Rattle.ps_mem.specs.References.{NamesStanding}
 use Rattle.ps_record.specs.declared.Record.TheVariants.{Place, Close}
-use Rattle.ps_record.specs.Format.{slots, ring_length}
+use Rattle.ps_record.specs.Format.{slots, ring_length, log_limit, head_place}
 use Rattle.ps_core_parts.specs.declared.events.Event.{Event}
 use Rattle.ps_core_parts.specs.declared.events.Event.TheVariants.{VmLoad, ClearStore, HeaderStore, FieldStore, RecordStore, EpochStore}
 use Rattle.ps_core_parts.specs.declared.events.Vm.{Vm}
@@ -199,7 +199,7 @@ Copies v = (source place target i count : ℕ) → CanCopy v source place target
 pub record GrantsRecords (v : Vm) (slot : ℕ) : Type 0 where
   pub shut : is_shut v slot ≡ true → records_left v slot ≡ 0
   pub left : is_shut v slot ≡ false → records_left v slot + length (log_of v.logs slot)
-      ≡ min (slice_index v.heads slot + ring_length) (2 ^ 63)
+      ≡ min (slice_index v.heads slot + ring_length) log_limit
 
 abbrev pub GrantsLogs : Vm → Type 0
 GrantsLogs v = (slot : ℕ) → slot < slots → is_open v ≡ true → GrantsRecords v slot
@@ -266,7 +266,7 @@ MakesBodies v = (header dictionary fields : ℕ) → CanMakeBody v header dictio
 
 -- the part after a load of a head
 abbrev pub seen : Vm → Gc → ℕ → ℕ → Vm
-seen v g slot n = vm_after v g (VmLoad (2 + slot) n)
+seen v g slot n = vm_after v g (VmLoad (head_place slot) n)
 
 -- a head word is no lower than the one last loaded, and within the log; once it is loaded no record
 -- less is granted, of other slots as many, and all else as before
@@ -281,7 +281,8 @@ pub record SeesHead (v : Vm) (g : Gc) (slot n : ℕ) : Type 0 where
   pub settled : (seen v g slot n).written ≡ v.written
 
 abbrev pub SeesHeads : Vm → Type 0
-SeesHeads v = (g : Gc) (slot n : ℕ) → slot < slots → VmFinds v (2 + slot) n → SeesHead v g slot n
+SeesHeads v = (g : Gc) (slot n : ℕ) → slot < slots → VmFinds v (head_place slot) n
+    → SeesHead v g slot n
 
 -- in a cycle just opened no log is closed, and no object may be filled; nothing was put
 pub record AfterOpen (old new : Grants) : Type 0 where
@@ -300,7 +301,7 @@ pub record OpensCycle (v : Vm) (g : Gc) : Type 0 where
   pub logs : (vm_after v g EpochStore).logs ≡ v.logs
 
 abbrev pub Opens : Vm → Type 0
-Opens v = (g : Gc) → is_open v ≡ false → v.epoch + 1 < 2 ^ 32 → OpensCycle v g
+Opens v = (g : Gc) → is_open v ≡ false → v.epoch + 1 < cycle_limit → OpensCycle v g
 
 -- the close is one record put; the log is closed then and granted no other. No object may be filled
 pub record AfterClose (old new : Grants) (slot : ℕ) : Type 0 where

@@ -1,9 +1,9 @@
 -- The mutator's part of the state as a memory: what stands, and what is granted.
 use Rattle.std.specs.Prelude.{ℕ, ◌+◌, ◌-◌, ◌^◌, ◌==◌, ◌&&◌, Bool, not, nat_lt, min, length, map, slice_index, if◌then◌else◌}
 use Rattle.std.specs.Option.{option_map}
-use Rattle.ps_word.specs.Headers.{kind_in, birth_in}
-use Rattle.ps_record.specs.Format.{slots, ring_length}
-use Rattle.ps_mem.specs.Heap.{Heap, Standing, Grants, birth_limit}
+use Rattle.ps_word.specs.Headers.{kind_in, birth_in, birth_limit}
+use Rattle.ps_record.specs.Format.{slots, ring_length, log_limit}
+use Rattle.ps_mem.specs.Heap.{Heap, Standing, Grants, unlogged_records}
 use Rattle.ps_mem.specs.Objects.{kind_of_number, word_of}
 use Rattle.ps_mem.specs.Bounded.{bounded_space}
 use Rattle.ps_core_parts.specs.declared.events.Object.{Object}
@@ -40,11 +40,10 @@ is_shut v slot = is_open v && (closes (log_of v.logs slot) == v.epoch)
 -- loaded, and no log has more than 2^63
 abbrev pub records_free : Vm → ℕ → ℕ
 records_free v slot = if nat_lt slot slots && not (closes (log_of v.logs slot) == v.epoch)
-    then min (slice_index v.heads slot + ring_length) (2 ^ 63) - length (log_of v.logs slot) else 0
+    then min (slice_index v.heads slot + ring_length) log_limit - length (log_of v.logs slot) else 0
 
--- outside a cycle no record is put, and any number may be asked for
 abbrev pub records_left : Vm → ℕ → ℕ
-records_left v slot = if is_open v then records_free v slot else 2 ^ 64
+records_left v slot = if is_open v then records_free v slot else unlogged_records
 
 abbrev pub grants_of : Vm → Grants
 grants_of v = record {

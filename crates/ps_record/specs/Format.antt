@@ -12,6 +12,10 @@ slots = 32
 abbrev pub ring_length : ℕ
 ring_length = 256
 
+-- no log gets more records: their numbers have 63 bits
+abbrev pub log_limit : ℕ
+log_limit = 2 ^ 63
+
 -- the lap bit of record k, bit 63: 1 in the laps 0, 2, 4 and so on of its ring
 abbrev pub lap_of : ℕ → ℕ
 lap_of k = (k / ring_length + 1) % 2
@@ -31,13 +35,25 @@ abbrev pub IsRecord : Record → Type 0
 IsRecord (Place address first count) = (address < 2 ^ 24) × (0 < count) × (first + count < 2 ^ 16)
 IsRecord Close = Unit {0}
 
--- the spaces begin behind 64 control words and the rings
-abbrev pub spaces_start : ℕ
-spaces_start = 64 + slots * ring_length
+-- the control words: the cycle word, the epoch word, and the head of each slot, from this place on
+abbrev pub heads_start : ℕ
+heads_start = 2
 
--- where record k of a slot stands in the table
+-- behind the heads as many words as make them 64
+abbrev pub control_words : ℕ
+control_words = 64
+
+-- where the head of a slot stands in the table
+abbrev pub head_place : ℕ → ℕ
+head_place slot = heads_start + slot
+
+-- where record k of a slot stands there
 abbrev pub ring_place : ℕ → ℕ → ℕ
-ring_place slot k = 64 + ring_length * slot + k % ring_length
+ring_place slot k = control_words + ring_length * slot + k % ring_length
+
+-- the spaces begin behind the rings
+abbrev pub spaces_start : ℕ
+spaces_start = control_words + slots * ring_length
 
 -- ---- what a number says
 

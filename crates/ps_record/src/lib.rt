@@ -12,8 +12,17 @@ pub const SLOTS: u64 = 32;
 /// How many records a ring holds.
 pub const RING: u64 = 256;
 
-/// The words below the two spaces: 64 control words, and the rings.
-pub const SPACES_START: u64 = 64 + SLOTS * RING;
+/// No log gets more records.
+pub const LOG_LIMIT: u64 = 1 << 63;
+
+/// The words below the rings: the cycle word, the epoch word, a head for each slot, and blanks.
+pub const CONTROL_WORDS: u64 = 64;
+
+/// Where the heads begin: those of the slots, one behind the other.
+pub const HEADS_START: u64 = 2;
+
+/// The words below the two spaces: the control words, and the rings.
+pub const SPACES_START: u64 = CONTROL_WORDS + SLOTS * RING;
 
 const LAP: u64 = 1 << 63;
 
@@ -155,13 +164,22 @@ pub fn lap_of(number: u64) -> u64
     (number / RING + 1) % 2
 }
 
+/// The word of the table at which the head of a slot stands.
+#[inline]
+pub fn head_place(slot: u64) -> u64
+    requires { slot < SLOTS }
+    ensures { result ≡ layout.head_place slot }
+{
+    HEADS_START + slot
+}
+
 /// The word of the table at which record `number` of a slot's log stands.
 #[inline]
 pub fn ring_place(slot: u64, number: u64) -> u64
     requires { slot < SLOTS }
     ensures { result ≡ layout.ring_place slot number }
 {
-    64 + RING * slot + number % RING
+    CONTROL_WORDS + RING * slot + number % RING
 }
 
 /// The laws of the layout: a packed record gives its fields back, and is read as itself; a ring
@@ -177,7 +195,8 @@ pub fn laws()
     ensures lap { (k : ℕ) (r : Record) → layout.IsRecord r
         → layout.lap_in (layout.packed k r) ≡ layout.lap_of k }
     ensures next_lap { (k : ℕ) → (layout.lap_of (k + layout.ring_length) ≢ layout.lap_of k)
-        × ((slot : ℕ) → layout.ring_place slot (k + layout.ring_length) ≡ layout.ring_place slot k) }
+        × ((slot : ℕ)
+        → layout.ring_place slot (k + layout.ring_length) ≡ layout.ring_place slot k) }
     ensures reads { (k : ℕ) (r : Record) → layout.IsRecord r
         → layout.read_record k (layout.packed k r) ≡ Some r }
     ensures stale { (k : ℕ) (r : Record) → layout.IsRecord r

@@ -19,16 +19,24 @@ kind_number Body = 11
 unfoldable pub header_packed : Header → ℕ
 header_packed h = kind_number h.kind * 2 ^ 60 + h.fields * 2 ^ 40 + h.birth
 
+-- birth numbers are below it
+abbrev pub birth_limit : ℕ
+birth_limit = 2 ^ 40
+
 pub record IsHeader (h : Header) : Type 0 where
   pub fields : h.fields < 2 ^ 20
-  pub birth : h.birth < 2 ^ 40
+  pub birth : h.birth < birth_limit
 
 -- cycle from bit 24 on, address of the replica from bit 0 on
 unfoldable pub forward_packed : Forward → ℕ
 forward_packed f = f.cycle * 2 ^ 24 + f.address
 
+-- cycle numbers are below it
+abbrev pub cycle_limit : ℕ
+cycle_limit = 2 ^ 32
+
 pub record IsForward (f : Forward) : Type 0 where
-  pub cycle : f.cycle < 2 ^ 32
+  pub cycle : f.cycle < cycle_limit
   pub address : f.address < 2 ^ 24
 
 -- ---- the places

@@ -6,8 +6,7 @@ ghost use Rattle.ps_word.specs.Format as layout;
 ghost use Rattle.ps_word.specs.Format.{IsContent};
 
 use crate::operators::number_of;
-use crate::values::{Content, Part};
-use ps_language::access::Access;
+use crate::values::{Content, Part, access_number};
 
 /// The lowest bit of the type's number.
 pub(crate) const TYPE: u64 = 1 << 60;
@@ -27,34 +26,13 @@ pub(crate) const ADDRESS: u64 = 1 << 32;
 /// The lowest bit of a part's offset.
 pub(crate) const OFFSET: u64 = 1 << 16;
 
-/// The number of an access.
-#[inline]
-pub(crate) fn access_number(access: Access) -> u64
-    ensures { result ≡ layout.access_number access }
-{
-    access as u64
-}
-
-/// The access that a number says.
-#[inline]
-pub(crate) fn access_of(number: u64) -> Access
-    ensures { result ≡ layout.access_of number }
-{
-    match number {
-        0 => Access::Unlimited,
-        1 => Access::ReadOnly,
-        2 => Access::ExecuteOnly,
-        _ => Access::NoAccess,
-    }
-}
-
 /// The bits of a part, below those of the attribute.
 #[inline]
 pub(crate) fn part_bits(part: Part) -> u64
     requires { layout.IsPart part }
     ensures { result ≡ layout.part_bits part }
 {
-    access_number(part.access) * ACCESS
+    access_number(part.access) as u64 * ACCESS
         + part.address as u64 * ADDRESS
         + part.offset as u64 * OFFSET
         + part.length as u64

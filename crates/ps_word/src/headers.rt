@@ -7,6 +7,12 @@ ghost use Rattle.ps_word.specs.Headers as layout;
 use crate::words::Word;
 use ps_language::kinds::Kind;
 
+/// Birth numbers are below it: in a header they have bits 0 to 39.
+pub const BIRTH_LIMIT: u64 = 1 << 40;
+
+/// The numbers of cycles are below it.
+pub const CYCLE_LIMIT: u64 = 1 << 32;
+
 const KIND: u64 = 1 << 60;
 
 const FIELDS: u64 = 1 << 40;
@@ -60,6 +66,30 @@ fn kind_of(number: u64) -> Option<Kind>
     }
 }
 
+/// The number of the kind that a first header says.
+#[inline]
+pub fn kind_in(header: u64) -> u64
+    ensures { result ≡ layout.kind_in header }
+{
+    header / KIND
+}
+
+/// The number of fields that a first header says.
+#[inline]
+pub fn fields_in(header: u64) -> u64
+    ensures { result ≡ layout.fields_in header }
+{
+    (header / FIELDS) % (1 << 20)
+}
+
+/// The birth number that a first header says.
+#[inline]
+pub fn birth_in(header: u64) -> u64
+    ensures { result ≡ layout.birth_in header }
+{
+    header % BIRTH_LIMIT
+}
+
 impl Header {
     /// The word of a header whose numbers fit their places.
     #[inline]
@@ -76,11 +106,11 @@ impl Header {
         ensures { (header : Header) → (result ≡ Some header)
             ↔ (layout.IsHeader header × (layout.header_packed header ≡ word.0)) }
     {
-        match kind_of(word.0 / KIND) {
+        match kind_of(kind_in(word.0)) {
             Some(kind) => Some(Header {
                 kind,
-                fields: ((word.0 / FIELDS) % (1 << 20)) as u32,
-                birth: word.0 % FIELDS,
+                fields: fields_in(word.0) as u32,
+                birth: birth_in(word.0),
             }),
             None => None,
         }
@@ -104,7 +134,7 @@ impl Forward {
             ↔ (layout.IsForward forward × (layout.forward_packed forward ≡ word.0)) }
     {
         let cycle = word.0 / CYCLE;
-        if cycle >= 1 << 32 {
+        if cycle >= CYCLE_LIMIT {
             return None;
         }
         Some(Forward {

@@ -1,8 +1,32 @@
 //! Values as words hold them.
 #![tactic(auto)]
 
+ghost use Rattle.std.specs.Prelude.{◌≡◌};
+ghost use Rattle.ps_word.specs.Format as format;
+
 use ps_language::access::Access;
 use ps_language::operators::Operator;
+
+/// The number of an access, below 4: the more it takes away, the higher (PLRM2, 3.3.2).
+#[inline]
+pub fn access_number(access: Access) -> u32
+    ensures { result ≡ format.access_number access }
+{
+    access as u32
+}
+
+/// The access that a number says; from 3 on it is none.
+#[inline]
+pub fn access_of(number: u32) -> Access
+    ensures { result ≡ format.access_of number }
+{
+    match number {
+        0 => Access::Unlimited,
+        1 => Access::ReadOnly,
+        2 => Access::ExecuteOnly,
+        _ => Access::NoAccess,
+    }
+}
 
 /// A part of an array or of a string, which shares its object (PLRM2, 3.3.1 and 3.6): the address
 /// of the object, where the part begins in it and how many elements or bytes it has, and what may

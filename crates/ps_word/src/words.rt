@@ -7,11 +7,10 @@ ghost use Rattle.ps_word.specs.Format.{value_in, content_in, IsWord, IsInFormat,
 ghost use Rattle.ps_word.specs.Readers as readers;
 
 use crate::bits::{
-    ACCESS, ADDRESS, EXECUTABLE, OFFSET, REFERENCE, TYPE, access_number, access_of, content_bits,
-    type_number,
+    ACCESS, ADDRESS, EXECUTABLE, OFFSET, REFERENCE, TYPE, content_bits, type_number,
 };
 use crate::operators::operator_of;
-use crate::values::{Content, Part, Value};
+use crate::values::{Content, Part, Value, access_number, access_of};
 use ps_language::access::Access;
 use ps_language::kinds::Kind;
 use ps_language::operators::Operator;
@@ -209,7 +208,7 @@ impl Word {
             address: self.low_address(),
             offset: ((self.0 / OFFSET) % (1 << 16)) as u16,
             length: (self.0 % (1 << 16)) as u16,
-            access: access_of((self.0 / ACCESS) % 4),
+            access: access_of(((self.0 / ACCESS) % 4) as u32),
         }
     }
 
@@ -421,7 +420,11 @@ impl Word {
             } }
         ensures word { IsWord result.0 }
     {
-        Word((self.0 / EXECUTABLE) * EXECUTABLE + access_number(access) * ACCESS + self.0 % ACCESS)
+        Word(
+            (self.0 / EXECUTABLE) * EXECUTABLE
+                + access_number(access) as u64 * ACCESS
+                + self.0 % ACCESS,
+        )
     }
 
     /// The word with this address, which is below 2^24, in the places of a reference's.

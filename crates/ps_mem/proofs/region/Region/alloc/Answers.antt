@@ -15,7 +15,7 @@ invariant_of-self c =
     let births = r.births in
     let room = c.requires.room in
     let fields = c.requires.fields in
-    let fits : IsHeader h = record { fields = fields; birth = omega (arith, within, limited, births) } in
+    let fits : IsHeader h = record { fields = omega (arith, fields); birth = omega (arith, within, limited, births) } in
     let same : length c.store.new.self ≡ length r.words = ap length c.store.ensures ∙ length_with_new r.words r.used r.next r.within r.whole r.blank h fits c.pack.result.0 c.pack.ensures n refl room in
     record {
       within = omega (arith, same, room);
@@ -34,7 +34,7 @@ returns-clause-free c =
     let within = r.within in
     let limited = r.limited in
     let births = r.births in
-    let fits : IsHeader h = record { fields = c.requires.fields; birth = omega (arith, within, limited, births) } in
+    let fits : IsHeader h = record { fields = omega (arith, c.requires.fields); birth = omega (arith, within, limited, births) } in
     nothing_there r.words r.used r.next r.within r.whole r.blank h fits c.pack.result.0 c.pack.ensures c.args.fields refl c.requires.room
 
 pub returns-clause-heap : goal.returns-clause-heap
@@ -45,6 +45,6 @@ returns-clause-heap c = λ space.
     let within = r.within in
     let limited = r.limited in
     let births = r.births in
-    let fits : IsHeader h = record { fields = c.requires.fields; birth = omega (arith, within, limited, births) } in
+    let fits : IsHeader h = record { fields = omega (arith, c.requires.fields); birth = omega (arith, within, limited, births) } in
     ap (λ ws. heap_in ws (r.used + 2 + n) (r.next + 1) space) c.store.ensures
     ∙ heap_with_new r.words r.used r.next r.within r.whole r.blank h fits c.pack.result.0 c.pack.ensures n refl c.requires.room refl space

@@ -14,7 +14,7 @@ invariant_of-self c =
     let limited = r.limited in
     let births = r.births in
     let room = c.requires.room in
-    let fits : IsHeader h = record { fields = c.requires.fields; birth = c.requires.birth } in
+    let fits : IsHeader h = record { fields = omega (arith, c.requires.fields); birth = c.requires.birth } in
     let same : length c.store.new.self ≡ length r.words = ap length c.store.ensures ∙ length_with_new r.words r.used r.next r.within r.whole r.blank h fits c.pack.result.0 c.pack.ensures n refl room in
     record {
       within = omega (arith, same, room);
@@ -30,7 +30,7 @@ pub returns-clause-free : goal.returns-clause-free
 returns-clause-free c =
     let r = c.args.self.now in
     let h : Header = record { kind = Body; fields = c.args.fields; birth = c.args.birth } in
-    let fits : IsHeader h = record { fields = c.requires.fields; birth = c.requires.birth } in
+    let fits : IsHeader h = record { fields = omega (arith, c.requires.fields); birth = c.requires.birth } in
     nothing_there r.words r.used r.next r.within r.whole r.blank h fits c.pack.result.0 c.pack.ensures c.args.fields refl c.requires.room
 
 pub returns-clause-heap : goal.returns-clause-heap
@@ -38,6 +38,6 @@ returns-clause-heap c = λ space.
     let r = c.args.self.now in
     let n = c.args.fields in
     let h : Header = record { kind = Body; fields = n; birth = c.args.birth } in
-    let fits : IsHeader h = record { fields = c.requires.fields; birth = c.requires.birth } in
+    let fits : IsHeader h = record { fields = omega (arith, c.requires.fields); birth = c.requires.birth } in
     ap (λ ws. heap_in ws (r.used + 2 + n) r.next space) c.store.ensures
     ∙ heap_with_body r.words r.used r.next r.within r.whole r.blank h fits c.pack.result.0 c.pack.ensures n refl c.requires.room refl space
