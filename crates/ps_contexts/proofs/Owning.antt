@@ -1,5 +1,5 @@
 -- Many own steps of one context are moves of the world.
-use Rattle.std.proofs.Common.{◌≡◌, ℕ, zero, suc, Bool, true, false, Option, Some, None, refl, sym, ap, subst, ◌∙◌, IsTrue}
+use Rattle.std.proofs.Common.{◌≡◌, ◌≢◌, ℕ, zero, suc, Bool, true, false, Option, Some, None, refl, sym, ap, subst, ◌∙◌, IsTrue}
 use Rattle.std.specs.Option.{option_map_or}
 use Rattle.std.specs.Prelude.{◌&&◌, not, nat_eq, if◌then◌else◌}
 use Rattle.ps_language.specs.Contexts.{is_finished, left_of, context_at, with_context}
@@ -18,7 +18,7 @@ use Rattle.ps_contexts.specs.Seats.{item_at, with_item}
 use Rattle.ps_contexts.specs.Worlds.{status_of, context_of}
 use Rattle.ps_contexts.specs.Desks.{Desk, lent_to, desk_after, IsWorld, IsLentBy, IsCourseHeld, IsSteady}
 use Rattle.ps_contexts.specs.Moves.{OwnStep, OwnSteps, plain_moves}
-use Rattle.ps_contexts.proofs.Places.{with_item-same, with_item-twice, item_at-with_item}
+use Rattle.ps_contexts.proofs.Places.{with_item-same, with_item-twice, item_at-with_item, item_at-apart}
 use Rattle.ps_contexts.proofs.Stepping.{stepped_own, context_there}
 use Rattle.ps_contexts.proofs.Turning.{went_world}
 
@@ -50,6 +50,14 @@ there : (w : World) (identifier : ℕ)
 unfolding context_at
 there w zero = refl
 there w (suc place) = refl
+
+-- every other is as it was
+pub put_apart : (w : World) (identifier other : ℕ) (next : Machine) → identifier ≢ other
+    → context_at (with_machine identifier w next) other ≡ context_at w other
+unfolding with_context
+put_apart w identifier other next apart =
+    there (with_machine identifier w next) other
+    ∙ (item_at-apart w.contexts identifier other (left_of next.context) apart ∙ sym (there w other))
 
 module _ (w : World) (identifier : ℕ) (context : Context)
     (found : context_at w identifier ≡ Some context) where

@@ -1,5 +1,5 @@
 -- The item of an identifier through changes of the list.
-use Rattle.std.proofs.Common.{◌≡◌, ◌∙◌, ℕ, zero, suc, ◌≤◌, arith, List, [], ◌∷◌, length, Option, Some, None, refl, sym, ap}
+use Rattle.std.proofs.Common.{◌≡◌, ◌≢◌, ◌∙◌, ℕ, zero, suc, ◌≤◌, arith, List, [], ◌∷◌, length, Option, Some, None, refl, sym, ap}
 use Rattle.std.specs.Prelude.{option_and_then, slice_get, slice_set}
 use Rattle.ps_contexts.specs.Seats.{item_at, with_item}
 
@@ -47,6 +47,24 @@ module _ {A : Type 0} where
       ≡ item
   item_at-with_item list zero old item found = cc
   item_at-with_item list (suc place) old item found = there_place list place old item found
+
+  get_apart : (list : List (Option A)) (place other : ℕ) (item : Option A) → place ≢ other
+      → slice_get (slice_set list place item) other ≡ slice_get list other
+  get_apart [] place other item apart = refl
+  get_apart (one ∷ list) zero zero item apart = absurd (apart refl)
+  get_apart (one ∷ list) zero (suc other) item apart = refl
+  get_apart (one ∷ list) (suc place) zero item apart = refl
+  get_apart (one ∷ list) (suc place) (suc other) item apart =
+      get_apart list place other item (λ e. apart (ap (λ n. suc n) e))
+
+  -- another's item is the same
+  pub item_at-apart : (list : List (Option A)) (identifier other : ℕ) (item : Option A)
+      → identifier ≢ other → item_at (with_item list identifier item) other ≡ item_at list other
+  item_at-apart list zero other item apart = refl
+  item_at-apart list (suc place) zero item apart = refl
+  item_at-apart list (suc place) (suc other) item apart =
+      ap (option_and_then (λ one. one))
+      (get_apart list place other item (λ e. apart (ap (λ n. suc n) e)))
 
   -- no other is there
   pub one_there : (list : List (Option A)) (identifier : ℕ) (one other : A)

@@ -23,7 +23,7 @@ use Rattle.ps_contexts.specs.Worlds.{context_of}
 use Rattle.ps_contexts.specs.Desks.{Desk, lent_to, desk_unmade, has_finished, member_left, HasFrame, AreFramed, IsGoodMember, IsWorld, IsSteady}
 use Rattle.ps_contexts.proofs.Changing.{changed_desk, changed_steady, changed_world}
 use Rattle.ps_contexts.proofs.Going.{left_members}
-use Rattle.ps_contexts.proofs.Places.{item_at-with_item, with_item-twice}
+use Rattle.ps_contexts.proofs.Places.{item_at-apart, item_at-with_item, with_item-twice}
 use Rattle.ps_contexts.proofs.Stepping.{context_there}
 use Rattle.ps_contexts.proofs.Turning.{member_at}
 use Rattle.ps_world.specs.declared.notes.Note.TheVariants.{Nothing}
@@ -38,7 +38,7 @@ use Rattle.ps_forks.specs.Detached.{detached, detached_members}
 use Rattle.ps_forks.specs.Named.{Names}
 use Rattle.ps_forks.proofs.NamedOperand.{detach_named, names_here}
 use Rattle.ps_forks.proofs.Unchanged.{here_is, raised_there}
-use Rattle.ps_forks.proofs.Others.{item_at-apart, runs_still, framed_there, framed_still}
+use Rattle.ps_forks.proofs.Others.{runs_still, framed_there, framed_still}
 
 -- ---- the table
 

@@ -34,7 +34,7 @@ use Rattle.ps_contexts.specs.Seats.{item_at, with_item}
 use Rattle.ps_contexts.specs.Worlds.{context_of}
 use Rattle.ps_contexts.specs.Desks.{Desk, desk_of, lent_to, returned, desk_unmade, IsGoodMember, IsWorld, IsSteady}
 use Rattle.ps_contexts.proofs.Changing.{gone_desk, gone_steady, gone_world}
-use Rattle.ps_contexts.proofs.Places.{one_there}
+use Rattle.ps_contexts.proofs.Places.{item_at-apart, one_there}
 use Rattle.ps_contexts.proofs.Turning.{member_at}
 use Rattle.ps_world.specs.declared.notes.Note.{Note}
 use Rattle.ps_world.specs.declared.notes.Note.TheVariants.{Nothing}
@@ -48,7 +48,7 @@ use Rattle.ps_callers.proofs.Parts.{IsPlain, nothing_few, plain_by, part_is, par
 use Rattle.ps_forks.specs.Joined.{HandsOver, JoinsTo}
 use Rattle.ps_forks.specs.Waits.{WaitsBy}
 use Rattle.ps_forks.proofs.JoinFound.{counted, join_there, join_part_is, reads_here}
-use Rattle.ps_forks.proofs.Others.{item_at-apart, with_item-apart, runs_still, framed_still}
+use Rattle.ps_forks.proofs.Others.{with_item-apart, runs_still, framed_still}
 use Rattle.ps_forks.proofs.Unchanged.{here_is, raised_there}
 
 -- ---- what makes nothing is made

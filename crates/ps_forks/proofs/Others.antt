@@ -5,30 +5,13 @@ use Rattle.ps_contexts.specs.declared.members.Member.{Member}
 use Rattle.ps_contexts.specs.Seats.{item_at, with_item, count_left}
 use Rattle.ps_contexts.specs.Desks.{HasFrame, AreFramed}
 use Rattle.ps_contexts.proofs.Going.{with_item_members}
+use Rattle.ps_contexts.proofs.Places.{item_at-apart}
 use Rattle.ps_contexts.proofs.Turning.{member_at}
 use Rattle.ps_world.specs.Calls.{RunsAt, AreFramedBut}
 
 -- ---- two identifiers
 
 module _ {A : Type 0} where
-  get_apart : (list : List (Option A)) (place other : ℕ) (item : Option A) → place ≢ other
-      → slice_get (slice_set list place item) other ≡ slice_get list other
-  get_apart [] place other item apart = refl
-  get_apart (one ∷ list) zero zero item apart = absurd (apart refl)
-  get_apart (one ∷ list) zero (suc other) item apart = refl
-  get_apart (one ∷ list) (suc place) zero item apart = refl
-  get_apart (one ∷ list) (suc place) (suc other) item apart =
-      get_apart list place other item (λ e. apart (ap (λ n. suc n) e))
-
-  -- another's item is the same
-  pub item_at-apart : (list : List (Option A)) (identifier other : ℕ) (item : Option A)
-      → identifier ≢ other → item_at (with_item list identifier item) other ≡ item_at list other
-  item_at-apart list zero other item apart = refl
-  item_at-apart list (suc place) zero item apart = refl
-  item_at-apart list (suc place) (suc other) item apart =
-      ap (option_and_then (λ one. one))
-      (get_apart list place other item (λ e. apart (ap (λ n. suc n) e)))
-
   set_apart : (list : List (Option A)) (place other : ℕ) (first second : Option A)
       → place ≢ other
       → slice_set (slice_set list place first) other second

@@ -158,7 +158,8 @@ Contents = Text → Option (List ℕ)
 abbrev pub IsGiven : Contents → Option Text → Option (List Entry) → Type 0
 IsGiven contents None None = ⊤
 IsGiven contents (Some name) (Some given) = AreEntries given
-    × IfSome (contents name) (λ bytes. text_of given ≡ bytes) × (length (text_of given) ≤ most_schedule_bytes)
+    × IfSome (contents name) (λ bytes. text_of given ≡ bytes)
+    × (length (text_of given) ≤ most_schedule_bytes)
 IsGiven contents _ _ = ⊥
 
 -- a file holds the text of a schedule, if one is named
@@ -169,9 +170,9 @@ IsRecorded contents (Some name) schedule =
 
 -- asks: what a step asks for that the language doesn't say
 module _ (asks : world.Status → Around → Scene → acts.Asked) (program : List ℕ) where
-  -- a run under a given schedule: its bytes are those that the definitions print under the steps that
-  -- were made. Those steps are all that are given, or for want of memory fewer, and the outcome is
-  -- that of their world
+  -- a run under a given schedule: its bytes are those that the definitions print under the steps
+  -- that were made. Those steps are all that are given, or for want of memory fewer, and the
+  -- outcome is that of their world
   pub record IsReplayOf (given : List Entry) (printed : List ℕ) (capacity : ℕ)
       (schedule : List Entry) (outcome : Outcome) : Type 0 where
     pub prints : printed ≡ worlds.printed program schedule
@@ -181,8 +182,8 @@ module _ (asks : world.Status → Around → Scene → acts.Asked) (program : Li
     pub ends : EndsAs asks (worlds.world program schedule) capacity schedule
         (not (is_memory outcome)) (is_next_refused given schedule) outcome
 
-  -- a run with a budget of steps, in passes with turns of at most a quantum, whose schedule has a text
-  -- that can be read again; or one under a schedule that is given
+  -- a run with a budget of steps, in passes with turns of at most a quantum, whose schedule has a
+  -- text that can be read again; or one under a schedule that is given
   abbrev pub IsMade : Option (List Entry) → Asked → (printed : List ℕ) → (capacity : ℕ)
       → List Entry → Outcome → Type 0
   IsMade None asked printed capacity schedule outcome =

@@ -9,8 +9,8 @@ const SEED: u64 = 42;
 
 const STREAM: u64 = 54;
 
-/// Chooses one of the contexts that are ready, and at most a quantum of steps, fewer more often than
-/// many. Nothing is claimed of its fairness.
+/// Chooses one of the contexts that are ready, and at most a quantum of steps, fewer more often
+/// than many. Nothing is claimed of its fairness.
 #[derive(Drop)]
 pub(crate) struct Chances {
     generator: Pcg32,

@@ -73,7 +73,8 @@ pub fn drive<
         × IsDriven S.asks (names_in (map (λ word. word.now) words.now))
         (AreAsked (map (λ word. word.now) words.now))
         ((faults_in (map (λ word. word.now) words.now) ≢ [])
-        ⊎ (IsTooLong most_program_bytes (F.contents files.old (names_in (map (λ word. word.now) words.now)).file)
+        ⊎ (IsTooLong most_program_bytes
+        (F.contents files.old (names_in (map (λ word. word.now) words.now)).file)
         ⊎ (HasNoSchedule (F.contents files.old)
         (names_in (map (λ word. word.now) words.now)).replayed (X.contents err.old)
         (X.contents err.new)

@@ -61,8 +61,8 @@ pub(crate) fn finish_all<F: FileSet, W: Flushing, X: Write>(
 }
 
 /// Writes the texts of the endings' schedules to files by their numbers, if they are asked for.
-/// Where one can't be written, or memory is wanted, that is told, and the status is the error; those
-/// before it are written then.
+/// Where one can't be written, or memory is wanted, that is told, and the status is the error;
+/// those before it are written then.
 fn record_all<F: FileSet, X: Write>(
     alloc: Global,
     endings: &[Report],

@@ -13,7 +13,8 @@ use ps_vault::Entry;
 use std::alloc::Global;
 use std::io::Write;
 
-/// The bytes of a file of at most so many. Where they can't be read that is told, and the status is the error.
+/// The bytes of a file of at most so many. Where they can't be read that is told, and the status is
+/// the error.
 pub(crate) fn read<F: FileSet, X: Write>(
     alloc: Global,
     name: &str,

@@ -1,12 +1,13 @@
 -- What a vault keeps over steps of one context.
 use Rattle.std.proofs.Common.{◌≡◌, ◌≢◌, ℕ, ℤ, zero, suc, ◌+◌, ◌^◌, ◌<◌, ◌≤◌, Bool, true, false, ◌&&◌, Option, Some, None, Result, Ok, Err, List, [], ◌∷◌, ◌++◌, refl, sym, ◌∙◌, ap, subst, arith}
 use Rattle.std.specs.Prelude.{IsTrue, IfSome, min, max, replicate}
+use Rattle.std.specs.Option.{option_map_or}
 use Rattle.std.proofs.lemmas.Bool.{lt-ltb, true≢false}
 use Rattle.ps_language.specs.declared.schedules.Entry.{Entry}
 use Rattle.ps_language.specs.Effect.{turn_ends, Around, Scene}
-use Rattle.ps_language.specs.Locks.{is_ready}
+use Rattle.ps_language.specs.Locks.{is_ready_as, is_ready}
 use Rattle.ps_language.specs.Schedules.{Move, plain_move, added, moves, count_of, is_longest}
-use Rattle.ps_language.specs.World.{Status, World}
+use Rattle.ps_language.specs.World.{Status, Context, World}
 use Rattle.ps_language.specs.Worlds.{after_move, after_moves, starting_world, world, all_ready, IsProper}
 use Rattle.ps_language.proofs.ScheduleLaws.{moves-added, count_of-added, longest-added}
 use Rattle.ps_language.proofs.WorldLaws.{after_moves-append, all_ready-append}
@@ -18,17 +19,17 @@ use Rattle.ps_world.specs.declared.notes.Note.{Note}
 use Rattle.ps_world.specs.declared.notes.Note.TheVariants.{Nothing, TurnEnds, ShowsMemory, Wishes}
 use Rattle.ps_world.specs.Held.{Held, IsAt}
 use Rattle.ps_world.specs.Notes.{note_of}
-use Rattle.ps_world.specs.Steps.{AreQuiet, AreShown, HasMade, IsUnready, StepsBehind, ordinary, words_shown}
+use Rattle.ps_world.specs.Steps.{AllFrom, AreShown, HasMade, IsQuiet, IsUnready, KeepsOthers, StepsBehind, ordinary, words_shown}
 use Rattle.ps_language.specs.Step.{stepped}
 use Rattle.ps_vault.specs.Holds as holds
 use Rattle.ps_vault.specs.Holds.{IsHeldUp}
-use Rattle.ps_vault.specs.Order.{AllKeepTurn, NoneEnds, OnlyLastMayEnd, EndsTurn}
+use Rattle.ps_vault.specs.Order.{IsOnlyLeft, IsAlone, KeepsTurn, NoneEnds, IsOfOne, AllOfOne, OnlyLastMayEnd, EndsTurn}
 use Rattle.ps_vault.specs.Reports.{are_ordinary, are_words, is_number_of_words, is_ordinary}
 use Rattle.ps_vault.specs.Stories.{Keeps, move_of}
 use Rattle.ps_vault.specs.Turns.{added_times}
 use Rattle.ps_vault.proofs.Following.{times_moves}
 use Rattle.ps_vault.proofs.Keeping.{and_both, keeps_noted, keeps_unmade, held_step}
-use Rattle.ps_vault.proofs.Ordering.{none_ends_more}
+use Rattle.ps_vault.proofs.Ordering.{adds_all_more}
 
 -- the world after so many more
 pub world_times : (program : List ℕ) (schedule : List Entry) (n : ℕ) (move : Move)
@@ -99,16 +100,16 @@ pub ordinary_move : (context : ℕ) (shown : Option (ℤ × ℤ)) → context < 
     → are_words shown ≡ true → is_ordinary (move_of context false shown) ≡ true
 ordinary_move context shown few words = and_both _ _ (lt-ltb context (2 ^ 32) few) words
 
+both : (a b : Bool) → (a && b) ≡ true → (a ≡ true) × (b ≡ true)
+both true b h = (refl, h)
+both false b h = absurd (true≢false (sym h))
+
 ordinary_more : (steps : List Move) (move : Move) → is_ordinary move ≡ true
     → are_ordinary steps ≡ true → are_ordinary (steps ++ move ∷ []) ≡ true
 ordinary_more [] move plain h = and_both _ true plain refl
 ordinary_more (first ∷ steps) move plain h =
     let p = both (is_ordinary first) (are_ordinary steps) h in
     and_both _ _ p.0 (ordinary_more steps move plain p.1)
-  where
-    both : (a b : Bool) → (a && b) ≡ true → (a ≡ true) × (b ≡ true)
-    both true b h = (refl, h)
-    both false b h = absurd (true≢false (sym h))
 
 pub ordinary_added : (schedule : List Entry) (move : Move) → is_ordinary move ≡ true
     → are_ordinary (moves schedule) ≡ true → are_ordinary (moves (added schedule move)) ≡ true
@@ -127,12 +128,42 @@ ordinary_times (suc n) schedule move plain h =
 -- ---- what ends a turn
 
 -- steps of which nothing is told end none
-quiet_keep : (now : World) (steps : List Move) → AreQuiet now steps → AllKeepTurn now steps
+quiet_keep : (now : World) (steps : List Move) → AllFrom IsQuiet now steps
+    → AllFrom KeepsTurn now steps
 quiet_keep now [] quiet = tt
 quiet_keep now (step ∷ steps) quiet = (
   record { shown = step.shown; told = λ ends. absurd (cc) },
   quiet_keep (after_move now step) steps quiet.1,
 )
+
+-- ---- a context that alone is left
+
+-- where it is ready it is so alone
+pub only_left_ready : (w : World) (context : ℕ) → IsOnlyLeft w context
+    → is_ready w context ≡ true → IsAlone context w
+unfolding is_ready
+only_left_ready w context left ready = record {
+  ready = ready;
+  others = λ other apart. ap (λ (found : Option Context).
+      option_map_or (λ one. is_ready_as one.status other one w) found false) (left other apart);
+}
+
+-- it goes on being so over steps that leave the others as they are
+alone_times : (context made : ℕ) (now : World) → IsOnlyLeft now context
+    → AllFrom (KeepsOthers context) now (replicate made (plain_move context))
+    → IsTrue (all_ready now (replicate made (plain_move context)))
+    → AllFrom (IsOfOne context) now (replicate made (plain_move context))
+    × IsOnlyLeft (after_moves now (replicate made (plain_move context))) context
+unfolding after_moves
+alone_times context zero now left keep ready = (tt, left)
+alone_times context (suc made) now left keep ready =
+    let p = both (is_ready now context)
+    (all_ready (after_move now (plain_move context)) (replicate made (plain_move context))) ready in
+    let rest = alone_times context made (after_move now (plain_move context))
+    (λ other apart. keep.0 other apart ∙ left other apart) keep.1 p.1 in
+    (((refl, only_left_ready now context left p.0), rest.0), rest.1)
+
+-- ---- many steps
 
 ends_noted : (note : Note) → note_of note ≡ turn_ends → note ≡ TurnEnds
 ends_noted Nothing is = absurd (cc)
@@ -164,9 +195,33 @@ module _ (context made : ℕ) (old new : Held) (schedule : List Entry) (keeps : 
   none_ends_made = record {
     steps = replicate made (plain_move context);
     is = times_moves made schedule (plain_move context);
-    keep = quiet_keep (world old.desk.program schedule) (replicate made (plain_move context))
+    all = quiet_keep (world old.desk.program schedule) (replicate made (plain_move context))
         (has.quiet (world old.desk.program schedule) keeps.at ready);
   }
+
+  module _ (left : IsOnlyLeft (world old.desk.program schedule) context) where
+    alone : AllFrom (IsOfOne context) (world old.desk.program schedule)
+        (replicate made (plain_move context))
+        × IsOnlyLeft (after_moves (world old.desk.program schedule)
+        (replicate made (plain_move context))) context
+    alone =
+        alone_times context made (world old.desk.program schedule) left
+        (has.others (world old.desk.program schedule) keeps.at ready)
+        (has.ready (world old.desk.program schedule) keeps.at ready)
+
+    pub alone_made : AllOfOne context (starting_world old.desk.program) (moves schedule)
+        (moves later)
+    unfolding world
+    alone_made = record {
+      steps = replicate made (plain_move context);
+      is = times_moves made schedule (plain_move context);
+      all = alone.0;
+    }
+
+    pub left_made : IsOnlyLeft (world old.desk.program later) context
+    left_made =
+        subst (λ (w : World). IsOnlyLeft w context)
+        (sym (world_times old.desk.program schedule made (plain_move context))) alone.1
 
 -- one is made at least, where fewer than were asked for end with the context not ready
 pub some_made : (context made most : ℕ) (old new : Held) (schedule : List Entry)
@@ -190,15 +245,26 @@ module _ (asks : Status → Around → Scene → Asked) (context slot made : ℕ
     keeps_mid : Keeps behind.mid so_far
     keeps_mid = keeps_made context made old behind.mid schedule keeps ready behind.makes
 
+    ready_here : is_ready (world old.desk.program so_far) context ≡ true
+    ready_here = ap (λ (w : World). is_ready w context)
+        (world_times old.desk.program schedule made (plain_move context))
+        ∙ behind.ready (world old.desk.program schedule) keeps.at ready
+
     ready_mid : is_ready (world behind.mid.desk.program so_far) context ≡ true
     ready_mid = ap (λ (p : List ℕ). is_ready (world p so_far) context) behind.makes.program
-        ∙ (ap (λ (w : World). is_ready w context)
-        (world_times old.desk.program schedule made (plain_move context))
-        ∙ behind.ready (world old.desk.program schedule) keeps.at ready)
+        ∙ ready_here
 
     pub none_ends_mid : NoneEnds (starting_world old.desk.program) (moves schedule)
         (moves so_far)
     none_ends_mid = none_ends_made context made old behind.mid schedule keeps ready behind.makes
+
+    module _ (left : IsOnlyLeft (world old.desk.program schedule) context) where
+      pub alone_mid : AllOfOne context (starting_world old.desk.program) (moves schedule)
+          (moves so_far)
+      alone_mid = alone_made context made old behind.mid schedule keeps ready behind.makes left
+
+      left_mid : IsOnlyLeft (world old.desk.program so_far) context
+      left_mid = left_made context made old behind.mid schedule keeps ready behind.makes left
 
   -- it was made
   module _ (note : Note) (behind : StepsBehind asks context slot made shown (Ok note) old new)
@@ -224,13 +290,37 @@ module _ (asks : Status → Around → Scene → Asked) (context slot made : ℕ
           (moves (added so_far (move_of context false kept)))
       unfolding world
       none_ends_behind kept goes =
-          none_ends_more (starting_world old.desk.program) (moves schedule) (moves so_far)
-          (moves (added so_far (move_of context false kept))) (none_ends_mid (Ok note) behind)
+          adds_all_more KeepsTurn (starting_world old.desk.program) (moves schedule)
+          (moves so_far) (moves (added so_far (move_of context false kept)))
+          (none_ends_mid (Ok note) behind)
           (record {
             steps = move_of context false kept ∷ [];
             is = moves-added so_far (move_of context false kept);
-            keep = (
+            all = (
               record { shown = shown; told = λ is. goes (ends_noted note (sym told ∙ is)) },
+              tt,
+            );
+          })
+
+      -- it and those before it were made by a context that alone was ready
+      pub alone_behind : (kept : Option (ℤ × ℤ))
+          → IsOnlyLeft (world old.desk.program schedule) context
+          → AllOfOne context (starting_world old.desk.program) (moves schedule)
+          (moves (added so_far (move_of context false kept)))
+      unfolding world
+      alone_behind kept left =
+          adds_all_more (IsOfOne context) (starting_world old.desk.program) (moves schedule)
+          (moves so_far) (moves (added so_far (move_of context false kept)))
+          (alone_mid (Ok note) behind left)
+          (record {
+            steps = move_of context false kept ∷ [];
+            is = moves-added so_far (move_of context false kept);
+            all = (
+              (
+                refl,
+                only_left_ready (world old.desk.program so_far) context
+                    (left_mid (Ok note) behind left) (ready_here (Ok note) behind),
+              ),
               tt,
             );
           })
@@ -274,6 +364,13 @@ module _ (asks : Status → Around → Scene → Asked) (context slot made : ℕ
     held_behind =
         held_step asks context (ordinary slot) shown behind.mid new so_far
         (keeps_mid (Err reason) behind) (ready_mid (Err reason) behind) reason behind.steps
+
+    -- who alone was left still is
+    pub left_held : IsOnlyLeft (world old.desk.program schedule) context
+        → IsOnlyLeft (world new.desk.program so_far) context
+    left_held left =
+        subst (λ (p : List ℕ). IsOnlyLeft (world p so_far) context)
+        (sym (behind.steps.program ∙ behind.makes.program)) (left_mid (Err reason) behind left)
 
 -- of a pair that isn't there none is kept
 pub kept_none : (note : Note) (shown : Option (ℤ × ℤ)) → shown ≡ None

@@ -1,9 +1,10 @@
 -- What a vault keeps, over its steps.
-use Rattle.std.proofs.Common.{◌≡◌, ℕ, ℤ, ◌<◌, ◌≤◌, Bool, true, false, ◌&&◌, Option, Some, None, Ok, Err, List, [], ◌∷◌, refl, sym, ◌∙◌, ap, subst, arith}
-use Rattle.std.specs.Prelude.{is_some, IsTrue, IsSome, IfSome, IfNone, MatchOption, ◌==◌, length}
+use Rattle.std.proofs.Common.{◌≡◌, ◌≢◌, ℕ, ℤ, zero, suc, ◌+◌, ◌<◌, ◌≤◌, Bool, true, false, ◌&&◌, Option, Some, None, Ok, Err, List, [], ◌∷◌, refl, sym, ◌∙◌, ap, subst, arith}
+use Rattle.std.specs.Prelude.{slice_get, IsTrue, IsSome, IfSome, IfNone, MatchOption, ◌==◌, length}
 use Rattle.std.specs.Option.{option_map, option_map_or}
 use Rattle.std.proofs.lemmas.Bool.{true≢false}
 use Rattle.ps_language.specs.declared.schedules.Entry.{Entry}
+use Rattle.ps_language.specs.Contexts.{context_in, context_at, count_not_ended}
 use Rattle.ps_language.specs.Effect.{Around, Scene}
 use Rattle.ps_language.specs.Locks.{is_ready_as, is_ready}
 use Rattle.ps_language.specs.Machines.{around_of, scene_of, turn_as, own_step}
@@ -31,12 +32,13 @@ use Rattle.ps_interpreter.proofs.Reached.{left_by}
 use Rattle.ps_world.specs.declared.notes.Note.{Note}
 use Rattle.ps_world.specs.declared.worlds.Calling.{Calling}
 use Rattle.ps_world.specs.Calls.{IsHeldUpAs}
-use Rattle.ps_world.specs.Held.{Held, held, IsAt, IsAtBy, IsSteadyHeld}
+use Rattle.ps_world.specs.Held.{Held, held, IsAt, IsAtBy, AreFramedBy, IsSteadyHeld, MayStep}
 use Rattle.ps_world.specs.Needs.{step_wants}
 use Rattle.ps_world.specs.Notes.{note_of}
 use Rattle.ps_world.specs.Steps.{Steps}
 use Rattle.ps_vault.specs.declared.reports.Outcome.{Outcome}
 use Rattle.ps_vault.specs.Holds.{slot, Grows, IsHeldUp, OnlyGrows}
+use Rattle.ps_vault.specs.Order.{IsOnlyLeft}
 use Rattle.ps_vault.specs.Reports.{are_ordinary, EndsAs, IsRunOf, MayWant}
 use Rattle.ps_vault.specs.Stories.{Story, Keeps, move_of, world_at}
 
@@ -64,14 +66,18 @@ proper_added program schedule move proper ready =
 
 -- ---- what it is at
 
-pub no_call : (calling : Option Calling) → is_some calling ≡ false → calling ≡ None
+-- whose call waits
+abbrev pub caller_of : Option Calling → Option ℕ
+caller_of calling = option_map (λ (one : Calling). one.caller) calling
+
+pub no_call : (calling : Option Calling) → caller_of calling ≡ None → calling ≡ None
 no_call None h = refl
-no_call (Some calling) h = absurd (true≢false h)
+no_call (Some calling) h = absurd (cc)
 
 -- the world of its story
 pub at_story : (h : Held) (schedule : List Entry) (story : Story) → Keeps h schedule
     → h.desk.program ≡ story.program → schedule ≡ story.schedule
-    → is_some h.calling ≡ story.is_calling → story.is_calling ≡ false
+    → caller_of h.calling ≡ story.caller → story.caller ≡ None
     → IsWorld h.desk (world_at story)
 at_story h schedule story keeps same made is none =
     subst (λ (p : List ℕ). IsWorld h.desk (world p story.schedule)) same
@@ -205,6 +211,42 @@ ready_there h names members w identifier same ready =
     by_item None bad = absurd (true≢false (sym bad))
     by_item (Some member) good = refl
 
+-- where its call waits it is there
+pub caller_there : (h : Held) (schedule : List Entry) (identifier : ℕ) → Keeps h schedule
+    → is_ready (world h.desk.program schedule) identifier ≡ true → MayStep h.calling identifier
+    → IsSome (item_at h.desk.members identifier)
+caller_there h schedule identifier keeps ready may = by h.calling refl
+  where
+    by : (calling : Option Calling) → h.calling ≡ calling
+        → IsSome (item_at h.desk.members identifier)
+    by None is =
+        ready_there _ _ _ (world h.desk.program schedule) identifier
+        (subst (λ (c : Option Calling). IsAtBy c h.desk (world h.desk.program schedule)) is
+        keeps.at).contexts ready
+    by (Some calling) is =
+        let same : calling.caller ≡ identifier =
+        subst (λ (c : Option Calling). MayStep c identifier) is may in
+        let runs =
+        (subst (λ (c : Option Calling). AreFramedBy c h.desk) is keeps.steady.framed).1 in
+        subst (λ (n : ℕ). IsSome (item_at h.desk.members n)) same
+        (subst IsSome (sym runs.found) refl)
+
+-- no other's call waits
+pub may_step : (calling : Option Calling) (caller : Option ℕ) (context : ℕ)
+    → caller_of calling ≡ caller → IfSome caller (λ one. one ≡ context) → MayStep calling context
+may_step calling caller context is may =
+    by calling (subst (λ (c : Option ℕ). IfSome c (λ one. one ≡ context)) (sym is) may)
+  where
+    by : (calling : Option Calling) → IfSome (caller_of calling) (λ one. one ≡ context)
+        → MayStep calling context
+    by None may = tt
+    by (Some calling) may = may
+
+pub may_go : (calling : Option Calling) (context : ℕ) → MayStep calling context
+    → IfSome (caller_of calling) (λ one. one ≡ context)
+may_go None context may = tt
+may_go (Some calling) context may = may
+
 -- one that is gone isn't ready
 pub gone_unready : (h : Heap) (names : List (List ℕ)) (members : List (Option Member)) (w : World)
     (identifier : ℕ) → w.contexts ≡ contexts_in h names members
@@ -232,20 +274,20 @@ printed_by (Some calling) d w at =
 
 -- a vault at its end is a run
 pub run_at_end : (asks : Status → Around → Scene → Asked) (h : Held) (schedule : List Entry)
-    (capacity steps : ℕ) (is_calling : Bool) (story : Story) (outcome : Outcome)
+    (capacity steps : ℕ) (caller : Option ℕ) (story : Story) (outcome : Outcome)
     → Keeps h schedule
     → record {
       program = h.desk.program;
       schedule = schedule;
       capacity = capacity;
-      is_calling = is_calling;
+      caller = caller;
     } ≡ story
     → count_of story.schedule ≤ steps → are_ordinary (moves story.schedule) ≡ true
     → EndsAs asks (world_at story) story.capacity story.schedule
     (count_of story.schedule == steps) false outcome
     → IsRunOf asks story.program steps h.desk.printed capacity schedule outcome
 unfolding printed
-run_at_end asks h schedule capacity steps is_calling story outcome keeps view few ordinary ends =
+run_at_end asks h schedule capacity steps caller story outcome keeps view few ordinary ends =
     let same : h.desk.program ≡ story.program = ap (λ (s : Story). s.program) view in
     let made : story.schedule ≡ schedule = sym (ap (λ (s : Story). s.schedule) view) in
     let here : World = world h.desk.program schedule in
@@ -295,3 +337,44 @@ pub next_none : (h : Heap) (names : List (List ℕ)) (members : List (Option Mem
 next_none h names members w after None same found = λ k above.
     gone_unready h names members w k same (found k above)
 next_none h names members w after (Some next) same found = tt
+
+-- ---- one that alone is left
+
+none_at : (contexts : List (Option Context)) (place : ℕ) → count_not_ended contexts ≡ 0
+    → context_in (slice_get contexts place) ≡ None
+unfolding count_not_ended
+none_at [] place none = refl
+none_at (None ∷ contexts) zero none = refl
+none_at (None ∷ contexts) (suc place) none = none_at contexts place none
+none_at (Some context ∷ contexts) place none = absurd (omega (arith, none))
+
+one_at : (contexts : List (Option Context)) (place other : ℕ) (context : Context)
+    → count_not_ended contexts ≡ 1 → context_in (slice_get contexts place) ≡ Some context
+    → other ≢ place → context_in (slice_get contexts other) ≡ None
+unfolding count_not_ended
+one_at [] place other context one found apart = refl
+one_at (None ∷ contexts) zero other context one found apart = cc
+one_at (None ∷ contexts) (suc place) zero context one found apart = refl
+one_at (None ∷ contexts) (suc place) (suc other) context one found apart =
+    one_at contexts place other context one found (λ e. apart (ap (λ n. suc n) e))
+one_at (Some here ∷ contexts) zero zero context one found apart = absurd (apart refl)
+one_at (Some here ∷ contexts) zero (suc other) context one found apart =
+    none_at contexts other (omega (arith, one))
+one_at (Some here ∷ contexts) (suc place) other context one found apart =
+    let none : None ≡ Some context =
+    sym (none_at contexts place (omega (arith, one))) ∙ found in cc
+
+pub only_left : (w : World) (identifier : ℕ) → count_not_ended w.contexts ≡ 1
+    → is_ready w identifier ≡ true → IsOnlyLeft w identifier
+unfolding is_ready context_at
+only_left w zero one ready = absurd (true≢false (sym ready))
+only_left w (suc place) one ready =
+    by (context_in (slice_get w.contexts place)) refl ready
+  where
+    by : (found : Option Context) → context_in (slice_get w.contexts place) ≡ found
+        → option_map_or (λ context. is_ready_as context.status (suc place) context w) found false
+        ≡ true → IsOnlyLeft w (suc place)
+    by None is ready other apart = absurd (true≢false (sym ready))
+    by (Some context) is ready zero apart = refl
+    by (Some context) is ready (suc other) apart =
+        one_at w.contexts place other context one is (λ e. apart (ap (λ n. suc n) e))

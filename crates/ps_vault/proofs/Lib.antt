@@ -6,5 +6,6 @@ pub mod Following
 pub mod Advancing
 pub mod Readiness
 pub mod Ordering
+pub mod Alone
 pub mod NextStep
 pub mod Endings

@@ -1,14 +1,19 @@
 -- Turns one after another.
-use Rattle.std.proofs.Common.{◌≡◌, ℕ, zero, suc, ◌+◌, ◌<◌, ◌≤◌, List, [], ◌∷◌, ◌++◌, length, map, inl, inr, refl, sym, ◌∙◌, ap, ap₂, subst, arith, append-nil, append_assoc}
+use Rattle.std.proofs.Common.{◌≡◌, ℕ, zero, suc, ◌+◌, ◌<◌, ◌≤◌, true, false, List, [], ◌∷◌, ◌++◌, length, map, inl, inr, refl, sym, ◌∙◌, ap, ap₂, subst, arith, append-nil, append_assoc, length-append}
 use Rattle.std.specs.Prelude.{replicate, ◌⊎◌}
-use Rattle.std.proofs.lemmas.List.{map-append, replicate-append-replicate}
+use Rattle.std.proofs.lemmas.Bool.{true≢false}
+use Rattle.std.proofs.lemmas.List.{length-map, length-replicate, map-append, replicate-append-replicate}
 use Rattle.ps_language.specs.declared.schedules.Entry.{Entry}
-use Rattle.ps_language.specs.Schedules.{Move, plain_move, added, moves, count_of}
+use Rattle.ps_language.specs.Contexts.{context_at}
+use Rattle.ps_language.specs.Locks.{is_ready}
+use Rattle.ps_language.specs.Schedules.{Move, plain_move, added, moves}
 use Rattle.ps_language.specs.World.{World}
 use Rattle.ps_language.specs.Worlds.{after_move, after_moves, starting_world, world}
 use Rattle.ps_language.proofs.ScheduleLaws.{moves-added}
 use Rattle.ps_language.proofs.WorldLaws.{after_moves-append}
-use Rattle.ps_vault.specs.Order.{IsNoneAbove, IsLeastAbove, IsNext, AddsSteps, AllKeepTurn, NoneEnds, OnlyLastMayEnd, IsOver, AddsTurn, AreTurns, no_turn, one_more, HasTurn, InOrder}
+use Rattle.ps_world.specs.Steps.{AllFrom}
+use Rattle.ps_vault.specs.declared.turns.Turn.{Turn}
+use Rattle.ps_vault.specs.Order.{IsNoneAbove, IsLeastAbove, IsNext, IsAlone, AddsSteps, KeepsTurn, AddsAll, NoneEnds, OnlyLastMayEnd, AddsTurn, AreTurns, no_turn, one_more, IsDue, AddsWhole, no_whole, whole_more, AddsTurns, HasTurn, InOrder}
 use Rattle.ps_vault.specs.Stories.{Story, world_at}
 use Rattle.ps_vault.specs.Turns.{added_times}
 use Rattle.ps_vault.proofs.Following.{times_moves}
@@ -67,28 +72,52 @@ adds_zero context old new adds =
     empty [] is = refl
     empty (step ∷ steps) is = absurd (cc)
 
--- ---- steps that end no turn
+-- so many more are longer by so many
+pub adds_length : (context count : ℕ) (old new : List Move) → AddsSteps context count old new
+    → length new ≡ length old + count
+adds_length context count old new adds =
+    let steps : length adds.steps ≡ count =
+    sym (length-map adds.steps (λ (step : Move). step.context))
+    ∙ (ap {A = List ℕ} {B = ℕ} (λ list. length list) adds.all ∙ length-replicate count context) in
+    let both : length new ≡ length old + length adds.steps =
+    ap {A = List Move} {B = ℕ} (λ list. length list) adds.is ∙ length-append old adds.steps in
+    omega (arith, steps, both)
 
-all_keep-append : (now : World) (first second : List Move) → AllKeepTurn now first
-    → AllKeepTurn (after_moves now first) second → AllKeepTurn now (first ++ second)
+-- ---- steps that are so, one after another
+
+pub all_from-append : (IsSo : World → Move → Type 0) (now : World) (first second : List Move)
+    → AllFrom IsSo now first → AllFrom IsSo (after_moves now first) second
+    → AllFrom IsSo now (first ++ second)
 unfolding after_moves
-all_keep-append now [] second one other = other
-all_keep-append now (step ∷ first) second one other =
-    (one.0, all_keep-append (after_move now step) first second one.1 other)
+all_from-append IsSo now [] second one other = other
+all_from-append IsSo now (step ∷ first) second one other =
+    (one.0, all_from-append IsSo (after_move now step) first second one.1 other)
 
-pub none_ends_nil : (start : World) (steps : List Move) → NoneEnds start steps steps
-none_ends_nil start steps = record { steps = []; is = sym (append-nil steps); keep = tt }
+pub all_from-split : (IsSo : World → Move → Type 0) (now : World) (first second : List Move)
+    → AllFrom IsSo now (first ++ second)
+    → AllFrom IsSo now first × AllFrom IsSo (after_moves now first) second
+unfolding after_moves
+all_from-split IsSo now [] second all = (tt, all)
+all_from-split IsSo now (step ∷ first) second all =
+    let rest = all_from-split IsSo (after_move now step) first second all.1 in
+    ((all.0, rest.0), rest.1)
 
-pub none_ends_more : (start : World) (old now new : List Move) → NoneEnds start old now
-    → NoneEnds start now new → NoneEnds start old new
-none_ends_more start old now new first second = record {
+pub adds_none : (IsSo : World → Move → Type 0) (start : World) (steps : List Move)
+    → AddsAll IsSo start steps steps
+adds_none IsSo start steps = record { steps = []; is = sym (append-nil steps); all = tt }
+
+pub adds_all_more : (IsSo : World → Move → Type 0) (start : World) (old now new : List Move)
+    → AddsAll IsSo start old now → AddsAll IsSo start now new → AddsAll IsSo start old new
+adds_all_more IsSo start old now new first second = record {
   steps = first.steps ++ second.steps;
   is = second.is ∙ (ap (λ (steps : List Move). steps ++ second.steps) first.is
       ∙ append_assoc old first.steps second.steps);
-  keep = all_keep-append (after_moves start old) first.steps second.steps first.keep
-      (subst (λ (w : World). AllKeepTurn w second.steps)
-      (ap (after_moves start) first.is ∙ after_moves-append start old first.steps) second.keep);
+  all = all_from-append IsSo (after_moves start old) first.steps second.steps first.all
+      (subst (λ (w : World). AllFrom IsSo w second.steps)
+      (ap (after_moves start) first.is ∙ after_moves-append start old first.steps) second.all);
 }
+
+-- ---- steps that end no turn
 
 pub only_last_more : (start : World) (old now new : List Move) → NoneEnds start old now
     → OnlyLastMayEnd start now new → OnlyLastMayEnd start old new
@@ -96,7 +125,7 @@ only_last_more start old now new first second = record {
   before = second.before;
   last = second.last;
   is = second.is;
-  others = none_ends_more start old now second.before first second.others;
+  others = adds_all_more KeepsTurn start old now second.before first second.others;
 }
 
 -- some steps without the last
@@ -104,10 +133,10 @@ record IsWithoutLast (now : World) (steps : List Move) : Type 0 where
   before : List Move
   last : Move
   is : steps ≡ before ++ last ∷ []
-  keep : AllKeepTurn now before
+  keep : AllFrom KeepsTurn now before
 
-without_last : (now : World) (step : Move) (steps : List Move) → AllKeepTurn now (step ∷ steps)
-    → IsWithoutLast now (step ∷ steps)
+without_last : (now : World) (step : Move) (steps : List Move)
+    → AllFrom KeepsTurn now (step ∷ steps) → IsWithoutLast now (step ∷ steps)
 without_last now step [] keep = record { before = []; last = step; is = refl; keep = tt }
 without_last now step (next ∷ steps) keep =
     let others = without_last (after_move now step) next steps keep.1 in
@@ -119,33 +148,47 @@ without_last now step (next ∷ steps) keep =
     }
 
 -- where none ended it and there are some, none but the last did
-pub only_last_of : (start : World) (old now new : List Entry) (made : ℕ) → new ≡ now
-    → count_of now ≡ count_of old + made → NoneEnds start (moves old) (moves now) → 1 ≤ made
-    → OnlyLastMayEnd start (moves old) (moves new)
-unfolding count_of
-only_last_of start old now new made same counted none some = by none.steps refl
+pub only_last_of : (start : World) (context made : ℕ) (old new : List Move)
+    → AddsSteps context made old new → NoneEnds start old new → 1 ≤ made
+    → OnlyLastMayEnd start old new
+only_last_of start context made old new adds none some = by none.steps refl
   where
-    by : (steps : List Move) → none.steps ≡ steps
-        → OnlyLastMayEnd start (moves old) (moves new)
+    by : (steps : List Move) → none.steps ≡ steps → OnlyLastMayEnd start old new
     by [] is =
-        let few : length (moves now) ≡ length (moves old) =
-        ap {B = ℕ} (λ (m : List Move). length m)
-        (none.is ∙ (ap (λ (steps : List Move). moves old ++ steps) is
-        ∙ append-nil (moves old))) in
-        absurd (omega (arith, few, counted, some))
+        let few : length new ≡ length old =
+        ap {A = List Move} {B = ℕ} (λ list. length list)
+        (none.is ∙ (ap (λ (steps : List Move). old ++ steps) is ∙ append-nil old)) in
+        let more = adds_length context made old new adds in
+        absurd (omega (arith, few, more, some))
     by (step ∷ steps) is =
-        let cut = without_last (after_moves start (moves old)) step steps
-        (subst (AllKeepTurn (after_moves start (moves old))) is none.keep) in
+        let cut = without_last (after_moves start old) step steps
+        (subst (AllFrom KeepsTurn (after_moves start old)) is none.all) in
         record {
-          before = moves old ++ cut.before;
+          before = old ++ cut.before;
           last = cut.last;
-          is = ap moves same ∙ (none.is
-              ∙ (ap (λ (steps : List Move). moves old ++ steps) (is ∙ cut.is)
-              ∙ sym (append_assoc (moves old) cut.before (cut.last ∷ []))));
-          others = record { steps = cut.before; is = refl; keep = cut.keep };
+          is = none.is
+              ∙ (ap (λ (steps : List Move). old ++ steps) (is ∙ cut.is)
+              ∙ sym (append_assoc old cut.before (cut.last ∷ [])));
+          others = record { steps = cut.before; is = refl; all = cut.keep };
         }
 
 -- ---- turns in order
+
+ready_above : (w : World) (context : ℕ) → is_ready w context ≡ true → 0 < context
+unfolding is_ready context_at
+ready_above w zero ready = absurd (true≢false (sym ready))
+ready_above w (suc place) ready = omega arith
+
+-- who alone is ready is next behind its own turn
+alone_next : (context : ℕ) (w : World) → IsAlone context w → IsNext w context context
+alone_next context w alone = inr (
+  λ k above. alone.others k (λ same. absurd (omega (arith, above, same))),
+  record {
+    above = ready_above w context alone.ready;
+    ready = alone.ready;
+    least = λ k above below. alone.others k (λ same. absurd (omega (arith, below, same)));
+  },
+)
 
 module _ (quantum : ℕ) (start : World) where
   -- all steps are turns that are over, and the next context is looked for above this one
@@ -186,73 +229,101 @@ module _ (quantum : ℕ) (start : World) where
     )
   ]
 
-  -- a turn more
-  module _ (after next count : ℕ) (old new : List Move) (passing : Passing after old)
-      (least : IsLeastAbove (after_moves start old) after next)
-      (adds : AddsSteps next count old new) (within : count ≤ quantum)
-      (only_last : 1 ≤ count → OnlyLastMayEnd start old new) where
-    taken : 1 ≤ count → AddsTurn quantum start passing.last next count old new
-    taken some = record {
-      next = next_of after next old passing least;
-      some = some;
-      within = within;
-      adds = adds;
-      only_last = only_last some;
-    }
+  pub due_of : (after next : ℕ) (steps : List Move) → Passing after steps
+      → IsLeastAbove (after_moves start steps) after next → IsDue quantum start next steps
+  due_of after next steps passing least = record {
+    last = passing.last;
+    turns = passing.turns;
+    next = next_of after next steps passing least;
+  }
 
-    -- it is over
-    pub passing_turn : 1 ≤ count → IsOver quantum start next count new → Passing next new
-    passing_turn some over = record {
-      last = next;
-      turns = one_more passing.turns (taken some) over;
+  -- ---- behind whole turns
+
+  turn_of : (context count : ℕ) (old new : List Move) (due : IsDue quantum start context old)
+      → 1 ≤ count → count ≤ quantum → AddsSteps context count old new
+      → OnlyLastMayEnd start old new → AddsTurn quantum start due.last context count old new
+  turn_of context count old new due some within adds only_last = record {
+    next = due.next;
+    some = some;
+    within = within;
+    adds = adds;
+    only_last = only_last;
+  }
+
+  due_whole : (context : ℕ) (old new : List Move) → 1 ≤ quantum
+      → IsDue quantum start context old → AddsWhole quantum start context old new
+      → IsDue quantum start context new
+  due_whole context old new some due no_whole = due
+  due_whole context old new some due (whole_more mid next turns adds none alone) =
+      let here = due_whole context old mid some due turns in
+      record {
+        last = context;
+        turns = one_more here.turns (turn_of context quantum mid next here some (omega arith) adds
+            (only_last_of start context quantum mid next adds none some)) (inl refl);
+        next = alone_next context (after_moves start next) alone;
+      }
+
+  module _ (context most : ℕ) (turn : Turn) (old new : List Move) (some : 1 ≤ quantum)
+      (due : IsDue quantum start context old)
+      (goes : AddsTurns quantum most start context turn old new) where
+    due_last : IsDue quantum start context goes.whole
+    due_last = due_whole context old goes.whole some due goes.turns
+
+    last_turn : 1 ≤ goes.count
+        → AddsTurn quantum start due_last.last context goes.count goes.whole new
+    last_turn some =
+        turn_of context goes.count goes.whole new due_last some goes.within goes.adds
+        (goes.only_last some)
+
+    -- the last one is over
+    pub turns_over : turn.held ≡ false → turn.made < most → Passing context new
+    turns_over free less = record {
+      last = context;
+      turns = one_more due_last.turns (last_turn (goes.some free)) (goes.over free less);
       above = inl refl;
     }
 
     -- or not
-    pub turn_order : InOrder quantum start new
-    turn_order = by count refl
+    pub turns_order : InOrder quantum start new
+    turns_order = by goes.count refl
       where
-        by : (n : ℕ) → count ≡ n → InOrder quantum start new
+        by : (n : ℕ) → goes.count ≡ n → InOrder quantum start new
         by zero is = record {
-          last = passing.last;
-          whole = old;
-          turns = passing.turns;
-          rest = inl (adds_zero next old new
-              (subst (λ n. AddsSteps next n old new) is adds));
+          last = due_last.last;
+          whole = goes.whole;
+          turns = due_last.turns;
+          rest = inl (adds_zero context goes.whole new
+              (subst (λ n. AddsSteps context n goes.whole new) is goes.adds));
         }
         by (suc n) is = record {
-          last = passing.last;
-          whole = old;
-          turns = passing.turns;
-          rest = inr (next, count, taken (omega (arith, is)));
+          last = due_last.last;
+          whole = goes.whole;
+          turns = due_last.turns;
+          rest = inr (context, goes.count, last_turn (omega (arith, is)));
         }
 
-    -- it had fewer steps than a turn may have, none of which ended it
-    pub has_turn : count < quantum → NoneEnds start old new → HasTurn quantum start next new
-    has_turn fewer none = by count refl
+    -- the next step was held up
+    pub turns_held : turn.held ≡ true → HasTurn quantum start context new
+    turns_held held = by goes.count refl
       where
-        by : (n : ℕ) → count ≡ n → HasTurn quantum start next new
+        by : (n : ℕ) → goes.count ≡ n → HasTurn quantum start context new
         by zero is =
-            let same : new ≡ old = adds_zero next old new
-            (subst (λ n. AddsSteps next n old new) is adds) in
+            let same : new ≡ goes.whole = adds_zero context goes.whole new
+            (subst (λ n. AddsSteps context n goes.whole new) is goes.adds) in
             record {
-              last = passing.last;
-              whole = old;
-              turns = passing.turns;
-              turn = inl (same, next_of after next old passing least);
+              last = due_last.last;
+              whole = goes.whole;
+              turns = due_last.turns;
+              turn = inl (same, due_last.next);
             }
         by (suc n) is = record {
-          last = passing.last;
-          whole = old;
-          turns = passing.turns;
-          turn = inr (count, fewer, taken (omega (arith, is)), none);
+          last = due_last.last;
+          whole = goes.whole;
+          turns = due_last.turns;
+          turn = inr (
+            goes.count,
+            (goes.goes_on held).0,
+            last_turn (omega (arith, is)),
+            (goes.goes_on held).1,
+          );
         }
-
-  -- of a quantum, or of all steps that were left: where some are left behind it, it is over
-  pub over_turn : (most next count left : ℕ) (steps : List Move)
-      → (most ≡ quantum) ⊎ (most ≡ left)
-      → count < left → IsOver most start next count steps → IsOver quantum start next count steps
-  over_turn most next count left steps (inl all) less (inl is) = inl (is ∙ all)
-  over_turn most next count left steps (inr last) less (inl is) =
-      absurd (omega (arith, is, last, less))
-  over_turn most next count left steps bound less (inr over) = inr over

@@ -1,11 +1,14 @@
 -- In which order a run gives turns to contexts: in passes by rising identifier (PLRM2, 7.1).
-use Rattle.std.specs.Prelude.{◌≡◌, ◌≢◌, ℕ, ℤ, ◌<◌, ◌≤◌, true, false, Option, List, [], ◌∷◌, ◌++◌, map, replicate, ◌⊎◌}
+use Rattle.std.specs.Prelude.{◌≡◌, ◌≢◌, ℕ, ℤ, ◌<◌, ◌≤◌, true, false, Option, None, List, [], ◌∷◌, ◌++◌, map, replicate, ◌⊎◌}
+use Rattle.ps_language.specs.Contexts.{context_at}
 use Rattle.ps_language.specs.Effect.{turn_ends}
 use Rattle.ps_language.specs.Locks.{is_ready}
 use Rattle.ps_language.specs.Schedules.{Move}
 use Rattle.ps_language.specs.Step.{stepped}
 use Rattle.ps_language.specs.World.{World}
-use Rattle.ps_language.specs.Worlds.{after_move, after_moves}
+use Rattle.ps_language.specs.Worlds.{after_moves}
+use Rattle.ps_world.specs.Steps.{AllFrom}
+use Rattle.ps_vault.specs.declared.turns.Turn.{Turn}
 
 -- ---- whose turn is next
 
@@ -23,6 +26,15 @@ pub record IsLeastAbove (w : World) (after next : ℕ) : Type 0 where
 abbrev pub IsNext : World → (last next : ℕ) → Type 0
 IsNext w last next = IsLeastAbove w last next ⊎ (IsNoneAbove w last × IsLeastAbove w 0 next)
 
+-- no other context is left
+abbrev pub IsOnlyLeft : World → (context : ℕ) → Type 0
+IsOnlyLeft w context = (other : ℕ) → other ≢ context → context_at w other ≡ None
+
+-- this context alone is ready
+pub record IsAlone (context : ℕ) (w : World) : Type 0 where
+  pub ready : is_ready w context ≡ true
+  pub others : (other : ℕ) → other ≢ context → is_ready w other ≡ false
+
 -- ---- turns
 
 -- so many steps more, all of one context
@@ -37,16 +49,24 @@ pub record KeepsTurn (now : World) (step : Move) : Type 0 where
   pub shown : Option (ℤ × ℤ)
   pub told : (stepped now step.context step.refused shown).note ≢ turn_ends
 
--- behind each of these, one after another
-abbrev pub AllKeepTurn : World → List Move → Type 0
-AllKeepTurn now [] = Unit {0}
-AllKeepTurn now (step ∷ rest) = KeepsTurn now step × AllKeepTurn (after_move now step) rest
+-- the steps behind the old ones: each is so in the world before it
+pub record AddsAll (IsSo : World → Move → Type 0) (start : World) (old new : List Move) : Type 0
+  where
+    pub steps : List Move
+    pub is : new ≡ old ++ steps
+    pub all : AllFrom IsSo (after_moves start old) steps
 
--- none of the steps behind the old ones ended its turn
-pub record NoneEnds (start : World) (old new : List Move) : Type 0 where
-  pub steps : List Move
-  pub is : new ≡ old ++ steps
-  pub keep : AllKeepTurn (after_moves start old) steps
+-- none of them ended its turn
+abbrev pub NoneEnds : (start : World) → (old new : List Move) → Type 0
+NoneEnds start old new = AddsAll KeepsTurn start old new
+
+-- a step of this context, which alone is ready
+abbrev pub IsOfOne : (context : ℕ) → World → Move → Type 0
+IsOfOne context w step = (step.context ≡ context) × IsAlone context w
+
+-- each of them is such a step
+abbrev pub AllOfOne : (context : ℕ) → (start : World) → (old new : List Move) → Type 0
+AllOfOne context start old new = AddsAll (IsOfOne context) start old new
 
 -- none of them but the last
 pub record OnlyLastMayEnd (start : World) (old new : List Move) : Type 0 where
@@ -87,6 +107,35 @@ pub data AreTurns (quantum : ℕ) (start : World) : (last : ℕ) → List Move �
       → AreTurns quantum start last before
       → AddsTurn quantum start last context count before after
       → IsOver quantum start context count after → AreTurns quantum start context after
+
+-- all steps from the start are turns, each of them over, and this context is next
+pub record IsDue (quantum : ℕ) (start : World) (context : ℕ) (steps : List Move) : Type 0 where
+  pub last : ℕ
+  pub turns : AreTurns quantum start last steps
+  pub next : IsNext (after_moves start steps) last context
+
+-- behind the old steps, turns of one context: none of their steps ended them, each had as many as a
+-- turn may have, and behind each the context alone is ready, so that it is next again
+pub data AddsWhole (quantum : ℕ) (start : World) (context : ℕ) (old : List Move)
+    : List Move → Type 0 where
+  no_whole : AddsWhole quantum start context old old
+  whole_more : (mid new : List Move) → AddsWhole quantum start context old mid
+      → AddsSteps context quantum mid new → NoneEnds start mid new
+      → IsAlone context (after_moves start new) → AddsWhole quantum start context old new
+
+-- Such turns, and so many steps of one more: none but the last ended it. Where the next one was
+-- held up, it goes on; else it is over, or as many steps were made as were asked for
+pub record AddsTurns (quantum most : ℕ) (start : World) (context : ℕ) (turn : Turn)
+    (old new : List Move) : Type 0 where
+  pub whole : List Move
+  pub turns : AddsWhole quantum start context old whole
+  pub count : ℕ
+  pub within : count ≤ quantum
+  pub adds : AddsSteps context count whole new
+  pub only_last : 1 ≤ count → OnlyLastMayEnd start whole new
+  pub goes_on : turn.held ≡ true → (count < quantum) × NoneEnds start whole new
+  pub some : turn.held ≡ false → 1 ≤ count
+  pub over : turn.held ≡ false → turn.made < most → IsOver quantum start context count new
 
 -- behind all steps from the start it is the turn of this context: it is the next one, or has begun
 -- its turn and had fewer steps than a turn may have, none of which ended it

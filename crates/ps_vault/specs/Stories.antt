@@ -1,18 +1,22 @@
 -- What clauses see of a vault, and what it keeps.
-use Rattle.std.specs.Prelude.{◌≡◌, ◌+◌, ◌≤◌, ℕ, ℤ, Bool, true, Option, List, length}
+use Rattle.std.specs.Prelude.{◌≡◌, ◌+◌, ◌≤◌, ℕ, ℤ, Bool, true, Option, IfSome, List, length}
 use Rattle.ps_language.specs.declared.schedules.Entry.{Entry}
 use Rattle.ps_language.specs.Schedules.{Move, is_longest}
 use Rattle.ps_language.specs.World.{World}
 use Rattle.ps_language.specs.Worlds.{world, IsProper}
 use Rattle.ps_world.specs.Held.{Held, IsAt, IsSteadyHeld}
 
--- the program, the steps that were made, how many entries find room, and whether a call waits that
--- could not be made
+-- the program, the steps that were made, how many entries find room, and the context whose call
+-- waits, since it could not be made
 pub record Story : Type 0 where
   pub program : List ℕ
   pub schedule : List Entry
   pub capacity : ℕ
-  pub is_calling : Bool
+  pub caller : Option ℕ
+
+-- no other context's call waits
+abbrev pub MayGo : Story → (context : ℕ) → Type 0
+MayGo story context = IfSome story.caller (λ caller. caller ≡ context)
 
 -- two entries more find room
 abbrev pub HasRoom : Story → Type 0

@@ -46,8 +46,8 @@ fn keep(endings: &mut Vec<Report>, report: Report) -> Result<(), AllocError>
 /// Runs a program so many times, each time for at most so many steps, over memory that is never
 /// collected, in orders that are chosen turn by turn. The keys are for the names alone.
 ///
-/// Gives the first of those runs that ended alike, in the order in which they were made. `AllocError`
-/// where a run ended for want of memory, or the room of what is given can't be had.
+/// Gives the first of those runs that ended alike, in the order in which they were made.
+/// `AllocError` where a run ended for want of memory, or the room of what is given can't be had.
 pub fn explore<S: Interpret + Clone + Drop, D: Deeds + Clone + Drop, O: TurnOrder>(
     alloc: Global,
     interpret: &S,

@@ -40,7 +40,7 @@ impl<M: Memory + Drop, S: Interpret + Drop, D: Deeds + Drop> Vault<'_, M, S, D> 
     /// The ready context of the least identifier above another, or of the least of all where none
     /// is above it.
     fn next_round(&mut self, after: u32) -> Option<u32>
-        requires { self.old.is_calling ≡ false }
+        requires { self.old.caller ≡ None }
         ensures same { self.new ≡ self.old }
         ensures ready { IfSome result (λ next. locks.is_ready (world_at self.old) next ≡ true) }
         ensures none { IfNone result (IsNoneAbove (world_at self.old) 0) }
@@ -53,7 +53,7 @@ impl<M: Memory + Drop, S: Interpret + Drop, D: Deeds + Drop> Vault<'_, M, S, D> 
 
     /// The ready context behind so many others, by rising identifier and going round.
     fn ready_behind(&mut self, passed: u32) -> Option<u32>
-        requires { self.old.is_calling ≡ false }
+        requires { self.old.caller ≡ None }
         ensures same { self.new ≡ self.old }
         ensures ready { IfSome result (λ next. locks.is_ready (world_at self.old) next ≡ true) }
         ensures none { IfNone result (IsNoneAbove (world_at self.old) 0) }
@@ -67,13 +67,13 @@ impl<M: Memory + Drop, S: Interpret + Drop, D: Deeds + Drop> Vault<'_, M, S, D> 
 
     /// Runs contexts for at most so many steps, turn by turn as they are chosen.
     fn run_by<O: TurnOrder>(&mut self, steps: u32, order: &mut O) -> Turn
-        requires calling { self.old.is_calling ≡ false }
+        requires calling { self.old.caller ≡ None }
         ensures program { self.new.program ≡ self.old.program }
         ensures within { result.made ≤ steps }
         ensures counted { count_of self.new.schedule ≡ count_of self.old.schedule + result.made }
         ensures ordinary { are_ordinary (moves self.old.schedule) ≡ true
             → are_ordinary (moves self.new.schedule) ≡ true }
-        ensures calling_on { result.held ≡ false → self.new.is_calling ≡ false }
+        ensures calling_on { result.held ≡ false → self.new.caller ≡ None }
         ensures fewer { result.held ≡ true → result.made < steps }
         ensures starved { OnlyGrows M.heap M.grants → result.held ≡ true
             → IsOneStarved S.asks false (world_at self.new) self.new.capacity self.new.schedule }
@@ -86,15 +86,8 @@ impl<M: Memory + Drop, S: Interpret + Drop, D: Deeds + Drop> Vault<'_, M, S, D> 
             let Some(next) = self.ready_behind(choice.passed) else {
                 return Turn { made, held: false };
             };
-            let left = steps - made;
-            let turn = self.turn(
-                next,
-                if choice.steps < left {
-                    choice.steps
-                } else {
-                    left
-                },
-            );
+            let most = choice.steps.min(steps - made);
+            let turn = self.turns(next, most, most);
             made += turn.made;
             if turn.held {
                 return Turn { made, held: true };

@@ -65,7 +65,7 @@ impl<M: Memory + Drop, S: Interpret + Drop, D: Deeds + Drop> Vault<'_, M, S, D> 
         requires counted { count_of self.schedule ≡ run.made }
         requires within { run.made ≤ steps }
         requires ordinary { are_ordinary (moves self.schedule) ≡ true }
-        requires calling { run.held ≡ false → self.is_calling ≡ false }
+        requires calling { run.held ≡ false → self.caller ≡ None }
         requires fewer { run.held ≡ true → run.made < steps }
         requires starved { run.held ≡ true
             → IsOneStarved S.asks false (world_at self) self.capacity self.schedule }

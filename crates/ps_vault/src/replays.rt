@@ -29,7 +29,7 @@ fn steps<S: Interpret + Drop, D: Deeds + Drop>(
     context: u32,
     most: u32,
 ) -> Turn
-    requires calling { vault.old.is_calling ≡ false }
+    requires calling { vault.old.caller ≡ None }
     requires room { length vault.old.schedule + 3 ≤ vault.old.capacity }
     ensures program { vault.new.program ≡ vault.old.program }
     ensures within { result.made ≤ most }
@@ -39,7 +39,7 @@ fn steps<S: Interpret + Drop, D: Deeds + Drop>(
     ensures world { world_at vault.new
         ≡ after_moves (world_at vault.old) (replicate result.made (plain_move context)) }
     ensures capacity { vault.old.capacity ≤ vault.new.capacity }
-    ensures calling_on { result.held ≡ false → vault.new.is_calling ≡ false }
+    ensures calling_on { result.held ≡ false → vault.new.caller ≡ None }
     ensures unready { result.held ≡ false → result.made < most
         → locks.is_ready (world_at vault.new) context ≡ false }
     ensures fewer { result.held ≡ true → result.made < most }
@@ -57,13 +57,13 @@ fn steps<S: Interpret + Drop, D: Deeds + Drop>(
     Turn { made, held: false }
 }
 
-/// Makes the steps of an entry that are all ordinary ones, as far as memory goes, and tells how many
-/// were made; those of a context that isn't ready are counted and change nothing.
+/// Makes the steps of an entry that are all ordinary ones, as far as memory goes, and tells how
+/// many were made; those of a context that isn't ready are counted and change nothing.
 fn follow_ordinary<S: Interpret + Drop, D: Deeds + Drop>(
     vault: &mut Vault<PlainMemory, S, D>,
     entry: Entry,
 ) -> u32
-    requires calling { vault.old.is_calling ≡ false }
+    requires calling { vault.old.caller ≡ None }
     requires room { length vault.old.schedule + 3 ≤ vault.old.capacity }
     requires ordinary { last_move entry ≡ plain_move entry.context }
     ensures program { vault.new.program ≡ vault.old.program }
@@ -72,7 +72,7 @@ fn follow_ordinary<S: Interpret + Drop, D: Deeds + Drop>(
     ensures within { result ≤ entry.steps }
     ensures all { result ≡ entry.steps
         → world_at vault.new ≡ after_moves (world_at vault.old) (moves_of entry entry.steps) }
-    ensures calling_on { result ≡ entry.steps → vault.new.is_calling ≡ false }
+    ensures calling_on { result ≡ entry.steps → vault.new.caller ≡ None }
     ensures part { result < entry.steps
         → world_at vault.new ≡ after_moves (world_at vault.old)
         (replicate result (plain_move entry.context)) }
@@ -93,7 +93,7 @@ fn follow_entry<S: Interpret + Drop, D: Deeds + Drop>(
     vault: &mut Vault<PlainMemory, S, D>,
     entry: Entry,
 ) -> u32
-    requires calling { vault.old.is_calling ≡ false }
+    requires calling { vault.old.caller ≡ None }
     requires room { length vault.old.schedule + 3 ≤ vault.old.capacity }
     ensures program { vault.new.program ≡ vault.old.program }
     ensures longer { length vault.new.schedule ≤ length vault.old.schedule + 2 }
@@ -101,7 +101,7 @@ fn follow_entry<S: Interpret + Drop, D: Deeds + Drop>(
     ensures within { result ≤ entry.steps }
     ensures all { result ≡ entry.steps
         → world_at vault.new ≡ after_moves (world_at vault.old) (moves_of entry entry.steps) }
-    ensures calling_on { result ≡ entry.steps → vault.new.is_calling ≡ false }
+    ensures calling_on { result ≡ entry.steps → vault.new.caller ≡ None }
     ensures part { result < entry.steps
         → world_at vault.new ≡ after_moves (world_at vault.old)
         (replicate result (plain_move entry.context)) }

@@ -5,7 +5,7 @@ ghost use Rattle.ps_language.specs.Locks as locks;
 ghost use Rattle.ps_language.specs.Schedules.{count_of, moves};
 ghost use Rattle.ps_language.specs.Worlds.{starting_world};
 ghost use Rattle.ps_vault.specs.Holds.{OnlyGrows};
-ghost use Rattle.ps_vault.specs.Order.{IsNoneAbove, IsLeastAbove, AddsSteps, NoneEnds, OnlyLastMayEnd, IsOver, HasTurn, InOrder};
+ghost use Rattle.ps_vault.specs.Order.{IsNoneAbove, IsLeastAbove, AddsTurns, HasTurn, InOrder};
 ghost use Rattle.ps_vault.specs.Reports.{are_ordinary, IsStarved, IsOneStarved};
 ghost use Rattle.ps_vault.specs.Stories.{world_at};
 
@@ -22,12 +22,15 @@ pub struct Turn {
 }
 
 impl<M: Memory + Drop, S: Interpret + Drop, D: Deeds + Drop> Vault<'_, M, S, D> {
-    /// The turn of a context that is ready: ordinary steps, at most so many, as long as it is
-    /// ready, ended early by `yield` or where it waits. Held up: fewer; over a memory that only
-    /// grows the next may want a growth, or the schedule has no room for it.
-    pub fn turn(&mut self, context: u32, most: u32) -> Turn
-        requires calling { self.old.is_calling ≡ false }
+    /// The turn of a context that is ready: ordinary steps, as long as it is ready, at most a
+    /// quantum of them, ended early by `yield` or where it waits. As long as no other context is
+    /// left it goes on with the next turns, for at most so many steps. Held up: fewer; over a
+    /// memory that only grows the next may want a growth, or the schedule has no room for it.
+    #[inline(always)]
+    pub fn turns(&mut self, context: u32, quantum: u32, most: u32) -> Turn
+        requires calling { self.old.caller ≡ None }
         requires ready { locks.is_ready (world_at self.old) context ≡ true }
+        requires quantum { 1 ≤ quantum }
         requires some { 1 ≤ most }
         ensures program { self.new.program ≡ self.old.program }
         ensures within { result.made ≤ most }
@@ -35,33 +38,30 @@ impl<M: Memory + Drop, S: Interpret + Drop, D: Deeds + Drop> Vault<'_, M, S, D> 
         ensures counted { count_of self.new.schedule ≡ count_of self.old.schedule + result.made }
         ensures ordinary { are_ordinary (moves self.old.schedule) ≡ true
             → are_ordinary (moves self.new.schedule) ≡ true }
-        ensures takes { AddsSteps context result.made (moves self.old.schedule)
-            (moves self.new.schedule) }
-        ensures only_last { 1 ≤ result.made → OnlyLastMayEnd (starting_world self.old.program)
+        ensures turns { AddsTurns quantum most (starting_world self.old.program) context result
             (moves self.old.schedule) (moves self.new.schedule) }
-        ensures keeps { result.held ≡ true → NoneEnds (starting_world self.old.program)
-            (moves self.old.schedule) (moves self.new.schedule) }
-        ensures over { result.held ≡ false → IsOver most (starting_world self.old.program) context
-            result.made (moves self.new.schedule) }
-        ensures calling_on { result.held ≡ false → self.new.is_calling ≡ false }
+        ensures calling_on { result.held ≡ false → self.new.caller ≡ None }
         ensures fewer { result.held ≡ true → result.made < most }
         ensures starved { OnlyGrows M.heap M.grants → result.held ≡ true
             → IsStarved S.asks context false (world_at self.new) self.new.capacity
             self.new.schedule }
     {
         let mut made = 0;
+        let mut begun = 0;
         loop {
             if self.reserve_entries().is_err() {
                 return Turn { made, held: true };
             }
-            let advanced = self.advance(context, most - made, true);
+            let goal = self.at_once(quantum - begun, most - made);
+            let advanced = self.advance(context, goal, true);
             made += advanced.made;
             match advanced.told {
                 Told::Goes => {}
                 Told::TurnEnds => return Turn { made, held: false },
                 Told::HeldUp(_) => return Turn { made, held: true },
             }
-            if made == most {
+            begun = made % quantum;
+            if begun == 0 || made == most {
                 return Turn { made, held: false };
             }
             if !self.is_ready(context) {
@@ -72,7 +72,7 @@ impl<M: Memory + Drop, S: Interpret + Drop, D: Deeds + Drop> Vault<'_, M, S, D> 
 
     /// The ready context of the least identifier above another.
     pub fn next_ready(&mut self, after: u32) -> Option<u32>
-        requires { self.old.is_calling ≡ false }
+        requires { self.old.caller ≡ None }
         ensures same { self.new ≡ self.old }
         ensures ready { IfSome result (λ next. IsLeastAbove (world_at self.old) after next) }
         ensures none { IfNone result (IsNoneAbove (world_at self.old) after) }
@@ -90,7 +90,7 @@ impl<M: Memory + Drop, S: Interpret + Drop, D: Deeds + Drop> Vault<'_, M, S, D> 
     /// Runs contexts for at most so many steps: passes over them by rising identifier, also those
     /// that are made in the pass, with a turn of at most a quantum of steps for each that is ready.
     pub fn run(&mut self, steps: u32, quantum: u32) -> Turn
-        requires calling { self.old.is_calling ≡ false }
+        requires calling { self.old.caller ≡ None }
         requires quantum { 1 ≤ quantum }
         ensures program { self.new.program ≡ self.old.program }
         ensures within { result.made ≤ steps }
@@ -99,7 +99,7 @@ impl<M: Memory + Drop, S: Interpret + Drop, D: Deeds + Drop> Vault<'_, M, S, D> 
             → are_ordinary (moves self.new.schedule) ≡ true }
         ensures order { moves self.old.schedule ≡ []
             → InOrder quantum (starting_world self.old.program) (moves self.new.schedule) }
-        ensures calling_on { result.held ≡ false → self.new.is_calling ≡ false }
+        ensures calling_on { result.held ≡ false → self.new.caller ≡ None }
         ensures fewer { result.held ≡ true → result.made < steps }
         ensures starved { OnlyGrows M.heap M.grants → result.held ≡ true
             → IsOneStarved S.asks false (world_at self.new) self.new.capacity self.new.schedule }
@@ -121,8 +121,7 @@ impl<M: Memory + Drop, S: Interpret + Drop, D: Deeds + Drop> Vault<'_, M, S, D> 
                 after = 0;
                 continue;
             };
-            let left = steps - made;
-            let turn = self.turn(next, if quantum < left { quantum } else { left });
+            let turn = self.turns(next, quantum, steps - made);
             made += turn.made;
             if turn.held {
                 return Turn { made, held: true };

@@ -1,16 +1,17 @@
 //! All contexts and their memory, with the program and the schedule that they stand for: after
 //! each call they are at the world of that program and that schedule, whatever the memory is.
 
-ghost use Rattle.std.specs.Prelude.{◌≡◌, ◌≢◌, ◌↔◌, ◌+◌, ◌<◌, ◌≤◌, ℕ, ℤ, false, true, Bool, OnOk, OnErr, IfOk, IfErr, IfSome, IfNone, IsTrue, Option, None, [], ◌==◌, not, nat_eq, vec_capacity, length};
+ghost use Rattle.std.specs.Prelude.{◌≡◌, ◌≢◌, ◌↔◌, ◌+◌, ◌<◌, ◌≤◌, ℕ, ℤ, false, true, Bool, OnOk, OnErr, IfOk, IfErr, IfSome, IfNone, IsTrue, Option, None, [], ◌==◌, min, not, nat_eq, vec_capacity, length, if◌then◌else◌};
+ghost use Rattle.ps_language.specs.Contexts.{count_not_ended};
 ghost use Rattle.ps_language.specs.Locks as locks;
 ghost use Rattle.ps_language.specs.Schedules.{added, count_of, moves, plain_move};
 ghost use Rattle.ps_language.specs.Worlds as worlds;
 ghost use Rattle.ps_language.specs.Worlds.{after_move, after_moves, starting_world};
-ghost use Rattle.ps_vault.specs.Order.{IsNoneAbove, AddsSteps, NoneEnds, OnlyLastMayEnd, EndsTurn};
+ghost use Rattle.ps_vault.specs.Order.{IsNoneAbove, IsOnlyLeft, AddsSteps, AllOfOne, NoneEnds, OnlyLastMayEnd, EndsTurn};
 ghost use Rattle.ps_start.specs.Starts.{IsEmptyHeap};
 ghost use Rattle.ps_vault.specs.Holds.{IfHeldUp, IsHeldUp, is_held_up};
 ghost use Rattle.ps_vault.specs.Reports.{are_ordinary, is_memory, EndsAs, IsRunOf, IsShort};
-ghost use Rattle.ps_vault.specs.Stories.{Story, HasRoom, world_at, move_of};
+ghost use Rattle.ps_vault.specs.Stories.{Story, HasRoom, MayGo, world_at, move_of};
 ghost use Rattle.ps_vault.specs.Turns.{added_times};
 
 use crate::reports::{Outcome, Report};
@@ -34,7 +35,7 @@ use std::marker::Model;
 const SLOT: u32 = 0;
 
 /// All contexts, who makes their steps, their memory, and the steps that they made: seen as the
-/// program, the schedule, how many entries find room, and whether a call waits.
+/// program, the schedule, how many entries find room, and whose call waits.
 #[derive(Drop)]
 pub struct Vault<'a, M: Memory + Drop, S: Interpret + Drop, D: Deeds + Drop> {
     interpret: S,
@@ -45,7 +46,7 @@ pub struct Vault<'a, M: Memory + Drop, S: Interpret + Drop, D: Deeds + Drop> {
 }
 
 impl<'a, M: Memory + Drop, S: Interpret + Drop, D: Deeds + Drop> Model for Vault<'a, M, S, D> {
-    ghost use Rattle.std.specs.Prelude.{is_some, vec_capacity};
+    ghost use Rattle.std.specs.Prelude.{option_map, vec_capacity};
     ghost use Rattle.ps_world.specs.Calls.{over};
     ghost use Rattle.ps_world.specs.Held.{held};
     ghost use Rattle.ps_vault.specs.Stories.{Story, Keeps};
@@ -56,7 +57,7 @@ impl<'a, M: Memory + Drop, S: Interpret + Drop, D: Deeds + Drop> Model for Vault
       program = v.world.contexts.shared.program.now;
       schedule = v.schedule.items;
       capacity = vec_capacity v.schedule;
-      is_calling = is_some v.world.calling;
+      caller = option_map (λ calling. calling.caller) v.world.calling;
     } };
 
     ghost invariant = { λ v. Keeps (held (over (M.heap v.memory) (M.grants v.memory)
@@ -111,7 +112,7 @@ impl<'a, M: Memory + Drop, S: Interpret + Drop, D: Deeds + Drop> Vault<'a, M, S,
         ensures program { IfOk result (λ vault. vault.program ≡ program.now) }
         ensures schedule { IfOk result (λ vault. vault.schedule ≡ []) }
         ensures room { IfOk result (λ vault. entries ≤ vault.capacity) }
-        ensures calling { IfOk result (λ vault. vault.is_calling ≡ false) }
+        ensures calling { IfOk result (λ vault. vault.caller ≡ None) }
     {
         let Ok(world) = start_world(alloc, &mut memory, program, keys) else {
             return Err(AllocError);
@@ -130,7 +131,7 @@ impl<'a, M: Memory + Drop, S: Interpret + Drop, D: Deeds + Drop> Vault<'a, M, S,
 impl<M: Memory + Drop, S: Interpret + Drop, D: Deeds + Drop> Vault<'_, M, S, D> {
     /// Whether a context is ready.
     pub fn is_ready(&mut self, context: u32) -> bool
-        requires { self.old.is_calling ≡ false }
+        requires { self.old.caller ≡ None }
         ensures same { self.new ≡ self.old }
         ensures ready { result ≡ locks.is_ready (world_at self.old) context }
     {
@@ -138,9 +139,19 @@ impl<M: Memory + Drop, S: Interpret + Drop, D: Deeds + Drop> Vault<'_, M, S, D> 
             .is_ready(context, &self.world.contexts, &mut self.memory)
     }
 
+    /// The context whose call waits, since it could not be made: no other makes a step before it.
+    pub fn caller(&self) -> Option<u32>
+        ensures { result ≡ self.now.caller }
+    {
+        match self.world.calling {
+            Some(calling) => Some(calling.caller),
+            None => None,
+        }
+    }
+
     /// The least identifier above another of a context that isn't ended.
     pub fn next_left(&self, after: u32) -> Option<u32>
-        requires { self.now.is_calling ≡ false }
+        requires { self.now.caller ≡ None }
         ensures left { IfSome result (λ next. (after < next)
             × (next ≤ length (world_at self.now).contexts)
             × ((k : ℕ) → after < k → k < next → locks.is_ready (world_at self.now) k ≡ false)) }
@@ -149,27 +160,40 @@ impl<M: Memory + Drop, S: Interpret + Drop, D: Deeds + Drop> Vault<'_, M, S, D> 
         self.world.contexts.table.next(after)
     }
 
+    /// How many steps of a context may be made at once: all that are left of a run, where one
+    /// context alone is left, and else at most the rest of its turn.
+    pub fn at_once(&self, rest: u32, left: u32) -> u32
+        requires { self.now.caller ≡ None }
+        ensures { result ≡ (if count_not_ended (world_at self.now).contexts == 1 then left
+            else min rest left) }
+    {
+        if self.world.contexts.table.left() == 1 {
+            return left;
+        }
+        rest.min(left)
+    }
+
     /// Room for two entries of the schedule. `AllocError`: it can't be had; nothing has changed.
     pub fn reserve_entries(&mut self) -> Result<(), AllocError>
         ensures program { self.new.program ≡ self.old.program }
         ensures schedule { self.new.schedule ≡ self.old.schedule }
-        ensures calling { self.new.is_calling ≡ self.old.is_calling }
+        ensures calling { self.new.caller ≡ self.old.caller }
         ensures room { OnOk result (HasRoom self.new) }
         ensures short { OnErr result (IsShort self.new.capacity self.new.schedule) }
     {
         self.schedule.reserve(2)
     }
 
-    /// Makes a step of a context that is ready; a refused one makes no object, and a `vmstatus`
-    /// shows the given pair. Not made, at the same world, for the reason that is told: room for
-    /// records, or for words, or a growth that the step may want.
+    /// Makes a step of a context that is ready, where no other's call waits; a refused one makes no
+    /// object, and a `vmstatus` shows the given pair. Not made, at the same world, for the reason
+    /// that is told: room for records, or for words, or a growth that the step may want.
     pub fn step(
         &mut self,
         context: u32,
         refused: bool,
         shown: Option<(i32, i32)>,
     ) -> Result<(), NotMade>
-        requires calling { self.old.is_calling ≡ false }
+        requires calling { MayGo self.old context }
         requires ready { locks.is_ready (world_at self.old) context ≡ true }
         requires room { HasRoom self.old }
         ensures program { self.new.program ≡ self.old.program }
@@ -179,7 +203,8 @@ impl<M: Memory + Drop, S: Interpret + Drop, D: Deeds + Drop> Vault<'_, M, S, D> 
             ≡ after_move (world_at self.old) (move_of context refused shown)) }
         ensures longer { length self.new.schedule ≤ length self.old.schedule + 1 }
         ensures capacity { self.old.capacity ≤ self.new.capacity }
-        ensures calling_on { OnOk result (self.new.is_calling ≡ false) }
+        ensures calling { MayGo self.new context }
+        ensures calling_on { OnOk result (self.new.caller ≡ None) }
         ensures not_made { OnErr result (self.new.schedule ≡ self.old.schedule) }
         ensures held_up { IfErr result
             (IsHeldUp M.heap M.grants S.asks context refused (world_at self.new)) }
@@ -205,11 +230,12 @@ impl<M: Memory + Drop, S: Interpret + Drop, D: Deeds + Drop> Vault<'_, M, S, D> 
         }
     }
 
-    /// Makes steps of a context that is ready, at most so many, as far as it goes on by itself, and
-    /// the step behind them; shows says whether a `vmstatus` is shown the memory, or zeros. One is
-    /// made at least, but where it is held up, for the reason that is told.
+    /// Makes steps of a context that is ready, where no other's call waits, at most so many, as far
+    /// as it goes on by itself, and the step behind them; shows says whether a `vmstatus` is shown
+    /// the memory, or zeros. One is made at least, but where it is held up, for the reason that is
+    /// told.
     pub fn advance(&mut self, context: u32, most: u32, shows: bool) -> Advanced
-        requires calling { self.old.is_calling ≡ false }
+        requires calling { MayGo self.old context }
         requires ready { locks.is_ready (world_at self.old) context ≡ true }
         requires room { HasRoom self.old }
         requires some { 1 ≤ most }
@@ -228,11 +254,16 @@ impl<M: Memory + Drop, S: Interpret + Drop, D: Deeds + Drop> Vault<'_, M, S, D> 
             (starting_world self.old.program) context (moves self.new.schedule) }
         ensures only_last { result.told ≡ Told.TurnEnds → OnlyLastMayEnd
             (starting_world self.old.program) (moves self.old.schedule) (moves self.new.schedule) }
+        ensures alone { IsOnlyLeft (world_at self.old) context → AllOfOne context
+            (starting_world self.old.program) (moves self.old.schedule) (moves self.new.schedule) }
+        ensures left { is_held_up result.told ≡ true → IsOnlyLeft (world_at self.old) context
+            → IsOnlyLeft (world_at self.new) context }
         ensures plain { shows ≡ false → self.new.schedule
             ≡ added_times result.made self.old.schedule (plain_move context) }
         ensures longer { length self.new.schedule ≤ length self.old.schedule + 2 }
         ensures capacity { self.old.capacity ≤ self.new.capacity }
-        ensures calling_on { is_held_up result.told ≡ false → self.new.is_calling ≡ false }
+        ensures calling { MayGo self.new context }
+        ensures calling_on { is_held_up result.told ≡ false → self.new.caller ≡ None }
         ensures held_up { IfHeldUp
             (IsHeldUp M.heap M.grants S.asks context false (world_at self.new)) result.told }
     {
@@ -271,7 +302,7 @@ impl<M: Memory + Drop, S: Interpret + Drop, D: Deeds + Drop> Vault<'_, M, S, D> 
 
     /// How a run ended that no step was held up of; used up says that no step is left.
     pub fn outcome(&mut self, used_up: bool) -> Outcome
-        requires calling { self.old.is_calling ≡ false }
+        requires calling { self.old.caller ≡ None }
         requires ready { used_up ≡ false → IsNoneAbove (world_at self.old) 0 }
         ensures same { self.new ≡ self.old }
         ensures ends { (refused : Bool) → EndsAs S.asks (world_at self.old) self.old.capacity
@@ -292,7 +323,7 @@ impl<M: Memory + Drop, S: Interpret + Drop, D: Deeds + Drop> Vault<'_, M, S, D> 
 
     /// Whether each context is finished or ended.
     fn is_all_over(&self) -> bool
-        requires { self.now.is_calling ≡ false }
+        requires { self.now.caller ≡ None }
         ensures { result ≡ worlds.is_all_over (world_at self.now) }
     {
         self.world.contexts.is_all_over()
@@ -300,7 +331,7 @@ impl<M: Memory + Drop, S: Interpret + Drop, D: Deeds + Drop> Vault<'_, M, S, D> 
 
     /// Whether the line of an error was printed.
     fn has_faulted(&self) -> bool
-        requires { self.now.is_calling ≡ false }
+        requires { self.now.caller ≡ None }
         ensures { result ≡ not (nat_eq (world_at self.now).error_lines 0) }
     {
         self.world.contexts.has_faulted

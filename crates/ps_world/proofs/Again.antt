@@ -163,6 +163,7 @@ module _ (asks : Status → Around → Scene → Asked) (d : Desk)
           to.1 ∙ ap (λ (s : Stepped). s.note) (sym (step_tries w at ready)),
         );
     held_up = λ why bad. absurd (cc);
+    caller = tt;
     logs = λ w at ready. calls.logs;
     keeps = calls.keeps;
     steady = record { steady = calls.steady; framed = calls.framed framed_here };
@@ -236,6 +237,7 @@ module _ (asks : Status → Around → Scene → Asked) (d : Desk)
           (calls.held_up why same (with_machine identifier w (machine w at))
           (machine w at).context (running_world d steady.steady identifier member found w at)
           (running_there d steady.steady identifier member found w at));
+      caller = tt;
       logs = λ w at ready. calls.logs;
       keeps = calls.keeps;
       steady = record {

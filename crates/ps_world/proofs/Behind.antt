@@ -129,6 +129,7 @@ made_none identifier h steady = record {
   at = λ w at ready. at;
   ready = λ w at ready. refl;
   quiet = λ w at ready. tt;
+  others = λ w at ready. tt;
   steady = steady;
   program = refl;
 }

@@ -1,5 +1,5 @@
 -- Steps of a context that called, by what the call came to.
-use Rattle.std.proofs.Common.{◌≡◌, ℤ, Option, Some, None, Ok, Err, ap, subst}
+use Rattle.std.proofs.Common.{◌≡◌, ℤ, Option, Some, None, Ok, Err, refl, ap, subst}
 use Rattle.ps_language.specs.Effect.{Around, Scene}
 use Rattle.ps_language.specs.World.{Status}
 use Rattle.ps_ops.specs.declared.failure.NotMade.{NotMade as Reason}
@@ -27,6 +27,7 @@ module _ (asks : Status → Around → Scene → Asked) (calling : Calling) (tri
     steps_called note calls = record {
       meets = λ w at ready. call_made calling trial shown old new w at note calls;
       held_up = λ reason bad. absurd (cc);
+      caller = tt;
       logs = λ w at ready. calls.logs;
       keeps = calls.keeps;
       steady = record { steady = calls.steady; framed = calls.framed steady.framed.0 };
@@ -42,6 +43,7 @@ module _ (asks : Status → Around → Scene → Asked) (calling : Calling) (tri
       held_up = λ why is w at ready.
           call_held asks calling trial shown old new w at why
           (subst (λ r. Calls calling.operator calling.caller trial shown r old new) is calls);
+      caller = refl;
       logs = λ w at ready. calls.logs;
       keeps = calls.keeps;
       steady = record {

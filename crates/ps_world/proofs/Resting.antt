@@ -84,6 +84,7 @@ module _ (asks : Status → Around → Scene → Asked) (d : Desk)
     meets = λ w at ready. absurd (true≢false (sym ready
         ∙ (ready_is course here w at ∙ unready course resting (context course here) w)));
     held_up = λ why bad. absurd (cc);
+    caller = tt;
     logs = λ w at ready. logs-same most_records d.grants trial.slot;
     keeps = keeps-same d.heap;
     steady = steady;
@@ -106,6 +107,7 @@ module _ (asks : Status → Around → Scene → Asked) (d : Desk)
             ap (λ (s : Stepped). s.note) (sym is),
           );
       held_up = λ why bad. absurd (cc);
+      caller = tt;
       logs = λ w at ready.
           logs_more 1 most_records d.grants new.grants trial.slot (omega arith) done.logs;
       keeps = done.keeps;
@@ -124,6 +126,7 @@ module _ (asks : Status → Around → Scene → Asked) (d : Desk)
           unlogged_held (step_wants asks identifier trial.refused w) trial.slot new.heap d.grants
           new.grants done.logs.closed why
           (done.held_up why (ap (λ r. Err r) (same_reason reason why is)));
+      caller = tt;
       logs = λ w at ready. done.logs;
       keeps = done.keeps;
       steady = record {

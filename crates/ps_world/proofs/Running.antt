@@ -1,9 +1,10 @@
 -- Many own steps of one context are so many moves of the world.
-use Rattle.std.proofs.Common.{◌≡◌, ℕ, zero, suc, Bool, true, false, IsTrue, Option, Some, None, refl, sym, ap, subst, ◌∙◌, List, [], ◌∷◌}
+use Rattle.std.proofs.Common.{◌≡◌, ◌≢◌, ℕ, zero, suc, Bool, true, false, IsTrue, Option, Some, None, refl, sym, ap, subst, ◌∙◌, List, [], ◌∷◌}
 use Rattle.std.specs.Prelude.{◌||◌, option_and_then}
 use Rattle.ps_language.specs.Contexts.{context_at, with_context}
 use Rattle.ps_language.specs.Effect.{nothing}
 use Rattle.ps_language.specs.Machines.{may_end, Reached, reaches, leaves_to_world, own_step}
+use Rattle.ps_language.specs.Schedules.{Move, plain_move}
 use Rattle.ps_language.specs.Step.{machine_of, with_machine, Stepped, after_own, stepped}
 use Rattle.ps_language.specs.World.{running, Context, Machine, World}
 use Rattle.ps_language.specs.Worlds.{after_moves, all_ready}
@@ -19,12 +20,12 @@ use Rattle.ps_contexts.specs.Moves.{OwnStep, OwnSteps, plain_moves}
 use Rattle.ps_contexts.specs.Seats.{item_at}
 use Rattle.ps_contexts.specs.Worlds.{status_of, context_of}
 use Rattle.ps_contexts.specs.Desks.{Desk, lent_to, returned, desk_after, HasFrame, AreFramed, IsWorld, IsLentBy, IsCourseHeld, IsSteady, course_after}
-use Rattle.ps_contexts.proofs.Owning.{goes_left, own_move, own_moves, own_all_ready, put_back, put_same}
+use Rattle.ps_contexts.proofs.Owning.{goes_left, own_move, own_moves, own_all_ready, put_apart, put_back, put_same}
 use Rattle.ps_contexts.proofs.Stepping.{stepped_own, context_there}
 use Rattle.ps_contexts.proofs.Turning.{went_steady, went_world, member_at}
 use Rattle.ps_acts.specs.Lent.{IsShown}
 use Rattle.ps_world.specs.Held.{held, IsSteadyHeld}
-use Rattle.ps_world.specs.Steps.{AreQuiet, HasMade}
+use Rattle.ps_world.specs.Steps.{AllFrom, IsQuiet, KeepsOthers, HasMade}
 use Rattle.ps_world.proofs.Owning.{framed_with}
 
 -- ---- own steps in a row, from the first on
@@ -106,23 +107,36 @@ one_quiet w identifier context found next own =
     (stepped_own w identifier false None context found own.goes
     ∙ ap (after_own identifier false None w) own.reached)
 
-own_quiet : (made : ℕ) (w : World) (identifier : ℕ) (context : Context)
-    → context_at w identifier ≡ Some context → (last : Machine)
-    → OwnSteps w.program made (machine_of w context) last
-    → AreQuiet w (plain_moves identifier made)
-unfolding with_context
-own_quiet zero w identifier context found last own = tt
-own_quiet (suc zero) w identifier context found last own =
-    (one_quiet w identifier context found own.0 own.1, tt)
-own_quiet (suc (suc made)) w identifier context found last own =
-    let next = own.0 in
-    let left = goes_left next.context own.2.1.goes in (
-      one_quiet w identifier context found next own.1,
-      subst (λ (now : World). AreQuiet now (plain_moves identifier (suc made)))
-          (sym (own_move w identifier context found next own.1))
-          (own_quiet (suc made) (with_machine identifier w next) identifier next.context
-          (put_back w identifier context found next left) last own.2),
-    )
+-- it leaves every other context as it is
+one_others : (w : World) (identifier : ℕ) (context : Context)
+    → context_at w identifier ≡ Some context → (next : Machine)
+    → OwnStep w.program (machine_of w context) next
+    → KeepsOthers identifier w (plain_move identifier)
+one_others w identifier context found next own = λ other apart.
+    ap (λ (now : World). context_at now other) (own_move w identifier context found next own)
+    ∙ put_apart w identifier other next (λ same. apart (sym same))
+
+-- what is so of each own step is so of all of them
+module _ (IsSo : World → Move → Type 0) (identifier : ℕ)
+    (one : (w : World) (context : Context) → context_at w identifier ≡ Some context
+    → (next : Machine) → OwnStep w.program (machine_of w context) next
+    → IsSo w (plain_move identifier)) where
+  own_all : (made : ℕ) (w : World) (context : Context)
+      → context_at w identifier ≡ Some context → (last : Machine)
+      → OwnSteps w.program made (machine_of w context) last
+      → AllFrom IsSo w (plain_moves identifier made)
+  unfolding with_context
+  own_all zero w context found last own = tt
+  own_all (suc zero) w context found last own = (one w context found own.0 own.1, tt)
+  own_all (suc (suc made)) w context found last own =
+      let next = own.0 in
+      let left = goes_left next.context own.2.1.goes in (
+        one w context found next own.1,
+        subst (λ (now : World). AllFrom IsSo now (plain_moves identifier (suc made)))
+            (sym (own_move w identifier context found next own.1))
+            (own_all (suc made) (with_machine identifier w next) next.context
+            (put_back w identifier context found next left) last own.2),
+      )
 
 pub or_false : (b : Bool) → b || false ≡ b
 or_false true = refl
@@ -228,14 +242,21 @@ module _ (d : Desk) (steady : IsSteady d) (framed : AreFramed d.members) (identi
     run_ready : IsTrue (all_ready w (plain_moves identifier made))
     run_ready = own_all_ready made w identifier context there comes.next own
 
-    pub run_quiet : AreQuiet w (plain_moves identifier made)
-    run_quiet = own_quiet made w identifier context there comes.next own
+    pub run_quiet : AllFrom IsQuiet w (plain_moves identifier made)
+    run_quiet =
+        own_all IsQuiet identifier (λ w. one_quiet w identifier) made w context there comes.next own
+
+    run_others : AllFrom (KeepsOthers identifier) w (plain_moves identifier made)
+    run_others =
+        own_all (KeepsOthers identifier) identifier (λ w. one_others w identifier) made w context
+        there comes.next own
 
   pub run_made : HasMade identifier made (held d None) (held run_desk None)
   run_made = record {
     at = λ w at ready. run_world w at;
     ready = λ w at ready. run_ready w at;
     quiet = λ w at ready. run_quiet w at;
+    others = λ w at ready. run_others w at;
     steady = run_steady;
     program = run.stays.program;
   }

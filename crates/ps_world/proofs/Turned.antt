@@ -124,6 +124,7 @@ module _ (asks : Status → Around → Scene → Asked) (unwinding : Option Caus
               own_made asks unwinding before steady.steady steady.framed identifier lends.member
               lends.found course_is trial l turned made none w at shown;
           held_up = λ why bad. absurd (cc);
+          caller = tt;
           logs = λ w at ready. made.logs;
           keeps = made.keeps;
           steady = subst (λ calling. IsSteadyHeld (held
@@ -151,6 +152,7 @@ module _ (asks : Status → Around → Scene → Asked) (unwinding : Option Caus
               on.held_up why is w
               (own_calls asks unwinding before steady.steady steady.framed identifier lends.member
               lends.found course_is trial l operator (made (Calls operator) ok) w at) ready;
+          caller = on.caller;
           logs = λ w at ready.
               logs_then 0 (spent told most_records) (spent told most_records) before.grants l.grants
               final.desk.grants trial.slot (omega arith)
@@ -210,6 +212,7 @@ module _ (asks : Status → Around → Scene → Asked) (unwinding : Option Caus
               few why l (subst (λ r. TurnsSo asks unwinding trial (Err r)
               (lent_to before lends.member.context) l)
               (same_reason reason why is) unmade) w at;
+          caller = tt;
           logs = λ w at ready. unmade.logs;
           keeps = unmade.keeps;
           steady = record {

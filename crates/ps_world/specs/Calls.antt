@@ -74,8 +74,8 @@ call_wants operator caller refused before context =
     deed_wants operator before context (deed_given_room refused before
     ((calling_of operator).deed context.operands (call_by caller None before context)))
 
--- Why a step is not made, and wants says whether it may want a growth. LogFull: the log is open, and
--- takes fewer records than a step may put. LogClosed: it is closed. NeedSpace: of some words, in a
+-- Why a step is not made, and wants says whether it may want a growth. LogFull: the log is open,
+-- and takes fewer records than a step may put. LogClosed: it is closed. NeedSpace: of some words, in a
 -- memory that doesn't grow, by a step that may want a growth. Memory: by such a step
 abbrev pub IsHeldUpAs : (wants : Bool) → (slot : ℕ) → Heap → Grants → Reason → Type 0
 IsHeldUpAs wants slot heap grants LogFull =

@@ -1,5 +1,6 @@
 -- When steps of the contexts of a world went as the definitions say (PLRM2, 7.1).
-use Rattle.std.specs.Prelude.{◌≡◌, ℕ, ℤ, pos, min, max, true, false, IsTrue, Option, Some, None, Result, Ok, Err, List, [], ◌∷◌}
+use Rattle.std.specs.Prelude.{◌≡◌, ◌≢◌, ℕ, ℤ, pos, min, max, true, false, IsTrue, Option, Some, None, Result, Ok, Err, List, [], ◌∷◌}
+use Rattle.ps_language.specs.Contexts.{context_at}
 use Rattle.ps_language.specs.Effect.{nothing, Around, Scene}
 use Rattle.ps_language.specs.Locks.{is_ready}
 use Rattle.ps_language.specs.Schedules.{Move}
@@ -17,7 +18,7 @@ use Rattle.ps_contexts.specs.Moves.{plain_moves}
 use Rattle.ps_world.specs.declared.notes.Note.{Note}
 use Rattle.ps_world.specs.declared.runs.Next.{Next}
 use Rattle.ps_world.specs.Calls.{IsHeldUpAs}
-use Rattle.ps_world.specs.Held.{Held, IsAt, IsSteadyHeld}
+use Rattle.ps_world.specs.Held.{Held, IsAt, IsSteadyHeld, MayStep}
 use Rattle.ps_world.specs.Notes.{note_of}
 use Rattle.ps_world.specs.Needs.{step_wants}
 
@@ -28,8 +29,8 @@ StepsTo (Ok note) stepped before new = IsWorld new.desk stepped.world × (new.ca
     × (note_of note ≡ stepped.note)
 StepsTo (Err reason) stepped before new = IsAt new before
 
--- For every world that it is at, where the context is ready. A step that is not made has its reason;
--- what stood goes on standing, and the logs are kept
+-- For every world that it is at, where the context is ready. A step that is not made has its
+-- reason; what stood goes on standing, the logs are kept, and a call that waits is of this context
 pub record Steps (asks : Status → Around → Scene → Asked) (identifier : ℕ) (trial : Trial)
     (shown : Option (ℤ × ℤ)) (result : Result Note Reason) (old new : Held) : Type 0 where
   pub meets : (w : World) → IsAt old w → is_ready w identifier ≡ true
@@ -43,6 +44,7 @@ pub record Steps (asks : Status → Around → Scene → Asked) (identifier : �
   pub keeps : Keeps old.desk.heap new.desk.heap
   pub steady : IsSteadyHeld new
   pub program : new.desk.program ≡ old.desk.program
+  pub caller : MayStep new.calling identifier
 
 -- ---- what a vmstatus is shown
 
@@ -63,22 +65,31 @@ pub record AreShown (old new : Heap) (pair : ℤ × ℤ) : Type 0 where
 
 -- ---- many
 
--- nothing is told of any of these steps, from this world on
-abbrev pub AreQuiet : World → List Move → Type 0
-AreQuiet now [] = Unit {0}
-AreQuiet now (move ∷ rest) =
-    ((stepped now move.context move.refused move.shown).note ≡ nothing)
-    × AreQuiet (after_move now move) rest
+-- each of these steps, from this world on, is so in the world before it
+abbrev pub AllFrom : (World → Move → Type 0) → World → List Move → Type 0
+AllFrom IsSo now [] = Unit {0}
+AllFrom IsSo now (move ∷ rest) = IsSo now move × AllFrom IsSo (after_move now move) rest
 
--- so many were made, from every world that it was at where the context was ready, each while it was,
--- and nothing is told of them
+-- nothing is told of it
+abbrev pub IsQuiet : World → Move → Type 0
+IsQuiet now move = (stepped now move.context move.refused move.shown).note ≡ nothing
+
+-- it leaves every other context as it is
+abbrev pub KeepsOthers : (identifier : ℕ) → World → Move → Type 0
+KeepsOthers identifier now move = (other : ℕ) → other ≢ identifier
+    → context_at (after_move now move) other ≡ context_at now other
+
+-- so many were made, from every world that it was at where the context was ready, each while it
+-- was; nothing is told of them, and they leave every other context as it is
 pub record HasMade (identifier made : ℕ) (old new : Held) : Type 0 where
   pub at : (w : World) → IsAt old w → is_ready w identifier ≡ true
       → IsAt new (after_moves w (plain_moves identifier made))
   pub ready : (w : World) → IsAt old w → is_ready w identifier ≡ true
       → IsTrue (all_ready w (plain_moves identifier made))
   pub quiet : (w : World) → IsAt old w → is_ready w identifier ≡ true
-      → AreQuiet w (plain_moves identifier made)
+      → AllFrom IsQuiet w (plain_moves identifier made)
+  pub others : (w : World) → IsAt old w → is_ready w identifier ≡ true
+      → AllFrom (KeepsOthers identifier) w (plain_moves identifier made)
   pub steady : IsSteadyHeld new
   pub program : new.desk.program ≡ old.desk.program
 

@@ -60,8 +60,8 @@ fn shown_by<M: Memory>(memory: &mut M, shows: bool) -> Option<(i32, i32)>
 impl World<'_> {
     /// Makes ordinary steps of a context one after another, at most so many, as long as it goes on
     /// by itself, and tells what the step behind them came to, which may call an operator on other
-    /// contexts; of a context that doesn't run, that step alone. Shows says whether `vmstatus` shows
-    /// the memory, or three zeros.
+    /// contexts; of a context that doesn't run, that step alone. Shows says whether `vmstatus`
+    /// shows the memory, or three zeros.
     pub fn go_on<S: Interpret, D: Deeds, M: Memory>(
         &mut self,
         interpret: &mut S,

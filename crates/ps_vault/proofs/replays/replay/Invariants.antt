@@ -1,4 +1,4 @@
-use Rattle.std.proofs.Common.{◌≡◌, ◌≤◌, ◌+◌, ◌-◌, ◌*◌, false, take, length}
+use Rattle.std.proofs.Common.{◌≡◌, ◌≤◌, ◌+◌, ◌-◌, ◌*◌, take, length, None}
 use Rattle.ps_language.specs.Worlds.{world}
 use Rattle.ps_vault.specs.Stories.{world_at}
 use Rattle.ps_vault.proofs.replays.replay.Given as goal
@@ -7,7 +7,7 @@ use Rattle.ps_vault.proofs.replays.replay.Given as goal
 abbrev pub invariant-loop-place : goal.invariant-loop-place
 invariant-loop-place g l = record {
   program : l.vault.program ≡ l.program;
-  calling : l.vault.is_calling ≡ false;
+  calling : l.vault.caller ≡ None;
   room : length l.schedule + 1 ≤ l.vault.capacity;
   spare : length l.vault.schedule + 2 * (length l.schedule - l.place) + 1
       ≤ l.vault.capacity;

@@ -1,4 +1,4 @@
-use Rattle.std.proofs.Common.{◌≡◌, ◌≤◌, ◌-◌, false}
+use Rattle.std.proofs.Common.{◌≡◌, ◌≤◌, ◌-◌, None}
 use Rattle.ps_language.specs.Schedules.{plain_move}
 use Rattle.ps_vault.specs.Turns.{added_times}
 use Rattle.ps_vault.proofs.replays.steps.Given as goal
@@ -10,7 +10,7 @@ invariant-loop-made g l = record {
   program : l.vault.program ≡ l.fn.vault.program;
   added : l.vault.schedule ≡ added_times l.made l.fn.vault.schedule (plain_move l.context);
   capacity : l.fn.vault.capacity ≤ l.vault.capacity;
-  calling : l.vault.is_calling ≡ false;
+  calling : l.vault.caller ≡ None;
 }
 
 abbrev pub decreases-loop-made : goal.decreases-loop-made

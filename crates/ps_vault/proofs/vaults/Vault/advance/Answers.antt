@@ -5,13 +5,13 @@ use Rattle.ps_language.specs.Locks.{is_ready}
 use Rattle.ps_language.specs.Schedules.{plain_move, count_of, moves}
 use Rattle.ps_language.specs.Worlds.{starting_world, world}
 use Rattle.ps_language.proofs.ScheduleLaws.{count_of-added}
-use Rattle.ps_vault.specs.Order.{AddsSteps, NoneEnds, OnlyLastMayEnd}
+use Rattle.ps_vault.specs.Order.{IsOnlyLeft, AddsSteps, NoneEnds, AllOfOne, OnlyLastMayEnd}
 use Rattle.ps_vault.specs.Reports.{are_ordinary, are_words}
 use Rattle.ps_vault.specs.Stories.{Story, world_at, move_of}
 use Rattle.ps_vault.specs.Turns.{added_times}
 use Rattle.ps_vault.proofs.Following.{times_noted}
-use Rattle.ps_vault.proofs.Keeping.{at_story, ready_there}
-use Rattle.ps_vault.proofs.Advancing.{keeps_made, count_times, ordinary_added, ordinary_move, ordinary_times, words_kept, some_made, none_ends_made, none_ends_mid, none_ends_behind, only_last_behind, keeps_behind, ends_behind, keeps_held, held_behind, kept_none}
+use Rattle.ps_vault.proofs.Keeping.{caller_there, may_go, may_step}
+use Rattle.ps_vault.proofs.Advancing.{keeps_made, count_times, ordinary_added, ordinary_move, ordinary_times, words_kept, some_made, none_ends_made, none_ends_mid, none_ends_behind, only_last_behind, keeps_behind, ends_behind, keeps_held, held_behind, kept_none, alone_made, alone_mid, alone_behind, left_held}
 use Rattle.ps_vault.proofs.Ordering.{adds_times, adds_one, adds_more}
 use Rattle.ps_vault.proofs.vaults.Vault.advance.Given as givens
 use Rattle.ps_vault.proofs.vaults.Vault.advance.Goals as goal
@@ -21,11 +21,9 @@ use Rattle.ps_vault.proofs.vaults.Vault.advance.Goals.{After-go_on-made, After-n
 
 pub go_on-made-requires-clause-there : goal.go_on-made-requires-clause-there
 go_on-made-requires-clause-there g c =
-    ready_there _ _ _ (world_at c.args.self.now) c.args.context
-    (at_story _ c.self.inside.schedule.items c.args.self.now c.self.invariant
-    (ap (λ (s : Story). s.program) c.self.view_is) (ap (λ (s : Story). s.schedule) c.self.view_is)
-    (ap (λ (s : Story). s.is_calling) c.self.view_is) c.requires.calling).contexts
-    c.requires.ready
+    caller_there _ c.self.inside.schedule.items c.args.context c.self.invariant
+    (ap (λ (s : Story). is_ready (world_at s) c.args.context) c.self.view_is ∙ c.requires.ready)
+    (may_step _ _ c.args.context (ap (λ (s : Story). s.caller) c.self.view_is) c.requires.calling)
 
 -- the context was ready before them
 ready_before : (g : givens.Over) (c : After-go_on-made g)
@@ -72,6 +70,14 @@ of_story : (g : givens.Over) (c : After-note_turn g)
 of_story g c holds inside =
     subst (λ (s : Story). holds s.program s.schedule) c.self.view_is inside
 
+-- who alone is left was so inside
+only_inside : (g : givens.Over) (c : After-note_turn g)
+    → IsOnlyLeft (world_at c.args.self.now) c.args.context
+    → IsOnlyLeft (world c.self.inside.world.contexts.shared.program.now
+    c.self.inside.schedule.items) c.args.context
+only_inside g c left =
+    subst (λ (s : Story). IsOnlyLeft (world_at s) c.args.context) (sym c.self.view_is) left
+
 -- ---- nothing is told
 
 pub invariant_of-self : goal.invariant_of-self
@@ -110,6 +116,16 @@ returns-in_default-clause-keeps g c = λ _.
     (none_ends_made c.args.context c.go_on-made.result.made _ _ c.self.inside.schedule.items
     c.self.invariant (ready_before g (goal.at.returns-in_default-clause-keeps g c).After-go_on-made)
     (rw c.in_default.is at c.go_on-made.ensures.makes)))
+
+pub returns-in_default-clause-alone : goal.returns-in_default-clause-alone
+returns-in_default-clause-alone g c = λ left.
+    let at = (goal.at.returns-in_default-clause-alone g c).After-note_turn in
+    of_story g at (λ p entries. AllOfOne c.args.context (starting_world p) (moves entries)
+    (moves c.note_turn.new.schedule.items))
+    (rw c.note_turn.ensures.added
+    (alone_made c.args.context c.go_on-made.result.made _ _ c.self.inside.schedule.items
+    c.self.invariant (ready_before g (goal.at.returns-in_default-clause-alone g c).After-go_on-made)
+    (rw c.in_default.is at c.go_on-made.ensures.makes) (only_inside g at left)))
 
 -- ---- the next step was held up
 
@@ -152,6 +168,27 @@ returns-in-Err-clause-keeps g c = λ _.
     c.in-Some.next.shown _ _ c.self.inside.schedule.items c.self.invariant
     (ready_before g (goal.at.returns-in-Err-clause-keeps g c).After-go_on-made) (Err c.in-Err.reason)
     (rw (c.in-Some.is, c.in-Err.is) at c.go_on-made.ensures.makes)))
+
+pub returns-in-Err-clause-alone : goal.returns-in-Err-clause-alone
+returns-in-Err-clause-alone g c = λ left.
+    let at = (goal.at.returns-in-Err-clause-alone g c).After-note_turn in
+    of_story g at (λ p entries. AllOfOne c.args.context (starting_world p) (moves entries)
+    (moves c.note_turn.new.schedule.items))
+    (rw c.note_turn.ensures.added
+    (alone_mid g.S.Interpret.asks c.args.context 0 c.go_on-made.result.made c.in-Some.next.shown
+    _ _ c.self.inside.schedule.items c.self.invariant
+    (ready_before g (goal.at.returns-in-Err-clause-alone g c).After-go_on-made)
+    (Err c.in-Err.reason)
+    (rw (c.in-Some.is, c.in-Err.is) at c.go_on-made.ensures.makes) (only_inside g at left)))
+
+pub returns-in-Err-clause-left : goal.returns-in-Err-clause-left
+returns-in-Err-clause-left g c = λ held left.
+    let at = (goal.at.returns-in-Err-clause-left g c).After-note_turn in
+    rw c.note_turn.ensures.added
+    (left_held g.S.Interpret.asks c.args.context 0 c.go_on-made.result.made c.in-Some.next.shown
+    _ _ c.self.inside.schedule.items c.self.invariant
+    (ready_before g (goal.at.returns-in-Err-clause-left g c).After-go_on-made) c.in-Err.reason
+    (rw (c.in-Some.is, c.in-Err.is) at c.go_on-made.ensures.makes) (only_inside g at left))
 
 -- ---- the next step was made
 
@@ -225,6 +262,18 @@ returns-clause-only_last g c = λ _.
     (ready_before g (goal.at.returns-clause-only_last g c).After-go_on-made)
     c.in-Ok.told (rw (c.in-Some.is, c.in-Ok.is) at c.go_on-made.ensures.makes)
     c.kept-kept.result))
+
+pub returns-clause-alone : goal.returns-clause-alone
+returns-clause-alone g c = λ left.
+    let at = (goal.at.returns-clause-alone g c).After-note_turn in
+    of_story g at (λ p entries. AllOfOne c.args.context (starting_world p) (moves entries)
+    (moves c.note.new.schedule.items))
+    (rw (c.note.ensures.added, c.note_turn.ensures.added)
+    (alone_behind g.S.Interpret.asks c.args.context 0 c.go_on-made.result.made
+    c.in-Some.next.shown _ _ c.self.inside.schedule.items c.self.invariant
+    (ready_before g (goal.at.returns-clause-alone g c).After-go_on-made)
+    c.in-Ok.told (rw (c.in-Some.is, c.in-Ok.is) at c.go_on-made.ensures.makes)
+    c.kept-kept.result (only_inside g at left)))
 
 pub returns-clause-plain : goal.returns-clause-plain
 returns-clause-plain g c = λ hides.

@@ -9,11 +9,11 @@ returns-clause-left g c =
     next_found _ _ _ (world_at c.args.self.now) c.args.after c.next.result
     (at_story _ c.self.inside.schedule.items c.args.self.now c.self.invariant
     (ap (λ (s : Story). s.program) c.self.view_is) (ap (λ (s : Story). s.schedule) c.self.view_is)
-    (ap (λ (s : Story). s.is_calling) c.self.view_is) c.requires).contexts c.next.ensures
+    (ap (λ (s : Story). s.caller) c.self.view_is) c.requires).contexts c.next.ensures
 
 pub returns-clause-none : goal.returns-clause-none
 returns-clause-none g c =
     next_none _ _ _ (world_at c.args.self.now) c.args.after c.next.result
     (at_story _ c.self.inside.schedule.items c.args.self.now c.self.invariant
     (ap (λ (s : Story). s.program) c.self.view_is) (ap (λ (s : Story). s.schedule) c.self.view_is)
-    (ap (λ (s : Story). s.is_calling) c.self.view_is) c.requires).contexts c.next.ensures
+    (ap (λ (s : Story). s.caller) c.self.view_is) c.requires).contexts c.next.ensures

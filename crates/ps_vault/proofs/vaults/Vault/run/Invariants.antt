@@ -1,4 +1,4 @@
-use Rattle.std.proofs.Common.{◌≡◌, ◌<◌, ◌≤◌, ◌+◌, ◌-◌, ◌*◌, [], false, true, min}
+use Rattle.std.proofs.Common.{◌≡◌, ◌<◌, ◌≤◌, ◌+◌, ◌-◌, ◌*◌, [], true, min, None}
 use Rattle.ps_language.specs.Schedules.{count_of, moves}
 use Rattle.ps_language.specs.Worlds.{starting_world}
 use Rattle.ps_vault.specs.Order.{InOrder}
@@ -18,7 +18,7 @@ invariant-loop-made g l = record {
       → (l.made < l.steps
       → Passing l.quantum (starting_world l.fn.self.program) l.after (moves l.self.schedule))
       × InOrder l.quantum (starting_world l.fn.self.program) (moves l.self.schedule);
-  calling : l.self.is_calling ≡ false;
+  calling : l.self.caller ≡ None;
 }
 
 -- a pass that begins anew makes no step, and then one does

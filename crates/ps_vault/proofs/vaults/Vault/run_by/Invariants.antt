@@ -1,4 +1,4 @@
-use Rattle.std.proofs.Common.{◌≡◌, ◌≤◌, ◌+◌, ◌-◌, false, true}
+use Rattle.std.proofs.Common.{◌≡◌, ◌≤◌, ◌+◌, ◌-◌, true, None}
 use Rattle.ps_language.specs.Schedules.{count_of, moves}
 use Rattle.ps_vault.specs.Reports.{are_ordinary}
 use Rattle.ps_vault.proofs.vaults.Vault.run_by.Given as goal
@@ -11,7 +11,7 @@ invariant-loop-made g l = record {
   counted : count_of l.self.schedule ≡ count_of l.fn.self.schedule + l.made;
   ordinary : are_ordinary (moves l.fn.self.schedule) ≡ true
       → are_ordinary (moves l.self.schedule) ≡ true;
-  calling : l.self.is_calling ≡ false;
+  calling : l.self.caller ≡ None;
 }
 
 abbrev pub decreases-loop-made : goal.decreases-loop-made

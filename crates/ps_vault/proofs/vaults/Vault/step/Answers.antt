@@ -3,16 +3,14 @@ use Rattle.std.proofs.Common.{◌≡◌, true, refl, ap, ◌∙◌}
 use Rattle.ps_language.specs.Locks.{is_ready}
 use Rattle.ps_language.specs.Worlds.{after_move, world}
 use Rattle.ps_vault.specs.Stories.{Story, world_at, move_of}
-use Rattle.ps_vault.proofs.Keeping.{at_story, keeps_step, held_step, ready_there, world_added}
+use Rattle.ps_vault.proofs.Keeping.{caller_there, keeps_step, held_step, may_go, may_step, world_added}
 use Rattle.ps_vault.proofs.vaults.Vault.step.Goals as goal
 
 pub step-told-requires-clause-there : goal.step-told-requires-clause-there
 step-told-requires-clause-there g c =
-    ready_there _ _ _ (world_at c.args.self.now) c.args.context
-    (at_story _ c.self.inside.schedule.items c.args.self.now c.self.invariant
-    (ap (λ (s : Story). s.program) c.self.view_is) (ap (λ (s : Story). s.schedule) c.self.view_is)
-    (ap (λ (s : Story). s.is_calling) c.self.view_is) c.requires.calling).contexts
-    c.requires.ready
+    caller_there _ c.self.inside.schedule.items c.args.context c.self.invariant
+    (ap (λ (s : Story). is_ready (world_at s) c.args.context) c.self.view_is ∙ c.requires.ready)
+    (may_step _ _ c.args.context (ap (λ (s : Story). s.caller) c.self.view_is) c.requires.calling)
 
 pub invariant_of-self : goal.invariant_of-self
 invariant_of-self g c =

@@ -1,13 +1,13 @@
-use Rattle.std.proofs.Common.{◌≡◌, ◌<◌, ◌+◌, ◌-◌, false, true}
+use Rattle.std.proofs.Common.{◌≡◌, ◌<◌, ◌+◌, ◌-◌, ◌%◌, true, None}
 use Rattle.ps_language.specs.Locks as locks
 use Rattle.ps_language.specs.Schedules.{count_of, moves}
 use Rattle.ps_language.specs.Worlds.{starting_world}
-use Rattle.ps_vault.specs.Order.{AddsSteps, NoneEnds}
 use Rattle.ps_vault.specs.Reports.{are_ordinary}
 use Rattle.ps_vault.specs.Stories.{world_at}
-use Rattle.ps_vault.proofs.vaults.Vault.turn.Given as goal
+use Rattle.ps_vault.proofs.Alone.{Begun}
+use Rattle.ps_vault.proofs.vaults.Vault.turns.Given as goal
 
--- the steps so far were made, none ended the turn, and the context is ready
+-- the steps so far were made, and the context, which is ready, goes on with its turn
 abbrev pub invariant-loop-context : goal.invariant-loop-context
 invariant-loop-context g l = record {
   within : l.made < l.most;
@@ -15,10 +15,10 @@ invariant-loop-context g l = record {
   counted : count_of l.self.schedule ≡ count_of l.fn.self.schedule + l.made;
   ordinary : are_ordinary (moves l.fn.self.schedule) ≡ true
       → are_ordinary (moves l.self.schedule) ≡ true;
-  takes : AddsSteps l.context l.made (moves l.fn.self.schedule) (moves l.self.schedule);
-  keeps : NoneEnds (starting_world l.fn.self.program) (moves l.fn.self.schedule)
-      (moves l.self.schedule);
-  calling : l.self.is_calling ≡ false;
+  rest : l.begun ≡ l.made % l.quantum;
+  turns : Begun l.quantum (starting_world l.fn.self.program) l.context
+      (moves l.fn.self.schedule) l.begun (moves l.self.schedule);
+  calling : l.self.caller ≡ None;
   ready : locks.is_ready (world_at l.self) l.context ≡ true;
 }
 
