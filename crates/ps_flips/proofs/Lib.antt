@@ -1,0 +1,5 @@
+pub mod Words
+pub mod Objects
+pub mod Sizes
+pub mod Moved
+pub mod Flipped
