@@ -7,6 +7,7 @@ use lib.ListN.{get_elem?}
 use Rattle.atomic_table.specs.Table as table
 use Rattle.atomic_table.proofs.Lists.{at_set}
 use Rattle.ps_core_parts.specs.declared.events.Event.{Event}
+use Rattle.ps_core_parts.specs.declared.events.Event.TheVariants.{VmLoad}
 use Rattle.ps_core_parts.specs.declared.events.Vm.{Vm}
 use Rattle.ps_core_parts.specs.declared.events.Gc.{Gc}
 use Rattle.ps_core_parts.specs.Steps.{State, vm_after, gc_after, words_after}
@@ -15,51 +16,71 @@ use Rattle.ps_core_laws.specs.Runs.{run, IsRun, IsSpace}
 use Rattle.ps_core_laws.proofs.Kept.{good}
 use Rattle.ps_parts_memory.specs.Shown.{VmRuns, VmFinds}
 use Rattle.ps_table.specs.declared.plays.View.{View}
-use Rattle.ps_table.specs.Shown.{by_vm, by_gc, Fits, Shows, GcRuns, GcFinds, VmDoes, VmStores, GcDoes, GcStores, BothDo, vm_did, gc_did, both_did, SeatState}
+use Rattle.ps_table.specs.Shown.{by_vm, by_gc, Fits, Shows, GcRuns, GcFinds, BothFind, BothLook, VmDoes, VmStores, GcDoes, GcStores, BothDo, vm_did, gc_did, both_did, SeatState}
 
 -- ---- the parts of a run
 
-pub vm_runs : (space : ℕ) (events : List Event) (v : Vm) → IsSpace space → IsRun space events
-    → (run space events).vm ≡ v → VmRuns v
-vm_runs space events v size r is =
-    let e : v.space ≡ space = ap (λ (w : Vm). w.space) (sym is)
-    ∙ (good space size events r).counted.vm_space_is in
-    let all : IsSpace v.space × IsRun v.space events × ((run v.space events).vm ≡ v) = subst
-    (λ (k : ℕ). IsSpace k × IsRun k events × ((run k events).vm ≡ v)) (sym e) (size, r, is) in
-    record { size = all.0; events = events; is_run = all.1; is = all.2 }
+-- what a run leads to, it leads to over the space that a part of its state tells
+own : (space mine : ℕ) (events : List Event) (Q : State → Type 0) → mine ≡ space → IsSpace space
+    → IsRun space events → Q (run space events)
+    → IsSpace mine × IsRun mine events × Q (run mine events)
+own space mine events Q is size r q = subst
+    (λ (k : ℕ). IsSpace k × IsRun k events × Q (run k events)) (sym is) (size, r, q)
 
-pub vm_finds : (space : ℕ) (events : List Event) (v : Vm) (place word : ℕ) → IsSpace space
-    → IsRun space events → (run space events).vm ≡ v → slice_index (run space events).words place
-    ≡ word → VmFinds v place word
-vm_finds space events v place word size r is found =
-    let e : v.space ≡ space = ap (λ (w : Vm). w.space) (sym is)
-    ∙ (good space size events r).counted.vm_space_is in
-    let all : IsSpace v.space × IsRun v.space events × ((run v.space events).vm ≡ v)
-    × (slice_index (run v.space events).words place ≡ word) =
-    subst (λ (k : ℕ). IsSpace k × IsRun k events × ((run k events).vm ≡ v)
-    × (slice_index (run k events).words place ≡ word)) (sym e) (size, r, is, found) in
-    record { size = all.0; events = events; is_run = all.1; is = all.2; found = all.3 }
+module _ (space : ℕ) (events : List Event) where
+  vm_space : (v : Vm) → IsSpace space → IsRun space events → (run space events).vm ≡ v
+      → v.space ≡ space
+  vm_space v size r is = ap (λ (w : Vm). w.space) (sym is)
+      ∙ (good space size events r).counted.vm_space_is
 
-pub gc_runs : (space : ℕ) (events : List Event) (g : Gc) → IsSpace space → IsRun space events
-    → (run space events).gc ≡ g → GcRuns g
-gc_runs space events g size r is =
-    let e : g.space ≡ space = ap (λ (w : Gc). w.space) (sym is)
-    ∙ (good space size events r).counted.gc_space_is in
-    let all : IsSpace g.space × IsRun g.space events × ((run g.space events).gc ≡ g) = subst
-    (λ (k : ℕ). IsSpace k × IsRun k events × ((run k events).gc ≡ g)) (sym e) (size, r, is) in
-    record { size = all.0; events = events; is_run = all.1; is = all.2 }
+  gc_space : (g : Gc) → IsSpace space → IsRun space events → (run space events).gc ≡ g
+      → g.space ≡ space
+  gc_space g size r is = ap (λ (w : Gc). w.space) (sym is)
+      ∙ (good space size events r).counted.gc_space_is
 
-pub gc_finds : (space : ℕ) (events : List Event) (g : Gc) (place word : ℕ) → IsSpace space
-    → IsRun space events → (run space events).gc ≡ g → slice_index (run space events).words place
-    ≡ word → GcFinds g place word
-gc_finds space events g place word size r is found =
-    let e : g.space ≡ space = ap (λ (w : Gc). w.space) (sym is)
-    ∙ (good space size events r).counted.gc_space_is in
-    let all : IsSpace g.space × IsRun g.space events × ((run g.space events).gc ≡ g)
-    × (slice_index (run g.space events).words place ≡ word) =
-    subst (λ (k : ℕ). IsSpace k × IsRun k events × ((run k events).gc ≡ g)
-    × (slice_index (run k events).words place ≡ word)) (sym e) (size, r, is, found) in
-    record { size = all.0; events = events; is_run = all.1; is = all.2; found = all.3 }
+  pub vm_runs : (v : Vm) → IsSpace space → IsRun space events → (run space events).vm ≡ v → VmRuns v
+  vm_runs v size r is =
+      let all = own space v.space events (λ s. s.vm ≡ v) (vm_space v size r is) size r is in
+      record { size = all.0; events = events; is_run = all.1; is = all.2 }
+
+  pub gc_runs : (g : Gc) → IsSpace space → IsRun space events → (run space events).gc ≡ g → GcRuns g
+  gc_runs g size r is =
+      let all = own space g.space events (λ s. s.gc ≡ g) (gc_space g size r is) size r is in
+      record { size = all.0; events = events; is_run = all.1; is = all.2 }
+
+  pub vm_finds : (v : Vm) (place word : ℕ) → IsSpace space → IsRun space events
+      → (run space events).vm ≡ v → slice_index (run space events).words place ≡ word
+      → VmFinds v place word
+  vm_finds v place word size r is found =
+      let all = own space v.space events
+      (λ s. (s.vm ≡ v) × (slice_index s.words place ≡ word)) (vm_space v size r is) size r
+      (is, found) in
+      record { size = all.0; events = events; is_run = all.1; is = all.2.0; found = all.2.1 }
+
+  pub gc_finds : (g : Gc) (place word : ℕ) → IsSpace space → IsRun space events
+      → (run space events).gc ≡ g → slice_index (run space events).words place ≡ word
+      → GcFinds g place word
+  gc_finds g place word size r is found =
+      let all = own space g.space events
+      (λ s. (s.gc ≡ g) × (slice_index s.words place ≡ word)) (gc_space g size r is) size r
+      (is, found) in
+      record { size = all.0; events = events; is_run = all.1; is = all.2.0; found = all.2.1 }
+
+  pub both_find : (v : Vm) (g : Gc) (place word : ℕ) → IsSpace space → IsRun space events
+      → (run space events).vm ≡ v → (run space events).gc ≡ g
+      → slice_index (run space events).words place ≡ word → BothFind v g place word
+  both_find v g place word size r vm gc found =
+      let all = own space v.space events
+      (λ s. (s.vm ≡ v) × (s.gc ≡ g) × (slice_index s.words place ≡ word))
+      (vm_space v size r vm) size r (vm, gc, found) in
+      record {
+        size = all.0;
+        events = events;
+        is_run = all.1;
+        vm_is = all.2.0;
+        gc_is = all.2.1;
+        found = all.2.2;
+      }
 
 -- ---- the views
 
@@ -201,9 +222,14 @@ pub record BothStep (v : Vm) (g : Gc) (i : ℕ) (f : ℕ → ℕ) (e : ℕ → E
       → words_after s.words s.vm s.gc (e n) ≡ slice_set s.words i (f n)
 
 module _ (space slots id : ℕ) (me : SeatState) (i : ℕ) (f : ℕ → ℕ) (e : ℕ → Event) where
-  pub vm_allows : me.0.acts_vm ≡ true → VmStep me.0.vm i f e → table.Allows (Shows space) slots id
-      me i f (λ n me'. VmDoes me i n (e n) me')
-  vm_allows acts step s h _ at _ =
+  -- the mutator's step, and whatever follows of the run that it comes after
+  vm_goes : (tells : ℕ → SeatState → Type 0) → me.0.acts_vm ≡ true → VmStep me.0.vm i f e
+      → ((events : List Event) (a b n : ℕ) → IsSpace space → IsRun space events
+      → Fits space events a b id me.0 → slice_index (run space events).words i ≡ n
+      → IsRun space (e n ∷ events) → Fits space (e n ∷ events) a b id (vm_did me.0 (e n))
+      → tells n (vm_did me.0 (e n), me.1))
+      → table.Allows (Shows space) slots id me i f tells
+  vm_goes tells acts step told s h _ at _ =
       let n : ℕ = slice_index s.words i in
       let mine = h.each_view id me.0 at in
       let st : State = run space h.events in
@@ -229,13 +255,17 @@ module _ (space slots id : ℕ) (me : SeatState) (i : ℕ) (f : ℕ → ℕ) (e 
               (λ same. off (same ∙ sym (mine.vm_here acts))) fits)
               h.each_view;
         },
-        record {
-          did = refl;
-          finds = vm_finds space h.events me.0.vm i n h.size h.is_run is found;
-          runs = vm_runs space (e n ∷ h.events) (vm_did me.0 (e n)).vm h.size next
-              (moved.vm_is acts);
-        },
+        told h.events h.vm_at h.gc_at n h.size h.is_run mine found next moved,
       )
+
+  pub vm_allows : me.0.acts_vm ≡ true → VmStep me.0.vm i f e → table.Allows (Shows space) slots id
+      me i f (λ n me'. VmDoes me i n (e n) me')
+  vm_allows acts step = vm_goes (λ n me'. VmDoes me i n (e n) me') acts step
+      (λ events a b n size r mine found next moved. record {
+        did = refl;
+        finds = vm_finds space events me.0.vm i n size r (mine.vm_is acts) found;
+        runs = vm_runs space (e n ∷ events) (vm_did me.0 (e n)).vm size next (moved.vm_is acts);
+      })
 
   pub gc_allows : me.0.acts_gc ≡ true → GcStep me.0.gc i f e → table.Allows (Shows space) slots id
       me i f (λ n me'. GcDoes me i n (e n) me')
@@ -314,6 +344,18 @@ module _ (space slots id : ℕ) (me : SeatState) (i : ℕ) (f : ℕ → ℕ) (e 
               (moved.gc_is gc);
         },
       )
+
+-- a look by both seats joined tells of one run that leads to both parts
+pub look_allows : (space slots id : ℕ) (me : SeatState) (i : ℕ) → me.0.acts_vm ≡ true
+    → me.0.acts_gc ≡ true → VmStep me.0.vm i (λ n. n) (λ n. VmLoad i n)
+    → table.Allows (Shows space) slots id me i (λ n. n) (λ n me'. BothLook me i n me')
+look_allows space slots id me i vm gc step =
+    vm_goes space slots id me i (λ n. n) (λ n. VmLoad i n) (λ n me'. BothLook me i n me') vm step
+    (λ events a b n size r mine found next moved. record {
+      did = refl;
+      finds = both_find space events me.0.vm me.0.gc i n size r (mine.vm_is vm) (mine.gc_is gc)
+          found;
+    })
 
 -- a store tells no word found
 pub vm_store_allows : (space slots id : ℕ) (me : SeatState) (i word : ℕ) (e : Event) → me.0.acts_vm

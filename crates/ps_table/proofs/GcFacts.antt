@@ -1,5 +1,5 @@
 -- What the collector's seat knows of its own part, since it is that of a run.
-use Rattle.std.proofs.Common.{◌≡◌, ◌^◌, ℕ, ◌+◌, ◌*◌, ◌<◌, ◌≤◌, true, refl, sym, ap, ◌∙◌, subst, arith}
+use Rattle.std.proofs.Common.{◌≡◌, ◌^◌, ℕ, ◌+◌, ◌*◌, ◌<◌, ◌≤◌, true, length, Some, refl, sym, ap, ◌∙◌, subst, arith}
 use Rattle.std.specs.Prelude.{not}
 use Rattle.std.proofs.Common.{nat_eq}
 use native.Mathlib.Decide.{ℕ_discrete}
@@ -10,36 +10,69 @@ use Rattle.ps_word.specs.Headers.{forward_address_in, forward_packed}
 use Rattle.ps_word.proofs.HeaderPlaces.{forward_address_in-packed}
 use Rattle.ps_core_parts.specs.declared.events.Event.TheVariants.{ForwardStore}
 use Rattle.ps_core_parts.specs.declared.events.Gc.{Gc}
-use Rattle.ps_core_parts.specs.Objects.{among, seen_at}
-use Rattle.ps_core_parts.specs.Steps.{table_size, other_base, forwarding}
-use Rattle.ps_core_parts.specs.Conditions.{GcMay, IsReady}
-use Rattle.ps_core_laws.specs.Runs.{IsSpace}
+use Rattle.ps_core_parts.specs.declared.events.Pair.{Pair}
+use Rattle.ps_core_parts.specs.declared.events.Carried.{Carried}
+use Rattle.ps_core_parts.specs.Objects.{among, pair_of, seen_at, end_of}
+use Rattle.ps_core_parts.specs.Steps.{State, table_size, other_base, replica_of, forwarding}
+use Rattle.ps_core_parts.specs.Conditions.{GcMay, IsPairField, IsReady}
+use Rattle.ps_core_laws.specs.Runs.{run, IsSpace}
 use Rattle.ps_core_laws.proofs.Bases.{spaces_wide, some_match}
-use Rattle.ps_core_laws.specs.Kept.{GcKnows}
 use Rattle.ps_core_laws.proofs.KeptFacts.{kept}
 use Rattle.ps_table.specs.Shown.{GcRuns, GcFinds}
 use Rattle.ps_table.proofs.Facts.{words}
+use Rattle.ps_table.proofs.Originals.{Lawful, lawful, original_inside, replica_inside}
 
 -- what the steps of the seat rest on
 pub record GcFacts (g : Gc) : Type 0 where
   pub size : IsSpace g.space
   pub epoch_small : g.epoch < 2 ^ 32
   pub known : (a : ℕ) → among g.known a ≡ true → a + 2 ≤ table_size g.space
+  pub originals : (a : ℕ) (p : Pair) → pair_of g.pairs a ≡ Some p
+      → a + 2 + length p.fields ≤ table_size g.space
+  pub replicas_in : (a : ℕ) (p : Pair) → pair_of g.pairs a ≡ Some p
+      → end_of p ≤ table_size g.space
+  pub copying : (k : Carried) → g.copying ≡ Some k
+      → replica_of (pair_of g.pairs k.address) + 2 + k.field < table_size g.space
 
-facts : (g : Gc) → GcKnows g → GcFacts g
-facts g k = record {
-  size = k.size;
-  epoch_small = k.cycles.small;
-  known = λ a is. let hi = (k.known a is).1 in let wide = (spaces_wide g.space g.cycle).0 in
-      omega arith;
-}
+state_facts : (s : State) → Lawful s → GcFacts s.gc
+state_facts s k =
+    let c = k.kept.collector in
+    record {
+      size = c.size;
+      epoch_small = c.cycles.small;
+      known = λ a is.
+          let hi = (c.known a is).1 in let wide = (spaces_wide s.gc.space s.gc.cycle).0 in
+          omega arith;
+      originals = original_inside s k;
+      replicas_in = λ a p at. (replica_inside s k a p at).1;
+      copying = λ w e.
+          let m = some_match (λ (p : Pair). w.field < length p.fields)
+          (pair_of s.gc.pairs w.address) (c.copying w e) in
+          let lt = m.2 in
+          let top = (replica_inside s k w.address m.0 m.1).1 in
+          let there = ap replica_of m.1 in
+          omega arith;
+    }
 
 runs_know : (g : Gc) → GcRuns g → GcFacts g
-runs_know g r = facts g
-    (subst GcKnows r.is (kept g.space r.size r.events r.is_run).collector)
+runs_know g r = subst GcFacts r.is
+    (state_facts (run g.space r.events) (lawful g.space r.size r.events r.is_run))
 
 pub gc_knows : (g : Gc) → ∥ GcRuns g ∥₁ → GcFacts g
 gc_knows g t = ∥∥₁_elim t (hlevel props) (runs_know g)
+
+-- ---- where a field lies
+
+pub field_place : (g : Gc) (a i : ℕ) → ∥ GcRuns g ∥₁ → IsPairField g a i
+    → a + 2 + i < table_size g.space
+field_place g a i r is =
+    let m = some_match (λ (p : Pair). i < length p.fields) (pair_of g.pairs a) is in
+    let lt = m.2 in let top = (gc_knows g r).originals a m.0 m.1 in
+    omega arith
+
+pub copy_place : (g : Gc) (k : Carried) → ∥ GcRuns g ∥₁ → g.copying ≡ Some k
+    → replica_of (pair_of g.pairs k.address) + 2 + k.field < table_size g.space
+copy_place g k r is = (gc_knows g r).copying k is
 
 -- ---- what a control word that is found tells
 

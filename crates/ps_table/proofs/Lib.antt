@@ -2,10 +2,12 @@ pub mod Allows
 pub mod CopySteps
 pub mod Counts
 pub mod Facts
+pub mod Flipping
 pub mod GcFacts
 pub mod GcMoves
 pub mod Made
 pub mod Mirrored
 pub mod Moves
+pub mod Originals
 pub mod Seats
 pub mod Storing

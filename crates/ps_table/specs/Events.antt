@@ -1,9 +1,15 @@
--- The events that a call of the mutator's seat makes, the oldest first.
-use Rattle.std.specs.Prelude.{ℕ, ◌+◌, List, [], ◌∷◌, ◌++◌, replicate}
+-- The events that a call of a seat makes, the oldest first.
+use Rattle.std.specs.Prelude.{ℕ, ◌+◌, List, [], ◌∷◌, ◌++◌, replicate, if◌then◌else◌}
+use Rattle.ps_word.specs.Format.{address_in}
+use Rattle.ps_record.specs.Format.{head_place}
+use Rattle.ps_word.specs.Readers.{is_reference}
 use Rattle.ps_core_parts.specs.declared.events.Event.{Event}
-use Rattle.ps_core_parts.specs.declared.events.Event.TheVariants.{VmLoad, ClearStore, HeaderStore, FieldStore}
+use Rattle.ps_core_parts.specs.declared.events.Event.TheVariants.{VmLoad, GcLoad, ClearStore, HeaderStore, FieldStore}
+use Rattle.ps_core_parts.specs.declared.events.Gc.{Gc}
+use Rattle.ps_core_parts.specs.Objects.{pair_of}
+use Rattle.ps_core_parts.specs.Steps.{forwarding, replica_of}
 use Rattle.ps_table.specs.declared.plays.View.{View}
-use Rattle.ps_table.specs.Shown.{vm_did}
+use Rattle.ps_table.specs.Shown.{vm_did, gc_did}
 
 -- the view after them
 abbrev pub did_all : View → List Event → View
@@ -22,4 +28,20 @@ object_stores header fields = replicate (fields + 1) ClearStore ++ HeaderStore h
 -- the loads of heads that found these words, from a slot on
 abbrev pub head_loads : ℕ → List ℕ → List Event
 head_loads slot [] = []
-head_loads slot (n ∷ ns) = VmLoad (2 + slot) n ∷ head_loads (slot + 1) ns
+head_loads slot (n ∷ ns) = VmLoad (head_place slot) n ∷ head_loads (slot + 1) ns
+
+-- ---- of the collector's seat
+
+-- the view after them
+abbrev pub gc_did_all : View → List Event → View
+gc_did_all m [] = m
+gc_did_all m (e ∷ es) = gc_did_all (gc_did m e) es
+
+-- the loads of the second headers of roots that are references and have replicas
+abbrev pub root_look : Gc → ℕ → List Event
+root_look g w = if is_reference w then GcLoad (address_in w + 1)
+    (forwarding (g.cycle + 1) (replica_of (pair_of g.pairs (address_in w)))) ∷ [] else []
+
+abbrev pub root_looks : Gc → List ℕ → List Event
+root_looks g [] = []
+root_looks g (w ∷ ws) = root_look g w ++ root_looks g ws

@@ -5,10 +5,11 @@ use Rattle.std.specs.List.{filter}
 use mathlib.Core.Option.{some}
 use lib.ListN.{get_elem?}
 use Rattle.atomic_table.specs.Table as table
-use Rattle.ps_record.specs.Format.{record_in}
+use Rattle.ps_record.specs.Format.{control_words, ring_length, record_in}
 use Rattle.ps_word.specs.Headers.{forward_address_in}
 use Rattle.ps_core_parts.specs.declared.events.Event.{Event}
 use Rattle.ps_core_parts.specs.declared.events.Event.TheVariants.{VmLoad, GcLoad, TakeLoad, CopyLoad, HandOver, ClearStore, HeaderStore, FieldStore, RecordStore, EpochStore, ReplicaHeaderStore, ReplicaFieldStore, ForwardStore, HeadStore, CycleStore}
+use Rattle.ps_core_parts.specs.declared.events.Vm.{Vm}
 use Rattle.ps_core_parts.specs.declared.events.Gc.{Gc}
 use Rattle.ps_core_parts.specs.Steps.{start, vm_after, gc_after}
 use Rattle.ps_core_laws.specs.Runs.{run, IsRun, IsSpace}
@@ -138,6 +139,15 @@ pub record GcFinds (g : Gc) (place word : ℕ) : Type 0 where
   pub is : (run g.space events).gc ≡ g
   pub found : slice_index (run g.space events).words place ≡ word
 
+-- the same of both parts
+pub record BothFind (v : Vm) (g : Gc) (place word : ℕ) : Type 0 where
+  pub size : IsSpace v.space
+  pub events : List Event
+  pub is_run : IsRun v.space events
+  pub vm_is : (run v.space events).vm ≡ v
+  pub gc_is : (run v.space events).gc ≡ g
+  pub found : slice_index (run v.space events).words place ≡ word
+
 -- ---- what each step tells
 
 -- a seat at the table: its view, and what it holds
@@ -168,8 +178,13 @@ pub record BothDo (m : SeatState) (e : Event) (m' : SeatState) : Type 0 where
   pub vm_runs : VmRuns m'.0.vm
   pub gc_runs : GcRuns m'.0.gc
 
+-- both seats joined look at a word, as the mutator's
+pub record BothLook (m : SeatState) (place found : ℕ) (m' : SeatState) : Type 0 where
+  pub did : m' ≡ (vm_did m.0 (VmLoad place found), m.1)
+  pub finds : BothFind m.0.vm m.0.gc place found
+
 abbrev pub slot_at : ℕ → ℕ
-slot_at place = (place - 64) / 256
+slot_at place = (place - control_words) / ring_length
 
 abbrev pub vm_loads : table.Step (Unit {0}) → SeatState → ℕ → SeatState → Type 0
 vm_loads st m n m' = VmDoes m st.word n (VmLoad st.word n) m'
@@ -192,6 +207,15 @@ opens_cycle st m n m' = VmStores m EpochStore m'
 abbrev pub gc_loads : table.Step (Unit {0}) → SeatState → ℕ → SeatState → Type 0
 gc_loads st m n m' = GcDoes m st.word n (GcLoad st.word n) m'
 
+abbrev pub takes : table.Step (Unit {0}) → SeatState → ℕ → SeatState → Type 0
+takes st m n m' = GcDoes m st.word n (TakeLoad (slot_at st.word) n) m'
+
+abbrev pub copies_field : ℕ → ℕ → table.Step (Unit {0}) → SeatState → ℕ → SeatState → Type 0
+copies_field a i st m n m' = GcDoes m st.word n (CopyLoad a i n) m'
+
+abbrev pub stores_copy : Bool → table.Step (Unit {0}) → SeatState → ℕ → SeatState → Type 0
+stores_copy scans st m n m' = GcStores m (ReplicaFieldStore scans) m'
+
 abbrev pub places_header : table.Step (Unit {0}) → SeatState → ℕ → SeatState → Type 0
 places_header st m n m' = GcStores m (ReplicaHeaderStore st.word st.first) m'
 
@@ -203,3 +227,9 @@ advances st m n m' = GcStores m HeadStore m'
 
 abbrev pub hands : List ℕ → table.Step (Unit {0}) → SeatState → ℕ → SeatState → Type 0
 hands roots st m n m' = BothDo m (HandOver n roots) m'
+
+abbrev pub looks : table.Step (Unit {0}) → SeatState → ℕ → SeatState → Type 0
+looks st m n m' = BothLook m st.word n m'
+
+abbrev pub flips : List ℕ → table.Step (Unit {0}) → SeatState → ℕ → SeatState → Type 0
+flips roots st m n m' = BothDo m (CycleStore roots) m'

@@ -3,16 +3,20 @@
 //! Its part is that of some run of the machine, whatever the mutator's seat did meanwhile.
 ghost use Rattle.std.specs.Prelude.{◌≡◌, ◌<◌, ◌+◌, ◌^◌, ℕ, true, [], ◌∷◌, length, Some};
 ghost use Rattle.std.specs.Arc.{arc_value};
+ghost use Rattle.ps_record.specs.Format.{slots, ring_place};
 ghost use Rattle.ps_core_parts.specs.declared.events.Half.{Half};
-ghost use Rattle.ps_core_parts.specs.declared.events.Event.TheVariants.{GcLoad, ReplicaHeaderStore, ForwardStore, HeadStore};
-ghost use Rattle.ps_core_parts.specs.Objects.{log_of};
+ghost use Rattle.ps_core_parts.specs.declared.events.Carried.{Carried};
+ghost use Rattle.ps_core_parts.specs.declared.events.Event.TheVariants.{GcLoad, TakeLoad, CopyLoad, ReplicaHeaderStore, ReplicaFieldStore, ForwardStore, HeadStore};
+ghost use Rattle.ps_core_parts.specs.Objects.{log_of, pair_of};
 ghost use Rattle.ps_core_parts.specs.Conditions.{GcMay};
-ghost use Rattle.ps_core_parts.specs.Steps.{table_size, knows_open};
+ghost use Rattle.ps_core_parts.specs.Steps.{table_size, knows_open, replica_of, word_stored};
 ghost use Rattle.ps_table.specs.Shown.{GcRuns, GcFinds, gc_did};
 
-use crate::plays::{Advances, Forwards, GcLoads, PlacesHeader, View};
+use crate::gc_steps::{gc_copy, gc_fill};
+use crate::plays::{Advances, Forwards, GcLoads, PlacesHeader, Takes, View};
 use crate::steps::Words;
 use atomic_table::Seat;
+use ps_record::{head_place, ring_place};
 use std::alloc::Global;
 use std::sync::Arc;
 
@@ -55,6 +59,46 @@ impl GcSeat {
             .load::<GcLoads>(&mut self.seat, place as usize)
     }
 
+    /// Loads the ring place of a slot's next record, which has this number in its log. Where that
+    /// record stands there, it is being taken from then on.
+    pub fn take(&mut self, slot: u64, number: u64) -> u64
+        requires next { number ≡ length (log_of self.old.seat.me.0.gc.taken slot) }
+        requires may { GcMay self.old.seat.me.0.gc (TakeLoad slot 0) }
+        ensures did { self.new.seat.me.0 ≡ gc_did self.old.seat.me.0 (TakeLoad slot result) }
+        ensures finds { GcFinds self.old.seat.me.0.gc (ring_place slot number) result }
+        ensures same { self.new.seat.table_id ≡ self.old.seat.table_id }
+    {
+        self.table
+            .shared
+            .load::<Takes>(&mut self.seat, ring_place(slot, number) as usize)
+    }
+
+    /// Loads a field of an original, which is being copied from then on. What the word names is
+    /// known then.
+    pub fn copy_field(&mut self, original: u64, field: u64) -> u64
+        requires may { GcMay self.old.seat.me.0.gc (CopyLoad original field 0) }
+        ensures did { self.new.seat.me.0
+            ≡ gc_did self.old.seat.me.0 (CopyLoad original field result) }
+        ensures finds { GcFinds self.old.seat.me.0.gc (original + 2 + field) result }
+        ensures same { self.new.seat.table_id ≡ self.old.seat.table_id }
+    {
+        gc_copy(&self.table, &mut self.seat, original, field)
+    }
+
+    /// Stores the word being copied, renamed, to its field of the replica; the scan's store fills
+    /// the field.
+    pub fn store_field(&mut self, replica: u64, field: u64, word: u64, scans: bool)
+        requires is { (k : Carried) × (self.old.seat.me.0.gc.copying ≡ Some k)
+            × (replica ≡ replica_of (pair_of self.old.seat.me.0.gc.pairs k.address))
+            × (field ≡ k.field) × (word ≡ word_stored self.old.seat.me.0.gc k) }
+        requires may { GcMay self.old.seat.me.0.gc (ReplicaFieldStore scans) }
+        ensures did { self.new.seat.me.0
+            ≡ gc_did self.old.seat.me.0 (ReplicaFieldStore scans) }
+        ensures same { self.new.seat.table_id ≡ self.old.seat.table_id }
+    {
+        gc_fill(&self.table, &mut self.seat, replica, field, word, scans);
+    }
+
     /// Whether a cycle is open: its number, the epoch, is kept.
     pub fn begin_cycle(&mut self) -> bool
         ensures did { (cycle epoch : ℕ) × (self.new.seat.me.0
@@ -84,13 +128,13 @@ impl GcSeat {
         requires takes { (h : Half) × (self.old.seat.me.0.gc.taking ≡ Some h) × (slot ≡ h.slot)
             × (number ≡ length (log_of self.old.seat.me.0.gc.taken slot)) }
         requires may { GcMay self.old.seat.me.0.gc HeadStore }
-        requires few { (slot < 32) × (number + 1 < 2 ^ 64) }
+        requires few { (slot < slots) × (number + 1 < 2 ^ 64) }
         ensures did { self.new.seat.me.0 ≡ gc_did self.old.seat.me.0 HeadStore }
         ensures same { self.new.seat.table_id ≡ self.old.seat.table_id }
     {
         self.table
             .shared
-            .store::<Advances>(&mut self.seat, (2 + slot) as usize, number + 1);
+            .store::<Advances>(&mut self.seat, head_place(slot) as usize, number + 1);
     }
 
     /// Makes a pair of an original and its replica, whose headers stand.

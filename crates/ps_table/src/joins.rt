@@ -1,12 +1,13 @@
 //! The two seats joined, and apart again.
-ghost use Rattle.std.specs.Prelude.{◌≡◌, true, []};
-ghost use Rattle.ps_core_parts.specs.declared.events.Event.TheVariants.{HandOver};
+ghost use Rattle.std.specs.Prelude.{◌≡◌, ◌<◌, ◌+◌, true, []};
+ghost use Rattle.ps_core_parts.specs.declared.events.Event.TheVariants.{HandOver, CycleStore};
+ghost use Rattle.ps_core_parts.specs.Conditions.{VmMay, GcMay};
 ghost use Rattle.ps_core_parts.specs.Objects.{values_stand};
 ghost use Rattle.ps_core_parts.specs.Steps.{table_size};
 ghost use Rattle.ps_parts_memory.specs.Stores.{numbers};
-ghost use Rattle.ps_table.specs.Shown.{BothDo, both_sides, vm_side, gc_side};
+ghost use Rattle.ps_table.specs.Shown.{BothDo, BothLook, both_sides, vm_side, gc_side};
 
-use crate::plays::{HandsOver, Naming, Parts, Spares, View};
+use crate::plays::{Flips, HandsOver, Looks, Naming, Parts, Spares, View};
 use crate::steps::Words;
 use atomic_table::Seat;
 use ps_word::words::Word;
@@ -62,4 +63,31 @@ pub(crate) fn hand(words: &Words, seat: &mut Seat<(), View>, roots: &[Word]) -> 
     ensures does { BothDo seat.old.me (HandOver result (numbers roots.now)) seat.new.me }
 {
     hand_named::<Brand>(words, seat, roots)
+}
+
+/// Loads a word that is no head, by both seats joined, as an event of the mutator's.
+pub(crate) fn look(words: &Words, seat: &mut Seat<(), View>, place: u64) -> u64
+    requires same { (seat.old.table_id ≡ words.now.shared.table_id)
+        × (words.now.shared.table_id.words ≡ table_size seat.old.me.0.vm.space) }
+    requires acts { (seat.old.me.0.acts_vm ≡ true) × (seat.old.me.0.acts_gc ≡ true) }
+    requires inside { place < table_size seat.old.me.0.vm.space }
+    ensures same { seat.new.table_id ≡ seat.old.table_id }
+    ensures does { BothLook seat.old.me place result seat.new.me }
+{
+    words.shared.load::<Looks>(seat, place as usize)
+}
+
+/// Stores the cycle word, by both seats joined: the flip.
+pub(crate) fn flip<N: Naming>(words: &Words, seat: &mut Seat<(), View>, cycle: u64)
+    requires same { (seat.old.table_id ≡ words.now.shared.table_id)
+        × (words.now.shared.table_id.words ≡ table_size seat.old.me.0.vm.space) }
+    requires acts { (seat.old.me.0.acts_vm ≡ true) × (seat.old.me.0.acts_gc ≡ true) }
+    requires is { cycle ≡ seat.old.me.0.gc.cycle + 1 }
+    requires vm { VmMay seat.old.me.0.vm (CycleStore N.roots) }
+    requires gc { GcMay seat.old.me.0.gc (CycleStore N.roots) }
+    requires drained { seat.old.me.0.gc.taken ≡ seat.old.me.0.vm.logs }
+    ensures same { seat.new.table_id ≡ seat.old.table_id }
+    ensures does { BothDo seat.old.me (CycleStore N.roots) seat.new.me }
+{
+    words.shared.store::<Flips<N>>(seat, 0, cycle);
 }

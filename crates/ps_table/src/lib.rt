@@ -4,13 +4,12 @@
 //! Whatever the two seats do in whatever order: some interleaving of their atomic steps is a run of
 //! the collector's machine, the table's words are those of its state, and the part that each seat
 //! knows is that state's (`Shows`). So the laws of runs hold between any two steps.
-//!
-//! Not here yet: the flip by both seats joined, and of the collector's seat the loads that take a
-//! record or copy a word and the store of a copied word.
 #![tactic(auto)]
 
 mod collector;
 mod copies;
+mod flips;
+mod gc_steps;
 mod joins;
 mod mirror;
 mod mutator;

@@ -4,7 +4,8 @@
 //! is written that isn't logged, and the numbers that it keeps are the part's (`Sits`).
 ghost use Rattle.std.specs.Prelude.{[], ◌∷◌, slice_set, not, nat_lt, ◌&&◌, ◌≡◌, ◌≢◌, ◌<◌, ◌≤◌, ◌+◌, ◌^◌, ◌↔◌, ℕ, true, false, length, slice_index, IsTrue, if◌then◌else◌};
 ghost use Rattle.std.specs.Arc.{arc_value};
-ghost use Rattle.ps_word.specs.Headers.{kind_in, fields_in, birth_in};
+ghost use Rattle.ps_word.specs.Headers.{kind_in, fields_in, birth_in, cycle_limit};
+ghost use Rattle.ps_record.specs.Format.{slots, head_place};
 ghost use Rattle.ps_mem.specs.Heap.{has_room, IsLogBounded};
 ghost use Rattle.ps_mem.specs.Objects.{kind_of_number};
 ghost use Rattle.ps_core_parts.specs.Conditions.{VmMay};
@@ -30,31 +31,19 @@ use crate::writes::{vm_fields, vm_object};
 use atomic_table::Seat;
 use ps_language::kinds::Kind;
 use ps_mem::{Memory, NeedFault, Permit, SLOTS};
-use ps_record::Record;
-use ps_word::headers::Header;
+use ps_record::{LOG_LIMIT, RING, Record, head_place};
+use ps_word::headers::{self, BIRTH_LIMIT, CYCLE_LIMIT, Header};
 use ps_word::words::Word;
 use std::alloc::Global;
 use std::sync::Arc;
 
-/// How many records one log gets at most.
-const LONGEST: u64 = 1 << 63;
-
-/// The cycles that there are.
-const CYCLES: u64 = 1 << 32;
-
-/// What one more of the kind's number is in a first header: the kind is in bits 60 to 63.
-const KIND: u64 = 1 << 60;
-
-/// What one field more is in a first header: their number is in bits 40 to 59.
-const FIELDS: u64 = 1 << 40;
-
 /// The mutator's seat.
 #[derive(Drop)]
 pub struct VmSeat {
-    table: Arc<Words, Global>,
+    pub(crate) table: Arc<Words, Global>,
     /// The seat at the table, with what it knows. It has no bytes.
     pub seat: Seat<(), View>,
-    mirror: Mirror,
+    pub(crate) mirror: Mirror,
     ghost seated: { seat.table_id ≡ (arc_value table).shared.table_id },
     ghost sits: { Sits (arc_value table).shared.table_id.words seat.me mirror },
 }
@@ -77,7 +66,7 @@ fn header_of(word: u64) -> Header
       birth = birth_in word;
     } }
 {
-    let kind = match word / KIND {
+    let kind = match headers::kind_in(word) {
         6 => Kind::Array,
         7 => Kind::Text,
         8 => Kind::Dictionary,
@@ -87,8 +76,8 @@ fn header_of(word: u64) -> Header
     };
     Header {
         kind,
-        fields: ((word / FIELDS) % (1 << 20)) as u32,
-        birth: word % FIELDS,
+        fields: headers::fields_in(word) as u32,
+        birth: headers::birth_in(word),
     }
 }
 
@@ -107,7 +96,7 @@ fn settle(
     requires acts { seat.old.me.0.acts_vm ≡ true }
     requires runs { ∥ VmRuns seat.old.me.0.vm ∥₁ }
     requires fits { (first < 2 ^ 16) × (count < 2 ^ 16) }
-    requires wide { length mirror.old.logged ≡ 32 }
+    requires wide { length mirror.old.logged ≡ slots }
     requires may { owes mirror.old address ≡ true
         → (VmMay seat.old.me.0.vm (RecordStore slot (Record.Place address first count))
         × (length (log_of seat.old.me.0.vm.logs slot) ≡ slice_index mirror.old.logged slot)) }
@@ -176,30 +165,31 @@ impl VmSeat {
 
     /// Loads the head of a slot's log, which is kept.
     fn see_head(&mut self, slot: u64) -> u64
-        requires { slot < 32 }
-        ensures did { self.new.seat.me.0 ≡ vm_did self.old.seat.me.0 (VmLoad (2 + slot) result) }
+        requires { slot < SLOTS }
+        ensures did { self.new.seat.me.0
+            ≡ vm_did self.old.seat.me.0 (VmLoad (head_place slot) result) }
         ensures mirror { self.new.mirror ≡ record self.old.mirror
             { heads = slice_set self.old.mirror.heads slot result } }
         ensures sees { SeesHead self.old.seat.me.0.vm self.old.seat.me.0.gc slot result }
     {
-        let head = vm_load(&self.table, &mut self.seat, 2 + slot);
+        let head = vm_load(&self.table, &mut self.seat, head_place(slot));
         self.mirror.heads[slot as usize] = head;
         head
     }
 
     /// How many records the log of a slot may get in a cycle, where it isn't closed.
     fn left(&self, slot: u64) -> u64
-        requires slot { slot < 32 }
+        requires slot { slot < SLOTS }
         requires open { is_open self.now.seat.me.0.vm ≡ true }
         requires shut { is_shut self.now.seat.me.0.vm slot ≡ false }
         ensures { result ≡ records_left self.now.seat.me.0.vm slot }
     {
-        let free = self.mirror.heads[slot as usize] + 256;
+        let free = self.mirror.heads[slot as usize] + RING;
         let logged = self.mirror.logged[slot as usize];
-        if free < LONGEST {
+        if free < LOG_LIMIT {
             free - logged
         } else {
-            LONGEST - logged
+            LOG_LIMIT - logged
         }
     }
 
@@ -208,7 +198,7 @@ impl VmSeat {
         ensures { result ≡ has_room (heap_of self.now.seat.me.0.vm) words births }
     {
         words as u64 <= self.mirror.space - (self.mirror.end - self.mirror.base)
-            && births as u64 <= (1 << 40) - self.mirror.next_birth
+            && births as u64 <= BIRTH_LIMIT - self.mirror.next_birth
     }
 
     /// Makes an object with this first header at the end of use.
@@ -248,11 +238,11 @@ impl VmSeat {
         (flips, self.mirror.heads)
     }
 
-    /// Opens a cycle where none is open and cycles are left, of which there are fewer than 2^32.
+    /// Opens a cycle where none is open and cycles are left: their numbers are below 2^32.
     /// No log is closed then, and no object may be filled. False: nothing changed.
     pub fn open_cycle(&mut self) -> bool
         ensures answer { result ≡ (not (is_open self.old.seat.me.0.vm)
-            && nat_lt (self.old.seat.me.0.vm.epoch + 1) (2 ^ 32)) }
+            && nat_lt (self.old.seat.me.0.vm.epoch + 1) cycle_limit) }
         ensures did { result ≡ true
             → self.new.seat.me.0 ≡ vm_did self.old.seat.me.0 EpochStore }
         ensures heap { heap_of self.new.seat.me.0.vm ≡ heap_of self.old.seat.me.0.vm }
@@ -264,7 +254,7 @@ impl VmSeat {
             return false;
         }
         let epoch = self.mirror.epoch + 1;
-        if epoch >= CYCLES {
+        if epoch >= CYCLE_LIMIT {
             return false;
         }
         vm_epoch(&self.table, &mut self.seat, epoch);
@@ -286,9 +276,10 @@ impl VmSeat {
             → (result ≡ Closing.Closed) × (self.new ≡ self.old) }
         ensures did { is_shut self.old.seat.me.0.vm slot ≡ false → result ≡ Closing.Closed
             → (head : ℕ) × (self.new.seat.me.0 ≡ vm_did
-            (vm_did self.old.seat.me.0 (VmLoad (2 + slot) head)) (RecordStore slot Record.Close)) }
+            (vm_did self.old.seat.me.0 (VmLoad (head_place slot) head))
+            (RecordStore slot Record.Close)) }
         ensures looked { result ≡ Closing.LogFull → (head : ℕ)
-            × (self.new.seat.me.0 ≡ vm_did self.old.seat.me.0 (VmLoad (2 + slot) head)) }
+            × (self.new.seat.me.0 ≡ vm_did self.old.seat.me.0 (VmLoad (head_place slot) head)) }
         ensures closed { is_shut self.old.seat.me.0.vm slot ≡ false → result ≡ Closing.Closed
             → AfterClose (grants_of self.old.seat.me.0.vm) (grants_of self.new.seat.me.0.vm) slot }
         ensures full { result ≡ Closing.LogFull
@@ -464,7 +455,7 @@ impl Memory for VmSeat {
         ensures closed { (result ≡ Permit.LogClosed) ↔
             ((1 ≤ count) × IsTrue ((grants_of self.old.seat.me.0.vm).closed slot)) }
         ensures looked { result ≡ Permit.LogFull → (head : ℕ)
-            × (self.new.seat.me.0 ≡ vm_did self.old.seat.me.0 (VmLoad (2 + slot) head)) }
+            × (self.new.seat.me.0 ≡ vm_did self.old.seat.me.0 (VmLoad (head_place slot) head)) }
     {
         if !self.mirror.cycle_open || count == 0 {
             return Permit::Yes;

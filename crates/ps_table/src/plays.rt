@@ -57,23 +57,27 @@ impl Split<View> for Spares {
 
 /// Names what a step doesn't carry in its operands. Each call picks them.
 pub(crate) trait Naming {
-    ghost use Rattle.std.specs.Prelude.{ℕ, List};
+    ghost use Rattle.std.specs.Prelude.{ℕ, Bool, List};
 
     ghost address: { ℕ };
 
     ghost field: { ℕ };
 
     ghost roots: { List ℕ };
+
+    ghost scans: { Bool };
 }
 
 impl Naming for Brand {
-    ghost use Rattle.std.specs.Prelude.{[]};
+    ghost use Rattle.std.specs.Prelude.{[], false};
 
     ghost address = { 0 };
 
     ghost field = { 0 };
 
     ghost roots = { [] };
+
+    ghost scans = { false };
 }
 
 pub(crate) struct VmLoads;
@@ -134,6 +138,34 @@ impl Play<(), View> for GcLoads {
     ghost then = { gc_loads };
 }
 
+pub(crate) struct Takes;
+
+impl Play<(), View> for Takes {
+    ghost use Rattle.ps_table.specs.Shown.{takes};
+
+    ghost then = { takes };
+}
+
+pub(crate) struct CopiesField<N> {
+    place: PhantomData<N>,
+}
+
+impl<N: Naming> Play<(), View> for CopiesField<N> {
+    ghost use Rattle.ps_table.specs.Shown.{copies_field};
+
+    ghost then = { copies_field N.address N.field };
+}
+
+pub(crate) struct StoresCopy<N> {
+    scans: PhantomData<N>,
+}
+
+impl<N: Naming> Play<(), View> for StoresCopy<N> {
+    ghost use Rattle.ps_table.specs.Shown.{stores_copy};
+
+    ghost then = { stores_copy N.scans };
+}
+
 pub(crate) struct PlacesHeader;
 
 impl Play<(), View> for PlacesHeader {
@@ -166,4 +198,22 @@ impl<N: Naming> Play<(), View> for HandsOver<N> {
     ghost use Rattle.ps_table.specs.Shown.{hands};
 
     ghost then = { hands N.roots };
+}
+
+pub(crate) struct Looks;
+
+impl Play<(), View> for Looks {
+    ghost use Rattle.ps_table.specs.Shown.{looks};
+
+    ghost then = { looks };
+}
+
+pub(crate) struct Flips<N> {
+    roots: PhantomData<N>,
+}
+
+impl<N: Naming> Play<(), View> for Flips<N> {
+    ghost use Rattle.ps_table.specs.Shown.{flips};
+
+    ghost then = { flips N.roots };
 }

@@ -1,5 +1,11 @@
+use Rattle.std.specs.Prelude.{false}
 use Rattle.ps_parts_memory.specs.Stores.{numbers}
 use Rattle.ps_table.proofs.joins.hand.Given as goal
 
 abbrev pub ghosts-hand_named : goal.ghosts-hand_named
-ghosts-hand_named a = record { address = 0; field = 0; roots = numbers a.roots.now }
+ghosts-hand_named a = record {
+  address = 0;
+  field = 0;
+  roots = numbers a.roots.now;
+  scans = false;
+}

@@ -27,35 +27,35 @@ overflow_sub-result c =
     ap (λ (hs : List ℕ). slice_index hs c.args.slot) s.mirrors.heads_are in
     omega arith
 
-pub overflow_sub-result-else-free-lt-LONGEST : goal.overflow_sub-result-else-free-lt-LONGEST
-overflow_sub-result-else-free-lt-LONGEST c =
+pub overflow_sub-result-else-free-lt-LOG_LIMIT : goal.overflow_sub-result-else-free-lt-LOG_LIMIT
+overflow_sub-result-else-free-lt-LOG_LIMIT c =
     let s = c.args.self.now.sits in
     let v = c.args.self.now.seat.me.0.vm in
     let short = ((knows v s.runs).logs.each c.args.slot c.requires.slot).short in
     let logged = s.mirrors.logged_is c.args.slot c.requires.slot in
     omega arith
 
-pub returns-then-free-lt-LONGEST : goal.returns-then-free-lt-LONGEST
-returns-then-free-lt-LONGEST c =
+pub returns-then-free-lt-LOG_LIMIT : goal.returns-then-free-lt-LOG_LIMIT
+returns-then-free-lt-LOG_LIMIT c =
     let s = c.args.self.now.sits in
     let v = c.args.self.now.seat.me.0.vm in
     let all = (grants v (knows v s.runs) c.args.slot c.requires.slot c.requires.open).left
     c.requires.shut in
     let logged = s.mirrors.logged_is c.args.slot c.requires.slot in
-    let below = c.if-free-lt-LONGEST.true in
+    let below = c.if-free-lt-LOG_LIMIT.true in
     let head : slice_index c.args.self.now.mirror.heads c.args.slot
     ≡ slice_index v.heads c.args.slot =
     ap (λ (hs : List ℕ). slice_index hs c.args.slot) s.mirrors.heads_are in
     omega arith
 
-pub returns-else-free-lt-LONGEST : goal.returns-else-free-lt-LONGEST
-returns-else-free-lt-LONGEST c =
+pub returns-else-free-lt-LOG_LIMIT : goal.returns-else-free-lt-LOG_LIMIT
+returns-else-free-lt-LOG_LIMIT c =
     let s = c.args.self.now.sits in
     let v = c.args.self.now.seat.me.0.vm in
     let all = (grants v (knows v s.runs) c.args.slot c.requires.slot c.requires.open).left
     c.requires.shut in
     let logged = s.mirrors.logged_is c.args.slot c.requires.slot in
-    let past = c.if-free-lt-LONGEST.false in
+    let past = c.if-free-lt-LOG_LIMIT.false in
     let head : slice_index c.args.self.now.mirror.heads c.args.slot
     ≡ slice_index v.heads c.args.slot =
     ap (λ (hs : List ℕ). slice_index hs c.args.slot) s.mirrors.heads_are in

@@ -22,7 +22,7 @@ vm_epoch-requires-clause-may c =
     let v = s.seat.me.0.vm in
     let out : is_open v ≡ false = sym s.sits.mirrors.open_is ∙ c.if-self.false in
     let few : v.epoch + 1 < 2 ^ 32 = let e = s.sits.mirrors.epoch_is in
-    let t = c.if-epoch-ge-CYCLES.false in omega arith in
+    let t = c.if-epoch-ge-CYCLE_LIMIT.false in omega arith in
     (opens v (knows v s.sits.runs) s.seat.me.0.gc out few).may
 
 pub invariant_of-self : goal.invariant_of-self
@@ -31,7 +31,7 @@ invariant_of-self c =
     let v = s.seat.me.0.vm in
     let out : is_open v ≡ false = sym s.sits.mirrors.open_is ∙ c.if-self.false in
     let few : v.epoch + 1 < 2 ^ 32 = let e = s.sits.mirrors.epoch_is in
-    let t = c.if-epoch-ge-CYCLES.false in omega arith in
+    let t = c.if-epoch-ge-CYCLE_LIMIT.false in omega arith in
     let opened = opens v (knows v s.sits.runs) s.seat.me.0.gc out few in
     let did = c.vm_epoch.ensures.does.did in
     let part = ap (λ m. m.0.vm) did in
@@ -61,7 +61,7 @@ returns-clause-grants c =
     let v = s.seat.me.0.vm in
     let out : is_open v ≡ false = sym s.sits.mirrors.open_is ∙ c.if-self.false in
     let few : v.epoch + 1 < 2 ^ 32 = let e = s.sits.mirrors.epoch_is in
-    let t = c.if-epoch-ge-CYCLES.false in omega arith in
+    let t = c.if-epoch-ge-CYCLE_LIMIT.false in omega arith in
     let opened = opens v (knows v s.sits.runs) s.seat.me.0.gc out few in
     λ yes. subst (λ (x : Vm). AfterOpen (grants_of v) (grants_of x))
     (sym (ap (λ m. m.0.vm) c.vm_epoch.ensures.does.did)) opened.grants

@@ -15,7 +15,7 @@ invariant_of-self c =
     let s = c.args.self.now in
     let v = s.seat.me.0.vm in
     let n = c.vm_load-head.result in
-    let did = c.vm_load-head.ensures.does.did in
+    let did = rw c.head_place.ensures at c.vm_load-head.ensures.does.did in
     let part : c.vm_load-head.new.seat.me.0.vm
     ≡ record v { heads = slice_set v.heads c.args.slot n } =
     ap (λ m. m.0.vm) did ∙ part_seen v s.seat.me.0.gc c.args.slot n c.requires in
@@ -35,4 +35,5 @@ returns-clause-sees c =
     let s = c.args.self.now in
     let v = s.seat.me.0.vm in
     sees_heads v (vm_facts v s.sits.runs) (head_found words kept taken v) s.seat.me.0.gc
-    c.args.slot c.vm_load-head.result c.requires c.vm_load-head.ensures.does.finds
+    c.args.slot c.vm_load-head.result c.requires
+    (rw c.head_place.ensures at c.vm_load-head.ensures.does.finds)

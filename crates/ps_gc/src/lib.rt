@@ -1,0 +1,15 @@
+//! The collector: it copies what the program can reach into the other space, while the program
+//! runs, by the steps of its seat at the shared table. No call waits or takes memory.
+#![tactic(auto)]
+
+mod collector;
+mod copies;
+mod drains;
+mod replicas;
+mod scans;
+mod taken;
+mod to_space;
+
+pub use collector::{Collector, Drained};
+pub use taken::Taken;
+pub use to_space::ToSpace;
