@@ -1,8 +1,8 @@
 -- The flip of the collector's machine, as the memory of the mutator's part shows it.
-use Rattle.std.specs.Prelude.{ℕ, ◌≡◌, ◌≢◌, ◌+◌, ◌^◌, ◌≤◌, true, false, List, map, None}
+use Rattle.std.specs.Prelude.{ℕ, ◌≡◌, ◌≢◌, ◌+◌, ◌≤◌, true, false, List, map, None}
 use Rattle.std.specs.Option.{option_map}
 use Rattle.ps_word.specs.declared.words.Word.{Word}
-use Rattle.ps_mem.specs.Heap.{Heap, Grants, standing_words}
+use Rattle.ps_mem.specs.Heap.{Heap, Grants, standing_words, unlogged_records}
 use Rattle.ps_mem.specs.Objects.{word_of}
 use Rattle.ps_core_parts.specs.declared.events.Event.TheVariants.{CycleStore}
 use Rattle.ps_core_parts.specs.declared.events.Pair.{Pair}
@@ -70,7 +70,7 @@ pub record AfterFlip (old new : Grants) (now : Heap) : Type 0 where
   pub words : new.words + now.used ≡ now.space.size
   pub births : new.births ≡ old.births
   pub cycle_open : new.cycle_open ≡ false
-  pub records : (slot : ℕ) → new.records slot ≡ 2 ^ 64
+  pub records : (slot : ℕ) → new.records slot ≡ unlogged_records
   pub put : new.put ≡ old.put
   pub closed : (slot : ℕ) → new.closed slot ≡ false
 

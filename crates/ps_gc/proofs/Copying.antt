@@ -295,6 +295,16 @@ module _ (g0 g1 g2 : Gc) (a i w copy : ℕ) (p : Pair) (v1 : Vm)
         ≡ Some q → scans ≡ true → slice_index_or q.filled i false ≡ true)
         → Copied g0 g3 a i scans
     copied_whole filled = record {
+      copied = record {
+        word = w;
+        led = g2.pairs;
+        pair = p;
+        at = at_two;
+        kept = λ b q e. adds.pairs b q (ap (λ (x : Gc). pair_of x.pairs b) first ∙ e);
+        has = led.has;
+        is = ap (λ (x : Gc). x.pairs) stored_part
+            ∙ ap (λ (z : ℕ). with_copy g2.pairs a i z scans) (sym word_is ∙ led.word);
+      };
       space = ap (λ (x : Gc). x.space) stored_part
           ∙ (adds.space ∙ ap (λ (x : Gc). x.space) first);
       cycle = ap (λ (x : Gc). x.cycle) stored_part

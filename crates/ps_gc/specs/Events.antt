@@ -8,7 +8,7 @@ use Rattle.ps_core_parts.specs.declared.events.Event.{Event}
 use Rattle.ps_core_parts.specs.declared.events.Event.TheVariants.{GcLoad, TakeLoad, ReplicaHeaderStore, ForwardStore}
 use Rattle.ps_core_parts.specs.declared.events.Gc.{Gc}
 use Rattle.ps_core_parts.specs.declared.events.Pair.{Pair}
-use Rattle.ps_core_parts.specs.Objects.{among, pair_of, log_of, closes, with_load, end_of_replicas}
+use Rattle.ps_core_parts.specs.Objects.{among, pair_of, log_of, closes, with_load, with_copy, renamed, word_has_replica, end_of_replicas}
 use Rattle.ps_core_parts.specs.Steps.{other_base, forwarding, new_pair, seen_word, with_record}
 use Rattle.ps_table.specs.declared.plays.View.{View}
 use Rattle.ps_table.specs.Shown.{gc_did}
@@ -69,8 +69,20 @@ pub record IsLike (p q : Pair) : Type 0 where
   pub header : q.header ≡ p.header
   pub count : length q.fields ≡ length p.fields
 
--- field i of an original was copied, and what it names has a replica; the scan fills it
+-- a word was found in field i of an original; what it names has a replica among these pairs, those
+-- of before and perhaps one more; and the replica's field gets it, renamed. The scan fills it
+pub record CopiesTo (before : List Pair) (a i : ℕ) (scans : Bool) (after : List Pair) : Type 0 where
+  pub word : ℕ
+  pub led : List Pair
+  pub pair : Pair
+  pub at : pair_of led a ≡ Some pair
+  pub kept : (b : ℕ) (p : Pair) → pair_of before b ≡ Some p → pair_of led b ≡ Some p
+  pub has : word_has_replica led pair.header word ≡ true
+  pub is : after ≡ with_copy led a i (renamed led pair.header word) scans
+
+-- field i of an original was copied, and no other
 pub record Copied (g h : Gc) (a i : ℕ) (scans : Bool) : Type 0 where
+  pub copied : CopiesTo g.pairs a i scans h.pairs
   pub space : h.space ≡ g.space
   pub cycle : h.cycle ≡ g.cycle
   pub epoch : h.epoch ≡ g.epoch
@@ -83,8 +95,7 @@ pub record Copied (g h : Gc) (a i : ℕ) (scans : Bool) : Type 0 where
   pub filled : (p : Pair) → pair_of h.pairs a ≡ Some p → scans ≡ true
       → slice_index_or p.filled i false ≡ true
 
--- the fields that the record being taken names were copied, where their object has a replica; so
--- the record may be taken
+-- what stays while the fields that a record names are copied
 pub record Applied (g h : Gc) : Type 0 where
   pub space : h.space ≡ g.space
   pub cycle : h.cycle ≡ g.cycle
@@ -95,7 +106,8 @@ pub record Applied (g h : Gc) : Type 0 where
   pub pairs : (b : ℕ) (p : Pair) → pair_of g.pairs b ≡ Some p
       → (q : Pair) × (pair_of h.pairs b ≡ Some q) × IsLike p q
 
--- the record was taken; nothing is half taken or being copied
+-- the record was taken, and nothing is half taken or being copied; replicas stay where they were,
+-- with as many fields
 pub record DrainedOf (g h : Gc) (slot : ℕ) (what : Record) : Type 0 where
   pub space : h.space ≡ g.space
   pub cycle : h.cycle ≡ g.cycle

@@ -16,7 +16,7 @@ use crate::copies::{Pairing, copy_field};
 use crate::replicas::forward_of;
 use crate::taken::Taken;
 use crate::to_space::ToSpace;
-use ps_record::Record;
+use ps_record::{Record, SLOTS};
 use ps_table::GcSeat;
 
 /// Copies the fields of an original that the record being taken names.
@@ -81,7 +81,7 @@ pub(crate) fn apply(gc: &mut GcSeat, to: &mut ToSpace, address: u32, first: u16,
 
 /// The record being taken, of which nothing is left to copy, is taken.
 fn advance(gc: &mut GcSeat, taken: &mut Taken, slot: u64, closes: bool)
-    requires slot { slot < 32 }
+    requires slot { slot < SLOTS }
     requires taking { (h : Half) × (gc.old.seat.me.0.gc.taking ≡ Some h) × (h.slot ≡ slot)
         × (is_close h.what ≡ closes) }
     requires done { is_done gc.old.seat.me.0.gc.pairs gc.old.seat.me.0.gc.copying
@@ -107,7 +107,7 @@ pub(crate) fn take_record(
     slot: u64,
     what: Record,
 )
-    requires slot { slot < 32 }
+    requires slot { slot < SLOTS }
     requires open { knows_open gc.old.seat.me.0.gc ≡ true }
     requires idle { gc.old.seat.me.0.gc.copying ≡ None }
     requires taking { gc.old.seat.me.0.gc.taking
