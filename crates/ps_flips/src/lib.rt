@@ -15,6 +15,8 @@ ghost use Rattle.ps_flips.specs.Flips.{RenamesWords, RenamesRoots, OpensLogs, Go
 ghost use Rattle.ps_flips.specs.Moves.{IsMovedTo, OfMoves, KeepsObjects, KeepsRoom};
 ghost use Rattle.ps_flips.specs.Moves.{KeepsWords, KeepsSound, KeepsShown};
 
+pub mod collected;
+
 use ps_core_laws::law;
 
 /// The laws of memories whose objects were moved, by any collector that moves with an object all

@@ -1,0 +1,58 @@
+//! Memories whose objects a collector moves.
+
+ghost use Rattle.std.specs.Prelude.{◌≡◌, true, false};
+ghost use Rattle.ps_mem.specs.Shows.{AreValues};
+ghost use Rattle.ps_flips.specs.Collected.{IsAddressed, IsCollected, IsQuiet};
+
+use ps_mem::Memory;
+use ps_word::words::Word;
+
+/// How much a collector has done.
+#[derive(Clone, Copy, Debug, PartialEq, Eq)]
+pub struct Counts {
+    /// The cycles that were flipped.
+    pub flips: u32,
+    /// The records that were taken of all logs.
+    pub taken: u64,
+}
+
+/// A memory that a collector copies while it is used, cycle by cycle (Nettles and O'Toole, PLDI
+/// 1993). Objects move only where a cycle ends, and then all words that refer to them from outside,
+/// the roots, are renamed in that call.
+pub trait CollectedMemory: Memory {
+    /// Whether a cycle is open. What stands has an address of 24 bits.
+    fn is_open(&mut self) -> bool
+        ensures heap { Self.heap self.new ≡ Self.heap self.old }
+        ensures grants { Self.grants self.new ≡ Self.grants self.old }
+        ensures answer { result ≡ (Self.grants self.old).cycle_open }
+        ensures addressed { IsAddressed (Self.heap self.old) };
+
+    /// Opens a cycle where none is open and cycles are left, and hands the roots over to the
+    /// collector: no object may be filled then. False: none was opened, and nothing has changed.
+    fn open_cycle(&mut self, roots: &[Word]) -> bool
+        requires values { AreValues (Self.heap self.old) roots.now }
+        ensures heap { Self.heap self.new ≡ Self.heap self.old }
+        ensures opened { result ≡ true → ((Self.grants self.old).cycle_open ≡ false)
+            × ((Self.grants self.new).cycle_open ≡ true) }
+        ensures same { result ≡ false → Self.grants self.new ≡ Self.grants self.old };
+
+    /// In an open cycle the collector copies, scans and takes records, at most so many at a time.
+    fn work(&mut self, actions: u32)
+        ensures heap { Self.heap self.new ≡ Self.heap self.old }
+        ensures grants { Self.grants self.new ≡ Self.grants self.old };
+
+    /// Ends the open cycle: all logs are closed and drained, the roots are copied, and the spaces
+    /// are exchanged. False: no cycle is open, or it could not end; nothing has moved.
+    fn end_cycle(&mut self, roots: &mut [Word]) -> bool
+        requires values { AreValues (Self.heap self.old) roots.old }
+        ensures moved { result ≡ true
+            → IsCollected (Self.heap self.old) (Self.heap self.new) roots.old roots.new }
+        ensures quiet { result ≡ true → IsQuiet (Self.grants self.new) }
+        ensures heap { result ≡ false → Self.heap self.new ≡ Self.heap self.old }
+        ensures roots { result ≡ false → roots.new ≡ roots.old };
+
+    /// How much the collector has done, as its words say in this call.
+    fn counts(&mut self) -> Counts
+        ensures heap { Self.heap self.new ≡ Self.heap self.old }
+        ensures grants { Self.grants self.new ≡ Self.grants self.old };
+}
