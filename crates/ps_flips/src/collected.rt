@@ -36,8 +36,9 @@ pub trait CollectedMemory: Memory {
             × ((Self.grants self.new).cycle_open ≡ true) }
         ensures same { result ≡ false → Self.grants self.new ≡ Self.grants self.old };
 
-    /// In an open cycle the collector copies, scans and takes records, at most so many at a time.
-    fn work(&mut self, actions: u32)
+    /// In an open cycle the collector scans fields and takes records, at most so many together.
+    /// False: it found nothing that is left to scan or to take. No clause says when it may.
+    fn work(&mut self, actions: u32) -> bool
         ensures heap { Self.heap self.new ≡ Self.heap self.old }
         ensures grants { Self.grants self.new ≡ Self.grants self.old };
 

@@ -22,7 +22,7 @@ use Rattle.ps_gc.specs.declared.taken.Taken.{Taken}
 use Rattle.ps_gc.specs.Keeps.{TakesAre}
 use Rattle.ps_gc.specs.Events.{IsLike, Copied, Applied}
 use Rattle.ps_gc.proofs.Named.{HasFields, NamedIn, named}
-use Rattle.ps_gc.proofs.Replicating.{KnownSecond, stands_second}
+use Rattle.ps_table.proofs.Seconds.{KnownSecond, stands_second}
 
 -- ---- what the record names
 

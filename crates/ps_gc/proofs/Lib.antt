@@ -1,7 +1,9 @@
 pub mod Copying
 pub mod Draining
 pub mod Fits
+pub mod Flipping
 pub mod Named
 pub mod Replicating
 pub mod Roots
 pub mod Scanning
+pub mod Spaces

@@ -1,17 +1,14 @@
 -- A replica is made: the stores are permitted, and what they make of the part.
-use Rattle.std.proofs.Common.{◌≡◌, ◌≢◌, ◌⊎◌, ◌↔◌, ◌==◌, ◌^◌, ℕ, ◌+◌, ◌-◌, ◌<◌, ◌≤◌, true, false, nat_eq, nat_lt, List, [], ◌∷◌, length, Some, None, Option, refl, sym, ap, ◌∙◌, inl, inr, subst, arith, is_some, replicate, max}
+use Rattle.std.proofs.Common.{◌≡◌, ◌≢◌, ◌⊎◌, ◌==◌, ◌^◌, ℕ, ◌+◌, ◌-◌, ◌<◌, ◌≤◌, true, false, nat_eq, nat_lt, List, [], ◌∷◌, length, Some, None, Option, refl, sym, ap, ◌∙◌, inl, inr, subst, arith, is_some, replicate, max}
 use Rattle.std.specs.Prelude.{slice_index, if◌then◌else◌, ◌++◌, unwrap_or}
 use Rattle.std.proofs.lemmas.List.{length-replicate}
 use native.Mathlib.Decide.{ℕ_discrete}
-use Rattle.ps_word.specs.Headers.{fields_in, cycle_in, forward_address_in, forward_packed, IsForward}
-use Rattle.ps_word.specs.declared.headers.Forward.{Forward}
-use Rattle.ps_word.proofs.HeaderPlaces.{cycle_in-packed, forward_address_in-packed, forward_packed-parts}
+use Rattle.ps_word.specs.Headers.{fields_in, cycle_in, forward_address_in}
 use Rattle.ps_core_parts.specs.declared.events.Event.TheVariants.{GcLoad, ReplicaHeaderStore, ForwardStore}
-use Rattle.ps_core_parts.specs.declared.events.Object.{Object}
 use Rattle.ps_core_parts.specs.declared.events.Pair.{Pair}
 use Rattle.ps_core_parts.specs.declared.events.Vm.{Vm}
 use Rattle.ps_core_parts.specs.declared.events.Gc.{Gc}
-use Rattle.ps_core_parts.specs.Objects.{among, object_at, pair_of, pair_to, seen_at, end_of, end_of_replicas}
+use Rattle.ps_core_parts.specs.Objects.{among, pair_of, pair_to, seen_at, end_of, end_of_replicas}
 use Rattle.ps_core_parts.specs.Steps.{State, table_size, other_base, gc_after, knows_open, forwarding, new_pair, seen_word}
 use Rattle.ps_core_parts.specs.Conditions.{GcMay, IsReady}
 use Rattle.ps_core_parts.proofs.Ends.{end_of_replicas-low}
@@ -21,41 +18,15 @@ use Rattle.ps_core_laws.proofs.Bases.{spaces_wide, match_some}
 use Rattle.ps_core_laws.proofs.HeapTests.{bool_cases, number_is, number_not, at_number, eq_true, same_number, lt_true, lt_is}
 use Rattle.ps_core_laws.proofs.Lookups.{not_in_replica, object_at-address, pair_to-replica, end_of_replicas-above}
 use Rattle.ps_table.specs.Shown.{GcFinds}
-use Rattle.ps_table.proofs.Originals.{Lawful, lawful, SecondTells, original, known_object, object_inside, replica_inside, second_unknown, second_tells}
-use Rattle.ps_table.proofs.Flipping.{look_stays}
+use Rattle.ps_table.proofs.Originals.{Lawful, lawful, original, known_object, object_inside}
 use Rattle.ps_gc.specs.declared.to_space.ToSpace.{ToSpace}
 use Rattle.ps_gc.specs.Events.{next_replica, with_replica, Adds}
 use Rattle.ps_gc.specs.Keeps.{marks, Copies, IsAtField, GoesOn}
 use Rattle.ps_gc.proofs.Fits.{fits_one_more}
 
-pub cycle_there : (cycle a : ℕ) → a < 2 ^ 24 → cycle_in (forwarding cycle a) ≡ cycle
-unfolding forward_packed
-cycle_there cycle a lt = omega arith
-
-pub address_there : (cycle a : ℕ) → a < 2 ^ 24 → forward_address_in (forwarding cycle a) ≡ a
-unfolding forward_packed
-address_there cycle a lt = omega arith
-
 -- ---- a forwarding word that is read
 
 module _ (n : ℕ) where
-  pub read_some : (f : Forward) → ((h : Forward) → (Some f ≡ Some h)
-      ↔ (IsForward h × (forward_packed h ≡ n)))
-      → (cycle_in n ≡ f.cycle) × (forward_address_in n ≡ f.address)
-  read_some f exact =
-      let is = (exact f).0 refl in (
-        ap cycle_in (sym is.1) ∙ cycle_in-packed f is.0,
-        ap forward_address_in (sym is.1) ∙ forward_address_in-packed f is.0,
-      )
-
-  pub read_none : (cycle : ℕ) → cycle < 2 ^ 32 → ((h : Forward) → (None ≡ Some h)
-      ↔ (IsForward h × (forward_packed h ≡ n))) → cycle_in n ≢ cycle
-  read_none cycle low exact e =
-      let there : Forward = record { cycle = cycle_in n; address = forward_address_in n } in
-      let bad : None ≡ Some there = (exact there).1
-      (record { cycle = omega arith; address = omega arith }, forward_packed-parts n) in
-      cc
-
   -- the address in a word of this cycle, and none in another
   abbrev pub found_in : (cycle : ℕ) → Option ℕ
   found_in cycle = if cycle_in n == cycle then Some (forward_address_in n) else None
@@ -127,55 +98,6 @@ can_make g a n known none f =
     (ap (λ (x : Gc). pair_of x.pairs a) f.is ∙ none) f.found)
 
 -- ---- the second header of an object that was named in this cycle
-
-pub record KnownSecond (g : Gc) (a n : ℕ) : Type 0 where
-  pub tells : SecondTells g a n
-  pub stays : (v : Vm) → gc_after g v (GcLoad (a + 1) n) ≡ g
-  pub low : (p : Pair) → pair_of g.pairs a ≡ Some p → p.replica < 2 ^ 24
-
-pub stands_second : (s : State) → Lawful s → (a n : ℕ) (o : Object)
-    → object_at s.vm.objects a ≡ Some o → slice_index s.words (a + 1) ≡ n → KnownSecond s.gc a n
-stands_second s k a n o at found = record {
-  tells = second_tells s k a n o at found;
-  stays = λ v. let far = (object_inside s k a o at).0 in
-      look_stays s.gc v (a + 1) n (omega arith) (second_unknown s k a o at);
-  low = λ p e.
-      let top = (replica_inside s k a p e).1 in let size = k.kept.collector.size.1 in
-      omega arith;
-}
-
-pub known_second : (g : Gc) (a n : ℕ) → among g.known a ≡ true → GcFinds g (a + 1) n
-    → KnownSecond g a n
-known_second g a n known f =
-    let s : State = run g.space f.events in
-    let h = lawful g.space f.size f.events f.is_run in
-    let o = known_object s h a (ap (λ (x : Gc). among x.known a) f.is ∙ known) in
-    subst (λ (x : Gc). KnownSecond x a n) f.is (stands_second s h a n o.0 o.1 f.found)
-
-module _ (g : Gc) (a n : ℕ) (k : KnownSecond g a n) where
-  -- a word of the open cycle leads to the replica
-  pub leads : cycle_in n ≡ g.cycle + 1 → (p : Pair) × (pair_of g.pairs a ≡ Some p)
-      × (forward_address_in n ≡ p.replica)
-  leads is = go (pair_of g.pairs a) refl
-    where
-      go : (x : Option Pair) → pair_of g.pairs a ≡ x → (p : Pair)
-          × (pair_of g.pairs a ≡ Some p) × (forward_address_in n ≡ p.replica)
-      go None e = let le = k.tells.none e in absurd (omega arith)
-      go (Some p) e = (
-        p,
-        e,
-        ap forward_address_in (k.tells.some p e)
-            ∙ address_there (g.cycle + 1) p.replica (k.low p e),
-      )
-
-  -- another word is that of an object without replica
-  pub leads_not : cycle_in n ≢ g.cycle + 1 → pair_of g.pairs a ≡ None
-  leads_not ne = go (pair_of g.pairs a) refl
-    where
-      go : (x : Option Pair) → pair_of g.pairs a ≡ x → pair_of g.pairs a ≡ None
-      go None e = e
-      go (Some p) e = absurd (ne (ap cycle_in (k.tells.some p e)
-          ∙ cycle_there (g.cycle + 1) p.replica (k.low p e)))
 
 -- ---- the events
 

@@ -1,5 +1,6 @@
 -- What the collector keeps of its part in numbers.
 use Rattle.std.specs.Prelude.{◌≡◌, ◌≢◌, ℕ, ◌+◌, ◌-◌, ◌<◌, ◌≤◌, ◌++◌, Bool, true, false, nat_lt, nat_eq, List, length, replicate, Some, is_some, slice_index, slice_index_or, if◌then◌else◌}
+use Rattle.std.specs.List.{sum_by}
 use Rattle.ps_record.specs.declared.Record.{Record}
 use Rattle.ps_record.specs.Format.{slots}
 use Rattle.ps_core_parts.specs.declared.events.Gc.{Gc}
@@ -64,6 +65,10 @@ pub record TakesAre (cycle : ℕ) (logs : List (List Record)) (k : Taken) : Type
       → slice_index k.numbers slot ≡ length (log_of logs slot)
   pub closed_are : (slot : ℕ) → slot < slots → closes (log_of logs slot)
       ≡ cycle + (if slice_index_or k.closed slot false then 1 else 0)
+
+-- the records that were taken of all logs
+abbrev pub taken_in_all : Gc → ℕ
+taken_in_all g = sum_by length g.taken
 
 abbrev pub Takes : Gc → Taken → Type 0
 Takes g k = TakesAre g.cycle g.taken k

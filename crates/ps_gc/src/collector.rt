@@ -2,14 +2,16 @@
 //!
 //! Between two calls its part is that of some run of the machine; nothing is half taken or being
 //! copied; and its numbers are the part's (`Copies`, `Takes`).
-ghost use Rattle.std.specs.Prelude.{◌≡◌, ◌<◌, ◌+◌, ℕ, true, false, not, None, Some, List, slice_index_or};
+ghost use Rattle.std.specs.Prelude.{◌≡◌, ◌<◌, ◌+◌, ℕ, true, false, not, None, Some, List, length, slice_index_or};
 ghost use Rattle.ps_core_parts.specs.declared.events.Event.{Event};
+ghost use Rattle.ps_core_parts.specs.declared.events.Event.TheVariants.{GcLoad};
 ghost use Rattle.ps_core_parts.specs.declared.events.Pair.{Pair};
 ghost use Rattle.ps_core_parts.specs.Objects.{pair_of, log_of, closes, is_close, all_filled, renamed_value, value_has_replica, values_have_replicas};
 ghost use Rattle.ps_core_parts.specs.Steps.{start, knows_open};
 ghost use Rattle.ps_core_laws.specs.Runs.{IsSpace};
 ghost use Rattle.ps_parts_memory.specs.Stores.{numbers};
 ghost use Rattle.ps_table.specs.Events.{gc_did_all};
+ghost use Rattle.ps_table.specs.Shown.{gc_did};
 ghost use Rattle.ps_gc.specs.Events.{word_replicated, Adds, IsKnown, AreKnown, Copied, DrainedOf, is_drained, FindsNothing};
 ghost use Rattle.ps_record.specs.declared.Record.{Record};
 ghost use Rattle.ps_gc.specs.Keeps.{Copies, IsAtField, Takes};
@@ -41,8 +43,8 @@ pub enum Drained {
 pub struct Collector {
     /// The collector's seat at the table.
     pub gc: GcSeat,
-    to: ToSpace,
-    taken: Taken,
+    pub(crate) to: ToSpace,
+    pub(crate) taken: Taken,
     ghost copies: { Copies gc.seat.me.0.gc to },
     ghost field: { IsAtField gc.seat.me.0.gc to },
     ghost takes: { Takes gc.seat.me.0.gc taken },
@@ -70,6 +72,31 @@ impl Collector {
             closed: [false; SLOTS as usize],
         };
         Collector { gc, to, taken }
+    }
+
+    /// Whether a cycle is open: its number is kept.
+    pub fn begin_cycle(&mut self) -> bool
+        ensures did { (cycle epoch : ℕ) × (self.new.gc.seat.me.0 ≡ gc_did
+            (gc_did self.old.gc.seat.me.0 (GcLoad 0 cycle)) (GcLoad 1 epoch)) }
+        ensures answer { result ≡ knows_open self.new.gc.seat.me.0.gc }
+        ensures same { self.new.gc.seat.table_id ≡ self.old.gc.seat.table_id }
+    {
+        self.gc.begin_cycle()
+    }
+
+    /// How many cycles were flipped.
+    pub fn flips(&self) -> u32
+        ensures { result ≡ self.now.gc.seat.me.0.gc.cycle }
+    {
+        self.to.cycle
+    }
+
+    /// How many records of a slot's log were taken.
+    pub fn taken(&self, slot: u32) -> u64
+        requires { slot < SLOTS }
+        ensures { result ≡ length (log_of self.now.gc.seat.me.0.gc.taken slot) }
+    {
+        self.taken.numbers[slot as usize]
     }
 
     /// The word, naming the replica of what it names, which is made where there is none. A word
@@ -114,6 +141,8 @@ impl Collector {
             × (slice_index_or p.filled i false ≡ false)
             × Copied self.old.gc.seat.me.0.gc self.new.gc.seat.me.0.gc a i true }
         ensures none { result ≡ false → self.new ≡ self.old }
+        ensures cycle { (self.new.gc.seat.me.0.gc.cycle ≡ self.old.gc.seat.me.0.gc.cycle)
+            × (self.new.gc.seat.me.0.gc.epoch ≡ self.old.gc.seat.me.0.gc.epoch) }
         ensures did { (es : List Event) × (self.new.gc.seat.me.0
             ≡ gc_did_all self.old.gc.seat.me.0 es) }
         ensures same { self.new.gc.seat.table_id ≡ self.old.gc.seat.table_id }
@@ -147,6 +176,8 @@ impl Collector {
         ensures close { is_drained self.old.gc.seat.me.0.gc slot ≡ false
             → result ≡ Drained.Closed
             → DrainedOf self.old.gc.seat.me.0.gc self.new.gc.seat.me.0.gc slot Record.Close }
+        ensures cycle { (self.new.gc.seat.me.0.gc.cycle ≡ self.old.gc.seat.me.0.gc.cycle)
+            × (self.new.gc.seat.me.0.gc.epoch ≡ self.old.gc.seat.me.0.gc.epoch) }
         ensures did { (es : List Event) × (self.new.gc.seat.me.0
             ≡ gc_did_all self.old.gc.seat.me.0 es) }
         ensures same { self.new.gc.seat.table_id ≡ self.old.gc.seat.table_id }

@@ -5,11 +5,15 @@
 mod collector;
 mod copies;
 mod drains;
+mod flips;
 mod replicas;
 mod scans;
+mod space;
 mod taken;
 mod to_space;
 
 pub use collector::{Collector, Drained};
+pub use flips::{Flip, Unready};
+pub use space::CollectedSpace;
 pub use taken::Taken;
 pub use to_space::ToSpace;

@@ -16,7 +16,7 @@ use Rattle.ps_parts_memory.proofs.Room.{and_not_right}
 use Rattle.ps_parts_memory.proofs.Standing.{in_heap, object_of, field_of, fields_of_object, at_word, length_words}
 
 -- what is no head
-stays : (v : Vm) (place : ℕ) → (nat_le 2 place && nat_lt place 34) ≡ false → StaysAfterLoad v place
+pub stays : (v : Vm) (place : ℕ) → (nat_le 2 place && nat_lt place 34) ≡ false → StaysAfterLoad v place
 stays v place no_head g word =
     ap (λ (b : Bool). record v {
       heads = if b then slice_set v.heads
@@ -24,7 +24,7 @@ stays v place no_head g word =
     })
     no_head
 
-behind_heads : (place : ℕ) → 34 ≤ place → (nat_le 2 place && nat_lt place 34) ≡ false
+pub behind_heads : (place : ℕ) → 34 ≤ place → (nat_le 2 place && nat_lt place 34) ≡ false
 behind_heads place le =
     and_not_right (nat_le 2 place) (nat_lt place 34) (elim (bool_cases (nat_lt place 34))
     [ inl t ↦ (let x = lt_is place 34 t in absurd (omega arith)) | inr f ↦ f ])

@@ -328,7 +328,7 @@ by_type v w t lo hi k = elim (ℕ_discrete t 6) as
           ]
     ]
 
-known_stands : (v : Vm) (w : Word) → IsKnown (heap_of v) w → value_stands v.objects w.0 ≡ true
+pub known_stands : (v : Vm) (w : Word) → IsKnown (heap_of v) w → value_stands v.objects w.0 ≡ true
 unfolding IsKnown content_in
 known_stands v w k = elim (bool_cases (is_reference w.0)) [
   | inr f ↦ rw f refl

@@ -3,6 +3,7 @@
 #![tactic(auto)]
 
 mod chances;
+mod collected;
 mod plays;
 mod rows;
 mod runs;
@@ -23,7 +24,7 @@ fn main(rt: HostRuntime) -> Result<()> {
             continue;
         }
         count = count.wrapping_add(1);
-        match rows::verdict_of(rt.alloc(), keys, row.as_str()) {
+        match rows::verdict_of(&rt, rt.alloc(), keys, row.as_str()) {
             Ok(Verdict::Same) => {}
             Ok(Verdict::Different) => println!(&rt; "differs: {row}")?,
             Ok(Verdict::WantsMemory) | Err(_) => wanting = wanting.wrapping_add(1),

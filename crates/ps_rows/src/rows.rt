@@ -4,16 +4,22 @@
 //!
 //! `drive STATUS`: by the command line, with that exit status, and again under the schedule of its
 //! run. `contexts STATUS`: so too, and with other turns and under schedules by chance.
+//! `collected SPACE`: in a space of so many words that is collected, by some numbers of workers, and
+//! again under the schedule of each run; `flipped SPACE`: so too, and the spaces are exchanged at
+//! least once.
 //! `bounded SIZE`, `full SIZE`, `closed SIZE`: step by step in a space of so many words, with
 //! no cycle open, with a full log, with a closed one; what comes of it begins with why steps were
 //! not made.
 
 use crate::chances::scheduled;
+use crate::collected::worked;
 use crate::plays::{Log, Play};
 use crate::runs::{driven, replayed};
 use anyhow::Result;
 use std::alloc::{AllocError, Global};
 use std::hash::RandomState;
+use std::sync::Wait;
+use std::thread::Threads;
 
 /// What a row came to.
 #[derive(Clone, Copy, Debug, PartialEq, Eq)]
@@ -82,7 +88,12 @@ fn program_of(alloc: Global, field: &str) -> Result<Vec<u8>, AllocError> {
 }
 
 /// What comes of a row; the keys are for the tables of names alone.
-pub fn verdict_of(alloc: Global, keys: RandomState, line: &str) -> Result<Verdict> {
+pub fn verdict_of<R: Threads + Wait + Sync>(
+    rt: &R,
+    alloc: Global,
+    keys: RandomState,
+    line: &str,
+) -> Result<Verdict> {
     let mut fields = line.split('\t');
     let (Some(place), Some(program), Some(wanted)) = (fields.next(), fields.next(), fields.next())
     else {
@@ -102,6 +113,18 @@ pub fn verdict_of(alloc: Global, keys: RandomState, line: &str) -> Result<Verdic
             let verdict = run(alloc, keys, program.as_slice(), wanted.as_slice(), number);
             let other = scheduled(alloc, keys, program.as_slice(), wanted.as_slice());
             return Ok(verdict.and(other));
+        }
+        "collected" | "flipped" => {
+            let least = u32::from(name == "flipped");
+            return Ok(worked(
+                rt,
+                alloc,
+                keys,
+                program.as_slice(),
+                wanted.as_slice(),
+                number,
+                least,
+            ));
         }
         "bounded" => Log::Idle,
         "full" => Log::Full,

@@ -88,7 +88,7 @@ pub fn replayed(alloc: Global, keys: RandomState, program: &[u8], printed: &[u8]
 
 /// Whether the schedule of a report makes a run print the same bytes, or a beginning of them where
 /// memory is wanted then.
-fn again(alloc: Global, keys: RandomState, program: &[u8], report: &Report) -> Verdict {
+pub fn again(alloc: Global, keys: RandomState, program: &[u8], report: &Report) -> Verdict {
     let schedule = report.schedule.as_slice();
     let Ok(other) = replay(
         alloc,

@@ -64,7 +64,7 @@ pub endings_entries : (asks : world.Status → Around → Scene → acts.Asked) 
 endings_entries asks program steps runs endings few are = λ place default less.
     let ending = each_ending asks program steps runs endings are place default less in
     are_entries program (slice_index_or endings place default).schedule.items
-    (omega (arith, few, ending.run.within)) ending.run.longest ending.run.proper
+    (omega (arith, few, ending.run.run.within)) ending.run.run.longest ending.run.run.proper
     ending.run.ordinary
 
 -- what was written, where what stood before is told of what stood earlier

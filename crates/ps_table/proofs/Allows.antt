@@ -16,7 +16,7 @@ use Rattle.ps_core_laws.specs.Runs.{run, IsRun, IsSpace}
 use Rattle.ps_core_laws.proofs.Kept.{good}
 use Rattle.ps_parts_memory.specs.Shown.{VmRuns, VmFinds}
 use Rattle.ps_table.specs.declared.plays.View.{View}
-use Rattle.ps_table.specs.Shown.{by_vm, by_gc, Fits, Shows, GcRuns, GcFinds, BothFind, BothLook, VmDoes, VmStores, GcDoes, GcStores, BothDo, vm_did, gc_did, both_did, SeatState}
+use Rattle.ps_table.specs.Shown.{by_vm, by_gc, Fits, Shows, GcRuns, GcFinds, BothFind, BothRun, BothLook, VmDoes, VmStores, GcDoes, GcStores, BothDo, vm_did, gc_did, both_did, SeatState}
 
 -- ---- the parts of a run
 
@@ -81,6 +81,13 @@ module _ (space : ℕ) (events : List Event) where
         gc_is = all.2.1;
         found = all.2.2;
       }
+
+  pub both_run : (v : Vm) (g : Gc) → IsSpace space → IsRun space events
+      → (run space events).vm ≡ v → (run space events).gc ≡ g → BothRun v g
+  both_run v g size r vm gc =
+      let all = own space v.space events (λ s. (s.vm ≡ v) × (s.gc ≡ g)) (vm_space v size r vm)
+      size r (vm, gc) in
+      record { size = all.0; events = events; is_run = all.1; vm_is = all.2.0; gc_is = all.2.1 }
 
 -- ---- the views
 
@@ -338,6 +345,8 @@ module _ (space slots id : ℕ) (me : SeatState) (i : ℕ) (f : ℕ → ℕ) (e 
         },
         record {
           did = refl;
+          from = both_run space h.events me.0.vm me.0.gc h.size h.is_run (mine.vm_is vm)
+              (mine.gc_is gc);
           vm_runs = vm_runs space (e n ∷ h.events) (both_did me.0 (e n)).vm h.size next
               (moved.vm_is vm);
           gc_runs = gc_runs space (e n ∷ h.events) (both_did me.0 (e n)).gc h.size next

@@ -10,4 +10,5 @@ pub mod Mirrored
 pub mod Moves
 pub mod Originals
 pub mod Seats
+pub mod Seconds
 pub mod Storing

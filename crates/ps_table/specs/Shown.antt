@@ -123,6 +123,11 @@ pub record AreJoined (vm gc vm_new gc_new : View) (e : Event) : Type 0 where
   pub vm_is : vm_new ≡ vm_side (both_did (both_sides vm gc) e)
   pub gc_is : gc_new ≡ gc_side (both_did (both_sides vm gc) e)
 
+-- both seats joined, then a load by the mutator's, then apart again
+pub record HaveLooked (vm gc vm_new gc_new : View) (place word : ℕ) : Type 0 where
+  pub vm_is : vm_new ≡ vm_did (vm_side vm) (VmLoad place word)
+  pub gc_is : gc_new ≡ gc_side gc
+
 -- ---- what the collector's seat knows of its part: it is that of some run; and of a word that it
 -- found: it stood at that place in some run with that part
 
@@ -147,6 +152,14 @@ pub record BothFind (v : Vm) (g : Gc) (place word : ℕ) : Type 0 where
   pub vm_is : (run v.space events).vm ≡ v
   pub gc_is : (run v.space events).gc ≡ g
   pub found : slice_index (run v.space events).words place ≡ word
+
+-- some run leads to both parts
+pub record BothRun (v : Vm) (g : Gc) : Type 0 where
+  pub size : IsSpace v.space
+  pub events : List Event
+  pub is_run : IsRun v.space events
+  pub vm_is : (run v.space events).vm ≡ v
+  pub gc_is : (run v.space events).gc ≡ g
 
 -- ---- what each step tells
 
@@ -175,6 +188,7 @@ pub record GcStores (m : SeatState) (e : Event) (m' : SeatState) : Type 0 where
 
 pub record BothDo (m : SeatState) (e : Event) (m' : SeatState) : Type 0 where
   pub did : m' ≡ (both_did m.0 e, m.1)
+  pub from : BothRun m.0.vm m.0.gc
   pub vm_runs : VmRuns m'.0.vm
   pub gc_runs : GcRuns m'.0.gc
 

@@ -1,10 +1,9 @@
 //! The flip, by both seats joined: the replicas become the standing objects, and roots are renamed.
-ghost use Rattle.std.specs.Prelude.{◌≡◌, ◌≤◌, ◌+◌, ℕ, true, List, length, map};
-ghost use Rattle.ps_core_parts.specs.declared.events.Event.{Event};
+ghost use Rattle.std.specs.Prelude.{◌≡◌, ◌+◌, true, map};
 ghost use Rattle.ps_core_parts.specs.declared.events.Event.TheVariants.{CycleStore};
 ghost use Rattle.ps_core_parts.specs.Conditions.{VmMay, GcMay};
-ghost use Rattle.ps_core_parts.specs.Objects.{end_of_replicas, renamed_value, value_has_replica, values_have_replicas, values_stand};
-ghost use Rattle.ps_core_parts.specs.Steps.{other_base};
+ghost use Rattle.ps_core_parts.specs.Objects.{end_of_replicas, renamed_value, value_has_replica, values_have_replicas};
+ghost use Rattle.ps_core_parts.specs.Steps.{other_base, vm_after, gc_after};
 ghost use Rattle.ps_parts_memory.specs.Stores.{numbers};
 ghost use Rattle.ps_table.specs.Events.{gc_did_all, root_look, root_looks};
 ghost use Rattle.ps_table.specs.Shown.{AreJoined};
@@ -67,6 +66,10 @@ impl GcSeat {
         ensures did { AreJoined vm.old.seat.me.0 (gc_did_all self.old.seat.me.0
             (root_looks self.old.seat.me.0.gc (numbers roots.old))) vm.new.seat.me.0
             self.new.seat.me.0 (CycleStore (numbers roots.old)) }
+        ensures parts { (vm.new.seat.me.0.vm ≡ vm_after vm.old.seat.me.0.vm
+            self.old.seat.me.0.gc (CycleStore (numbers roots.old)))
+            × (self.new.seat.me.0.gc ≡ gc_after self.old.seat.me.0.gc
+            vm.old.seat.me.0.vm (CycleStore (numbers roots.old))) }
         ensures renamed { numbers roots.new
             ≡ map (renamed_value self.old.seat.me.0.gc.pairs) (numbers roots.old) }
         ensures same { (self.new.seat.table_id ≡ self.old.seat.table_id)
@@ -97,6 +100,10 @@ impl GcSeat {
         ensures did { AreJoined vm.old.seat.me.0 (gc_did_all self.old.seat.me.0
             (root_looks self.old.seat.me.0.gc (numbers roots.old))) vm.new.seat.me.0
             self.new.seat.me.0 (CycleStore (numbers roots.old)) }
+        ensures parts { (vm.new.seat.me.0.vm ≡ vm_after vm.old.seat.me.0.vm
+            self.old.seat.me.0.gc (CycleStore (numbers roots.old)))
+            × (self.new.seat.me.0.gc ≡ gc_after self.old.seat.me.0.gc
+            vm.old.seat.me.0.vm (CycleStore (numbers roots.old))) }
         ensures renamed { numbers roots.new
             ≡ map (renamed_value self.old.seat.me.0.gc.pairs) (numbers roots.old) }
         ensures same { (self.new.seat.table_id ≡ self.old.seat.table_id)

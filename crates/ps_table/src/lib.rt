@@ -11,6 +11,8 @@ mod copies;
 mod flips;
 mod gc_steps;
 mod joins;
+mod looks;
+mod memory;
 mod mirror;
 mod mutator;
 mod plays;

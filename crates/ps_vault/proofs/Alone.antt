@@ -1,12 +1,12 @@
 -- Turns of one context, one after another, while no other is ready.
-use Rattle.std.proofs.Common.{◌≡◌, ℕ, zero, suc, ◌+◌, ◌-◌, ◌*◌, ◌/◌, ◌%◌, ◌<◌, ◌≤◌, Bool, true, false, min, List, [], ◌∷◌, ◌++◌, length, inl, inr, refl, sym, ◌∙◌, ap, subst, arith, append-nil, append_assoc, length-append}
+use Rattle.std.proofs.Common.{◌≡◌, ℕ, ◌+◌, ◌-◌, ◌*◌, ◌/◌, ◌%◌, ◌<◌, ◌≤◌, Bool, true, false, min, List, [], ◌∷◌, ◌++◌, length, inl, inr, refl, sym, ◌∙◌, ap, subst, arith, append-nil, append_assoc, length-append}
 use Rattle.std.specs.Prelude.{◌⊎◌, if◌then◌else◌}
 use Rattle.std.proofs.lemmas.Bool.{cases_lt, true≢false}
 use Rattle.std.proofs.lemmas.List.{append_cancel_left}
 use Rattle.std.proofs.lemmas.Nat.{div-add-mod', mod-mul-add}
 use Rattle.ps_language.specs.Schedules.{Move}
 use Rattle.ps_language.specs.World.{World}
-use Rattle.ps_language.specs.Worlds.{after_move, after_moves}
+use Rattle.ps_language.specs.Worlds.{after_moves}
 use Rattle.ps_language.proofs.WorldLaws.{after_moves-append}
 use Rattle.ps_world.specs.Steps.{AllFrom}
 use Rattle.ps_vault.specs.declared.turns.Turn.{Turn}

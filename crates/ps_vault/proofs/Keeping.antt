@@ -1,5 +1,5 @@
 -- What a vault keeps, over its steps.
-use Rattle.std.proofs.Common.{◌≡◌, ◌≢◌, ℕ, ℤ, zero, suc, ◌+◌, ◌<◌, ◌≤◌, Bool, true, false, ◌&&◌, Option, Some, None, Ok, Err, List, [], ◌∷◌, refl, sym, ◌∙◌, ap, subst, arith}
+use Rattle.std.proofs.Common.{◌≡◌, ◌≢◌, ℕ, ℤ, zero, suc, ◌<◌, ◌≤◌, Bool, true, false, ◌&&◌, Option, Some, None, Ok, Err, List, [], ◌∷◌, refl, sym, ◌∙◌, ap, subst, arith}
 use Rattle.std.specs.Prelude.{slice_get, IsTrue, IsSome, IfSome, IfNone, MatchOption, ◌==◌, length}
 use Rattle.std.specs.Option.{option_map, option_map_or}
 use Rattle.std.proofs.lemmas.Bool.{true≢false}
@@ -39,7 +39,7 @@ use Rattle.ps_world.specs.Steps.{Steps}
 use Rattle.ps_vault.specs.declared.reports.Outcome.{Outcome}
 use Rattle.ps_vault.specs.Holds.{slot, Grows, IsHeldUp, OnlyGrows}
 use Rattle.ps_vault.specs.Order.{IsOnlyLeft}
-use Rattle.ps_vault.specs.Reports.{are_ordinary, EndsAs, IsRunOf, MayWant}
+use Rattle.ps_vault.specs.Reports.{EndsAs, IsRunIn, MayWant}
 use Rattle.ps_vault.specs.Stories.{Story, Keeps, move_of, world_at}
 
 -- ---- one more move
@@ -282,12 +282,12 @@ pub run_at_end : (asks : Status → Around → Scene → Asked) (h : Held) (sche
       capacity = capacity;
       caller = caller;
     } ≡ story
-    → count_of story.schedule ≤ steps → are_ordinary (moves story.schedule) ≡ true
+    → count_of story.schedule ≤ steps
     → EndsAs asks (world_at story) story.capacity story.schedule
     (count_of story.schedule == steps) false outcome
-    → IsRunOf asks story.program steps h.desk.printed capacity schedule outcome
+    → IsRunIn asks story.program steps h.desk.printed capacity schedule outcome
 unfolding printed
-run_at_end asks h schedule capacity steps caller story outcome keeps view few ordinary ends =
+run_at_end asks h schedule capacity steps caller story outcome keeps view few ends =
     let same : h.desk.program ≡ story.program = ap (λ (s : Story). s.program) view in
     let made : story.schedule ≡ schedule = sym (ap (λ (s : Story). s.schedule) view) in
     let here : World = world h.desk.program schedule in
@@ -295,7 +295,6 @@ run_at_end asks h schedule capacity steps caller story outcome keeps view few or
       prints = sym (printed_by h.calling h.desk here keeps.at)
           ∙ ap (λ (p : List ℕ). (world p schedule).printed) same;
       proper = subst (λ (p : List ℕ). IsProper p schedule) same keeps.proper;
-      ordinary = subst (λ (s : List Entry). are_ordinary (moves s) ≡ true) made ordinary;
       longest = keeps.longest;
       within = subst (λ (s : List Entry). count_of s ≤ steps) made few;
       ends = subst (λ (s : List Entry). EndsAs asks (world story.program s) capacity s

@@ -9,3 +9,4 @@ pub mod Ordering
 pub mod Alone
 pub mod NextStep
 pub mod Endings
+pub mod Collected

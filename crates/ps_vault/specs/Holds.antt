@@ -1,5 +1,5 @@
 -- When a step is held up.
-use Rattle.std.specs.Prelude.{◌≡◌, ◌≤◌, ℕ, Bool, true, false}
+use Rattle.std.specs.Prelude.{◌≡◌, ◌≤◌, ℕ, ℤ, Bool, true, false, Option, Some, None}
 use Rattle.ps_language.specs.Effect.{Around, Scene}
 use Rattle.ps_language.specs.Locks.{is_ready}
 use Rattle.ps_language.specs.World.{Status, World}
@@ -7,6 +7,8 @@ use Rattle.ps_mem.specs.Heap.{Heap, Grants}
 use Rattle.ps_ops.specs.declared.failure.NotMade.{NotMade}
 use Rattle.ps_ops.specs.Does.{most_records}
 use Rattle.ps_acts.specs.Acts.{Asked}
+use Rattle.ps_world.specs.declared.notes.Note.{Note}
+use Rattle.ps_world.specs.declared.notes.Note.TheVariants.{Wishes}
 use Rattle.ps_world.specs.Calls.{IsHeldUpAs}
 use Rattle.ps_world.specs.Needs.{step_wants}
 use Rattle.ps_vault.specs.declared.vaults.Told.{Told}
@@ -34,6 +36,11 @@ is_held_up _ = false
 abbrev pub IfHeldUp : (NotMade → Type 0) → Told → Type 0
 IfHeldUp Why (HeldUp reason) = Why reason
 IfHeldUp Why _ = Unit {0}
+
+-- the number of the vmreclaim that a step was, if it was one
+abbrev pub wish_in : Note → Option ℤ
+wish_in (Wishes number) = Some number
+wish_in _ = None
 
 -- a memory that grows, and a log that isn't closed and takes as many records as a step may put
 pub record Grows (heap : Heap) (grants : Grants) : Type 0 where

@@ -77,17 +77,22 @@ module _ (asks : Status → Around → Scene → Asked) where
       × (is_all_over w ≡ false) × IsOneStarved refused w capacity schedule
 
   -- a run of the program with a budget of steps: its bytes are those that the definitions print
-  -- under its schedule, which is proper, of ordinary steps and of the longest entries, and the
-  -- outcome is that of its world
-  pub record IsRunOf (program : List ℕ) (steps : ℕ) (printed : List ℕ) (capacity : ℕ)
+  -- under its schedule, which is proper and of the longest entries, and the outcome is that of its
+  -- world; its steps may be refused
+  pub record IsRunIn (program : List ℕ) (steps : ℕ) (printed : List ℕ) (capacity : ℕ)
       (schedule : List Entry) (outcome : Outcome) : Type 0 where
     pub prints : printed ≡ worlds.printed program schedule
     pub proper : IsProper program schedule
-    pub ordinary : are_ordinary (moves schedule) ≡ true
     pub longest : is_longest schedule ≡ true
     pub within : count_of schedule ≤ steps
     pub ends : EndsAs (worlds.world program schedule) capacity schedule
         (count_of schedule == steps) false outcome
+
+  -- a run whose steps are all ordinary
+  pub record IsRunOf (program : List ℕ) (steps : ℕ) (printed : List ℕ) (capacity : ℕ)
+      (schedule : List Entry) (outcome : Outcome) : Type 0 where
+    pub run : IsRunIn program steps printed capacity schedule outcome
+    pub ordinary : are_ordinary (moves schedule) ≡ true
 
 -- whether it is for want of memory
 abbrev pub is_memory : Outcome → Bool

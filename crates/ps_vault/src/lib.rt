@@ -2,6 +2,7 @@
 //! that a caller chooses (PLRM2, 3.5, 7.1).
 #![tactic(auto)]
 
+mod collecting;
 mod exploring;
 mod orders;
 mod plain;
@@ -11,6 +12,7 @@ mod schedules;
 mod turns;
 mod vaults;
 
+pub use collecting::Roots;
 pub use exploring::explore;
 pub use orders::{Choice, TurnOrder, run_in_order};
 pub use plain::run_plain;

@@ -9,8 +9,8 @@ ghost use Rattle.ps_language.specs.Worlds as worlds;
 ghost use Rattle.ps_language.specs.Worlds.{after_move, after_moves, starting_world};
 ghost use Rattle.ps_vault.specs.Order.{IsNoneAbove, IsOnlyLeft, AddsSteps, AllOfOne, NoneEnds, OnlyLastMayEnd, EndsTurn};
 ghost use Rattle.ps_start.specs.Starts.{IsEmptyHeap};
-ghost use Rattle.ps_vault.specs.Holds.{IfHeldUp, IsHeldUp, is_held_up};
-ghost use Rattle.ps_vault.specs.Reports.{are_ordinary, is_memory, EndsAs, IsRunOf, IsShort};
+ghost use Rattle.ps_vault.specs.Holds.{IfHeldUp, IsHeldUp, is_held_up, wish_in};
+ghost use Rattle.ps_vault.specs.Reports.{are_ordinary, is_memory, EndsAs, IsRunIn, IsShort};
 ghost use Rattle.ps_vault.specs.Stories.{Story, HasRoom, MayGo, world_at, move_of};
 ghost use Rattle.ps_vault.specs.Turns.{added_times};
 
@@ -40,8 +40,8 @@ const SLOT: u32 = 0;
 pub struct Vault<'a, M: Memory + Drop, S: Interpret + Drop, D: Deeds + Drop> {
     interpret: S,
     deeds: D,
-    world: World<'a>,
-    memory: M,
+    pub(crate) world: World<'a>,
+    pub(crate) memory: M,
     schedule: Vec<Entry>,
 }
 
@@ -93,6 +93,18 @@ impl Told {
 pub struct Advanced {
     pub made: u32,
     pub told: Told,
+    /// The number of the `vmreclaim` that the last step was, if it was one.
+    pub wish: Option<i32>,
+}
+
+/// The number of the `vmreclaim` that was made, if it was one.
+fn wish_of(note: Note) -> Option<i32>
+    ensures { result ≡ wish_in note }
+{
+    match note {
+        Note::Wishes(number) => Some(number),
+        Note::Nothing | Note::ShowsMemory | Note::TurnEnds => None,
+    }
 }
 
 impl<'a, M: Memory + Drop, S: Interpret + Drop, D: Deeds + Drop> Vault<'a, M, S, D> {
@@ -281,6 +293,7 @@ impl<M: Memory + Drop, S: Interpret + Drop, D: Deeds + Drop> Vault<'_, M, S, D> 
             return Advanced {
                 made,
                 told: Told::Goes,
+                wish: None,
             };
         };
         let told = match next.told {
@@ -289,6 +302,7 @@ impl<M: Memory + Drop, S: Interpret + Drop, D: Deeds + Drop> Vault<'_, M, S, D> 
                 return Advanced {
                     made,
                     told: Told::HeldUp(reason),
+                    wish: None,
                 };
             }
         };
@@ -297,6 +311,7 @@ impl<M: Memory + Drop, S: Interpret + Drop, D: Deeds + Drop> Vault<'_, M, S, D> 
         Advanced {
             made: made + 1,
             told: Told::of(told),
+            wish: wish_of(told),
         }
     }
 
@@ -357,13 +372,12 @@ impl<M: Memory + Drop, S: Interpret + Drop, D: Deeds + Drop> Vault<'_, M, S, D> 
         (printed, room)
     }
 
-    /// The report of a run of ordinary steps with a budget, at the end.
+    /// The report of a run with a budget of steps, at the end; no collector is counted.
     pub fn into_report(self, steps: u32, outcome: Outcome) -> Report
         requires few { count_of self.schedule ≤ steps }
-        requires ordinary { are_ordinary (moves self.schedule) ≡ true }
         requires ends { EndsAs S.asks (world_at self) self.capacity self.schedule
             (count_of self.schedule == steps) false outcome }
-        ensures run { IsRunOf S.asks self.entry.program steps result.printed.items
+        ensures run { IsRunIn S.asks self.entry.program steps result.printed.items
             (vec_capacity result.schedule) result.schedule.items result.outcome }
         ensures schedule { result.schedule.items ≡ self.entry.schedule }
         ensures capacity { vec_capacity result.schedule ≡ self.entry.capacity }

@@ -9,7 +9,8 @@ use Rattle.ps_table.specs.Shown.{gc_did, GcFinds}
 use Rattle.ps_table.proofs.GcFacts.{gc_knows}
 use Rattle.ps_gc.specs.Events.{Applied}
 use Rattle.ps_gc.proofs.Draining.{record_tells, record_second, applied_same, done_bare}
-use Rattle.ps_gc.proofs.Replicating.{leads, leads_not, told_some, told_none}
+use Rattle.ps_table.proofs.Seconds.{leads, leads_not}
+use Rattle.ps_gc.proofs.Replicating.{told_some, told_none}
 use Rattle.ps_gc.proofs.Scanning.{replica_words, first_stays, header_found}
 use Rattle.ps_gc.proofs.drains.apply.Goals as goal
 

@@ -9,7 +9,8 @@ use Rattle.ps_core_laws.proofs.HeapTests.{number_is}
 use Rattle.ps_table.specs.Events.{gc_did_all}
 use Rattle.ps_table.proofs.GcFacts.{gc_knows}
 use Rattle.ps_gc.specs.Events.{next_replica, replica_made, with_replica, Adds}
-use Rattle.ps_gc.proofs.Replicating.{known_second, leads, leads_not, told_some, told_none, adds_same, adds_made, pair_made}
+use Rattle.ps_table.proofs.Seconds.{known_second, leads, leads_not}
+use Rattle.ps_gc.proofs.Replicating.{told_some, told_none, adds_same, adds_made, pair_made}
 use Rattle.ps_gc.proofs.Scanning.{replica_words}
 use Rattle.ps_gc.proofs.replicas.find_replica.Goals as goal
 

@@ -1,7 +1,7 @@
 use Rattle.std.proofs.Common.{sym, ap, ◌∙◌, refl, Some, arith}
 use Rattle.ps_word.specs.Headers.{cycle_in}
 use Rattle.ps_core_laws.proofs.HeapTests.{eq_true, number_not}
-use Rattle.ps_gc.proofs.Replicating.{read_some, read_none}
+use Rattle.ps_table.proofs.Seconds.{read_some, read_none}
 use Rattle.ps_gc.proofs.replicas.forward_of.Goals as goal
 
 pub returns-then-forward-cycle : goal.returns-then-forward-cycle

@@ -22,6 +22,6 @@ returns-in-None-clause-made g c =
       subst (λ (n : ℕ). InOrder n (starting_world c.args.program.now)
           (moves report.schedule.items)) quantum made.1,
       are_entries c.args.program.now report.schedule.items
-          (omega (arith, made.0.within, c.config_of.type_inv)) made.0.longest made.0.proper
-          made.0.ordinary,
+          (omega (arith, made.0.run.within, c.config_of.type_inv)) made.0.run.longest
+          made.0.run.proper made.0.ordinary,
     )) (ok_both _ _ c.run_plain.result c.run_plain.ensures.run c.run_plain.ensures.order))

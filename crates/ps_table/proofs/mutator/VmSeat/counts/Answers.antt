@@ -24,8 +24,9 @@ loop-slot-preserved c =
     let did = c.see_head.ensures.did in
     let wide = (vm_facts was.seat.me.0.vm was.sits.runs).wide_heads in
     let long = ap length was.sits.mirrors.heads_are in (
-      ap (λ m. heap_of m.vm) did ∙ (c.see_head.ensures.sees.heap ∙ i.0),
-      did ∙ (ap (λ m. vm_did m (VmLoad (2 + c.loop-slot.slot) n)) i.1
+      c.see_head.ensures.table ∙ i.0,
+      ap (λ m. heap_of m.vm) did ∙ (c.see_head.ensures.sees.heap ∙ i.1),
+      did ∙ (ap (λ m. vm_did m (VmLoad (2 + c.loop-slot.slot) n)) i.2
           ∙ (one_more_head init c.read-flips.result was.mirror.heads c.loop-slot.slot n
           (omega arith)
           ∙ ap (λ x. did_all init (VmLoad 0 c.read-flips.result
@@ -39,7 +40,7 @@ returns-clause-did c =
     let i = c.loop-slot.invariant in
     let wide = (vm_facts was.seat.me.0.vm was.sits.runs).wide_heads in
     let long = ap length was.sits.mirrors.heads_are in
-    i.1 ∙ ap (λ l. did_all init (VmLoad 0 c.read-flips.result ∷ head_loads 0 l))
+    i.2 ∙ ap (λ l. did_all init (VmLoad 0 c.read-flips.result ∷ head_loads 0 l))
     (all_heads was.mirror.heads c.loop-slot.slot (omega arith))
 
 pub returns-clause-taken : goal.returns-clause-taken

@@ -7,6 +7,7 @@ use Rattle.ps_table.proofs.mutator.VmSeat.counts.Given as goal
 -- the heads of the slots before are loaded
 abbrev pub invariant-loop-slot : goal.invariant-loop-slot
 invariant-loop-slot l =
-    (heap_of l.self.seat.me.0.vm ≡ heap_of l.fn.self.seat.me.0.vm)
+    (l.self.seat.table_id ≡ l.fn.self.seat.table_id)
+    × (heap_of l.self.seat.me.0.vm ≡ heap_of l.fn.self.seat.me.0.vm)
     × (l.self.seat.me.0 ≡ did_all l.fn.self.seat.me.0
     (VmLoad 0 l.flips ∷ head_loads 0 (take l.slot l.self.mirror.heads)))

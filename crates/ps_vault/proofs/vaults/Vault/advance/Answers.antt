@@ -10,7 +10,7 @@ use Rattle.ps_vault.specs.Reports.{are_ordinary, are_words}
 use Rattle.ps_vault.specs.Stories.{Story, world_at, move_of}
 use Rattle.ps_vault.specs.Turns.{added_times}
 use Rattle.ps_vault.proofs.Following.{times_noted}
-use Rattle.ps_vault.proofs.Keeping.{caller_there, may_go, may_step}
+use Rattle.ps_vault.proofs.Keeping.{caller_there, may_step}
 use Rattle.ps_vault.proofs.Advancing.{keeps_made, count_times, ordinary_added, ordinary_move, ordinary_times, words_kept, some_made, none_ends_made, none_ends_mid, none_ends_behind, only_last_behind, keeps_behind, ends_behind, keeps_held, held_behind, kept_none, alone_made, alone_mid, alone_behind, left_held}
 use Rattle.ps_vault.proofs.Ordering.{adds_times, adds_one, adds_more}
 use Rattle.ps_vault.proofs.vaults.Vault.advance.Given as givens

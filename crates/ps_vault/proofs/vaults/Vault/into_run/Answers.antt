@@ -1,7 +1,7 @@
-use Rattle.std.proofs.Common.{◌==◌, ◌<◌, ◌≤◌, false, sym, ap, ◌∙◌, subst, arith}
+use Rattle.std.proofs.Common.{◌==◌, ◌<◌, ◌≤◌, false, sym, subst, arith}
 use Rattle.std.proofs.lemmas.Bool.Decides.{nat_tests}
-use Rattle.ps_language.specs.Schedules.{count_of, moves}
-use Rattle.ps_vault.specs.Reports.{are_ordinary, EndsAs}
+use Rattle.ps_language.specs.Schedules.{count_of}
+use Rattle.ps_vault.specs.Reports.{EndsAs}
 use Rattle.ps_vault.specs.Stories.{Story, world_at}
 use Rattle.ps_vault.proofs.Following.{ready_not_over}
 use Rattle.ps_vault.proofs.vaults.Vault.into_run.Goals as goal
@@ -24,11 +24,6 @@ pub into_report-requires-2-clause-few : goal.into_report-requires-2-clause-few
 into_report-requires-2-clause-few g c =
     subst (λ (s : Story). count_of s.schedule ≤ c.args.steps)
     (sym c.outcome-outcome.ensures.same) (omega (arith, c.requires.counted, c.requires.within))
-
-pub into_report-requires-2-clause-ordinary : goal.into_report-requires-2-clause-ordinary
-into_report-requires-2-clause-ordinary g c =
-    ap (λ (s : Story). are_ordinary (moves s.schedule)) c.outcome-outcome.ensures.same
-    ∙ c.requires.ordinary
 
 pub into_report-requires-2-clause-ends : goal.into_report-requires-2-clause-ends
 into_report-requires-2-clause-ends g c =

@@ -1,5 +1,5 @@
 -- Each round is the turn of the context that is chosen.
-use Rattle.std.proofs.Common.{◌≡◌, ◌+◌, ◌-◌, ◌≤◌, ◌∙◌, ap, arith}
+use Rattle.std.proofs.Common.{◌≡◌, ◌∙◌, ap, arith}
 use Rattle.ps_language.specs.Schedules.{count_of, moves}
 use Rattle.ps_vault.specs.Reports.{are_ordinary}
 use Rattle.ps_vault.specs.Stories.{Story}

@@ -3,7 +3,7 @@ use Rattle.std.proofs.Common.{◌≡◌, true, refl, ap, ◌∙◌}
 use Rattle.ps_language.specs.Locks.{is_ready}
 use Rattle.ps_language.specs.Worlds.{after_move, world}
 use Rattle.ps_vault.specs.Stories.{Story, world_at, move_of}
-use Rattle.ps_vault.proofs.Keeping.{caller_there, keeps_step, held_step, may_go, may_step, world_added}
+use Rattle.ps_vault.proofs.Keeping.{caller_there, keeps_step, held_step, may_step, world_added}
 use Rattle.ps_vault.proofs.vaults.Vault.step.Goals as goal
 
 pub step-told-requires-clause-there : goal.step-told-requires-clause-there

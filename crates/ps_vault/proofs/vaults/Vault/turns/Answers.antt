@@ -16,7 +16,7 @@ use Rattle.ps_vault.specs.Reports.{are_ordinary}
 use Rattle.ps_vault.specs.Stories.{Story, world_at}
 use Rattle.ps_vault.proofs.Advancing.{only_left_ready}
 use Rattle.ps_vault.proofs.Keeping.{may_want, only_left}
-use Rattle.ps_vault.proofs.Alone.{Begun, begun_none, Chunk, chunk_of, Last, last_of, Held, held_of, count_now, turns_begun, turns_ended}
+use Rattle.ps_vault.proofs.Alone.{Begun, begun_none, Chunk, chunk_of, Last, last_of, held_of, count_now, turns_begun, turns_ended}
 use Rattle.ps_vault.proofs.Ordering.{world_moves}
 use Rattle.ps_vault.proofs.vaults.Vault.turns.Given as givens
 use Rattle.ps_vault.proofs.vaults.Vault.turns.Goals as goal

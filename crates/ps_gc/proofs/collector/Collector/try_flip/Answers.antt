@@ -1,0 +1,82 @@
+use Rattle.std.proofs.Common.{sym, ap, ◌∙◌, subst}
+use Rattle.ps_core_parts.specs.declared.events.Vm.{Vm}
+use Rattle.ps_core_parts.specs.declared.events.Gc.{Gc}
+use Rattle.ps_core_parts.specs.Objects.{values_have_replicas}
+use Rattle.ps_parts_memory.specs.Stores.{numbers}
+use Rattle.ps_gc.specs.Flipping.{IsReady}
+use Rattle.ps_gc.proofs.Flipping.{all_drained}
+use Rattle.ps_gc.proofs.Scanning.{all_at_end, not_all}
+use Rattle.ps_gc.proofs.collector.Collector.try_flip.Goals as goal
+
+pub returns-then-self-clause-answer : goal.returns-then-self-clause-answer
+returns-then-self-clause-answer c =
+    let s = c.args.self.now in
+    let v = c.args.vm.now.seat.me.0.vm in
+    let g = s.gc.seat.me.0.gc in (
+      (
+        c.all_closed.ensures.0 c.if-not-all_closed.false,
+        all_drained v g c.meet.ensures.runs (λ slot lt. sym (s.takes.numbers_are slot lt)
+            ∙ c.all_taken.ensures.0 c.if-not-all_taken.false slot lt),
+      ),
+      not_all g s.gc.runs s.to s.copies s.field c.if-self.true,
+    )
+
+pub returns-then-not-have_replicas-clause-answer :
+    goal.returns-then-not-have_replicas-clause-answer
+returns-then-not-have_replicas-clause-answer c =
+    let s = c.args.self.now in
+    let v = c.args.vm.now.seat.me.0.vm in
+    let g = s.gc.seat.me.0.gc in (
+      (
+        (
+          c.all_closed.ensures.0 c.if-not-all_closed.false,
+          all_drained v g c.meet.ensures.runs (λ slot lt. sym (s.takes.numbers_are slot lt)
+              ∙ c.all_taken.ensures.0 c.if-not-all_taken.false slot lt),
+        ),
+        all_at_end g s.gc.runs s.to s.copies c.if-self.false,
+      ),
+      ap (λ (x : Gc). values_have_replicas x.pairs (numbers c.args.roots.now))
+          (sym c.meet.ensures.parts.1)
+          ∙ (sym c.have_replicas.ensures.answer ∙ c.if-not-have_replicas.true),
+    )
+
+pub returns-clause-answer : goal.returns-clause-answer
+returns-clause-answer c =
+    let s = c.args.self.now in
+    let v = c.args.vm.now.seat.me.0.vm in
+    let g = s.gc.seat.me.0.gc in (
+      (
+        (
+          c.all_closed.ensures.0 c.if-not-all_closed.false,
+          all_drained v g c.meet.ensures.runs (λ slot lt. sym (s.takes.numbers_are slot lt)
+              ∙ c.all_taken.ensures.0 c.if-not-all_taken.false slot lt),
+        ),
+        all_at_end g s.gc.runs s.to s.copies c.if-self.false,
+      ),
+      ap (λ (x : Gc). values_have_replicas x.pairs (numbers c.args.roots.now))
+          (sym c.meet.ensures.parts.1)
+          ∙ (sym c.have_replicas.ensures.answer ∙ c.if-not-have_replicas.false),
+    )
+
+pub flip-requires-clause-ready : goal.flip-requires-clause-ready
+flip-requires-clause-ready c =
+    let s = c.args.self.now in
+    let v = c.args.vm.now.seat.me.0.vm in
+    let g = s.gc.seat.me.0.gc in
+    let vm = c.have_replicas.ensures.parts.0 ∙ c.meet.ensures.parts.0 in
+    let gc = c.have_replicas.ensures.parts.1 ∙ c.meet.ensures.parts.1 in
+    let ready : IsReady v g (numbers c.args.roots.now) = (
+      (
+        (
+          c.all_closed.ensures.0 c.if-not-all_closed.false,
+          all_drained v g c.meet.ensures.runs (λ slot lt. sym (s.takes.numbers_are slot lt)
+              ∙ c.all_taken.ensures.0 c.if-not-all_taken.false slot lt),
+        ),
+        all_at_end g s.gc.runs s.to s.copies c.if-self.false,
+      ),
+      ap (λ (x : Gc). values_have_replicas x.pairs (numbers c.args.roots.now))
+          (sym c.meet.ensures.parts.1)
+          ∙ (sym c.have_replicas.ensures.answer ∙ c.if-not-have_replicas.false),
+    ) in
+    subst (λ (x : Vm × Gc). IsReady x.0 x.1 (numbers c.args.roots.now))
+    (λ i. (sym vm i, sym gc i)) ready

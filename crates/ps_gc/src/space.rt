@@ -1,0 +1,306 @@
+//! Both seats in one value: a memory that its collector copies while it is used.
+//!
+//! The two seats are at one table, and the slot that is drained next is one.
+ghost use Rattle.std.specs.Prelude.{◌≡◌, ◌<◌, ◌+◌, ◌-◌, ◌^◌, ◌&&◌, not, nat_lt, min, true, false, IfOk};
+ghost use Rattle.ps_word.specs.Headers.{cycle_limit};
+ghost use Rattle.ps_record.specs.Format.{slots};
+ghost use Rattle.ps_mem.specs.Heap.{empty_heap};
+ghost use Rattle.ps_mem.specs.Bounded.{bounded_space};
+ghost use Rattle.ps_mem.specs.Shows.{AreValues};
+ghost use Rattle.ps_core_parts.specs.Objects.{values_have_replicas};
+ghost use Rattle.ps_core_parts.specs.Steps.{is_open, knows_open};
+ghost use Rattle.ps_core_laws.specs.Runs.{IsSpace};
+ghost use Rattle.ps_parts_memory.specs.Laws.{AfterOpen};
+ghost use Rattle.ps_parts_memory.specs.Memory.{heap_of, grants_of};
+ghost use Rattle.ps_parts_memory.specs.Stores.{numbers};
+ghost use Rattle.ps_flips.specs.Collected.{IsCollected, IsQuiet};
+ghost use Rattle.ps_gc.specs.Keeps.{taken_in_all};
+
+use crate::collector::{Collector, Drained};
+use crate::flips::Flip;
+use ps_flips::collected::{CollectedMemory, Counts};
+use ps_language::kinds::Kind;
+use ps_mem::{Memory, NeedFault, Permit, SLOTS};
+use ps_table::{Closing, Shared, VmSeat};
+use ps_word::headers::Header;
+use ps_word::words::Word;
+use std::alloc::{AllocError, Global};
+
+/// A memory of one table, with its collector.
+#[derive(Drop)]
+pub struct CollectedSpace {
+    vm: VmSeat,
+    collector: Collector,
+    /// The slot that is drained next.
+    slot: u32,
+    /// Whether a field is scanned next, and no log drained.
+    scans: bool,
+    ghost seated: { vm.seat.table_id ≡ collector.gc.seat.table_id },
+    ghost is_slot: { slot < slots },
+}
+
+impl CollectedSpace {
+    /// Two spaces of so many words each, 4096 to 1048576, in which nothing stands; no cycle is
+    /// open. `AllocError`: the allocator refused. No other call takes memory.
+    pub fn new(alloc: Global, space: u32) -> Result<CollectedSpace, AllocError>
+        requires size { IsSpace space }
+        ensures heap { IfOk result (λ s. ⟦<CollectedSpace as Memory>⟧.heap s
+            ≡ empty_heap (bounded_space space)) }
+        ensures closed { IfOk result
+            (λ s. (⟦<CollectedSpace as Memory>⟧.grants s).cycle_open ≡ false) }
+    {
+        let (vm, gc) = Shared::new(alloc, space)?;
+        Ok(CollectedSpace {
+            vm,
+            collector: Collector::new(gc, space),
+            slot: 0,
+            scans: false,
+        })
+    }
+
+    /// Hands roots over, and gives what they refer to replicas.
+    fn hand(&mut self, roots: &[Word])
+        requires open { is_open self.old.vm.seat.me.0.vm ≡ true }
+        requires values { AreValues (heap_of self.old.vm.seat.me.0.vm) roots.now }
+        ensures heap { heap_of self.new.vm.seat.me.0.vm ≡ heap_of self.old.vm.seat.me.0.vm }
+        ensures grants { grants_of self.new.vm.seat.me.0.vm
+            ≡ record (grants_of self.old.vm.seat.me.0.vm) { fresh = λ a. false } }
+        ensures knows { knows_open self.new.collector.gc.seat.me.0.gc ≡ true }
+        ensures copied { values_have_replicas self.new.collector.gc.seat.me.0.gc.pairs
+            (numbers roots.now) ≡ true }
+    {
+        self.collector.hand_over(&mut self.vm, roots);
+        self.collector.add_roots(roots);
+    }
+
+    /// One action of the collector: it looks for a record of the next slot, or copies a field.
+    /// False: there is none.
+    fn act(&mut self) -> bool
+        requires open { knows_open self.old.collector.gc.seat.me.0.gc ≡ true }
+        ensures open { knows_open self.new.collector.gc.seat.me.0.gc ≡ true }
+        ensures vm { self.new.vm ≡ self.old.vm }
+    {
+        self.scans = !self.scans;
+        if !self.scans {
+            return self.collector.scan_one();
+        }
+        let drained = self.collector.drain_one(self.slot);
+        self.slot = (self.slot + 1) % SLOTS;
+        matches!(drained, Drained::Took(_))
+    }
+
+    /// Closes the log of a slot; where it is full, records are taken of it until it isn't. False:
+    /// it isn't closed.
+    fn close_log(&mut self, slot: u32) -> bool
+        requires slot { slot < SLOTS }
+        requires open { is_open self.old.vm.seat.me.0.vm ≡ true }
+        requires knows { knows_open self.old.collector.gc.seat.me.0.gc ≡ true }
+        ensures heap { heap_of self.new.vm.seat.me.0.vm ≡ heap_of self.old.vm.seat.me.0.vm }
+        ensures open { is_open self.new.vm.seat.me.0.vm ≡ true }
+        ensures knows { knows_open self.new.collector.gc.seat.me.0.gc ≡ true }
+    {
+        for _ in 0..u64::MAX {
+            match self.vm.close(slot) {
+                Closing::Closed => return true,
+                Closing::LogFull => {
+                    self.collector.drain_one(slot);
+                }
+            }
+        }
+        false
+    }
+
+    /// Takes the records of a slot's log up to its close. False: its close wasn't taken.
+    fn drain_log(&mut self, slot: u32) -> bool
+        requires slot { slot < SLOTS }
+        requires knows { knows_open self.old.collector.gc.seat.me.0.gc ≡ true }
+        ensures vm { self.new.vm ≡ self.old.vm }
+        ensures knows { knows_open self.new.collector.gc.seat.me.0.gc ≡ true }
+    {
+        for _ in 0..u64::MAX {
+            if self.collector.drain_one(slot) == Drained::Closed {
+                return true;
+            }
+        }
+        false
+    }
+
+    /// Closes and drains all logs. False: not all of them.
+    fn end_logs(&mut self) -> bool
+        requires open { is_open self.old.vm.seat.me.0.vm ≡ true }
+        requires knows { knows_open self.old.collector.gc.seat.me.0.gc ≡ true }
+        ensures heap { heap_of self.new.vm.seat.me.0.vm ≡ heap_of self.old.vm.seat.me.0.vm }
+        ensures open { is_open self.new.vm.seat.me.0.vm ≡ true }
+        ensures knows { knows_open self.new.collector.gc.seat.me.0.gc ≡ true }
+    {
+        for slot in 0..SLOTS {
+            if !self.close_log(slot) || !self.drain_log(slot) {
+                return false;
+            }
+        }
+        true
+    }
+
+    /// Fills all fields of all replicas. False: not all of them.
+    fn scan_all(&mut self) -> bool
+        requires knows { knows_open self.old.collector.gc.seat.me.0.gc ≡ true }
+        ensures vm { self.new.vm ≡ self.old.vm }
+    {
+        for _ in 0..u64::MAX {
+            if !self.collector.scan_one() {
+                return true;
+            }
+        }
+        false
+    }
+}
+
+impl Memory for CollectedSpace {
+    ghost heap = { λ s. heap_of s.vm.seat.me.0.vm };
+
+    ghost grants = { λ s. grants_of s.vm.seat.me.0.vm };
+
+    fn used(&mut self) -> u32 {
+        self.vm.used()
+    }
+
+    fn size(&mut self) -> u32 {
+        self.vm.size()
+    }
+
+    fn room(&mut self, words: u32, births: u32) -> bool {
+        self.vm.room(words, births)
+    }
+
+    fn need(&mut self, words: u32, births: u32) -> Result<(), NeedFault> {
+        self.vm.need(words, births)
+    }
+
+    fn alloc(&mut self, kind: Kind, fields: u32) -> u32 {
+        self.vm.alloc(kind, fields)
+    }
+
+    fn alloc_body(&mut self, dictionary: u32, fields: u32) -> u32 {
+        self.vm.alloc_body(dictionary, fields)
+    }
+
+    fn header(&mut self, address: u32) -> Header {
+        self.vm.header(address)
+    }
+
+    fn load(&mut self, address: u32, place: u32) -> Word {
+        self.vm.load(address, place)
+    }
+
+    fn fill(&mut self, address: u32, place: u32, word: Word) {
+        self.vm.fill(address, place, word);
+    }
+
+    fn store(&mut self, slot: u32, address: u32, place: u32, items: &[Word]) {
+        self.vm.store(slot, address, place, items);
+    }
+
+    fn copy(&mut self, slot: u32, from: u32, from_place: u32, to: u32, to_place: u32, count: u32) {
+        self.vm.copy(slot, from, from_place, to, to_place, count);
+    }
+
+    fn permit(&mut self, slot: u32, count: u32) -> Permit {
+        self.vm.permit(slot, count)
+    }
+}
+
+impl CollectedMemory for CollectedSpace {
+    fn is_open(&mut self) -> bool {
+        self.vm.is_open()
+    }
+
+    /// As the memory's; it opens a cycle exactly where none is open and cycles are left, and what
+    /// the roots refer to has replicas then.
+    fn open_cycle(&mut self, roots: &[Word]) -> bool
+        requires values { AreValues (heap_of self.old.vm.seat.me.0.vm) roots.now }
+        ensures answer { result ≡ (not (is_open self.old.vm.seat.me.0.vm)
+            && nat_lt (self.old.vm.seat.me.0.vm.epoch + 1) cycle_limit) }
+        ensures heap { heap_of self.new.vm.seat.me.0.vm ≡ heap_of self.old.vm.seat.me.0.vm }
+        ensures opened { result ≡ true
+            → ((grants_of self.old.vm.seat.me.0.vm).cycle_open ≡ false)
+            × ((grants_of self.new.vm.seat.me.0.vm).cycle_open ≡ true) }
+        ensures grants { result ≡ true → AfterOpen (grants_of self.old.vm.seat.me.0.vm)
+            (grants_of self.new.vm.seat.me.0.vm) }
+        ensures copied { result ≡ true → values_have_replicas
+            self.new.collector.gc.seat.me.0.gc.pairs (numbers roots.now) ≡ true }
+        ensures same { result ≡ false → grants_of self.new.vm.seat.me.0.vm
+            ≡ grants_of self.old.vm.seat.me.0.vm }
+    {
+        if !self.vm.open_cycle() {
+            return false;
+        }
+        self.hand(roots);
+        true
+    }
+
+    /// As the memory's; false after a look at each log and at the scan, one after another, that
+    /// found nothing.
+    fn work(&mut self, actions: u32) -> bool {
+        if !self.collector.begin_cycle() {
+            return false;
+        }
+        let mut idle: u32 = 0;
+        for _ in 0..actions {
+            idle = if self.act() { 0 } else { idle.wrapping_add(1) };
+            if idle == 2 * SLOTS {
+                return false;
+            }
+        }
+        true
+    }
+
+    /// As the memory's; where no cycle is open nothing changes, and where the cycle could not end
+    /// it is still open.
+    fn end_cycle(&mut self, roots: &mut [Word]) -> bool
+        requires values { AreValues (heap_of self.old.vm.seat.me.0.vm) roots.old }
+        ensures none { is_open self.old.vm.seat.me.0.vm ≡ false
+            → (result ≡ false) × (self.new ≡ self.old) }
+        ensures moved { result ≡ true → IsCollected (heap_of self.old.vm.seat.me.0.vm)
+            (heap_of self.new.vm.seat.me.0.vm) roots.old roots.new }
+        ensures quiet { result ≡ true → IsQuiet (grants_of self.new.vm.seat.me.0.vm) }
+        ensures room { result ≡ true → (grants_of self.new.vm.seat.me.0.vm).words
+            + (heap_of self.new.vm.seat.me.0.vm).used
+            ≡ (heap_of self.new.vm.seat.me.0.vm).space.size }
+        ensures heap { result ≡ false → heap_of self.new.vm.seat.me.0.vm
+            ≡ heap_of self.old.vm.seat.me.0.vm }
+        ensures still { result ≡ false → is_open self.new.vm.seat.me.0.vm
+            ≡ is_open self.old.vm.seat.me.0.vm }
+        ensures roots { result ≡ false → roots.new ≡ roots.old }
+    {
+        if !self.vm.is_open() {
+            return false;
+        }
+        self.hand(roots);
+        if !self.end_logs() || !self.scan_all() {
+            return false;
+        }
+        match self.collector.try_flip(&mut self.vm, roots) {
+            Flip::Done => true,
+            Flip::NotReady(_) => false,
+        }
+    }
+
+    /// As the memory's: the cycle word, and the sum of the heads, at most 2^64 - 1.
+    fn counts(&mut self) -> Counts
+        ensures flips { result.flips ≡ self.old.collector.gc.seat.me.0.gc.cycle }
+        ensures taken { result.taken
+            ≡ min (taken_in_all self.old.collector.gc.seat.me.0.gc) (2 ^ 64 - 1) }
+        ensures heap { heap_of self.new.vm.seat.me.0.vm ≡ heap_of self.old.vm.seat.me.0.vm }
+        ensures grants { grants_of self.new.vm.seat.me.0.vm
+            ≡ grants_of self.old.vm.seat.me.0.vm }
+    {
+        let mut taken: u64 = 0;
+        for slot in 0..SLOTS {
+            taken = taken.saturating_add(self.collector.taken(slot));
+        }
+        Counts {
+            flips: self.collector.flips(),
+            taken,
+        }
+    }
+}

@@ -1,0 +1,4 @@
+pub mod Roots
+pub mod Formats
+pub mod Renamed
+pub mod Moved

@@ -1,0 +1,74 @@
+//! The cycles of a collector over the memory of all contexts.
+
+ghost use Rattle.std.specs.Prelude.{◌≡◌, ◌≤◌, true, false, Option, vec_capacity};
+ghost use Rattle.ps_flips.specs.Collected.{IsQuiet};
+ghost use Rattle.ps_contexts.specs.Desks.{IsSteady};
+ghost use Rattle.ps_world.specs.declared.worlds.Calling.{Calling as ACalling};
+ghost use Rattle.ps_world.specs.Calls.{over};
+ghost use Rattle.ps_world.specs.Held.{held};
+ghost use Rattle.ps_roots.specs.Moved.{KeepsWorlds};
+
+use crate::reading::{ROOT_LIMIT, read_roots};
+use crate::writing::write_roots;
+use ps_contexts::contexts::Contexts;
+use ps_flips::collected::CollectedMemory;
+use ps_word::words::Word;
+
+/// Opens a cycle where none is open and cycles are left: the collector is handed the roots of all
+/// contexts, which are read into a list. False: none was opened, and the memory is as before.
+pub fn open_cycle<M: CollectedMemory>(
+    memory: &mut M,
+    contexts: &Contexts,
+    roots: &mut Vec<Word>,
+) -> bool
+    requires room { ROOT_LIMIT ≤ vec_capacity roots.old }
+    requires steady { IsSteady
+        (over (M.heap memory.old) (M.grants memory.old) contexts.now) }
+    ensures heap { M.heap memory.new ≡ M.heap memory.old }
+    ensures opened { result ≡ true → ((M.grants memory.old).cycle_open ≡ false)
+        × ((M.grants memory.new).cycle_open ≡ true) }
+    ensures same { result ≡ false → M.grants memory.new ≡ M.grants memory.old }
+    ensures kept { (calling : Option ACalling) → KeepsWorlds
+        (held (over (M.heap memory.old) (M.grants memory.old) contexts.now) calling)
+        (held (over (M.heap memory.new) (M.grants memory.new) contexts.now) calling) }
+    ensures capacity { vec_capacity roots.new ≡ vec_capacity roots.old }
+{
+    if memory.is_open() {
+        return false;
+    }
+    read_roots(contexts, roots);
+    memory.open_cycle(roots.as_slice())
+}
+
+/// Ends the open cycle: the objects move, and the roots of all contexts are renamed. What contexts
+/// and memory stand for is the same. False: no cycle is open, or it could not end; nothing has
+/// moved.
+pub fn end_cycle<M: CollectedMemory>(
+    memory: &mut M,
+    contexts: &mut Contexts,
+    roots: &mut Vec<Word>,
+) -> bool
+    requires room { ROOT_LIMIT ≤ vec_capacity roots.old }
+    requires steady { IsSteady
+        (over (M.heap memory.old) (M.grants memory.old) contexts.old) }
+    ensures kept { (calling : Option ACalling) → KeepsWorlds
+        (held (over (M.heap memory.old) (M.grants memory.old) contexts.old) calling)
+        (held (over (M.heap memory.new) (M.grants memory.new) contexts.new) calling) }
+    ensures closed { (M.grants memory.old).cycle_open ≡ false → result ≡ false }
+    ensures quiet { result ≡ true → IsQuiet (M.grants memory.new) }
+    ensures heap { result ≡ false → M.heap memory.new ≡ M.heap memory.old }
+    ensures table { result ≡ false → contexts.new.table ≡ contexts.old.table }
+    ensures shared { contexts.new.shared ≡ contexts.old.shared }
+    ensures faulted { contexts.new.has_faulted ≡ contexts.old.has_faulted }
+    ensures capacity { vec_capacity roots.new ≡ vec_capacity roots.old }
+{
+    if !memory.is_open() {
+        return false;
+    }
+    read_roots(contexts, roots);
+    if !memory.end_cycle(roots.as_mut_slice()) {
+        return false;
+    }
+    write_roots(contexts, roots.as_slice());
+    true
+}

@@ -1,0 +1,91 @@
+//! A vault over a memory that is collected: what the collector does between steps leaves the world,
+//! and the schedule.
+
+ghost use Rattle.std.specs.Prelude.{◌≡◌, ◌≤◌, IsTrue, vec_capacity};
+ghost use Rattle.ps_roots.specs.declared.reading.TheConstants.{ROOT_LIMIT};
+
+use crate::vaults::Vault;
+use ps_flips::collected::{CollectedMemory, Counts};
+use ps_interpreter::interprets::Interpret;
+use ps_roots::{ROOT_LIMIT, end_cycle, open_cycle};
+use ps_word::words::Word;
+use ps_world::deeds::Deeds;
+use std::alloc::{AllocError, Global};
+
+/// A list with room for the roots of all contexts.
+#[derive(Drop)]
+pub struct Roots {
+    words: Vec<Word>,
+    ghost room: { ROOT_LIMIT ≤ vec_capacity words },
+}
+
+impl Roots {
+    /// An empty list. `AllocError`: its room can't be had.
+    pub fn new(alloc: Global) -> Result<Roots, AllocError> {
+        let words = Vec::with_capacity(alloc, ROOT_LIMIT)?;
+        Ok(Roots { words })
+    }
+}
+
+impl<M: CollectedMemory + Drop, S: Interpret + Drop, D: Deeds + Drop> Vault<'_, M, S, D> {
+    /// Whether a cycle of the collector is open.
+    pub fn is_open(&mut self) -> bool
+        ensures { self.new ≡ self.old }
+    {
+        self.memory.is_open()
+    }
+
+    /// Whether more than half of the space is used.
+    pub fn is_half_used(&mut self) -> bool
+        ensures { self.new ≡ self.old }
+    {
+        self.memory.used() > self.memory.size() / 2
+    }
+
+    /// Opens a cycle where none is open and cycles are left: the collector is handed the roots of
+    /// all contexts.
+    pub fn open_cycle(&mut self, roots: &mut Roots) -> bool
+        ensures { self.new ≡ self.old }
+    {
+        open_cycle(&mut self.memory, &self.world.contexts, &mut roots.words)
+    }
+
+    /// In an open cycle the collector does so many actions; false: it found nothing to do.
+    pub fn work(&mut self, actions: u32) -> bool
+        ensures { self.new ≡ self.old }
+    {
+        self.memory.work(actions)
+    }
+
+    /// Ends the open cycle: the objects move, and the roots of all contexts are renamed. False: no
+    /// cycle is open, or it could not end.
+    pub fn end_cycle(&mut self, roots: &mut Roots) -> bool
+        ensures { self.new ≡ self.old }
+    {
+        end_cycle(&mut self.memory, &mut self.world.contexts, &mut roots.words)
+    }
+
+    /// Ends the open cycle, if there is one, and makes a whole one more.
+    pub fn stop_all(&mut self, roots: &mut Roots)
+        ensures { self.new ≡ self.old }
+    {
+        self.end_cycle(roots);
+        if self.open_cycle(roots) {
+            self.end_cycle(roots);
+        }
+    }
+
+    /// Whether it is a vault of this program.
+    pub fn is_of(&self, program: &[u8]) -> bool
+        ensures { IsTrue result → self.now.program ≡ program.now }
+    {
+        self.world.contexts.shared.program == program
+    }
+
+    /// How much the collector has done.
+    pub fn counts(&mut self) -> Counts
+        ensures { self.new ≡ self.old }
+    {
+        self.memory.counts()
+    }
+}

@@ -1,0 +1,217 @@
+-- What a baton keeps, over its turns.
+use Rattle.std.proofs.Common.{◌≡◌, ℕ, ◌+◌, ◌<◌, ◌≤◌, ◌^◌, ◌==◌, true, false, Option, Some, None, Ok, Err, List, refl, sym, ap, ◌∙◌, subst, inl, inr, arith}
+use Rattle.std.specs.Prelude.{IsTrue, IfSome, OnErr, Result}
+use Rattle.std.specs.Result.{is_err}
+use Rattle.std.proofs.lemmas.Bool.{true≢false}
+use Rattle.std.proofs.lemmas.Bool.Decides.{nat_tests}
+use Rattle.ps_language.specs.declared.schedules.Entry.{Entry}
+use Rattle.ps_language.specs.Effect.{Around, Scene}
+use Rattle.ps_language.specs.Locks.{is_ready}
+use Rattle.ps_language.specs.Schedules.{count_of}
+use Rattle.ps_language.specs.World.{Status, World}
+use Rattle.ps_acts.specs.Acts.{Asked}
+use Rattle.ps_world.specs.Needs.{step_wants}
+use Rattle.ps_vault.specs.declared.reports.Config.{Config}
+use Rattle.ps_vault.specs.declared.reports.Outcome.{Outcome}
+use Rattle.ps_vault.specs.declared.reports.Outcome.TheVariants.{Memory}
+use Rattle.ps_vault.specs.Reports.{EndsAs, IsShort, IsStarved, IsWithin}
+use Rattle.ps_vault.specs.Stories.{Story, MayGo, world_at}
+use Rattle.ps_vault.proofs.Following.{ready_not_over}
+use Rattle.ps_workers.specs.Batons.{Progress, MayGoOn, Keeps}
+
+abbrev pub progress : Story → Config → ℕ → Option Outcome → Progress
+progress story config made outcome =
+    record { story = story; config = config; made = made; outcome = outcome }
+
+-- where a result is an error, what holds on errors holds
+pub on_error : {A E : Type 0} (result : Result A E) (P : Type 0) → OnErr result P
+    → is_err result ≡ true → P
+on_error (Ok value) P holds is = absurd (true≢false (sym is))
+on_error (Err error) P holds is = holds
+
+-- ---- whose call waits
+
+-- it is the context that may go on
+pub waits_as : (p : Progress) (context : ℕ) → MayGoOn p context
+    → IfSome p.story.caller (MayGoOn p)
+waits_as p context may = by p.story.caller may.calling
+  where
+    by : (caller : Option ℕ) → IfSome caller (λ c. c ≡ context) → IfSome caller (MayGoOn p)
+    by None is = tt
+    by (Some caller) is = subst (λ c. MayGoOn p c) (sym is) may
+
+-- none waits
+pub waits_none : (p : Progress) → p.story.caller ≡ None → IfSome p.story.caller (MayGoOn p)
+waits_none p none =
+    subst (λ (caller : Option ℕ). IfSome caller (MayGoOn p)) (sym none) tt
+
+-- ---- how a run ends for want of memory
+
+pub ends_starved : (asks : Status → Around → Scene → Asked) (p : Progress) (context : ℕ)
+    → MayGoOn p context
+    → IsStarved asks context false (world_at p.story) p.story.capacity p.story.schedule
+    → EndsAs asks (world_at p.story) p.story.capacity p.story.schedule
+    (p.made == p.config.steps) false Memory
+ends_starved asks p context may starved = (
+  let left : p.made < p.config.steps = may.left in grind (arith, nat_tests),
+  ready_not_over (world_at p.story) context may.ready,
+  (context, starved),
+)
+
+-- a step of it may want memory
+pub wants_some : (asks : Status → Around → Scene → Asked) (p : Progress) (context : ℕ)
+    → MayGoOn p context → IsTrue (step_wants asks context false (world_at p.story))
+    → IsStarved asks context false (world_at p.story) p.story.capacity p.story.schedule
+wants_some asks p context may wants = record { ready = may.ready; wants = inl wants }
+
+-- ---- the same steps, in another room
+
+-- the world is the same
+pub world_same : (old new : Story) → new.program ≡ old.program → new.schedule ≡ old.schedule
+    → (P : World → Type 0) → P (world_at old) → P (world_at new)
+world_same old new program schedule P holds = rw (program, schedule) holds
+
+pub may_same : (p : Progress) (story : Story) (outcome : Option Outcome) (context : ℕ)
+    → MayGoOn p context
+    → story.program ≡ p.story.program → story.schedule ≡ p.story.schedule
+    → story.caller ≡ p.story.caller
+    → MayGoOn (progress story p.config p.made outcome) context
+may_same p story outcome context may program schedule caller = record {
+  calling = subst (λ (c : Option ℕ). IfSome c (λ it. it ≡ context)) (sym caller) may.calling;
+  ready = world_same p.story story program schedule (λ w. is_ready w context ≡ true) may.ready;
+  left = may.left;
+}
+
+waits_same : (p : Progress) (story : Story) (outcome : Option Outcome)
+    → IfSome p.story.caller (MayGoOn p)
+    → story.program ≡ p.story.program → story.schedule ≡ p.story.schedule
+    → story.caller ≡ p.story.caller
+    → IfSome story.caller (MayGoOn (progress story p.config p.made outcome))
+waits_same p story outcome waits program schedule caller =
+    subst (λ (c : Option ℕ). IfSome c (MayGoOn (progress story p.config p.made outcome)))
+    (sym caller) (by p.story.caller waits)
+  where
+    by : (c : Option ℕ) → IfSome c (MayGoOn p)
+        → IfSome c (MayGoOn (progress story p.config p.made outcome))
+    by None waits = tt
+    by (Some context) waits =
+        may_same p story outcome context waits program schedule caller
+
+-- the run ends where it is
+pub keeps_ended : (asks : Status → Around → Scene → Asked) (p : Progress) (story : Story)
+    (outcome : Outcome) → Keeps asks p
+    → story.program ≡ p.story.program → story.schedule ≡ p.story.schedule
+    → story.caller ≡ p.story.caller
+    → EndsAs asks (world_at story) story.capacity story.schedule (p.made == p.config.steps) false
+    outcome
+    → Keeps asks (progress story p.config p.made (Some outcome))
+keeps_ended asks p story outcome keeps program schedule caller ends = record {
+  numbers = keeps.numbers;
+  budget = keeps.budget;
+  counted = ap count_of schedule ∙ keeps.counted;
+  within = keeps.within;
+  waits = waits_same p story (Some outcome) keeps.waits program schedule caller;
+  judged = ends;
+}
+
+-- for want of memory
+pub keeps_starved : (asks : Status → Around → Scene → Asked) (p : Progress) (story : Story)
+    (context : ℕ) → Keeps asks p → MayGoOn p context
+    → story.program ≡ p.story.program → story.schedule ≡ p.story.schedule
+    → story.caller ≡ p.story.caller
+    → IsStarved asks context false (world_at story) story.capacity story.schedule
+    → Keeps asks (progress story p.config p.made (Some Memory))
+keeps_starved asks p story context keeps may program schedule caller starved =
+    keeps_ended asks p story Memory keeps program schedule caller
+    (ends_starved asks (progress story p.config p.made None) context
+    (may_same p story None context may program schedule caller) starved)
+
+-- the schedule has no room
+pub short_starved : (asks : Status → Around → Scene → Asked) (p : Progress) (story : Story)
+    (context : ℕ) → Keeps asks p → MayGoOn p context
+    → story.program ≡ p.story.program → story.schedule ≡ p.story.schedule
+    → story.caller ≡ p.story.caller → IsShort story.capacity story.schedule
+    → Keeps asks (progress story p.config p.made (Some Memory))
+short_starved asks p story context keeps may program schedule caller short =
+    keeps_starved asks p story context keeps may program schedule caller (record {
+      ready = (may_same p story None context may program schedule caller).ready;
+      wants = inr short;
+    })
+
+-- ---- steps more
+
+pub keeps_made : (asks : Status → Around → Scene → Asked) (p : Progress) (story : Story)
+    (count : ℕ) (outcome : Option Outcome) → Keeps asks p
+    → count_of story.schedule ≡ count_of p.story.schedule + count
+    → p.made + count ≤ p.config.steps
+    → IfSome story.caller (MayGoOn (progress story p.config (p.made + count) outcome))
+    → IfSome outcome (EndsAs asks (world_at story) story.capacity story.schedule
+    (p.made + count == p.config.steps) false)
+    → Keeps asks (progress story p.config (p.made + count) outcome)
+keeps_made asks p story count outcome keeps counted within waits judged = record {
+  numbers = keeps.numbers;
+  budget = keeps.budget;
+  counted = counted ∙ ap (λ n. n + count) keeps.counted;
+  within = within;
+  waits = waits;
+  judged = judged;
+}
+
+-- so many more are counted in 32 bits
+pub counts_on : (asks : Status → Around → Scene → Asked) (p : Progress) (count : ℕ)
+    → Keeps asks p → p.made + count ≤ p.config.steps → p.made + count < 2 ^ 32
+counts_on asks p count keeps within = omega (arith, within, keeps.budget)
+
+-- ---- a step that is held up behind steps that were made
+
+pub may_after : (asks : Status → Around → Scene → Asked) (p : Progress) (story : Story)
+    (count : ℕ) (outcome : Option Outcome) (context : ℕ)
+    → MayGo story context → is_ready (world_at story) context ≡ true
+    → p.made + count < p.config.steps
+    → MayGoOn (progress story p.config (p.made + count) outcome) context
+may_after asks p story count outcome context calling ready left =
+    record { calling = calling; ready = ready; left = left }
+
+-- they are counted
+pub keeps_held : (asks : Status → Around → Scene → Asked) (p : Progress) (story : Story)
+    (count context : ℕ) → Keeps asks p
+    → count_of story.schedule ≡ count_of p.story.schedule + count
+    → MayGo story context → is_ready (world_at story) context ≡ true
+    → p.made + count < p.config.steps
+    → Keeps asks (progress story p.config (p.made + count) None)
+keeps_held asks p story count context keeps counted calling ready left =
+    keeps_made asks p story count None keeps counted (omega (arith, left))
+    (waits_as (progress story p.config (p.made + count) None) context
+    (may_after asks p story count None context calling ready left)) tt
+
+-- and the run ends for want of memory
+pub keeps_ended_held : (asks : Status → Around → Scene → Asked) (p : Progress) (story : Story)
+    (count context : ℕ) → Keeps asks p
+    → count_of story.schedule ≡ count_of p.story.schedule + count
+    → MayGo story context → is_ready (world_at story) context ≡ true
+    → p.made + count < p.config.steps
+    → IsTrue (step_wants asks context false (world_at story))
+    → Keeps asks (progress story p.config (p.made + count) (Some Memory))
+keeps_ended_held asks p story count context keeps counted calling ready left wants =
+    let now : Progress = progress story p.config (p.made + count) None in
+    let may : MayGoOn now context =
+    may_after asks p story count None context calling ready left in
+    keeps_starved asks now story context
+    (keeps_held asks p story count context keeps counted calling ready left) may refl refl refl
+    (wants_some asks now context may wants)
+
+-- so it does where no step more was made
+pub keeps_ended_here : (asks : Status → Around → Scene → Asked) (p : Progress) (story : Story)
+    (context : ℕ) → Keeps asks p → MayGoOn p context
+    → story.program ≡ p.story.program → story.schedule ≡ p.story.schedule → MayGo story context
+    → IsTrue (step_wants asks context false (world_at p.story))
+    → Keeps asks (progress story p.config p.made (Some Memory))
+keeps_ended_here asks p story context keeps may program schedule calling wants =
+    let same : p.made + 0 ≡ p.made = omega arith in
+    subst (λ n. Keeps asks (progress story p.config n (Some Memory))) same
+    (keeps_ended_held asks p story 0 context keeps
+    (ap count_of schedule ∙ omega arith) calling
+    (world_same p.story story program schedule (λ w. is_ready w context ≡ true) may.ready)
+    (omega (arith, may.left))
+    (world_same p.story story program schedule
+    (λ w. IsTrue (step_wants asks context false w)) wants))

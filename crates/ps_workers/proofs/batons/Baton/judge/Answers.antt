@@ -1,0 +1,17 @@
+-- The run ends as its vault's world says.
+use Rattle.std.proofs.Common.{◌≡◌, ap, false, refl, sym, subst, ◌==◌}
+use Rattle.ps_vault.specs.Reports.{EndsAs}
+use Rattle.ps_vault.specs.Stories.{Story, world_at}
+use Rattle.ps_workers.proofs.Keeping.{progress, keeps_ended}
+use Rattle.ps_workers.proofs.batons.Baton.judge.Goals as goal
+
+pub invariant_of-self : goal.invariant_of-self
+invariant_of-self g c =
+    let same = c.outcome-outcome.ensures.same in
+    keeps_ended g.S.Interpret.asks (progress c.self.inside.vault c.self.inside.config
+    c.self.inside.made c.self.inside.outcome) c.outcome-outcome.new.self c.outcome-outcome.result
+    c.self.invariant (ap (λ (s : Story). s.program) same) (ap (λ (s : Story). s.schedule) same)
+    (ap (λ (s : Story). s.caller) same)
+    (subst (λ (s : Story). EndsAs g.S.Interpret.asks (world_at s) s.capacity s.schedule
+    (c.self.inside.made == c.self.inside.config.steps) false c.outcome-outcome.result) (sym same)
+    (c.outcome-outcome.ensures.ends false))

@@ -1,0 +1,19 @@
+-- No step was made, and none waits.
+use Rattle.std.proofs.Common.{ℕ, ap, ◌∙◌, arith, refl}
+use Rattle.ps_language.specs.Schedules.{count_of}
+use Rattle.ps_language.proofs.ScheduleLaws.{count_of-nil}
+use Rattle.ps_vault.specs.declared.reports.Config.{Config}
+use Rattle.std.specs.Prelude.{None}
+use Rattle.ps_workers.proofs.Keeping.{progress, waits_none}
+use Rattle.ps_workers.proofs.batons.Baton.new.Goals as goal
+
+pub invariant_of-result : goal.invariant_of-result
+invariant_of-result g c = record {
+  numbers = c.requires.numbers;
+  budget = omega (arith, c.if-prove.false);
+  counted = ap count_of c.in_ok-vault.ensures.schedule ∙ count_of-nil;
+  within = omega arith;
+  waits = waits_none (progress c.in_ok-vault.vault c.args.config 0 None)
+      c.in_ok-vault.ensures.calling;
+  judged = tt;
+}

@@ -1,0 +1,62 @@
+-- A refused step more, or the end for want of memory.
+use Rattle.std.proofs.Common.{◌≡◌, ◌+◌, ◌<◌, ◌≤◌, ◌^◌, ℕ, ap, refl, sym, subst, ◌∙◌, arith, None, Some, List, true, false, Option}
+use Rattle.ps_language.specs.declared.schedules.Entry.{Entry}
+use Rattle.ps_language.specs.Schedules.{count_of}
+use Rattle.ps_language.proofs.ScheduleLaws.{count_of-added}
+use Rattle.ps_vault.specs.Stories.{Story, move_of, world_at}
+use Rattle.std.specs.Prelude.{IsTrue}
+use Rattle.ps_world.specs.Needs.{step_wants}
+use Rattle.ps_workers.specs.Batons.{Progress, MayGoOn, Keeps}
+use Rattle.ps_workers.proofs.Keeping.{progress, on_error, short_starved, keeps_made, waits_none, counts_on, keeps_ended_here}
+use Rattle.ps_workers.proofs.batons.Baton.refuse_step.Goals as goal
+
+pub invariant_of-self : goal.invariant_of-self
+invariant_of-self g c =
+    short_starved g.S.Interpret.asks (progress c.self.inside.vault c.self.inside.config
+    c.self.inside.made c.self.inside.outcome) c.reserve_entries.new.self c.args.context
+    c.self.invariant (subst (λ (p : Progress). MayGoOn p c.args.context) (sym c.self.view_is)
+    c.requires.may) c.reserve_entries.ensures.program c.reserve_entries.ensures.schedule
+    c.reserve_entries.ensures.calling (on_error c.reserve_entries.result _
+    c.reserve_entries.ensures.short (sym c.is_err.ensures.value ∙ c.if-is_err.true))
+
+pub overflow_add-self : goal.overflow_add-self
+overflow_add-self g c =
+    let fits : c.self.inside.made + 1 < 2 ^ 32 =
+    counts_on g.S.Interpret.asks (progress c.self.inside.vault c.self.inside.config
+    c.self.inside.made c.self.inside.outcome) 1 c.self.invariant
+    (let may : MayGoOn (progress c.self.inside.vault c.self.inside.config
+    c.self.inside.made c.self.inside.outcome) c.args.context =
+    subst (λ (p : Progress). MayGoOn p c.args.context) (sym c.self.view_is) c.requires.may in
+    omega (arith, may.left)) in
+    omega (arith, fits)
+
+pub invariant_of-self-in-Ok : goal.invariant_of-self-in-Ok
+invariant_of-self-in-Ok g c =
+    let may : MayGoOn (progress c.self.inside.vault c.self.inside.config
+    c.self.inside.made c.self.inside.outcome) c.args.context =
+    subst (λ (p : Progress). MayGoOn p c.args.context) (sym c.self.view_is) c.requires.may in
+    let made : count_of c.step.new.self.schedule ≡ count_of c.self.inside.vault.schedule + 1 =
+    ap count_of c.in-Ok.ensures.made
+    ∙ (count_of-added c.reserve_entries.new.self.schedule (move_of c.args.context true None)
+    ∙ ap (λ (s : List Entry). count_of s + 1) c.reserve_entries.ensures.schedule) in
+    subst (λ o. Keeps g.S.Interpret.asks (progress c.step.new.self c.self.inside.config
+    (c.self.inside.made + 1) o)) (sym (ap (λ (p : Progress). p.outcome) c.self.view_is
+    ∙ c.requires.outcome))
+    (keeps_made g.S.Interpret.asks (progress c.self.inside.vault c.self.inside.config
+    c.self.inside.made c.self.inside.outcome) c.step.new.self 1 None c.self.invariant made
+    (omega (arith, may.left))
+    (waits_none (progress c.step.new.self c.self.inside.config (c.self.inside.made + 1) None)
+    c.in-Ok.ensures.calling_on) tt)
+
+pub invariant_of-self-in-Err-Memory : goal.invariant_of-self-in-Err-Memory
+invariant_of-self-in-Err-Memory g c =
+    let may : MayGoOn (progress c.self.inside.vault c.self.inside.config
+    c.self.inside.made c.self.inside.outcome) c.args.context =
+    subst (λ (p : Progress). MayGoOn p c.args.context) (sym c.self.view_is) c.requires.may in
+    keeps_ended_here g.S.Interpret.asks (progress c.self.inside.vault c.self.inside.config
+    c.self.inside.made c.self.inside.outcome) c.step.new.self c.args.context
+    c.self.invariant may (c.step.ensures.program ∙ c.reserve_entries.ensures.program)
+    (c.in-Err-Memory.ensures.not_made ∙ c.reserve_entries.ensures.schedule)
+    c.step.ensures.calling
+    (subst (λ (p : Progress). IsTrue (step_wants g.S.Interpret.asks c.args.context false
+    (world_at p.story))) (sym c.self.view_is) c.requires.wants)

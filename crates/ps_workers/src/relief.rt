@@ -1,0 +1,143 @@
+//! Steps under the baton, and what is done where one is held up: the collector makes room, or the
+//! step is made refused.
+
+ghost use Rattle.std.specs.Prelude.{◌≡◌, ◌+◌, ◌<◌, ◌≤◌, true, false, None, IsTrue};
+ghost use Rattle.ps_vault.specs.Holds.{IsHeldUp};
+ghost use Rattle.ps_vault.specs.Stories.{world_at};
+ghost use Rattle.ps_world.specs.Needs.{step_wants};
+ghost use Rattle.ps_workers.specs.Batons.{GoesOn, MayGoOn};
+
+use crate::batons::{ACTIONS, Baton};
+use ps_flips::collected::CollectedMemory;
+use ps_interpreter::interprets::Interpret;
+use ps_ops::failure::NotMade;
+use ps_vault::{Outcome, Told};
+use ps_world::deeds::Deeds;
+
+/// The actions of the collector where a log is full.
+const DRAIN_ACTIONS: u32 = 8192;
+
+impl<M: CollectedMemory + Drop, S: Interpret + Drop, D: Deeds + Drop> Baton<'_, M, S, D> {
+    /// Steps of a context, at most so many; where one is held up, that is mended.
+    pub(crate) fn make(&mut self, context: u32, most: u32)
+        requires may { MayGoOn self.old context }
+        requires outcome { self.old.outcome ≡ None }
+        requires some { 1 ≤ most }
+        requires left { most + self.old.made ≤ self.old.config.steps }
+        ensures goes_on { GoesOn self.old self.new }
+    {
+        if self.vault.reserve_entries().is_err() {
+            self.outcome = Some(Outcome::Memory);
+            return;
+        }
+        let advanced = self.vault.advance(context, most, true);
+        self.made += advanced.made;
+        match advanced.told {
+            Told::HeldUp(reason) => self.relieve(context, reason),
+            Told::Goes | Told::TurnEnds => {
+                self.after = context;
+                self.tend(advanced.wish);
+            }
+        }
+    }
+
+    /// What held a step up is mended: room is made, or the step is refused; a log is drained; an
+    /// open cycle is ended. For want of memory the run ends.
+    fn relieve(&mut self, context: u32, reason: NotMade)
+        requires may { MayGoOn self.old context }
+        requires outcome { self.old.outcome ≡ None }
+        requires held_up { IsHeldUp M.heap M.grants S.asks context false
+            (world_at self.old.story) reason }
+        ensures goes_on { GoesOn self.old self.new }
+    {
+        match reason {
+            NotMade::Memory => self.outcome = Some(Outcome::Memory),
+            NotMade::NeedSpace(_) => {
+                self.vault.stop_all(&mut self.roots);
+                self.retry(context);
+            }
+            NotMade::LogFull => {
+                self.vault.work(DRAIN_ACTIONS);
+            }
+            NotMade::LogClosed => {
+                self.vault.end_cycle(&mut self.roots);
+            }
+        }
+    }
+
+    /// A step that found no room is tried again; where it finds none, it is refused.
+    fn retry(&mut self, context: u32)
+        requires may { MayGoOn self.old context }
+        requires outcome { self.old.outcome ≡ None }
+        requires wants { IsTrue (step_wants S.asks context false (world_at self.old.story)) }
+        ensures goes_on { GoesOn self.old self.new }
+    {
+        if self.vault.reserve_entries().is_err() {
+            self.outcome = Some(Outcome::Memory);
+            return;
+        }
+        let advanced = self.vault.advance(context, 1, true);
+        self.made += advanced.made;
+        match advanced.told {
+            Told::HeldUp(reason) => self.give_way(context, reason),
+            Told::Goes | Told::TurnEnds => {
+                self.after = context;
+                self.tend(advanced.wish);
+            }
+        }
+    }
+
+    /// A step that finds no room is refused; for want of memory the run ends.
+    fn give_way(&mut self, context: u32, reason: NotMade)
+        requires may { MayGoOn self.old context }
+        requires outcome { self.old.outcome ≡ None }
+        requires held_up { IsHeldUp M.heap M.grants S.asks context false
+            (world_at self.old.story) reason }
+        ensures goes_on { GoesOn self.old self.new }
+    {
+        match reason {
+            NotMade::Memory => self.outcome = Some(Outcome::Memory),
+            NotMade::NeedSpace(_) => self.refuse_step(context),
+            NotMade::LogFull | NotMade::LogClosed => {}
+        }
+    }
+
+    /// A step that finds no room is made refused.
+    fn refuse_step(&mut self, context: u32)
+        requires may { MayGoOn self.old context }
+        requires outcome { self.old.outcome ≡ None }
+        requires wants { IsTrue (step_wants S.asks context false (world_at self.old.story)) }
+        ensures goes_on { GoesOn self.old self.new }
+    {
+        if self.vault.reserve_entries().is_err() {
+            self.outcome = Some(Outcome::Memory);
+            return;
+        }
+        match self.vault.step(context, true, None) {
+            Ok(()) => {
+                self.made += 1;
+                self.after = context;
+            }
+            Err(NotMade::Memory) => self.outcome = Some(Outcome::Memory),
+            Err(_) => {}
+        }
+    }
+
+    /// The collector's work between steps; wish: the number of the `vmreclaim` that was made.
+    fn tend(&mut self, wish: Option<i32>)
+        ensures { self.new ≡ self.old }
+    {
+        match wish {
+            Some(1) | Some(2) => self.vault.stop_all(&mut self.roots),
+            Some(number) => self.may_open = number == 0,
+            None => {}
+        }
+        if self.vault.is_open() {
+            if !self.vault.work(ACTIONS) {
+                self.vault.end_cycle(&mut self.roots);
+            }
+        } else if self.may_open && self.vault.is_half_used() {
+            self.vault.open_cycle(&mut self.roots);
+        }
+    }
+}

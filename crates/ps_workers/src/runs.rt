@@ -1,0 +1,109 @@
+//! A run by workers: threads that take the baton for a turn, one at a time.
+
+ghost use Rattle.std.specs.Prelude.{◌≡◌, ◌↔◌, Err, IfOk, vec_capacity};
+ghost use Rattle.ps_start.specs.Starts.{IsEmptyHeap};
+ghost use Rattle.ps_vault.specs.Reports.{IsRunIn, IsWithin};
+
+use crate::batons::Baton;
+use ps_flips::collected::CollectedMemory;
+use ps_gc::CollectedSpace;
+use ps_interpreter::interprets::Interpret;
+use ps_vault::{Config, Report, RunFault};
+use ps_world::deeds::Deeds;
+use std::alloc::Global;
+use std::hash::RandomState;
+use std::sync::{Mutex, Wait};
+use std::thread;
+use std::thread::Threads;
+
+/// A worker: turn after turn under the lock, until the run is over.
+fn work<M: CollectedMemory + Drop, S: Interpret + Drop, D: Deeds + Drop, R: Wait>(
+    rt: &R,
+    baton: &Mutex<Baton<'_, M, S, D>>,
+) {
+    for _ in rt.forever() {
+        if baton.lock(rt).turn() {
+            return;
+        }
+    }
+}
+
+/// Starts so many workers, and returns when all have ended. Where one can't be started, the others
+/// end too.
+fn work_all<
+    M: CollectedMemory + Drop + Send,
+    S: Interpret + Drop + Send,
+    D: Deeds + Drop + Send,
+    R: Threads + Wait + Sync,
+>(rt: &R, baton: &Mutex<Baton<'_, M, S, D>>, workers: u32) {
+    thread::scope(thread::scope_env(), rt, |scope| {
+        for _ in 0..workers {
+            if scope.spawn(move || work(rt, baton)).is_err() {
+                baton.lock(rt).refuse();
+            }
+        }
+    });
+}
+
+/// Runs a program with so many workers over a memory that is collected, in which nothing stands,
+/// for at most so many steps. The keys are for the names alone.
+///
+/// The fault is `Config` where a number is out of its range. It is `Memory` where the room that the
+/// run starts with can't be had, or a thread can't be started. A growth that is refused later ends
+/// the run, and the report has what was made so far.
+pub fn run_in<
+    M: CollectedMemory + Drop + Send,
+    S: Interpret + Drop + Send,
+    D: Deeds + Drop + Send,
+    R: Threads + Wait + Sync,
+>(
+    rt: &R,
+    alloc: Global,
+    memory: M,
+    interpret: S,
+    deeds: D,
+    program: &[u8],
+    config: Config,
+    keys: RandomState,
+) -> Result<Report, RunFault>
+    requires { IsEmptyHeap (M.heap memory) }
+    ensures config { (result ≡ Err RunFault.Config) ↔ ¬ IsWithin config }
+    ensures run { IfOk result (λ report. IsRunIn S.asks program.now config.steps
+        report.printed.items (vec_capacity report.schedule) report.schedule.items
+        report.outcome) }
+{
+    if !config.is_within() {
+        return Err(RunFault::Config);
+    }
+    let Ok(baton) = Baton::new(alloc, memory, interpret, deeds, program, config, keys) else {
+        return Err(RunFault::Memory);
+    };
+    let shared = Mutex::new(baton);
+    work_all(rt, &shared, config.workers);
+    shared.into_inner().into_report(program, config)
+}
+
+/// Runs a program with so many workers in a space of the configuration's size, which is collected;
+/// else as `run_in`.
+pub fn run<S: Interpret + Drop + Send, D: Deeds + Drop + Send, R: Threads + Wait + Sync>(
+    rt: &R,
+    alloc: Global,
+    interpret: S,
+    deeds: D,
+    program: &[u8],
+    config: Config,
+    keys: RandomState,
+) -> Result<Report, RunFault>
+    ensures config { (result ≡ Err RunFault.Config) ↔ ¬ IsWithin config }
+    ensures run { IfOk result (λ report. IsRunIn S.asks program.now config.steps
+        report.printed.items (vec_capacity report.schedule) report.schedule.items
+        report.outcome) }
+{
+    if !config.is_within() {
+        return Err(RunFault::Config);
+    }
+    let Ok(memory) = CollectedSpace::new(alloc, config.space) else {
+        return Err(RunFault::Memory);
+    };
+    run_in(rt, alloc, memory, interpret, deeds, program, config, keys)
+}
