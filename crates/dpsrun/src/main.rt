@@ -13,6 +13,8 @@ use std::fs::{self, File};
 use std::hash::RandomState;
 use std::io::{self, Read};
 use std::process::ExitCode;
+use std::sync::Wait;
+use std::thread::Threads;
 
 /// The files of the system.
 #[derive(Drop)]
@@ -65,9 +67,9 @@ impl FileSet for SystemFiles<'_> {
     }
 }
 
-/// Runs the program that the command line names, and gives the exit status. Fails where the command
-/// line, or the keys of the table of names, can't be had.
-fn run(rt: &HostRuntime) -> io::Result<u8> {
+/// Runs the program that the command line names, by threads of `workers`, and gives the exit status.
+/// Fails where the command line, or the keys of the table of names, can't be had.
+fn run<R: Threads + Wait + Sync>(rt: &HostRuntime, workers: &R) -> io::Result<u8> {
     let alloc = rt.alloc();
     let arguments: Vec<String> = env::args(rt)?.skip(1).collect(alloc)?;
     let words: Vec<&str> = arguments.iter().map(|word| word.as_str()).collect(alloc)?;
@@ -81,6 +83,7 @@ fn run(rt: &HostRuntime) -> io::Result<u8> {
         text: Vec::new(alloc),
     };
     Ok(drive(
+        workers,
         alloc,
         steps,
         WorldOperators { alloc },
@@ -93,7 +96,7 @@ fn run(rt: &HostRuntime) -> io::Result<u8> {
 }
 
 fn main(rt: HostRuntime) -> ExitCode {
-    match run(&rt) {
+    match run(&rt, &rt) {
         Ok(status) => ExitCode::from(status),
         Err(error) if error.kind() == io::ErrorKind::OutOfMemory => {
             let _ = eprintln!(rt; "dpsrun: out of memory");

@@ -18,8 +18,8 @@ abbrev pub AreScanned : Vm → Gc → Type 0
 AreScanned v g = AreDrained v g × (all_filled g.pairs ≡ true)
 
 -- and what each root refers to has a replica
-abbrev pub IsReady : Vm → Gc → List ℕ → Type 0
-IsReady v g roots = AreScanned v g × (values_have_replicas g.pairs roots ≡ true)
+abbrev pub MayFlip : Vm → Gc → List ℕ → Type 0
+MayFlip v g roots = AreScanned v g × (values_have_replicas g.pairs roots ≡ true)
 
 -- of all this the first that doesn't hold
 abbrev pub IsFirst : Vm → Gc → List ℕ → Unready → Type 0
@@ -30,5 +30,5 @@ IsFirst v g roots RootNotCopied =
     AreScanned v g × (values_have_replicas g.pairs roots ≡ false)
 
 abbrev pub Answers : Vm → Gc → List ℕ → Flip → Type 0
-Answers v g roots Done = IsReady v g roots
+Answers v g roots Done = MayFlip v g roots
 Answers v g roots (NotReady why) = IsFirst v g roots why

@@ -12,7 +12,7 @@ ghost use Rattle.ps_flips.specs.Flips.{AfterFlip};
 ghost use Rattle.ps_table.specs.Events.{gc_did_all, root_looks};
 ghost use Rattle.ps_table.specs.Shown.{AreJoined, BothRun};
 ghost use Rattle.ps_gc.specs.Events.{AreKnown};
-ghost use Rattle.ps_gc.specs.Flipping.{Answers, IsReady};
+ghost use Rattle.ps_gc.specs.Flipping.{Answers, MayFlip};
 
 use crate::collector::Collector;
 use crate::taken::Taken;
@@ -114,7 +114,7 @@ impl Collector {
     fn flip(&mut self, vm: &mut VmSeat, roots: &mut [Word])
         requires same { vm.old.seat.table_id ≡ self.old.gc.seat.table_id }
         requires open { is_open vm.old.seat.me.0.vm ≡ true }
-        requires ready { IsReady vm.old.seat.me.0.vm self.old.gc.seat.me.0.gc
+        requires ready { MayFlip vm.old.seat.me.0.vm self.old.gc.seat.me.0.gc
             (numbers roots.old) }
         requires runs { BothRun vm.old.seat.me.0.vm self.old.gc.seat.me.0.gc }
         ensures did { AreJoined vm.old.seat.me.0 (gc_did_all self.old.gc.seat.me.0

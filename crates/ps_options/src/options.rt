@@ -27,6 +27,8 @@ pub struct Options<'a> {
     pub steps: u32,
     /// Whether the counts are told at the end.
     pub stats: bool,
+    /// Whether the run is over memory that is never collected.
+    pub plain: bool,
     /// How many schedules the program is run under, if they are chosen by chance: from 1 to 65,535.
     pub explore: Option<u32>,
     /// The name of the file that the schedule of the run is written to, if it is. Where schedules
@@ -54,18 +56,8 @@ fn command<'a>(alloc: Global) -> Result<Command<'a>, AllocError>
 fn with_sizes<'a>(alloc: Global, command: Command<'a>) -> Result<Command<'a>, AllocError>
     ensures { IfOk result (λ made. app_of made ≡ spec.with_sizes (app_of command.entry)) }
 {
-    let space = number(
-        alloc,
-        "space",
-        "65536",
-        "words of a space of memory; no effect yet",
-    );
-    let workers = number(
-        alloc,
-        "workers",
-        "4",
-        "threads that make steps; no effect yet",
-    );
+    let space = number(alloc, "space", "65536", "words of a space of memory");
+    let workers = number(alloc, "workers", "4", "threads that make steps");
     command
         .arg(within(space, 4096, 1048576))?
         .arg(within(workers, 1, 32))
@@ -87,11 +79,7 @@ fn with_flags<'a>(alloc: Global, command: Command<'a>) -> Result<Command<'a>, Al
     ensures { IfOk result (λ made. app_of made ≡ spec.with_flags (app_of command.entry)) }
 {
     command
-        .arg(flag(
-            alloc,
-            "plain",
-            "run over memory that is never collected, as every run does yet",
-        ))?
+        .arg(flag(alloc, "plain", "run over memory that is never collected"))?
         .arg(flag(
             alloc,
             "stats",
@@ -209,12 +197,10 @@ pub fn parse<'a>(alloc: Global, words: &'a [&'a str]) -> Result<Options<'a>, Err
     ensures replay_file { IfOk result
         (λ options. option_map (λ name. name.now) options.replay_file
         ≡ spec.named_in (codes "replay") (map (λ word. word.now) words.entry.now)) }
-    ensures stats { IfOk result
-        (λ options. spec.flag_in (codes "stats") (map (λ word. word.now) words.entry.now) ≡ Some
-        (codes "true") → options.stats ≡ true) }
-    ensures no_stats { IfOk result
-        (λ options. spec.flag_in (codes "stats") (map (λ word. word.now) words.entry.now) ≡ Some
-        (codes "false") → options.stats ≡ false) }
+    ensures stats { IfOk result (λ options. spec.IsFlag (codes "stats")
+        (map (λ word. word.now) words.entry.now) options.stats) }
+    ensures plain { IfOk result (λ options. spec.IsFlag (codes "plain")
+        (map (λ word. word.now) words.entry.now) options.plain) }
     ensures numbers { IfOk result
         (λ options. spec.AreNumbers (map (λ word. word.now) words.entry.now) (record {
           space = options.space;
@@ -238,6 +224,7 @@ pub fn parse<'a>(alloc: Global, words: &'a [&'a str]) -> Result<Options<'a>, Err
         quantum: matches.get_one::<u32>("quantum").unwrap_or(100),
         steps: matches.get_one::<u32>("steps").unwrap_or(1_000_000_000),
         stats: matches.get_flag("stats"),
+        plain: matches.get_flag("plain"),
         explore: matches.get_one::<u32>("explore"),
         record_file: matches.get_str("record"),
         replay_file: matches.get_str("replay"),

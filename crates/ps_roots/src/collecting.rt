@@ -7,21 +7,37 @@ ghost use Rattle.ps_world.specs.declared.worlds.Calling.{Calling as ACalling};
 ghost use Rattle.ps_world.specs.Calls.{over};
 ghost use Rattle.ps_world.specs.Held.{held};
 ghost use Rattle.ps_roots.specs.Moved.{KeepsWorlds};
+ghost use Rattle.ps_roots.specs.declared.reading.TheConstants.{ROOT_LIMIT};
 
 use crate::reading::{ROOT_LIMIT, read_roots};
 use crate::writing::write_roots;
 use ps_contexts::contexts::Contexts;
 use ps_flips::collected::CollectedMemory;
 use ps_word::words::Word;
+use std::alloc::{AllocError, Global};
+
+/// A list with room for the roots of all contexts.
+#[derive(Drop)]
+pub struct Roots {
+    words: Vec<Word>,
+    ghost room: { ROOT_LIMIT ≤ vec_capacity words },
+}
+
+impl Roots {
+    /// An empty list. `AllocError`: its room can't be had.
+    pub fn new(alloc: Global) -> Result<Roots, AllocError> {
+        let words = Vec::with_capacity(alloc, ROOT_LIMIT)?;
+        Ok(Roots { words })
+    }
+}
 
 /// Opens a cycle where none is open and cycles are left: the collector is handed the roots of all
-/// contexts, which are read into a list. False: none was opened, and the memory is as before.
+/// contexts. False: none was opened, and the memory is as before.
 pub fn open_cycle<M: CollectedMemory>(
     memory: &mut M,
     contexts: &Contexts,
-    roots: &mut Vec<Word>,
+    roots: &mut Roots,
 ) -> bool
-    requires room { ROOT_LIMIT ≤ vec_capacity roots.old }
     requires steady { IsSteady
         (over (M.heap memory.old) (M.grants memory.old) contexts.now) }
     ensures heap { M.heap memory.new ≡ M.heap memory.old }
@@ -31,13 +47,12 @@ pub fn open_cycle<M: CollectedMemory>(
     ensures kept { (calling : Option ACalling) → KeepsWorlds
         (held (over (M.heap memory.old) (M.grants memory.old) contexts.now) calling)
         (held (over (M.heap memory.new) (M.grants memory.new) contexts.now) calling) }
-    ensures capacity { vec_capacity roots.new ≡ vec_capacity roots.old }
 {
     if memory.is_open() {
         return false;
     }
-    read_roots(contexts, roots);
-    memory.open_cycle(roots.as_slice())
+    read_roots(contexts, &mut roots.words);
+    memory.open_cycle(roots.words.as_slice())
 }
 
 /// Ends the open cycle: the objects move, and the roots of all contexts are renamed. What contexts
@@ -46,9 +61,8 @@ pub fn open_cycle<M: CollectedMemory>(
 pub fn end_cycle<M: CollectedMemory>(
     memory: &mut M,
     contexts: &mut Contexts,
-    roots: &mut Vec<Word>,
+    roots: &mut Roots,
 ) -> bool
-    requires room { ROOT_LIMIT ≤ vec_capacity roots.old }
     requires steady { IsSteady
         (over (M.heap memory.old) (M.grants memory.old) contexts.old) }
     ensures kept { (calling : Option ACalling) → KeepsWorlds
@@ -60,15 +74,14 @@ pub fn end_cycle<M: CollectedMemory>(
     ensures table { result ≡ false → contexts.new.table ≡ contexts.old.table }
     ensures shared { contexts.new.shared ≡ contexts.old.shared }
     ensures faulted { contexts.new.has_faulted ≡ contexts.old.has_faulted }
-    ensures capacity { vec_capacity roots.new ≡ vec_capacity roots.old }
 {
     if !memory.is_open() {
         return false;
     }
-    read_roots(contexts, roots);
-    if !memory.end_cycle(roots.as_mut_slice()) {
+    read_roots(contexts, &mut roots.words);
+    if !memory.end_cycle(roots.words.as_mut_slice()) {
         return false;
     }
-    write_roots(contexts, roots.as_slice());
+    write_roots(contexts, roots.words.as_slice());
     true
 }

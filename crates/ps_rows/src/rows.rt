@@ -2,19 +2,20 @@
 //! comes of it. `\n` is a newline and `\b` a backslash. `|` stands between the pieces of a program,
 //! of which `N*TEXT` is a text so many times.
 //!
-//! `drive STATUS`: by the command line, with that exit status, and again under the schedule of its
-//! run. `contexts STATUS`: so too, and with other turns and under schedules by chance.
+//! `drive STATUS`: by the command line, over plain memory and in a space that is collected, with that
+//! exit status, and again under the schedule of a run. `plain STATUS`: over plain memory alone.
+//! `contexts STATUS`: as `drive`, and with other turns and under schedules by chance.
 //! `collected SPACE`: in a space of so many words that is collected, by some numbers of workers, and
 //! again under the schedule of each run; `flipped SPACE`: so too, and the spaces are exchanged at
-//! least once.
+//! least once; `stressed SPACE`: at least 100 times.
 //! `bounded SIZE`, `full SIZE`, `closed SIZE`: step by step in a space of so many words, with
 //! no cycle open, with a full log, with a closed one; what comes of it begins with why steps were
 //! not made.
 
 use crate::chances::scheduled;
-use crate::collected::worked;
+use crate::collected::{MANY, worked};
 use crate::plays::{Log, Play};
-use crate::runs::{driven, replayed};
+use crate::runs::{Words, driven, replayed};
 use anyhow::Result;
 use std::alloc::{AllocError, Global};
 use std::hash::RandomState;
@@ -106,16 +107,23 @@ pub fn verdict_of<R: Threads + Wait + Sync>(
     let program = program_of(alloc, program)?;
     let wanted = bytes_of(alloc, wanted)?;
     let log = match name {
-        "drive" => {
-            return Ok(run(alloc, keys, program.as_slice(), wanted.as_slice(), number));
+        "drive" | "plain" | "contexts" => {
+            return Ok(run(
+                rt,
+                alloc,
+                keys,
+                name,
+                program.as_slice(),
+                wanted.as_slice(),
+                (number % 256) as u8,
+            ));
         }
-        "contexts" => {
-            let verdict = run(alloc, keys, program.as_slice(), wanted.as_slice(), number);
-            let other = scheduled(alloc, keys, program.as_slice(), wanted.as_slice());
-            return Ok(verdict.and(other));
-        }
-        "collected" | "flipped" => {
-            let least = u32::from(name == "flipped");
+        "collected" | "flipped" | "stressed" => {
+            let least = match name {
+                "flipped" => 1,
+                "stressed" => MANY,
+                _ => 0,
+            };
             return Ok(worked(
                 rt,
                 alloc,
@@ -136,10 +144,24 @@ pub fn verdict_of<R: Threads + Wait + Sync>(
     Ok(Verdict::of(transcript.as_slice() == wanted.as_slice()))
 }
 
-/// What comes of a row that is run.
-fn run(alloc: Global, keys: RandomState, program: &[u8], printed: &[u8], status: u32) -> Verdict {
-    match driven(alloc, keys, program, printed, (status % 256) as u8) {
-        Verdict::Same => replayed(alloc, keys, program, printed),
-        other => other,
+/// What comes of a row that is run by the command line.
+fn run<R: Threads + Wait + Sync>(
+    rt: &R,
+    alloc: Global,
+    keys: RandomState,
+    name: &str,
+    program: &[u8],
+    printed: &[u8],
+    status: u8,
+) -> Verdict {
+    let mut verdict = driven(rt, alloc, keys, Words::Plain, program, printed, status).and(replayed(
+        alloc, keys, program, printed,
+    ));
+    if name != "plain" {
+        verdict = verdict.and(driven(rt, alloc, keys, Words::Collected, program, printed, status));
     }
+    if name == "contexts" {
+        verdict = verdict.and(scheduled(alloc, keys, program, printed));
+    }
+    verdict
 }

@@ -6,6 +6,8 @@ use ps_tests::fakes::{OneFile, Output, deeds_in, steps_in};
 use ps_vault::{Config, Outcome, Report, RunFault, replay, run_plain};
 use std::alloc::Global;
 use std::hash::RandomState;
+use std::sync::Wait;
+use std::thread::Threads;
 
 /// More writes than a run makes.
 const AMPLE: u32 = 1000;
@@ -21,10 +23,31 @@ pub const CONFIG: Config = Config {
     steps: 1000000,
 };
 
+/// The words of a command line.
+#[derive(Clone, Copy, Debug, PartialEq, Eq)]
+pub enum Words {
+    /// Of a run over plain memory.
+    Plain,
+    /// Of a run in a space that is collected.
+    Collected,
+}
+
+impl Words {
+    /// The words themselves.
+    fn all(self) -> &'static [&'static str] {
+        match self {
+            Words::Plain => &["--plain", "f"],
+            Words::Collected => &["f"],
+        }
+    }
+}
+
 /// Whether `drive` prints this, with this status and nothing told.
-pub fn driven(
+pub fn driven<R: Threads + Wait + Sync>(
+    rt: &R,
     alloc: Global,
     keys: RandomState,
+    words: Words,
     program: &[u8],
     printed: &[u8],
     status: u8,
@@ -40,11 +63,12 @@ pub fn driven(
     let mut out = Flushed::new(output);
     let mut err = Output::new(alloc, AMPLE);
     let given = drive(
+        rt,
         alloc,
         steps_in(alloc),
         deeds_in(alloc),
         keys,
-        &["--plain", "f"],
+        words.all(),
         &mut files,
         &mut out,
         &mut err,

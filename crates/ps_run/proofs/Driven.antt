@@ -5,8 +5,7 @@ use Rattle.ps_options.specs.CommandLine.{IsExplored, named_in}
 use Rattle.ps_language.specs.Effect.{Around, Scene}
 use Rattle.ps_language.specs.World as world
 use Rattle.ps_acts.specs.Acts as acts
-use Rattle.ps_language.specs.declared.schedules.Entry.{Entry}
-use Rattle.ps_vault.specs.declared.reports.Outcome.{Outcome}
+use Rattle.ps_vault.specs.declared.reports.Report.{Report}
 use Rattle.clap.specs.Words.{HasKind, Text}
 use Rattle.clap.specs.Kinds.{Kinds, IsAmong}
 use Rattle.clap.specs.Values.{kind_of}
@@ -29,9 +28,7 @@ driven_more asks names other A B F G told outputs same more fault driven =
       asked = run.asked;
       is_asked = more run.asked run.is_asked;
       is_single = run.is_single;
-      printed = run.printed;
-      schedule = run.schedule;
-      outcome = run.outcome;
+      report = run.report;
       run = run.run;
       written = run.written;
     })))
@@ -69,14 +66,12 @@ record_named recorded other are_many many name same equal is =
     (subst (λ (r : Option Text). IsRecordName r are_many name) same is)
 
 -- what was written, where what stood before is told of what stood earlier
-pub written_from : (recorded : Option Text) (stats : Bool) (printed : List ℕ)
-    (schedule : List Entry) (outcome : Outcome) (told : Status) (outputs : Outputs) (err : Option (List ℕ))
-    (files : Contents) → outputs.err_old ≡ err → outputs.files_old ≡ files
-    → IsWritten recorded stats printed schedule outcome told outputs
-    → IsWritten recorded stats printed schedule outcome told
-    (record outputs { err_old = err; files_old = files })
-written_from recorded stats printed schedule outcome told outputs err files errs all written =
-    subst (IsWritten recorded stats printed schedule outcome told)
+pub written_from : (recorded : Option Text) (stats : Bool) (report : Report) (told : Status)
+    (outputs : Outputs) (err : Option (List ℕ)) (files : Contents) → outputs.err_old ≡ err
+    → outputs.files_old ≡ files → IsWritten recorded stats report told outputs
+    → IsWritten recorded stats report told (record outputs { err_old = err; files_old = files })
+written_from recorded stats report told outputs err files errs all written =
+    subst (IsWritten recorded stats report told)
     (λ i. record outputs { err_old = errs i; files_old = all i }) written
 
 among_none : (k : _) (kinds : Kinds) → IsAmong k kinds → kinds ≡ [] → ⊥

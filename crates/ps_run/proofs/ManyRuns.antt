@@ -65,7 +65,7 @@ endings_entries asks program steps runs endings few are = λ place default less.
     let ending = each_ending asks program steps runs endings are place default less in
     are_entries program (slice_index_or endings place default).schedule.items
     (omega (arith, few, ending.run.run.within)) ending.run.run.longest ending.run.run.proper
-    ending.run.ordinary
+    ending.run.run.fits
 
 -- what was written, where what stood before is told of what stood earlier
 pub all_written_from : (recorded : Option Text) (runs : ℕ) (endings : List Report) (told : Status)

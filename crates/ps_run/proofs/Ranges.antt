@@ -9,7 +9,7 @@ use Rattle.ps_language.specs.Schedules.{Move, count_of, is_longest, joins, last_
 use Rattle.ps_language.specs.World.{World}
 use Rattle.ps_language.specs.Worlds.{after_move, all_ready, IsProper, starting_world}
 use Rattle.ps_schedules.specs.Texts.{AreEntries, IsShown, IsUpTo, IsWords}
-use Rattle.ps_vault.specs.Reports.{are_ordinary, are_words, is_number_of_words, is_ordinary}
+use Rattle.ps_vault.specs.Reports.{all_fit, are_words, fits, is_number_of_words}
 use Rattle.ps_run.proofs.Counting.{length_moves_of}
 
 -- ---- each step
@@ -36,30 +36,28 @@ shown_within (Some pair) is =
 
 -- ---- the steps behind others
 
--- the numbers of an ordinary step, and those behind it
+-- the numbers of a step, and the steps behind it
 record IsFirst (move : Move) (rest : List Move) : Type 0 where
   context : move.context < 2 ^ 32
   shown : are_words move.shown ≡ true
-  behind : are_ordinary rest ≡ true
+  behind : all_fit rest ≡ true
 
-first_ordinary : (move : Move) (rest : List Move) → are_ordinary (move ∷ rest) ≡ true
+first_fits : (move : Move) (rest : List Move) → all_fit (move ∷ rest) ≡ true
     → IsFirst move rest
-first_ordinary move rest all =
-    let few = nat_lt move.context (2 ^ 32) in
-    let both = and_parts (is_ordinary move) (are_ordinary rest) all in
-    let numbers = and_parts few (are_words move.shown)
-    (and_parts (not move.refused) (few && are_words move.shown) both.0).1 in
+first_fits move rest all =
+    let both = and_parts (fits move) (all_fit rest) all in
+    let numbers = and_parts (nat_lt move.context (2 ^ 32)) (are_words move.shown) both.0 in
     record {
       context = ltb-true move.context (2 ^ 32) numbers.0;
       shown = numbers.1;
       behind = both.1;
     }
 
-ordinary_behind : (first rest : List Move) → are_ordinary (first ++ rest) ≡ true
-    → are_ordinary rest ≡ true
-ordinary_behind [] rest all = all
-ordinary_behind (move ∷ first) rest all =
-    ordinary_behind first rest (first_ordinary move (first ++ rest) all).behind
+fit_behind : (first rest : List Move) → all_fit (first ++ rest) ≡ true
+    → all_fit rest ≡ true
+fit_behind [] rest all = all
+fit_behind (move ∷ first) rest all =
+    fit_behind first rest (first_fits move (first ++ rest) all).behind
 
 -- each is of a context that is ready, from some world on
 record AreReady (steps : List Move) : Type 0 where
@@ -93,24 +91,24 @@ entry_begins entry (suc (suc before)) rest some = record {
 }
 
 entry_context : (entry : Entry) (steps : List Move) (now : World) → Begins entry steps
-    → all_ready now steps ≡ true → are_ordinary steps ≡ true → IsUpTo 4294967295 entry.context
-entry_context entry steps now begins ready ordinary =
+    → all_ready now steps ≡ true → all_fit steps ≡ true → IsUpTo 4294967295 entry.context
+entry_context entry steps now begins ready fit =
     let low = ready_low now begins.first.context (and_parts (is_ready now begins.first.context)
     (all_ready (after_move now begins.first) begins.rest)
     (sym (ap (all_ready now) begins.is) ∙ ready)).0 in
-    let high = (first_ordinary begins.first begins.rest
-    (sym (ap are_ordinary begins.is) ∙ ordinary)).context in
+    let high = (first_fits begins.first begins.rest
+    (sym (ap all_fit begins.is) ∙ fit)).context in
     let same = begins.context in
     record { low = omega (arith, low, same); high = omega (arith, high, same) }
 
 -- and end with its last
 entry_shown : (entry : Entry) (steps : ℕ) (rest : List Move) → 0 < steps
-    → are_ordinary (moves_of entry steps ++ rest) ≡ true → are_words entry.shown ≡ true
+    → all_fit (moves_of entry steps ++ rest) ≡ true → are_words entry.shown ≡ true
 entry_shown entry zero rest some all = absurd (omega (arith, some))
 entry_shown entry (suc before) rest some all =
     let plain = replicate before (plain_move entry.context) in
-    (first_ordinary (last_move entry) rest (ordinary_behind plain (last_move entry ∷ rest)
-    (sym (ap are_ordinary (append_assoc plain (last_move entry ∷ []) rest)) ∙ all))).shown
+    (first_fits (last_move entry) rest (fit_behind plain (last_move entry ∷ rest)
+    (sym (ap all_fit (append_assoc plain (last_move entry ∷ []) rest)) ∙ all))).shown
 
 -- ---- entries
 
@@ -126,11 +124,11 @@ longest_first entry (next ∷ entries) longest =
 
 entries_from : (schedule : List Entry) (now : World)
     → length (moves schedule) ≤ 4294967295 → is_longest schedule ≡ true
-    → all_ready now (moves schedule) ≡ true → are_ordinary (moves schedule) ≡ true
+    → all_ready now (moves schedule) ≡ true → all_fit (moves schedule) ≡ true
     → AreEntries schedule
 unfolding moves
-entries_from [] now few longest ready ordinary = tt
-entries_from (entry ∷ entries) now few longest ready ordinary =
+entries_from [] now few longest ready fit = tt
+entries_from (entry ∷ entries) now few longest ready fit =
     let both = longest_first entry entries longest in
     let own = moves_of entry entry.steps in
     let sum = length-append own (moves entries) in
@@ -138,21 +136,21 @@ entries_from (entry ∷ entries) now few longest ready ordinary =
     let behind = ready_behind own (moves entries) now ready in (
       record {
         context = entry_context entry (own ++ moves entries) now
-            (entry_begins entry entry.steps (moves entries) both.0) ready ordinary;
+            (entry_begins entry entry.steps (moves entries) both.0) ready fit;
         steps = record {
           low = omega (arith, both.0);
           high = omega (arith, few, sum, count);
         };
         shown = shown_within entry.shown
-            (entry_shown entry entry.steps (moves entries) both.0 ordinary);
+            (entry_shown entry entry.steps (moves entries) both.0 fit);
       },
       entries_from entries behind.now (omega (arith, few, sum)) both.1 behind.all
-          (ordinary_behind own (moves entries) ordinary),
+          (fit_behind own (moves entries) fit),
     )
 
 pub are_entries : (program : List ℕ) (schedule : List Entry)
     → count_of schedule ≤ 4294967295 → is_longest schedule ≡ true → IsProper program schedule
-    → are_ordinary (moves schedule) ≡ true → AreEntries schedule
+    → all_fit (moves schedule) ≡ true → AreEntries schedule
 unfolding count_of IsProper
-are_entries program schedule few longest proper ordinary =
-    entries_from schedule (starting_world program) few longest proper ordinary
+are_entries program schedule few longest proper fit =
+    entries_from schedule (starting_world program) few longest proper fit

@@ -1,5 +1,5 @@
 -- What a run from a command line is, its exit status, and what is written.
-use Rattle.std.specs.Prelude.{◌≡◌, ◌<◌, ◌≤◌, ◌+◌, ◌⊎◌, ◌++◌, ◌-◌, ◌^◌, ⊤, min, ℕ, Bool, true, false, not, All, List, [], ◌∷◌, slice_index_or, Option, Some, None, IsSome, IfSome, option_map, length, codes, if◌then◌else◌}
+use Rattle.std.specs.Prelude.{◌≡◌, ◌<◌, ◌≤◌, ◌+◌, ◌⊎◌, ◌++◌, ◌-◌, ◌^◌, ⊤, min, ℕ, Bool, true, false, not, All, List, [], ◌∷◌, slice_index_or, Option, Some, None, IsSome, IfSome, option_map, length, vec_capacity, codes, if◌then◌else◌}
 use Rattle.std.specs.Fmt.{decimal}
 use Rattle.std.specs.Io.KnownBytes.{Appends}
 use Rattle.ps_language.specs.declared.schedules.Entry.{Entry}
@@ -18,7 +18,7 @@ use Rattle.ps_vault.specs.declared.reports.Report.{Report}
 use Rattle.ps_vault.specs.declared.reports.Outcome.TheVariants.{Finished, Faulted, AllWaiting, StepsOut, Memory}
 use Rattle.ps_vault.specs.Endings.{AreEndings}
 use Rattle.ps_vault.specs.Order.{InOrder}
-use Rattle.ps_vault.specs.Reports.{EndsAs, IsRunOf, IsWithin, is_memory, is_next_refused}
+use Rattle.ps_vault.specs.Reports.{EndsAs, IsRunIn, IsWithin, are_ordinary, is_memory, is_next_refused}
 use Rattle.ps_run.specs.declared.files.ReadFault.{ReadFault}
 use Rattle.ps_run.specs.declared.files.ReadFault.TheVariants as fault
 use Rattle.ps_run.specs.declared.statuses.Status.{Status}
@@ -68,17 +68,16 @@ pub record AppendsPart (old new : Option (List ℕ)) (bytes : List ℕ) : Type 0
 abbrev pub number_line : (label : List ℕ) → ℕ → List ℕ
 number_line label number = label ++ (decimal number ++ codes "\n")
 
--- the lines of the counts of a run without a collector; steps are told up to
--- 18,446,744,073,709,551,615
-abbrev pub count_lines : List Entry → List ℕ
-count_lines schedule =
-    number_line (codes "flips ") 0
-    ++ (number_line (codes "taken ") 0
-    ++ number_line (codes "steps ") (min (count_of schedule) (2 ^ 64 - 1)))
+-- the lines of the counts of a run; steps are told up to 18,446,744,073,709,551,615
+abbrev pub count_lines : Report → List ℕ
+count_lines report =
+    number_line (codes "flips ") report.flips
+    ++ (number_line (codes "taken ") report.taken
+    ++ number_line (codes "steps ") (min (count_of report.schedule.items) (2 ^ 64 - 1)))
 
 -- where they are asked for
-abbrev pub counts_of : (stats : Bool) → List Entry → List ℕ
-counts_of stats schedule = if stats then count_lines schedule else []
+abbrev pub counts_of : (stats : Bool) → Report → List ℕ
+counts_of stats report = if stats then count_lines report else []
 
 -- ---- a run of a file
 
@@ -89,17 +88,19 @@ most_program_bytes = 16777215
 abbrev pub most_schedule_bytes : ℕ
 most_schedule_bytes = 2 ^ 40
 
--- what the words ask for of a run; explored: under how many schedules, if they are chosen by chance
+-- what the words ask for of a run; plain: whether over memory that is never collected; explored:
+-- under how many schedules, if they are chosen by chance
 pub record Asked : Type 0 where
   pub steps : ℕ
   pub quantum : ℕ
+  pub plain : Bool
   pub stats : Bool
   pub explored : Option ℕ
 
 abbrev pub AreAsked : List Text → Asked → Type 0
 AreAsked words asked = IsNumber (codes "steps") words asked.steps
-    × IsNumber (codes "quantum") words asked.quantum × IsFlag (codes "stats") words asked.stats
-    × IsExplored words asked.explored
+    × IsNumber (codes "quantum") words asked.quantum × IsFlag (codes "plain") words asked.plain
+    × IsFlag (codes "stats") words asked.stats × IsExplored words asked.explored
 
 -- the names of files that they give: the program's, and where they are given that of the record and
 -- that of the schedule to follow
@@ -128,6 +129,7 @@ abbrev pub asked_of : Options → Asked
 asked_of options = record {
   steps = options.steps;
   quantum = options.quantum;
+  plain = options.plain;
   stats = options.stats;
   explored = options.explore;
 }
@@ -168,43 +170,55 @@ IsRecorded contents None schedule = ⊤
 IsRecorded contents (Some name) schedule =
     IfSome (contents name) (λ bytes. bytes ≡ text_of schedule)
 
+-- no collector has worked
+abbrev pub IsUncollected : Report → Type 0
+IsUncollected report = (report.flips ≡ 0) × (report.taken ≡ 0)
+
 -- asks: what a step asks for that the language doesn't say
 module _ (asks : world.Status → Around → Scene → acts.Asked) (program : List ℕ) where
   -- a run under a given schedule: its bytes are those that the definitions print under the steps
   -- that were made. Those steps are all that are given, or for want of memory fewer, and the
   -- outcome is that of their world
-  pub record IsReplayOf (given : List Entry) (printed : List ℕ) (capacity : ℕ)
-      (schedule : List Entry) (outcome : Outcome) : Type 0 where
-    pub prints : printed ≡ worlds.printed program schedule
-    pub begins : Begins schedule given
-    pub whole : is_memory outcome ≡ false → schedule ≡ given
-    pub refused : is_memory outcome ≡ true → count_of schedule < count_of given
-    pub ends : EndsAs asks (worlds.world program schedule) capacity schedule
-        (not (is_memory outcome)) (is_next_refused given schedule) outcome
+  pub record IsReplayOf (given : List Entry) (report : Report) : Type 0 where
+    pub prints : report.printed.items ≡ worlds.printed program report.schedule.items
+    pub begins : Begins report.schedule.items given
+    pub whole : is_memory report.outcome ≡ false → report.schedule.items ≡ given
+    pub refused : is_memory report.outcome ≡ true
+        → count_of report.schedule.items < count_of given
+    pub ends : EndsAs asks (worlds.world program report.schedule.items)
+        (vec_capacity report.schedule) report.schedule.items (not (is_memory report.outcome))
+        (is_next_refused given report.schedule.items) report.outcome
+    pub uncollected : IsUncollected report
 
-  -- a run with a budget of steps, in passes with turns of at most a quantum, whose schedule has a
-  -- text that can be read again; or one under a schedule that is given
-  abbrev pub IsMade : Option (List Entry) → Asked → (printed : List ℕ) → (capacity : ℕ)
-      → List Entry → Outcome → Type 0
-  IsMade None asked printed capacity schedule outcome =
-      IsRunOf asks program asked.steps printed capacity schedule outcome
-      × InOrder asked.quantum (worlds.starting_world program) (moves schedule)
-      × AreEntries schedule
-  IsMade (Some given) asked printed capacity schedule outcome =
-      IsReplayOf given printed capacity schedule outcome
+  -- a run with a budget of steps, whose schedule has a text that can be read again
+  pub record IsRecordable (steps : ℕ) (report : Report) : Type 0 where
+    pub run : IsRunIn asks program steps report.printed.items (vec_capacity report.schedule)
+        report.schedule.items report.outcome
+    pub entries : AreEntries report.schedule.items
 
--- a run of a file's bytes, under the schedule of another file where one is named; capacity: how
--- many entries found room
+  -- over memory that is never collected no step is refused, and there are passes with turns of at
+  -- most a quantum
+  pub record IsPlain (quantum : ℕ) (report : Report) : Type 0 where
+    pub ordinary : are_ordinary (moves report.schedule.items) ≡ true
+    pub order : InOrder quantum (worlds.starting_world program) (moves report.schedule.items)
+    pub uncollected : IsUncollected report
+
+  -- a run with a budget of steps, in a space that is collected or over plain memory; or one under a
+  -- schedule that is given
+  abbrev pub IsMade : Option (List Entry) → Asked → Report → Type 0
+  IsMade None asked report =
+      IsRecordable asked.steps report × (asked.plain ≡ true → IsPlain asked.quantum report)
+  IsMade (Some given) asked report = IsReplayOf given report
+
+-- a run of a file's bytes, under the schedule of another file where one is named
 pub record IsFileRun (asks : world.Status → Around → Scene → acts.Asked) (contents : Contents)
-    (names : Names) (asked : Asked) (printed : List ℕ) (schedule : List Entry)
-    (outcome : Outcome) : Type 0 where
+    (names : Names) (asked : Asked) (report : Report) : Type 0 where
   pub program : List ℕ
   pub is_file : IfSome (contents names.file) (λ bytes. program ≡ bytes)
   pub few : length program ≤ most_program_bytes
   pub given : Option (List Entry)
   pub is_given : IsGiven contents names.replayed given
-  pub capacity : ℕ
-  pub run : IsMade asks program given asked printed capacity schedule outcome
+  pub run : IsMade asks program given asked report
 
 -- what outputs and files hold before and after, where it is known; flushed: whether the first
 -- output was flushed after its last write
@@ -227,15 +241,17 @@ IsUnrecorded recorded told outputs = IsSome recorded
 -- the output took a part alone of what was printed, and the status tells a fault; or it took all
 -- and was flushed, and then the record was made where one is asked for, and the status is that of
 -- the outcome
-abbrev pub IsWritten : (recorded : Option Text) → (stats : Bool) → (printed : List ℕ) → List Entry
-    → Outcome → Status → Outputs → Type 0
-IsWritten recorded stats printed schedule outcome told outputs =
-    ((told ≡ status.Usage) × AppendsPart outputs.out_old outputs.out_new printed
+abbrev pub IsWritten : (recorded : Option Text) → (stats : Bool) → Report → Status → Outputs
+    → Type 0
+IsWritten recorded stats report told outputs =
+    ((told ≡ status.Usage)
+    × AppendsPart outputs.out_old outputs.out_new report.printed.items
     × (outputs.files_new ≡ outputs.files_old))
-    ⊎ (Appends outputs.out_old outputs.out_new printed × (outputs.flushed ≡ true)
+    ⊎ (Appends outputs.out_old outputs.out_new report.printed.items × (outputs.flushed ≡ true)
     × (IsUnrecorded recorded told outputs
-    ⊎ ((told ≡ status_of outcome) × IsRecorded outputs.files_new recorded schedule
-    × AppendsPart outputs.err_old outputs.err_new (counts_of stats schedule ++ line_of told))))
+    ⊎ ((told ≡ status_of report.outcome)
+    × IsRecorded outputs.files_new recorded report.schedule.items
+    × AppendsPart outputs.err_old outputs.err_new (counts_of stats report ++ line_of told))))
 
 -- ---- many runs
 
@@ -316,11 +332,9 @@ module _ (asks : world.Status → Around → Scene → acts.Asked) (names : Name
     pub asked : Asked
     pub is_asked : IsAsked asked
     pub is_single : asked.explored ≡ None
-    pub printed : List ℕ
-    pub schedule : List Entry
-    pub outcome : Outcome
-    pub run : IsFileRun asks outputs.files_old names asked printed schedule outcome
-    pub written : IsWritten names.recorded asked.stats printed schedule outcome told outputs
+    pub report : Report
+    pub run : IsFileRun asks outputs.files_old names asked report
+    pub written : IsWritten names.recorded asked.stats report told outputs
 
   -- many runs of a file's bytes, under schedules that can be read again, that were written
   pub record AreRunsWritten (told : Status) (outputs : Outputs) : Type 0 where

@@ -1,6 +1,6 @@
 //! A run from the words of a command line to an exit status.
 
-ghost use Rattle.std.specs.Prelude.{◌≡◌, ◌≢◌, ◌⊎◌, [], is_some, ℕ, List, true, false, Some, Err, map, option_map, IfOk, IfSome, None, codes, vec_capacity};
+ghost use Rattle.std.specs.Prelude.{◌≡◌, ◌≢◌, ◌⊎◌, [], is_some, ℕ, List, true, false, Some, Err, map, option_map, IfOk, IfSome, None, codes};
 ghost use Rattle.ps_options.specs.CommandLine.{faults_in, named_in};
 ghost use Rattle.clap.specs.Values.{kind_of};
 ghost use Rattle.ps_vault.specs.Reports.{IsWithin};
@@ -22,10 +22,13 @@ use ps_world::deeds::Deeds;
 use std::alloc::Global;
 use std::hash::RandomState;
 use std::io::Write;
+use std::sync::Wait;
+use std::thread::Threads;
 
 /// Runs the program that the words name, by steps that `interpret` makes and operators on contexts
-/// that `deeds` does, or follows the schedule that they name, or runs it many times under schedules
-/// chosen by chance. Writes what it printed to `out`, the schedule to the file that the words name
+/// that `deeds` does: by workers in a space that is collected, or over memory that never is. Or
+/// follows the schedule that the words name, or runs the program many times under schedules chosen
+/// by chance. Writes what it printed to `out`, the schedule to the file that the words name
 /// for a record, and statistics and faults to `err`. The words are without the program's name; the
 /// keys are for the table of names alone.
 ///
@@ -41,13 +44,17 @@ use std::io::Write;
 /// read were at fault, and all of it where the record can't be written. After a run whose output
 /// took everything the output is flushed. A write to `err` that fails changes nothing else. No file
 /// changes but that of the record.
+///
+/// The workers take locks and are waited for: all of this holds if the call returns.
 pub fn drive<
-    S: Interpret + Clone + Drop,
-    D: Deeds + Clone + Drop,
+    S: Interpret + Clone + Drop + Send,
+    D: Deeds + Clone + Drop + Send,
     F: FileSet,
     W: Flushing,
     X: Write,
+    R: Threads + Wait + Sync,
 >(
+    rt: &R,
     alloc: Global,
     interpret: S,
     deeds: D,
@@ -91,7 +98,7 @@ pub fn drive<
 {
     match parse(alloc, words) {
         Ok(options) => match options.explore {
-            None => number_of(run(alloc, interpret, deeds, keys, &options, files, out, err)),
+            None => number_of(run(rt, alloc, interpret, deeds, keys, &options, files, out, err)),
             Some(runs) => number_of(explore(
                 alloc, &interpret, &deeds, keys, &options, runs, files, out, err,
             )),
@@ -114,7 +121,15 @@ fn refuse<X: Write>(error: &Error, err: &mut X) -> Status
 
 /// Reads the program, and the schedule where one is named, makes the steps and writes what they
 /// printed.
-fn run<S: Interpret + Drop, D: Deeds + Drop, F: FileSet, W: Flushing, X: Write>(
+fn run<
+    S: Interpret + Drop + Send,
+    D: Deeds + Drop + Send,
+    F: FileSet,
+    W: Flushing,
+    X: Write,
+    R: Threads + Wait + Sync,
+>(
+    rt: &R,
     alloc: Global,
     interpret: S,
     deeds: D,
@@ -156,6 +171,7 @@ fn run<S: Interpret + Drop, D: Deeds + Drop, F: FileSet, W: Flushing, X: Write>(
         Err(status) => return status,
     };
     match make(
+        rt,
         alloc,
         interpret,
         deeds,
@@ -171,8 +187,9 @@ fn run<S: Interpret + Drop, D: Deeds + Drop, F: FileSet, W: Flushing, X: Write>(
 }
 
 /// The report of a run of the program: under the schedule that is given, or with the budget that is
-/// asked for.
-fn make<S: Interpret + Drop, D: Deeds + Drop>(
+/// asked for, over plain memory or in a space that is collected.
+fn make<S: Interpret + Drop + Send, D: Deeds + Drop + Send, R: Threads + Wait + Sync>(
+    rt: &R,
     alloc: Global,
     interpret: S,
     deeds: D,
@@ -182,15 +199,14 @@ fn make<S: Interpret + Drop, D: Deeds + Drop>(
     keys: RandomState,
 ) -> Result<Report, RunFault>
     ensures config { result ≡ Err RunFault.Config → ¬ IsWithin (config_in options.now) }
-    ensures made { IfOk result (λ report. IsMade S.asks program.now
-        (option_map (λ schedule. schedule.items) given) (asked_of options.now) report.printed.items
-        (vec_capacity report.schedule) report.schedule.items report.outcome) }
-    ensures flips { IfOk result (λ report. report.flips ≡ 0) }
-    ensures taken { IfOk result (λ report. report.taken ≡ 0) }
+    ensures made { IfOk result (IsMade S.asks program.now
+        (option_map (λ schedule. schedule.items) given) (asked_of options.now)) }
 {
+    let config = config_of(options);
     match given {
         Some(schedule) => replay(alloc, interpret, deeds, program, schedule.as_slice(), keys),
-        None => run_plain(alloc, interpret, deeds, program, config_of(options), keys),
+        None if options.plain => run_plain(alloc, interpret, deeds, program, config, keys),
+        None => ps_workers::run(rt, alloc, interpret, deeds, program, config, keys),
     }
 }
 

@@ -26,15 +26,12 @@ pub(crate) fn finish<F: FileSet, W: Flushing, X: Write>(
     out: &mut W,
     err: &mut X,
 ) -> Status
-    requires flips { report.now.flips ≡ 0 }
-    requires taken { report.now.taken ≡ 0 }
     ensures others { (other : List ℕ) → ¬ IsRecordName (names_of options.now).recorded false other
         → F.contents files.new other ≡ F.contents files.old other }
     ensures reads { F.last_fault files.new ≡ F.last_fault files.old }
     ensures unwritten { F.is_unwritten files.old ≡ false → F.is_unwritten files.new ≡ true
         → result ≡ Status.Usage }
-    ensures written { IsWritten (names_of options.now).recorded options.now.stats
-        report.now.printed.items report.now.schedule.items report.now.outcome
+    ensures written { IsWritten (names_of options.now).recorded options.now.stats report.now
         result (record {
           out_old = W.contents out.old;
           out_new = W.contents out.new;
@@ -122,10 +119,8 @@ pub(crate) fn write_schedule<F: FileSet, X: Write>(
 /// Writes the counts of a run, where they are asked for, and the line of its status. Fails where a
 /// write fails; a beginning is written then.
 fn tell<X: Write>(report: &Report, stats: bool, status: Status, err: &mut X) -> io::Result<()>
-    requires flips { report.now.flips ≡ 0 }
-    requires taken { report.now.taken ≡ 0 }
     ensures { AppendsPart (X.contents err.old) (X.contents err.new)
-        (driving.counts_of stats report.now.schedule.items ++ driving.line_of status) }
+        (driving.counts_of stats report.now ++ driving.line_of status) }
 {
     if stats {
         tell_counts(report, err)?;
@@ -135,13 +130,10 @@ fn tell<X: Write>(report: &Report, stats: bool, status: Status, err: &mut X) -> 
 
 /// Writes the counts of a run. Fails where a write fails; a beginning is written then.
 fn tell_counts<X: Write>(report: &Report, err: &mut X) -> io::Result<()>
-    requires flips { report.now.flips ≡ 0 }
-    requires taken { report.now.taken ≡ 0 }
     ensures part { AppendsPart (X.contents err.old) (X.contents err.new)
-        (driving.count_lines report.now.schedule.items) }
+        (driving.count_lines report.now) }
     ensures whole { OnOk result
-        (Appends (X.contents err.old) (X.contents err.new)
-        (driving.count_lines report.now.schedule.items)) }
+        (Appends (X.contents err.old) (X.contents err.new) (driving.count_lines report.now)) }
 {
     write_number(err, b"flips ", u64::from(report.flips))?;
     write_number(err, b"taken ", report.taken)?;

@@ -4,12 +4,15 @@ use crate::driven::{AMPLE, Given, driven_over};
 use crate::fakes::OneFile;
 use ps_run::ReadFault;
 use std::io;
+use std::sync::Wait;
 use std::test::Fail;
+use std::thread::Threads;
 
 /// What a run of these bytes gave, with so many writes to each output. Fails where the keys of the
 /// table of names can't be had.
-fn driven(
+fn driven<R: Threads + Wait + Sync>(
     rt: &HostRuntime,
+    workers: &R,
     words: &[&str],
     bytes: Result<&[u8], ReadFault>,
     out_writes: u32,
@@ -19,7 +22,7 @@ fn driven(
         bytes,
         last_fault: None,
     };
-    driven_over(rt, words, &mut files, out_writes, err_writes)
+    driven_over(rt, workers, words, &mut files, out_writes, err_writes)
 }
 
 /// A command line over `1 2 add =`, what is printed, what is told and the status.
@@ -104,7 +107,7 @@ const LINES: [Line; 8] = [
 fn command_lines_are_read(rt: HostRuntime) -> Result<(), Fail> {
     for line in LINES {
         let words = line.words;
-        let given = driven(&rt, words, Ok(b"1 2 add ="), AMPLE, AMPLE)?;
+        let given = driven(&rt, &rt, words, Ok(b"1 2 add ="), AMPLE, AMPLE)?;
         assert_eq!(rt;
             given.out.as_slice(),
             line.printed.as_bytes(),
@@ -149,7 +152,7 @@ const REFUSED: [&[&str]; 22] = [
 #[test]
 fn bad_command_lines_are_told(rt: HostRuntime) -> Result<(), Fail> {
     for words in REFUSED {
-        let given = driven(&rt, words, Ok(b"1 2 add ="), AMPLE, AMPLE)?;
+        let given = driven(&rt, &rt, words, Ok(b"1 2 add ="), AMPLE, AMPLE)?;
         assert_eq!(rt; given.status, 2, "the status under {words:?}");
         assert_eq!(rt; given.out.len(), 0, "printed under {words:?}");
         assert!(rt; !given.err.is_empty(), "told under {words:?}");
@@ -165,7 +168,14 @@ fn files_that_are_not_read_are_told(rt: HostRuntime) -> Result<(), Fail> {
         (ReadFault::Memory, "dpsrun: out of memory\n", 5),
     ];
     for (fault, told, status) in faults {
-        let given = driven(&rt, &["--plain", "--stats", "f"], Err(fault), AMPLE, AMPLE)?;
+        let given = driven(
+            &rt,
+            &rt,
+            &["--plain", "--stats", "f"],
+            Err(fault),
+            AMPLE,
+            AMPLE,
+        )?;
         assert_eq!(rt; given.status, status);
         assert_eq!(rt; given.err.as_slice(), told.as_bytes());
         assert_eq!(rt; given.out.len(), 0);
@@ -178,6 +188,7 @@ fn each_write_fails_in_turn(rt: HostRuntime) -> Result<(), Fail> {
     // Of `out` the write and the flush: the fault is told, and no statistics.
     for writes in 0..2u32 {
         let given = driven(
+            &rt,
             &rt,
             &["--plain", "--stats", "f"],
             Ok(b"1 2 add ="),
@@ -194,6 +205,7 @@ fn each_write_fails_in_turn(rt: HostRuntime) -> Result<(), Fail> {
     for writes in 0..12u32 {
         let given = driven(
             &rt,
+            &rt,
             &["--plain", "--stats", "--steps", "4", "f"],
             Ok(b"1 2 add ="),
             AMPLE,
@@ -203,7 +215,14 @@ fn each_write_fails_in_turn(rt: HostRuntime) -> Result<(), Fail> {
         assert_eq!(rt; given.out.as_slice(), b"3\n".as_slice());
     }
     // Both.
-    let given = driven(&rt, &["--plain", "--stats", "f"], Ok(b"1 2 add ="), 0, 0)?;
+    let given = driven(
+        &rt,
+        &rt,
+        &["--plain", "--stats", "f"],
+        Ok(b"1 2 add ="),
+        0,
+        0,
+    )?;
     assert_eq!(rt; given.status, 2);
     Ok(())
 }

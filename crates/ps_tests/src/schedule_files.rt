@@ -1,9 +1,8 @@
 //! Rows of schedule files: what is recorded, what is followed, and what is refused.
 
-use crate::driven::{AMPLE, Given, driven_over};
+use crate::driven::{AMPLE, driven, driven_over};
 use crate::fakes::Files;
 use ps_run::ReadFault;
-use std::io;
 use std::test::Fail;
 
 /// The files of a program and a schedule.
@@ -23,12 +22,6 @@ fn files<'a>(
     }
 }
 
-/// What a run over these files gave, with ample writes. Fails where the keys of the table of names
-/// can't be had.
-fn driven(rt: &HostRuntime, words: &[&str], files: &mut Files<'_>) -> io::Result<Given> {
-    driven_over(rt, words, files, AMPLE, AMPLE)
-}
-
 /// A run that is recorded: what is printed and told, the record and the status.
 #[derive(Clone, Copy)]
 struct Recorded {
@@ -40,7 +33,7 @@ struct Recorded {
     status: u8,
 }
 
-const RECORDED: [Recorded; 11] = [
+const RECORDED: [Recorded; 15] = [
     Recorded {
         words: &["--plain", "--record", "r", "f"],
         program: "1 2 add =",
@@ -129,13 +122,54 @@ const RECORDED: [Recorded; 11] = [
         record: "1 1 0 528 16777215\n1 4 0\n",
         status: 0,
     },
+    Recorded {
+        words: &["--space", "4096", "--record", "r", "f"],
+        program: "vmstatus = = =",
+        printed: "4096\n528\n0\n",
+        told: "",
+        record: "1 1 0 528 4096\n1 4 0\n",
+        status: 0,
+    },
+    Recorded {
+        words: &["--space", "4096", "--record", "r", "f"],
+        program: "3567 array",
+        printed: "%%[ Error: VMerror; OffendingCommand: array ]%%\n",
+        told: "",
+        record: "1 2 1\n1 1 0\n",
+        status: 1,
+    },
+    Recorded {
+        words: &[
+            "--space",
+            "4096",
+            "--workers",
+            "1",
+            "--stats",
+            "--record",
+            "r",
+            "f",
+        ],
+        program: "1 2 add =",
+        printed: "3\n",
+        told: "flips 0\ntaken 0\nsteps 5\n",
+        record: "1 5 0\n",
+        status: 0,
+    },
+    Recorded {
+        words: &["--steps", "4", "--stats", "--record", "r", "f"],
+        program: "1 2 add =",
+        printed: "3\n",
+        told: "flips 0\ntaken 0\nsteps 4\ndpsrun: steps used up\n",
+        record: "1 4 0\n",
+        status: 4,
+    },
 ];
 
 #[test]
 fn a_schedule_is_recorded(rt: HostRuntime) -> Result<(), Fail> {
     for row in RECORDED {
         let mut files = files(&rt, row.program.as_bytes(), Err(ReadFault::NoRead));
-        let given = driven(&rt, row.words, &mut files)?;
+        let given = driven(&rt, &rt, row.words, &mut files)?;
         let program = row.program;
         assert_eq!(rt;
             given.out.as_slice(),
@@ -268,7 +302,7 @@ fn a_schedule_is_followed(rt: HostRuntime) -> Result<(), Fail> {
     for row in FOLLOWED {
         let schedule = row.schedule;
         let mut files = files(&rt, row.program.as_bytes(), Ok(schedule.as_bytes()));
-        let given = driven(&rt, row.words, &mut files)?;
+        let given = driven(&rt, &rt, row.words, &mut files)?;
         assert_eq!(rt;
             given.out.as_slice(),
             row.printed.as_bytes(),
@@ -323,7 +357,7 @@ fn bad_lines_are_told(rt: HostRuntime) -> Result<(), Fail> {
         let schedule: &str = schedule;
         let number: &str = number;
         let mut files = files(&rt, b"1 2 add =", Ok(schedule.as_bytes()));
-        let given = driven(&rt, &["--stats", "--replay", "s", "f"], &mut files)?;
+        let given = driven(&rt, &rt, &["--stats", "--replay", "s", "f"], &mut files)?;
         let mut told = Vec::from_slice(rt.alloc(), b"dpsrun: bad schedule line ")?;
         told.extend_from_slice(number.as_bytes())?;
         told.push(b'\n')?;
@@ -343,7 +377,7 @@ fn schedules_that_are_not_read_are_told(rt: HostRuntime) -> Result<(), Fail> {
     ];
     for (fault, told, status) in faults {
         let mut files = files(&rt, b"1 2 add =", Err(fault));
-        let given = driven(&rt, &["--stats", "--replay", "s", "f"], &mut files)?;
+        let given = driven(&rt, &rt, &["--stats", "--replay", "s", "f"], &mut files)?;
         assert_eq!(rt; given.status, status);
         assert_eq!(rt; given.err.as_slice(), told.as_bytes());
         assert_eq!(rt; given.out.len(), 0);
@@ -352,7 +386,7 @@ fn schedules_that_are_not_read_are_told(rt: HostRuntime) -> Result<(), Fail> {
     // The program is read first.
     let mut unread = files(&rt, b"", Ok(b"1 2\n"));
     unread.program = Err(ReadFault::NoRead);
-    let given = driven(&rt, &["--replay", "s", "f"], &mut unread)?;
+    let given = driven(&rt, &rt, &["--replay", "s", "f"], &mut unread)?;
     assert_eq!(rt; given.status, 2);
     assert_eq!(rt; given.err.as_slice(), b"dpsrun: cannot read f\n".as_slice());
     Ok(())
@@ -363,7 +397,7 @@ fn a_record_that_is_not_written_is_told(rt: HostRuntime) -> Result<(), Fail> {
     let mut refusing = files(&rt, b"1 2 add =", Err(ReadFault::NoRead));
     refusing.takes_writes = false;
     let words = ["--plain", "--stats", "--record", "r", "f"];
-    let given = driven(&rt, &words, &mut refusing)?;
+    let given = driven(&rt, &rt, &words, &mut refusing)?;
     assert_eq!(rt; given.status, 2);
     assert_eq!(rt; given.out.as_slice(), b"3\n".as_slice());
     assert_eq!(rt;
@@ -373,7 +407,7 @@ fn a_record_that_is_not_written_is_told(rt: HostRuntime) -> Result<(), Fail> {
     // Of the output the write and the flush: there is no record then.
     for writes in 0..2u32 {
         let mut files = files(&rt, b"1 2 add =", Err(ReadFault::NoRead));
-        let given = driven_over(&rt, &words, &mut files, writes, AMPLE)?;
+        let given = driven_over(&rt, &rt, &words, &mut files, writes, AMPLE)?;
         assert_eq!(rt; given.status, 2);
         assert_eq!(rt;
             given.err.as_slice(),
@@ -384,7 +418,7 @@ fn a_record_that_is_not_written_is_told(rt: HostRuntime) -> Result<(), Fail> {
     // Of the statistics each: the record stands.
     for writes in 0..10u32 {
         let mut files = files(&rt, b"1 2 add =", Err(ReadFault::NoRead));
-        let given = driven_over(&rt, &words, &mut files, AMPLE, writes)?;
+        let given = driven_over(&rt, &rt, &words, &mut files, AMPLE, writes)?;
         assert_eq!(rt; given.status, 0);
         let record = files.written.ok_or("no record")?;
         assert_eq!(rt; record.as_slice(), b"1 5 0\n".as_slice());

@@ -1,6 +1,7 @@
 -- What a vault keeps over steps of one context.
 use Rattle.std.proofs.Common.{◌≡◌, ◌≢◌, ℕ, ℤ, zero, suc, ◌+◌, ◌^◌, ◌<◌, ◌≤◌, Bool, true, false, ◌&&◌, Option, Some, None, Result, Ok, Err, List, [], ◌∷◌, ◌++◌, refl, sym, ◌∙◌, ap, subst, arith}
-use Rattle.std.specs.Prelude.{IsTrue, IfSome, min, max, replicate}
+use Rattle.std.specs.Prelude.{IsTrue, IfSome, min, max, not, replicate}
+use Rattle.std.specs.List.{list_all}
 use Rattle.std.specs.Option.{option_map_or}
 use Rattle.std.proofs.lemmas.Bool.{lt-ltb, true≢false}
 use Rattle.ps_language.specs.declared.schedules.Entry.{Entry}
@@ -24,7 +25,7 @@ use Rattle.ps_language.specs.Step.{stepped}
 use Rattle.ps_vault.specs.Holds as holds
 use Rattle.ps_vault.specs.Holds.{IsHeldUp}
 use Rattle.ps_vault.specs.Order.{IsOnlyLeft, IsAlone, KeepsTurn, NoneEnds, IsOfOne, AllOfOne, OnlyLastMayEnd, EndsTurn}
-use Rattle.ps_vault.specs.Reports.{are_ordinary, are_words, is_number_of_words, is_ordinary}
+use Rattle.ps_vault.specs.Reports.{are_words, fits, is_number_of_words, is_ordinary}
 use Rattle.ps_vault.specs.Stories.{Keeps, move_of}
 use Rattle.ps_vault.specs.Turns.{added_times}
 use Rattle.ps_vault.proofs.Following.{times_moves}
@@ -96,34 +97,43 @@ words_kept old new note (Some pair) words = words_of_pair note
     words_of_pair ShowsMemory = words_are
     words_of_pair (Wishes number) = refl
 
-pub ordinary_move : (context : ℕ) (shown : Option (ℤ × ℤ)) → context < 2 ^ 32
-    → are_words shown ≡ true → is_ordinary (move_of context false shown) ≡ true
-ordinary_move context shown few words = and_both _ _ (lt-ltb context (2 ^ 32) few) words
+pub move_fits : (context : ℕ) (refused : Bool) (shown : Option (ℤ × ℤ)) → context < 2 ^ 32
+    → are_words shown ≡ true → fits (move_of context refused shown) ≡ true
+move_fits context refused shown few words = and_both _ _ (lt-ltb context (2 ^ 32) few) words
 
 both : (a b : Bool) → (a && b) ≡ true → (a ≡ true) × (b ≡ true)
 both true b h = (refl, h)
 both false b h = absurd (true≢false (sym h))
 
-ordinary_more : (steps : List Move) (move : Move) → is_ordinary move ≡ true
-    → are_ordinary steps ≡ true → are_ordinary (steps ++ move ∷ []) ≡ true
-ordinary_more [] move plain h = and_both _ true plain refl
-ordinary_more (first ∷ steps) move plain h =
-    let p = both (is_ordinary first) (are_ordinary steps) h in
-    and_both _ _ p.0 (ordinary_more steps move plain p.1)
+-- what holds of each step, and of one more
+module _ (test : Move → Bool) where
+  all_more : (steps : List Move) (move : Move) → test move ≡ true
+      → list_all test steps ≡ true → list_all test (steps ++ move ∷ []) ≡ true
+  all_more [] move one h = and_both _ true one refl
+  all_more (first ∷ steps) move one h =
+      let p = both (test first) (list_all test steps) h in
+      and_both _ _ p.0 (all_more steps move one p.1)
 
-pub ordinary_added : (schedule : List Entry) (move : Move) → is_ordinary move ≡ true
-    → are_ordinary (moves schedule) ≡ true → are_ordinary (moves (added schedule move)) ≡ true
-ordinary_added schedule move plain h =
-    ap are_ordinary (moves-added schedule move) ∙ ordinary_more (moves schedule) move plain h
+  pub all_added : (schedule : List Entry) (move : Move) → test move ≡ true
+      → list_all test (moves schedule) ≡ true → list_all test (moves (added schedule move)) ≡ true
+  all_added schedule move one h =
+      ap (list_all test) (moves-added schedule move) ∙ all_more (moves schedule) move one h
 
-pub ordinary_times : (n : ℕ) (schedule : List Entry) (move : Move) → is_ordinary move ≡ true
-    → are_ordinary (moves schedule) ≡ true
-    → are_ordinary (moves (added_times n schedule move)) ≡ true
-unfolding added_times
-ordinary_times zero schedule move plain h = h
-ordinary_times (suc n) schedule move plain h =
-    ordinary_added (added_times n schedule move) move plain
-    (ordinary_times n schedule move plain h)
+  pub all_times : (n : ℕ) (schedule : List Entry) (move : Move) → test move ≡ true
+      → list_all test (moves schedule) ≡ true
+      → list_all test (moves (added_times n schedule move)) ≡ true
+  unfolding added_times
+  all_times zero schedule move one h = h
+  all_times (suc n) schedule move one h =
+      all_added (added_times n schedule move) move one (all_times n schedule move one h)
+
+-- a schedule can have the numbers of ordinary steps
+pub ordinary_fit : (steps : List Move) → list_all is_ordinary steps ≡ true
+    → list_all fits steps ≡ true
+ordinary_fit [] h = refl
+ordinary_fit (first ∷ steps) h =
+    let p = both (is_ordinary first) (list_all is_ordinary steps) h in
+    and_both _ _ (both (not first.refused) (fits first) p.0).1 (ordinary_fit steps p.1)
 
 -- ---- what ends a turn
 

@@ -39,7 +39,8 @@ use Rattle.ps_world.specs.Steps.{Steps}
 use Rattle.ps_vault.specs.declared.reports.Outcome.{Outcome}
 use Rattle.ps_vault.specs.Holds.{slot, Grows, IsHeldUp, OnlyGrows}
 use Rattle.ps_vault.specs.Order.{IsOnlyLeft}
-use Rattle.ps_vault.specs.Reports.{EndsAs, IsRunIn, MayWant}
+use Rattle.ps_vault.specs.declared.reports.TheConstants.{FIRST_ENTRIES}
+use Rattle.ps_vault.specs.Reports.{all_fit, EndsAs, IsRunIn, MayWant}
 use Rattle.ps_vault.specs.Stories.{Story, Keeps, move_of, world_at}
 
 -- ---- one more move
@@ -283,11 +284,12 @@ pub run_at_end : (asks : Status → Around → Scene → Asked) (h : Held) (sche
       caller = caller;
     } ≡ story
     → count_of story.schedule ≤ steps
+    → all_fit (moves story.schedule) ≡ true → FIRST_ENTRIES ≤ story.capacity
     → EndsAs asks (world_at story) story.capacity story.schedule
     (count_of story.schedule == steps) false outcome
     → IsRunIn asks story.program steps h.desk.printed capacity schedule outcome
 unfolding printed
-run_at_end asks h schedule capacity steps caller story outcome keeps view few ends =
+run_at_end asks h schedule capacity steps caller story outcome keeps view few fit room ends =
     let same : h.desk.program ≡ story.program = ap (λ (s : Story). s.program) view in
     let made : story.schedule ≡ schedule = sym (ap (λ (s : Story). s.schedule) view) in
     let here : World = world h.desk.program schedule in
@@ -297,6 +299,8 @@ run_at_end asks h schedule capacity steps caller story outcome keeps view few en
       proper = subst (λ (p : List ℕ). IsProper p schedule) same keeps.proper;
       longest = keeps.longest;
       within = subst (λ (s : List Entry). count_of s ≤ steps) made few;
+      fits = subst (λ (s : List Entry). all_fit (moves s) ≡ true) made fit;
+      room = subst (λ (n : ℕ). FIRST_ENTRIES ≤ n) (sym (ap (λ (s : Story). s.capacity) view)) room;
       ends = subst (λ (s : List Entry). EndsAs asks (world story.program s) capacity s
           (count_of s == steps) false outcome) made
           (subst (λ (n : ℕ). EndsAs asks (world_at story) n story.schedule

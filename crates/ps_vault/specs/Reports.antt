@@ -1,5 +1,6 @@
 -- What runs promise.
 use Rattle.std.specs.Prelude.{◌≡◌, ℕ, ◌+◌, ◌<◌, ◌≤◌, ◌^◌, ◌==◌, nat_lt, ℤ, pos, negsuc, Bool, true, false, IsTrue, Option, Some, None, List, [], ◌∷◌, length, drop, not, ◌&&◌, ◌⊎◌}
+use Rattle.std.specs.List.{list_all}
 use Rattle.ps_language.specs.declared.schedules.Entry.{Entry}
 use Rattle.ps_language.specs.Effect.{Around, Scene}
 use Rattle.ps_language.specs.Locks.{is_ready}
@@ -12,6 +13,7 @@ use Rattle.ps_world.specs.Needs.{step_wants}
 use Rattle.ps_vault.specs.declared.reports.Config.{Config}
 use Rattle.ps_vault.specs.declared.reports.Outcome.{Outcome}
 use Rattle.ps_vault.specs.declared.reports.Outcome.TheVariants.{Finished, Faulted, AllWaiting, StepsOut, Memory}
+use Rattle.ps_vault.specs.declared.reports.TheConstants.{FIRST_ENTRIES}
 
 -- each number is in its range
 pub record IsWithin (config : Config) : Type 0 where
@@ -32,14 +34,20 @@ abbrev pub are_words : Option (ℤ × ℤ) → Bool
 are_words None = true
 are_words (Some pair) = is_number_of_words pair.0 && is_number_of_words pair.1
 
--- an ordinary step: it isn't refused, and a schedule can have its numbers
+-- a schedule can have the numbers of this step
+abbrev pub fits : Move → Bool
+fits move = nat_lt move.context (2 ^ 32) && are_words move.shown
+
+-- an ordinary step: it isn't refused either
 abbrev pub is_ordinary : Move → Bool
-is_ordinary move =
-    not move.refused && (nat_lt move.context (2 ^ 32) && are_words move.shown)
+is_ordinary move = not move.refused && fits move
+
+-- those of each step
+abbrev pub all_fit : List Move → Bool
+all_fit steps = list_all fits steps
 
 abbrev pub are_ordinary : List Move → Bool
-are_ordinary [] = true
-are_ordinary (move ∷ rest) = is_ordinary move && are_ordinary rest
+are_ordinary steps = list_all is_ordinary steps
 
 -- a schedule of so many entries has no room for two more
 abbrev pub IsShort : (capacity : ℕ) → List Entry → Type 0
@@ -78,13 +86,15 @@ module _ (asks : Status → Around → Scene → Asked) where
 
   -- a run of the program with a budget of steps: its bytes are those that the definitions print
   -- under its schedule, which is proper and of the longest entries, and the outcome is that of its
-  -- world; its steps may be refused
+  -- world; its steps may be refused. The schedule had room from the start, and can have its numbers
   pub record IsRunIn (program : List ℕ) (steps : ℕ) (printed : List ℕ) (capacity : ℕ)
       (schedule : List Entry) (outcome : Outcome) : Type 0 where
     pub prints : printed ≡ worlds.printed program schedule
     pub proper : IsProper program schedule
     pub longest : is_longest schedule ≡ true
     pub within : count_of schedule ≤ steps
+    pub fits : all_fit (moves schedule) ≡ true
+    pub room : FIRST_ENTRIES ≤ capacity
     pub ends : EndsAs (worlds.world program schedule) capacity schedule
         (count_of schedule == steps) false outcome
 

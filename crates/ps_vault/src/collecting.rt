@@ -1,31 +1,13 @@
 //! A vault over a memory that is collected: what the collector does between steps leaves the world,
 //! and the schedule.
 
-ghost use Rattle.std.specs.Prelude.{◌≡◌, ◌≤◌, IsTrue, vec_capacity};
-ghost use Rattle.ps_roots.specs.declared.reading.TheConstants.{ROOT_LIMIT};
+ghost use Rattle.std.specs.Prelude.{◌≡◌, IsTrue};
 
 use crate::vaults::Vault;
 use ps_flips::collected::{CollectedMemory, Counts};
 use ps_interpreter::interprets::Interpret;
-use ps_roots::{ROOT_LIMIT, end_cycle, open_cycle};
-use ps_word::words::Word;
+use ps_roots::{Roots, end_cycle, open_cycle};
 use ps_world::deeds::Deeds;
-use std::alloc::{AllocError, Global};
-
-/// A list with room for the roots of all contexts.
-#[derive(Drop)]
-pub struct Roots {
-    words: Vec<Word>,
-    ghost room: { ROOT_LIMIT ≤ vec_capacity words },
-}
-
-impl Roots {
-    /// An empty list. `AllocError`: its room can't be had.
-    pub fn new(alloc: Global) -> Result<Roots, AllocError> {
-        let words = Vec::with_capacity(alloc, ROOT_LIMIT)?;
-        Ok(Roots { words })
-    }
-}
 
 impl<M: CollectedMemory + Drop, S: Interpret + Drop, D: Deeds + Drop> Vault<'_, M, S, D> {
     /// Whether a cycle of the collector is open.
@@ -47,7 +29,7 @@ impl<M: CollectedMemory + Drop, S: Interpret + Drop, D: Deeds + Drop> Vault<'_, 
     pub fn open_cycle(&mut self, roots: &mut Roots) -> bool
         ensures { self.new ≡ self.old }
     {
-        open_cycle(&mut self.memory, &self.world.contexts, &mut roots.words)
+        open_cycle(&mut self.memory, &self.world.contexts, roots)
     }
 
     /// In an open cycle the collector does so many actions; false: it found nothing to do.
@@ -62,7 +44,7 @@ impl<M: CollectedMemory + Drop, S: Interpret + Drop, D: Deeds + Drop> Vault<'_, 
     pub fn end_cycle(&mut self, roots: &mut Roots) -> bool
         ensures { self.new ≡ self.old }
     {
-        end_cycle(&mut self.memory, &mut self.world.contexts, &mut roots.words)
+        end_cycle(&mut self.memory, &mut self.world.contexts, roots)
     }
 
     /// Ends the open cycle, if there is one, and makes a whole one more.

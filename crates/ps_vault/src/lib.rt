@@ -12,12 +12,12 @@ mod schedules;
 mod turns;
 mod vaults;
 
-pub use collecting::Roots;
 pub use exploring::explore;
 pub use orders::{Choice, TurnOrder, run_in_order};
 pub use plain::run_plain;
 pub use ps_language::schedules::Entry;
+pub use ps_roots::Roots;
 pub use replays::replay;
-pub use reports::{Config, Outcome, Report, RunFault};
+pub use reports::{Config, FIRST_ENTRIES, Outcome, Report, RunFault};
 pub use turns::Turn;
 pub use vaults::{Advanced, Told, Vault};

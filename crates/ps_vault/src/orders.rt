@@ -8,7 +8,7 @@ ghost use Rattle.ps_vault.specs.Order.{IsNoneAbove};
 ghost use Rattle.ps_vault.specs.Reports.{are_ordinary, IsOneStarved, IsRunOf};
 ghost use Rattle.ps_vault.specs.Stories.{world_at};
 
-use crate::reports::Report;
+use crate::reports::{FIRST_ENTRIES, Report};
 use crate::turns::Turn;
 use crate::vaults::Vault;
 use ps_interpreter::interprets::Interpret;
@@ -73,6 +73,7 @@ impl<M: Memory + Drop, S: Interpret + Drop, D: Deeds + Drop> Vault<'_, M, S, D> 
         ensures counted { count_of self.new.schedule ≡ count_of self.old.schedule + result.made }
         ensures ordinary { are_ordinary (moves self.old.schedule) ≡ true
             → are_ordinary (moves self.new.schedule) ≡ true }
+        ensures capacity { self.old.capacity ≤ self.new.capacity }
         ensures calling_on { result.held ≡ false → self.new.caller ≡ None }
         ensures fewer { result.held ≡ true → result.made < steps }
         ensures starved { OnlyGrows M.heap M.grants → result.held ≡ true
@@ -115,7 +116,15 @@ pub fn run_in_order<S: Interpret + Drop, D: Deeds + Drop, O: TurnOrder>(
         (vec_capacity report.schedule) report.schedule.items report.outcome) }
 {
     let memory = PlainMemory::new(alloc);
-    let mut vault = Vault::new(alloc, memory, interpret, deeds, program, keys, 0)?;
+    let mut vault = Vault::new(
+        alloc,
+        memory,
+        interpret,
+        deeds,
+        program,
+        keys,
+        FIRST_ENTRIES,
+    )?;
     let run = vault.run_by(steps, order);
     Ok(vault.into_run(run, steps))
 }

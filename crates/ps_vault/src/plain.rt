@@ -4,10 +4,11 @@ ghost use Rattle.std.specs.Prelude.{◌≡◌, ◌<◌, ◌≤◌, ℕ, ◌↔�
 ghost use Rattle.ps_language.specs.Schedules.{count_of, moves};
 ghost use Rattle.ps_language.specs.Worlds.{starting_world, world};
 ghost use Rattle.ps_vault.specs.Order.{HasTurn, InOrder, IsNoneAbove};
+ghost use Rattle.ps_vault.specs.declared.reports.TheConstants.{FIRST_ENTRIES};
 ghost use Rattle.ps_vault.specs.Reports.{are_ordinary, is_memory, IsOneStarved, IsRunOf, IsStarved, IsWithin};
 ghost use Rattle.ps_vault.specs.Stories.{world_at};
 
-use crate::reports::{Config, Outcome, Report, RunFault};
+use crate::reports::{Config, FIRST_ENTRIES, Outcome, Report, RunFault};
 use crate::turns::Turn;
 use crate::vaults::Vault;
 use ps_interpreter::interprets::Interpret;
@@ -51,7 +52,15 @@ pub fn run_plain<S: Interpret + Drop, D: Deeds + Drop>(
         return Err(RunFault::Config);
     }
     let memory = PlainMemory::new(alloc);
-    let Ok(mut vault) = Vault::new(alloc, memory, interpret, deeds, program, keys, 0) else {
+    let Ok(mut vault) = Vault::new(
+        alloc,
+        memory,
+        interpret,
+        deeds,
+        program,
+        keys,
+        FIRST_ENTRIES,
+    ) else {
         return Err(RunFault::Memory);
     };
     let run = vault.run(config.steps, config.quantum);
@@ -65,6 +74,7 @@ impl<M: Memory + Drop, S: Interpret + Drop, D: Deeds + Drop> Vault<'_, M, S, D> 
         requires counted { count_of self.schedule ≡ run.made }
         requires within { run.made ≤ steps }
         requires ordinary { are_ordinary (moves self.schedule) ≡ true }
+        requires room { FIRST_ENTRIES ≤ self.capacity }
         requires calling { run.held ≡ false → self.caller ≡ None }
         requires fewer { run.held ≡ true → run.made < steps }
         requires starved { run.held ≡ true

@@ -6,6 +6,10 @@ ghost use Rattle.ps_vault.specs.Reports.{is_memory, IsWithin};
 use ps_language::schedules::Entry;
 use thiserror::Error;
 
+/// How many entries find room in the schedule of a run from its start: want of room for more is the
+/// only other end of a run whose memory is ample.
+pub const FIRST_ENTRIES: usize = 4096;
+
 /// The numbers of a run.
 #[derive(Clone, Copy, Debug, PartialEq, Eq)]
 pub struct Config {

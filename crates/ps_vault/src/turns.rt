@@ -38,6 +38,7 @@ impl<M: Memory + Drop, S: Interpret + Drop, D: Deeds + Drop> Vault<'_, M, S, D> 
         ensures counted { count_of self.new.schedule ≡ count_of self.old.schedule + result.made }
         ensures ordinary { are_ordinary (moves self.old.schedule) ≡ true
             → are_ordinary (moves self.new.schedule) ≡ true }
+        ensures capacity { self.old.capacity ≤ self.new.capacity }
         ensures turns { AddsTurns quantum most (starting_world self.old.program) context result
             (moves self.old.schedule) (moves self.new.schedule) }
         ensures calling_on { result.held ≡ false → self.new.caller ≡ None }
@@ -97,6 +98,7 @@ impl<M: Memory + Drop, S: Interpret + Drop, D: Deeds + Drop> Vault<'_, M, S, D> 
         ensures counted { count_of self.new.schedule ≡ count_of self.old.schedule + result.made }
         ensures ordinary { are_ordinary (moves self.old.schedule) ≡ true
             → are_ordinary (moves self.new.schedule) ≡ true }
+        ensures capacity { self.old.capacity ≤ self.new.capacity }
         ensures order { moves self.old.schedule ≡ []
             → InOrder quantum (starting_world self.old.program) (moves self.new.schedule) }
         ensures calling_on { result.held ≡ false → self.new.caller ≡ None }

@@ -10,7 +10,8 @@ ghost use Rattle.ps_language.specs.Worlds.{after_move, after_moves, starting_wor
 ghost use Rattle.ps_vault.specs.Order.{IsNoneAbove, IsOnlyLeft, AddsSteps, AllOfOne, NoneEnds, OnlyLastMayEnd, EndsTurn};
 ghost use Rattle.ps_start.specs.Starts.{IsEmptyHeap};
 ghost use Rattle.ps_vault.specs.Holds.{IfHeldUp, IsHeldUp, is_held_up, wish_in};
-ghost use Rattle.ps_vault.specs.Reports.{are_ordinary, is_memory, EndsAs, IsRunIn, IsShort};
+ghost use Rattle.ps_vault.specs.Reports.{all_fit, are_ordinary, are_words, is_memory, EndsAs, IsRunIn, IsShort};
+ghost use Rattle.ps_vault.specs.declared.reports.TheConstants.{FIRST_ENTRIES};
 ghost use Rattle.ps_vault.specs.Stories.{Story, HasRoom, MayGo, world_at, move_of};
 ghost use Rattle.ps_vault.specs.Turns.{added_times};
 
@@ -190,6 +191,7 @@ impl<M: Memory + Drop, S: Interpret + Drop, D: Deeds + Drop> Vault<'_, M, S, D> 
         ensures program { self.new.program ≡ self.old.program }
         ensures schedule { self.new.schedule ≡ self.old.schedule }
         ensures calling { self.new.caller ≡ self.old.caller }
+        ensures capacity { self.old.capacity ≤ self.new.capacity }
         ensures room { OnOk result (HasRoom self.new) }
         ensures short { OnErr result (IsShort self.new.capacity self.new.schedule) }
     {
@@ -213,6 +215,9 @@ impl<M: Memory + Drop, S: Interpret + Drop, D: Deeds + Drop> Vault<'_, M, S, D> 
             (self.new.schedule ≡ added self.old.schedule (move_of context refused shown)) }
         ensures world { OnOk result (world_at self.new
             ≡ after_move (world_at self.old) (move_of context refused shown)) }
+        ensures fits { OnOk result (are_words shown ≡ true
+            → all_fit (moves self.old.schedule) ≡ true
+            → all_fit (moves self.new.schedule) ≡ true) }
         ensures longer { length self.new.schedule ≤ length self.old.schedule + 1 }
         ensures capacity { self.old.capacity ≤ self.new.capacity }
         ensures calling { MayGo self.new context }
@@ -258,6 +263,8 @@ impl<M: Memory + Drop, S: Interpret + Drop, D: Deeds + Drop> Vault<'_, M, S, D> 
         ensures counted { count_of self.new.schedule ≡ count_of self.old.schedule + result.made }
         ensures ordinary { are_ordinary (moves self.old.schedule) ≡ true
             → are_ordinary (moves self.new.schedule) ≡ true }
+        ensures fits { all_fit (moves self.old.schedule) ≡ true
+            → all_fit (moves self.new.schedule) ≡ true }
         ensures takes { AddsSteps context result.made (moves self.old.schedule)
             (moves self.new.schedule) }
         ensures keeps { result.told ≢ Told.TurnEnds → NoneEnds
@@ -375,6 +382,8 @@ impl<M: Memory + Drop, S: Interpret + Drop, D: Deeds + Drop> Vault<'_, M, S, D> 
     /// The report of a run with a budget of steps, at the end; no collector is counted.
     pub fn into_report(self, steps: u32, outcome: Outcome) -> Report
         requires few { count_of self.schedule ≤ steps }
+        requires fits { all_fit (moves self.schedule) ≡ true }
+        requires room { FIRST_ENTRIES ≤ self.capacity }
         requires ends { EndsAs S.asks (world_at self) self.capacity self.schedule
             (count_of self.schedule == steps) false outcome }
         ensures run { IsRunIn S.asks self.entry.program steps result.printed.items

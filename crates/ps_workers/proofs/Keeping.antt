@@ -7,14 +7,14 @@ use Rattle.std.proofs.lemmas.Bool.Decides.{nat_tests}
 use Rattle.ps_language.specs.declared.schedules.Entry.{Entry}
 use Rattle.ps_language.specs.Effect.{Around, Scene}
 use Rattle.ps_language.specs.Locks.{is_ready}
-use Rattle.ps_language.specs.Schedules.{count_of}
+use Rattle.ps_language.specs.Schedules.{count_of, moves}
 use Rattle.ps_language.specs.World.{Status, World}
 use Rattle.ps_acts.specs.Acts.{Asked}
 use Rattle.ps_world.specs.Needs.{step_wants}
 use Rattle.ps_vault.specs.declared.reports.Config.{Config}
 use Rattle.ps_vault.specs.declared.reports.Outcome.{Outcome}
 use Rattle.ps_vault.specs.declared.reports.Outcome.TheVariants.{Memory}
-use Rattle.ps_vault.specs.Reports.{EndsAs, IsShort, IsStarved, IsWithin}
+use Rattle.ps_vault.specs.Reports.{all_fit, EndsAs, IsShort, IsStarved}
 use Rattle.ps_vault.specs.Stories.{Story, MayGo, world_at}
 use Rattle.ps_vault.proofs.Following.{ready_not_over}
 use Rattle.ps_workers.specs.Batons.{Progress, MayGoOn, Keeps}
@@ -101,15 +101,17 @@ waits_same p story outcome waits program schedule caller =
 pub keeps_ended : (asks : Status → Around → Scene → Asked) (p : Progress) (story : Story)
     (outcome : Outcome) → Keeps asks p
     → story.program ≡ p.story.program → story.schedule ≡ p.story.schedule
-    → story.caller ≡ p.story.caller
+    → story.caller ≡ p.story.caller → p.story.capacity ≤ story.capacity
     → EndsAs asks (world_at story) story.capacity story.schedule (p.made == p.config.steps) false
     outcome
     → Keeps asks (progress story p.config p.made (Some outcome))
-keeps_ended asks p story outcome keeps program schedule caller ends = record {
+keeps_ended asks p story outcome keeps program schedule caller more ends = record {
   numbers = keeps.numbers;
   budget = keeps.budget;
   counted = ap count_of schedule ∙ keeps.counted;
   within = keeps.within;
+  fits = ap (λ (s : List Entry). all_fit (moves s)) schedule ∙ keeps.fits;
+  room = omega (arith, keeps.room, more);
   waits = waits_same p story (Some outcome) keeps.waits program schedule caller;
   judged = ends;
 }
@@ -118,11 +120,11 @@ keeps_ended asks p story outcome keeps program schedule caller ends = record {
 pub keeps_starved : (asks : Status → Around → Scene → Asked) (p : Progress) (story : Story)
     (context : ℕ) → Keeps asks p → MayGoOn p context
     → story.program ≡ p.story.program → story.schedule ≡ p.story.schedule
-    → story.caller ≡ p.story.caller
+    → story.caller ≡ p.story.caller → p.story.capacity ≤ story.capacity
     → IsStarved asks context false (world_at story) story.capacity story.schedule
     → Keeps asks (progress story p.config p.made (Some Memory))
-keeps_starved asks p story context keeps may program schedule caller starved =
-    keeps_ended asks p story Memory keeps program schedule caller
+keeps_starved asks p story context keeps may program schedule caller more starved =
+    keeps_ended asks p story Memory keeps program schedule caller more
     (ends_starved asks (progress story p.config p.made None) context
     (may_same p story None context may program schedule caller) starved)
 
@@ -130,29 +132,37 @@ keeps_starved asks p story context keeps may program schedule caller starved =
 pub short_starved : (asks : Status → Around → Scene → Asked) (p : Progress) (story : Story)
     (context : ℕ) → Keeps asks p → MayGoOn p context
     → story.program ≡ p.story.program → story.schedule ≡ p.story.schedule
-    → story.caller ≡ p.story.caller → IsShort story.capacity story.schedule
+    → story.caller ≡ p.story.caller → p.story.capacity ≤ story.capacity
+    → IsShort story.capacity story.schedule
     → Keeps asks (progress story p.config p.made (Some Memory))
-short_starved asks p story context keeps may program schedule caller short =
-    keeps_starved asks p story context keeps may program schedule caller (record {
+short_starved asks p story context keeps may program schedule caller more short =
+    keeps_starved asks p story context keeps may program schedule caller more (record {
       ready = (may_same p story None context may program schedule caller).ready;
       wants = inr short;
     })
 
 -- ---- steps more
 
+-- a story with so many steps more
+pub record Goes (p : Progress) (story : Story) (count : ℕ) : Type 0 where
+  pub counted : count_of story.schedule ≡ count_of p.story.schedule + count
+  pub fits : all_fit (moves p.story.schedule) ≡ true → all_fit (moves story.schedule) ≡ true
+  pub more : p.story.capacity ≤ story.capacity
+
 pub keeps_made : (asks : Status → Around → Scene → Asked) (p : Progress) (story : Story)
-    (count : ℕ) (outcome : Option Outcome) → Keeps asks p
-    → count_of story.schedule ≡ count_of p.story.schedule + count
+    (count : ℕ) (outcome : Option Outcome) → Keeps asks p → Goes p story count
     → p.made + count ≤ p.config.steps
     → IfSome story.caller (MayGoOn (progress story p.config (p.made + count) outcome))
     → IfSome outcome (EndsAs asks (world_at story) story.capacity story.schedule
     (p.made + count == p.config.steps) false)
     → Keeps asks (progress story p.config (p.made + count) outcome)
-keeps_made asks p story count outcome keeps counted within waits judged = record {
+keeps_made asks p story count outcome keeps goes within waits judged = record {
   numbers = keeps.numbers;
   budget = keeps.budget;
-  counted = counted ∙ ap (λ n. n + count) keeps.counted;
+  counted = goes.counted ∙ ap (λ n. n + count) keeps.counted;
   within = within;
+  fits = goes.fits keeps.fits;
+  room = omega (arith, keeps.room, goes.more);
   waits = waits;
   judged = judged;
 }
@@ -174,43 +184,45 @@ may_after asks p story count outcome context calling ready left =
 
 -- they are counted
 pub keeps_held : (asks : Status → Around → Scene → Asked) (p : Progress) (story : Story)
-    (count context : ℕ) → Keeps asks p
-    → count_of story.schedule ≡ count_of p.story.schedule + count
+    (count context : ℕ) → Keeps asks p → Goes p story count
     → MayGo story context → is_ready (world_at story) context ≡ true
     → p.made + count < p.config.steps
     → Keeps asks (progress story p.config (p.made + count) None)
-keeps_held asks p story count context keeps counted calling ready left =
-    keeps_made asks p story count None keeps counted (omega (arith, left))
+keeps_held asks p story count context keeps goes calling ready left =
+    keeps_made asks p story count None keeps goes (omega (arith, left))
     (waits_as (progress story p.config (p.made + count) None) context
     (may_after asks p story count None context calling ready left)) tt
 
 -- and the run ends for want of memory
 pub keeps_ended_held : (asks : Status → Around → Scene → Asked) (p : Progress) (story : Story)
-    (count context : ℕ) → Keeps asks p
-    → count_of story.schedule ≡ count_of p.story.schedule + count
+    (count context : ℕ) → Keeps asks p → Goes p story count
     → MayGo story context → is_ready (world_at story) context ≡ true
     → p.made + count < p.config.steps
     → IsTrue (step_wants asks context false (world_at story))
     → Keeps asks (progress story p.config (p.made + count) (Some Memory))
-keeps_ended_held asks p story count context keeps counted calling ready left wants =
+keeps_ended_held asks p story count context keeps goes calling ready left wants =
     let now : Progress = progress story p.config (p.made + count) None in
     let may : MayGoOn now context =
     may_after asks p story count None context calling ready left in
     keeps_starved asks now story context
-    (keeps_held asks p story count context keeps counted calling ready left) may refl refl refl
-    (wants_some asks now context may wants)
+    (keeps_held asks p story count context keeps goes calling ready left) may refl refl refl
+    (omega arith) (wants_some asks now context may wants)
 
 -- so it does where no step more was made
 pub keeps_ended_here : (asks : Status → Around → Scene → Asked) (p : Progress) (story : Story)
     (context : ℕ) → Keeps asks p → MayGoOn p context
     → story.program ≡ p.story.program → story.schedule ≡ p.story.schedule → MayGo story context
+    → p.story.capacity ≤ story.capacity
     → IsTrue (step_wants asks context false (world_at p.story))
     → Keeps asks (progress story p.config p.made (Some Memory))
-keeps_ended_here asks p story context keeps may program schedule calling wants =
+keeps_ended_here asks p story context keeps may program schedule calling more wants =
     let same : p.made + 0 ≡ p.made = omega arith in
     subst (λ n. Keeps asks (progress story p.config n (Some Memory))) same
-    (keeps_ended_held asks p story 0 context keeps
-    (ap count_of schedule ∙ omega arith) calling
+    (keeps_ended_held asks p story 0 context keeps (record {
+      counted = ap count_of schedule ∙ omega arith;
+      fits = λ fit. ap (λ (s : List Entry). all_fit (moves s)) schedule ∙ fit;
+      more = more;
+    }) calling
     (world_same p.story story program schedule (λ w. is_ready w context ≡ true) may.ready)
     (omega (arith, may.left))
     (world_same p.story story program schedule

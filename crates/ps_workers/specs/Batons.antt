@@ -2,12 +2,13 @@
 use Rattle.std.specs.Prelude.{◌≡◌, ◌<◌, ◌≤◌, ◌^◌, ◌==◌, ℕ, true, false, Option, IfSome}
 use Rattle.ps_language.specs.Effect.{Around, Scene}
 use Rattle.ps_language.specs.Locks.{is_ready}
-use Rattle.ps_language.specs.Schedules.{count_of}
+use Rattle.ps_language.specs.Schedules.{count_of, moves}
 use Rattle.ps_language.specs.World.{Status}
 use Rattle.ps_acts.specs.Acts.{Asked}
 use Rattle.ps_vault.specs.declared.reports.Config.{Config}
 use Rattle.ps_vault.specs.declared.reports.Outcome.{Outcome}
-use Rattle.ps_vault.specs.Reports.{EndsAs, IsWithin}
+use Rattle.ps_vault.specs.declared.reports.TheConstants.{FIRST_ENTRIES}
+use Rattle.ps_vault.specs.Reports.{all_fit, EndsAs, IsWithin}
 use Rattle.ps_vault.specs.Stories.{Story, MayGo, world_at}
 
 -- the vault's story, the numbers of the run, the steps that were made, and how the run ended, if it
@@ -24,13 +25,16 @@ pub record MayGoOn (p : Progress) (context : ℕ) : Type 0 where
   pub ready : is_ready (world_at p.story) context ≡ true
   pub left : p.made < p.config.steps
 
--- The steps are counted and within the budget; whose call waits may go on; and where the run has
--- ended, it ended so. Asks: what a step asks for that the language doesn't say
+-- The steps are counted and within the budget, and a schedule can have their numbers; whose call
+-- waits may go on; and where the run has ended, it ended so. Asks: what a step asks for that the
+-- language doesn't say
 pub record Keeps (asks : Status → Around → Scene → Asked) (p : Progress) : Type 0 where
   pub numbers : IsWithin p.config
   pub budget : p.config.steps < 2 ^ 32
   pub counted : count_of p.story.schedule ≡ p.made
   pub within : p.made ≤ p.config.steps
+  pub fits : all_fit (moves p.story.schedule) ≡ true
+  pub room : FIRST_ENTRIES ≤ p.story.capacity
   pub waits : IfSome p.story.caller (MayGoOn p)
   pub judged : IfSome p.outcome (EndsAs asks (world_at p.story) p.story.capacity
       p.story.schedule (p.made == p.config.steps) false)

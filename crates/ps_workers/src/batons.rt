@@ -4,24 +4,20 @@
 //! It keeps (`Keeps`) that the steps made are counted and within the budget, and that an outcome,
 //! once it stands, is that of the vault's world.
 
-ghost use Rattle.std.specs.Prelude.{◌≡◌, ◌<◌, ◌≢◌, true, false, IfOk, IfSome, IfNone, IsSome, None, Err, vec_capacity};
-ghost use Rattle.ps_language.specs.Locks.{is_ready};
+ghost use Rattle.std.specs.Prelude.{◌≡◌, ◌<◌, ◌≢◌, IfOk, IfSome, IfNone, IsSome, None, Err, vec_capacity};
 ghost use Rattle.ps_start.specs.Starts.{IsEmptyHeap};
 ghost use Rattle.ps_vault.specs.Order.{IsNoneAbove};
 ghost use Rattle.ps_vault.specs.Reports.{IsRunIn, IsWithin};
-ghost use Rattle.ps_vault.specs.Stories.{MayGo, world_at};
+ghost use Rattle.ps_vault.specs.Stories.{world_at};
 ghost use Rattle.ps_workers.specs.Batons.{GoesOn, MayGoOn};
 
 use ps_flips::collected::CollectedMemory;
 use ps_interpreter::interprets::Interpret;
-use ps_vault::{Config, Outcome, Report, Roots, RunFault, Vault};
+use ps_vault::{Config, FIRST_ENTRIES, Outcome, Report, Roots, RunFault, Vault};
 use ps_world::deeds::Deeds;
 use std::alloc::{AllocError, Global};
 use std::hash::RandomState;
 use std::marker::Model;
-
-/// The actions of the collector after each step in an open cycle.
-pub(crate) const ACTIONS: u32 = 64;
 
 /// The vault, and whose turn is next.
 #[derive(Drop)]
@@ -82,7 +78,15 @@ impl<'a, M: CollectedMemory + Drop, S: Interpret + Drop, D: Deeds + Drop> Baton<
     {
         prove!(config.steps <= u32::MAX);
         let roots = Roots::new(alloc)?;
-        let vault = Vault::new(alloc, memory, interpret, deeds, program, keys, 0)?;
+        let vault = Vault::new(
+            alloc,
+            memory,
+            interpret,
+            deeds,
+            program,
+            keys,
+            FIRST_ENTRIES,
+        )?;
         Ok(Baton {
             vault,
             roots,
@@ -166,7 +170,7 @@ impl<M: CollectedMemory + Drop, S: Interpret + Drop, D: Deeds + Drop> Baton<'_, 
         } else {
             self.config.quantum.min(left)
         };
-        self.make(context, most);
+        self.make_steps(context, most);
     }
 
     /// The run's report, if it is over and was one of this program with these numbers.

@@ -2,8 +2,10 @@
 #![tactic(auto)]
 
 mod batons;
+mod gates;
 mod relief;
 mod runs;
 
 pub use batons::Baton;
-pub use runs::{run, run_in};
+pub use gates::{Gate, Gated};
+pub use runs::{run, run_gated, run_in};

@@ -5,6 +5,7 @@ ghost use Rattle.ps_start.specs.Starts.{IsEmptyHeap};
 ghost use Rattle.ps_vault.specs.Reports.{IsRunIn, IsWithin};
 
 use crate::batons::Baton;
+use crate::gates::{Gate, Gated};
 use ps_flips::collected::CollectedMemory;
 use ps_gc::CollectedSpace;
 use ps_interpreter::interprets::Interpret;
@@ -106,4 +107,35 @@ pub fn run<S: Interpret + Drop + Send, D: Deeds + Drop + Send, R: Threads + Wait
         return Err(RunFault::Memory);
     };
     run_in(rt, alloc, memory, interpret, deeds, program, config, keys)
+}
+
+/// As `run`; each store and copy of a worker is told to a gate before it is made.
+pub fn run_gated<
+    S: Interpret + Drop + Send,
+    D: Deeds + Drop + Send,
+    G: Gate + Sync,
+    R: Threads + Wait + Sync,
+>(
+    rt: &R,
+    alloc: Global,
+    interpret: S,
+    deeds: D,
+    program: &[u8],
+    config: Config,
+    keys: RandomState,
+    gate: &G,
+) -> Result<Report, RunFault>
+    ensures config { (result ≡ Err RunFault.Config) ↔ ¬ IsWithin config }
+    ensures run { IfOk result (λ report. IsRunIn S.asks program.now config.steps
+        report.printed.items (vec_capacity report.schedule) report.schedule.items
+        report.outcome) }
+{
+    if !config.is_within() {
+        return Err(RunFault::Config);
+    }
+    let Ok(memory) = CollectedSpace::new(alloc, config.space) else {
+        return Err(RunFault::Memory);
+    };
+    let gated = Gated::new(memory, gate);
+    run_in(rt, alloc, gated, interpret, deeds, program, config, keys)
 }

@@ -138,14 +138,20 @@ returns-clause-file c =
     ∙ behind_default c.get_str-3.result _ _ (c.get_str-3.ensures ∙ name)
 
 pub returns-clause-stats : goal.returns-clause-stats
-returns-clause-stats c told =
-    c.get_flag.ensures.value (flag_is _ _ _ (codes "stats") c.in_ok-line.ensures
-    c.in_ok-matches.ensures.ok.2 ∙ told)
+returns-clause-stats c =
+    let is = flag_is _ _ _ (codes "stats") c.in_ok-line.ensures c.in_ok-matches.ensures.ok.2 in
+    record {
+      set = λ told. c.get_flag.ensures.value (is ∙ told);
+      unset = λ told. c.get_flag.ensures.other (is ∙ told);
+    }
 
-pub returns-clause-no_stats : goal.returns-clause-no_stats
-returns-clause-no_stats c told =
-    c.get_flag.ensures.other (flag_is _ _ _ (codes "stats") c.in_ok-line.ensures
-    c.in_ok-matches.ensures.ok.2 ∙ told)
+pub returns-clause-plain : goal.returns-clause-plain
+returns-clause-plain c =
+    let is = flag_is _ _ _ (codes "plain") c.in_ok-line.ensures c.in_ok-matches.ensures.ok.2 in
+    record {
+      set = λ told. c.get_flag-2.ensures.value (is ∙ told);
+      unset = λ told. c.get_flag-2.ensures.other (is ∙ told);
+    }
 
 -- a number of 32 bits that was read of its text is that of the text
 number_read : {E : Type 0} (A B : Text → Result ℕ E → Type 0) (text : Text) (found : Option ℕ)

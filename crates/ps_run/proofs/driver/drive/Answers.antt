@@ -1,7 +1,7 @@
 use Rattle.std.proofs.Common.{◌≡◌, List, ℕ, Option, map, inl, inr, refl, sym, ap, subst, ◌∙◌}
-use Rattle.std.specs.Prelude.{◌⊎◌}
+use Rattle.std.specs.Prelude.{codes, ◌⊎◌}
 use Rattle.clap.specs.Words.{Text}
-use Rattle.ps_options.specs.CommandLine.{IsExplored}
+use Rattle.ps_options.specs.CommandLine.{IsExplored, IsFlag}
 use Rattle.ps_vault.specs.Reports.{IsWithin}
 use Rattle.ps_run.specs.Driving.{AreAsked, AreOutOfRange, Asked, HasNoSchedule, IsTooLong, asked_of, config_in, most_program_bytes, names_in, names_of}
 use Rattle.ps_run.proofs.Driven.{driven_more, faulty, none_explored, record_named, some_explored}
@@ -28,10 +28,10 @@ are_asked g c asked is = (
   λ text found numeral small.
       ap (λ (a : Asked). a.quantum) is
       ∙ c.in-Ok.ensures.numbers.quantum text found numeral small,
-  record {
-    set = λ found. ap (λ (a : Asked). a.stats) is ∙ c.in-Ok.ensures.stats found;
-    unset = λ found. ap (λ (a : Asked). a.stats) is ∙ c.in-Ok.ensures.no_stats found;
-  },
+  subst (IsFlag (codes "plain") (map (λ word. word.now) c.args.words.now))
+      (sym (ap (λ (a : Asked). a.plain) is)) c.in-Ok.ensures.plain,
+  subst (IsFlag (codes "stats") (map (λ word. word.now) c.args.words.now))
+      (sym (ap (λ (a : Asked). a.stats) is)) c.in-Ok.ensures.stats,
   subst (IsExplored (map (λ word. word.now) c.args.words.now))
       (sym (ap (λ (a : Asked). a.explored) is)) c.in-Ok.ensures.explore,
 )

@@ -1,27 +1,58 @@
-use Rattle.std.proofs.Common.{◌≡◌, ap, arith, subst, ℕ}
-use Rattle.std.specs.Prelude.{vec_capacity}
+-- A run with a budget: its schedule has a text, and a plain one has its turns in order.
+use Rattle.std.proofs.Common.{◌≡◌, ℕ, List, ap, arith, sym, subst, ◌∙◌, true≢false}
+use Rattle.std.specs.Prelude.{vec_capacity, ◌≤◌}
 use Rattle.std.proofs.lemmas.Result.{IfOk-weaker}
+use Rattle.ps_language.specs.Effect.{Around, Scene}
 use Rattle.ps_language.specs.Schedules.{moves}
+use Rattle.ps_language.specs.World.{Status}
 use Rattle.ps_language.specs.Worlds.{starting_world}
+use Rattle.ps_acts.specs.Acts as acts
 use Rattle.ps_vault.specs.declared.reports.Config.{Config}
+use Rattle.ps_vault.specs.declared.reports.Report.{Report}
 use Rattle.ps_vault.specs.Order.{InOrder}
-use Rattle.ps_vault.specs.Reports.{IsRunOf}
+use Rattle.ps_vault.specs.Reports.{IsRunIn}
+use Rattle.ps_run.specs.Driving.{IsRecordable}
 use Rattle.ps_run.proofs.Ranges.{are_entries}
 use Rattle.ps_run.proofs.Written.{ok_both}
 use Rattle.ps_run.proofs.driver.make.Goals as goal
 
+-- the budget is one of 32 bits
+recordable : (asks : Status → Around → Scene → acts.Asked) (program : List ℕ)
+    (budget steps : ℕ) (report : Report) → budget ≤ 4294967295 → budget ≡ steps
+    → IsRunIn asks program budget report.printed.items (vec_capacity report.schedule)
+    report.schedule.items report.outcome
+    → IsRecordable asks program steps report
+recordable asks program budget steps report few same run = record {
+  run = subst (λ (n : ℕ). IsRunIn asks program n report.printed.items
+      (vec_capacity report.schedule) report.schedule.items report.outcome) same run;
+  entries = are_entries program report.schedule.items (omega (arith, run.within, few))
+      run.longest run.proper run.fits;
+}
+
 pub returns-in-None-clause-made : goal.returns-in-None-clause-made
 returns-in-None-clause-made g c =
-    let steps : c.config_of.result.steps ≡ c.args.options.now.steps =
-    ap (λ (config : Config). config.steps) c.config_of.ensures in
-    let quantum : c.config_of.result.quantum ≡ c.args.options.now.quantum =
-    ap (λ (config : Config). config.quantum) c.config_of.ensures in
+    let config = c.config_of-config.ensures in
+    let same : c.config_of-config.result.quantum ≡ c.args.options.now.quantum =
+    ap (λ (it : Config). it.quantum) config in
     rw c.in-None.is (IfOk-weaker c.run_plain.result _ _ (λ report made. (
-      subst (λ (n : ℕ). IsRunOf g.S.Interpret.asks c.args.program.now n report.printed.items
-          (vec_capacity report.schedule) report.schedule.items report.outcome) steps made.0,
-      subst (λ (n : ℕ). InOrder n (starting_world c.args.program.now)
-          (moves report.schedule.items)) quantum made.1,
-      are_entries c.args.program.now report.schedule.items
-          (omega (arith, made.0.run.within, c.config_of.type_inv)) made.0.run.longest
-          made.0.run.proper made.0.ordinary,
-    )) (ok_both _ _ c.run_plain.result c.run_plain.ensures.run c.run_plain.ensures.order))
+      recordable g.S.Interpret.asks c.args.program.now c.config_of-config.result.steps
+          c.args.options.now.steps report (omega (arith, c.config_of-config.type_inv))
+          (ap (λ (it : Config). it.steps) config) made.0.run,
+      λ _. record {
+        ordinary = made.0.ordinary;
+        order = subst (λ (n : ℕ). InOrder n (starting_world c.args.program.now)
+            (moves report.schedule.items)) same made.1.0;
+        uncollected = made.1.1;
+      },
+    )) (ok_both _ _ c.run_plain.result c.run_plain.ensures.run
+    (ok_both _ _ c.run_plain.result c.run_plain.ensures.order
+    (ok_both _ _ c.run_plain.result c.run_plain.ensures.flips c.run_plain.ensures.taken))))
+
+pub returns-in-None-2-clause-made : goal.returns-in-None-2-clause-made
+returns-in-None-2-clause-made g c =
+    rw c.in-None.is (IfOk-weaker c.run.result _ _ (λ report made. (
+      recordable g.S.Interpret.asks c.args.program.now c.config_of-config.result.steps
+          c.args.options.now.steps report (omega (arith, c.config_of-config.type_inv))
+          (ap (λ (it : Config). it.steps) c.config_of-config.ensures) made,
+      λ plain. absurd (true≢false (sym plain ∙ c.if-options.false)),
+    )) c.run.ensures.run)

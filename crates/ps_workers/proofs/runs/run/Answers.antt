@@ -1,5 +1,5 @@
 -- Nothing stands in a new space.
-use Rattle.std.proofs.Common.{◌≡◌, ap, sym, ◌∙◌}
+use Rattle.std.proofs.Common.{ap, sym, ◌∙◌}
 use Rattle.ps_mem.specs.Heap.{Heap, empty_heap}
 use Rattle.ps_workers.proofs.runs.run.Goals as goal
 

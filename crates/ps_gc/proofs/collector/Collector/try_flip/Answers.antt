@@ -3,7 +3,7 @@ use Rattle.ps_core_parts.specs.declared.events.Vm.{Vm}
 use Rattle.ps_core_parts.specs.declared.events.Gc.{Gc}
 use Rattle.ps_core_parts.specs.Objects.{values_have_replicas}
 use Rattle.ps_parts_memory.specs.Stores.{numbers}
-use Rattle.ps_gc.specs.Flipping.{IsReady}
+use Rattle.ps_gc.specs.Flipping.{MayFlip}
 use Rattle.ps_gc.proofs.Flipping.{all_drained}
 use Rattle.ps_gc.proofs.Scanning.{all_at_end, not_all}
 use Rattle.ps_gc.proofs.collector.Collector.try_flip.Goals as goal
@@ -65,7 +65,7 @@ flip-requires-clause-ready c =
     let g = s.gc.seat.me.0.gc in
     let vm = c.have_replicas.ensures.parts.0 ∙ c.meet.ensures.parts.0 in
     let gc = c.have_replicas.ensures.parts.1 ∙ c.meet.ensures.parts.1 in
-    let ready : IsReady v g (numbers c.args.roots.now) = (
+    let ready : MayFlip v g (numbers c.args.roots.now) = (
       (
         (
           c.all_closed.ensures.0 c.if-not-all_closed.false,
@@ -78,5 +78,5 @@ flip-requires-clause-ready c =
           (sym c.meet.ensures.parts.1)
           ∙ (sym c.have_replicas.ensures.answer ∙ c.if-not-have_replicas.false),
     ) in
-    subst (λ (x : Vm × Gc). IsReady x.0 x.1 (numbers c.args.roots.now))
+    subst (λ (x : Vm × Gc). MayFlip x.0 x.1 (numbers c.args.roots.now))
     (λ i. (sym vm i, sym gc i)) ready

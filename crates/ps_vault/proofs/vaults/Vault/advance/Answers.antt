@@ -1,21 +1,22 @@
 -- So many steps more of the schedule, and the one behind them.
-use Rattle.std.proofs.Common.{◌≡◌, ℕ, ℤ, false, true, List, Option, None, Err, refl, sym, ap, subst, ◌∙◌, ◌+◌, arith}
+use Rattle.std.proofs.Common.{◌≡◌, ℕ, ℤ, Bool, false, true, List, Option, None, Err, refl, sym, ap, subst, ◌∙◌, ◌+◌, arith}
+use Rattle.std.specs.List.{list_all}
 use Rattle.ps_language.specs.declared.schedules.Entry.{Entry}
 use Rattle.ps_language.specs.Locks.{is_ready}
-use Rattle.ps_language.specs.Schedules.{plain_move, count_of, moves}
+use Rattle.ps_language.specs.Schedules.{Move, plain_move, count_of, moves}
 use Rattle.ps_language.specs.Worlds.{starting_world, world}
 use Rattle.ps_language.proofs.ScheduleLaws.{count_of-added}
 use Rattle.ps_vault.specs.Order.{IsOnlyLeft, AddsSteps, NoneEnds, AllOfOne, OnlyLastMayEnd}
-use Rattle.ps_vault.specs.Reports.{are_ordinary, are_words}
+use Rattle.ps_vault.specs.Reports.{are_words, fits, is_ordinary}
 use Rattle.ps_vault.specs.Stories.{Story, world_at, move_of}
 use Rattle.ps_vault.specs.Turns.{added_times}
 use Rattle.ps_vault.proofs.Following.{times_noted}
 use Rattle.ps_vault.proofs.Keeping.{caller_there, may_step}
-use Rattle.ps_vault.proofs.Advancing.{keeps_made, count_times, ordinary_added, ordinary_move, ordinary_times, words_kept, some_made, none_ends_made, none_ends_mid, none_ends_behind, only_last_behind, keeps_behind, ends_behind, keeps_held, held_behind, kept_none, alone_made, alone_mid, alone_behind, left_held}
+use Rattle.ps_vault.proofs.Advancing.{keeps_made, count_times, move_fits, all_added, all_times, words_kept, some_made, none_ends_made, none_ends_mid, none_ends_behind, only_last_behind, keeps_behind, ends_behind, keeps_held, held_behind, kept_none, alone_made, alone_mid, alone_behind, left_held}
 use Rattle.ps_vault.proofs.Ordering.{adds_times, adds_one, adds_more}
 use Rattle.ps_vault.proofs.vaults.Vault.advance.Given as givens
 use Rattle.ps_vault.proofs.vaults.Vault.advance.Goals as goal
-use Rattle.ps_vault.proofs.vaults.Vault.advance.Goals.{After-go_on-made, After-note_turn}
+use Rattle.ps_vault.proofs.vaults.Vault.advance.Goals.{After-go_on-made, After-note_turn, After-note}
 
 -- ---- the steps that were made
 
@@ -45,15 +46,19 @@ counted : (g : givens.Over) (c : After-note_turn g)
 counted g c = ap count_of (noted g c)
     ∙ count_times c.go_on-made.result.made c.args.self.now.schedule (plain_move c.args.context)
 
-plain : (g : givens.Over) (c : After-note_turn g)
-    → are_ordinary (moves c.args.self.now.schedule) ≡ true
-    → are_ordinary (moves c.note_turn.new.schedule.items) ≡ true
-plain g c before =
-    ap (λ (entries : List Entry). are_ordinary (moves entries)) (noted g c)
-    ∙ ordinary_times c.go_on-made.result.made c.args.self.now.schedule
-    (plain_move c.args.context)
-    (ordinary_move c.args.context None (let few = c.ranges.context.fits in omega (arith, few)) refl)
-    before
+-- what holds of an ordinary step goes on to hold of all
+each : (g : givens.Over) (c : After-note_turn g) (test : Move → Bool)
+    → test (plain_move c.args.context) ≡ true
+    → list_all test (moves c.args.self.now.schedule) ≡ true
+    → list_all test (moves c.note_turn.new.schedule.items) ≡ true
+each g c test one before =
+    ap (λ (entries : List Entry). list_all test (moves entries)) (noted g c)
+    ∙ all_times test c.go_on-made.result.made c.args.self.now.schedule
+    (plain_move c.args.context) one before
+
+plain_fits : (g : givens.Over) (c : After-note_turn g) → fits (plain_move c.args.context) ≡ true
+plain_fits g c =
+    move_fits c.args.context false None (let few = c.ranges.context.fits in omega (arith, few)) refl
 
 takes : (g : givens.Over) (c : After-note_turn g)
     → AddsSteps c.args.context c.go_on-made.result.made (moves c.args.self.now.schedule)
@@ -101,7 +106,13 @@ returns-in_default-clause-counted g c =
 
 pub returns-in_default-clause-ordinary : goal.returns-in_default-clause-ordinary
 returns-in_default-clause-ordinary g c =
-    plain g (goal.at.returns-in_default-clause-ordinary g c).After-note_turn
+    let at = (goal.at.returns-in_default-clause-ordinary g c).After-note_turn in
+    each g at is_ordinary (plain_fits g at)
+
+pub returns-in_default-clause-fits : goal.returns-in_default-clause-fits
+returns-in_default-clause-fits g c =
+    let at = (goal.at.returns-in_default-clause-fits g c).After-note_turn in
+    each g at fits (plain_fits g at)
 
 pub returns-in_default-clause-takes : goal.returns-in_default-clause-takes
 returns-in_default-clause-takes g c =
@@ -143,7 +154,13 @@ returns-in-Err-clause-counted g c =
 
 pub returns-in-Err-clause-ordinary : goal.returns-in-Err-clause-ordinary
 returns-in-Err-clause-ordinary g c =
-    plain g (goal.at.returns-in-Err-clause-ordinary g c).After-note_turn
+    let at = (goal.at.returns-in-Err-clause-ordinary g c).After-note_turn in
+    each g at is_ordinary (plain_fits g at)
+
+pub returns-in-Err-clause-fits : goal.returns-in-Err-clause-fits
+returns-in-Err-clause-fits g c =
+    let at = (goal.at.returns-in-Err-clause-fits g c).After-note_turn in
+    each g at fits (plain_fits g at)
 
 pub returns-in-Err-clause-takes : goal.returns-in-Err-clause-takes
 returns-in-Err-clause-takes g c =
@@ -209,17 +226,38 @@ returns-clause-counted g c =
     (move_of c.args.context false c.kept-kept.result) in
     omega (arith, before, one)
 
-pub returns-clause-ordinary : goal.returns-clause-ordinary
-returns-clause-ordinary g c = λ before.
-    ap (λ (entries : List Entry). are_ordinary (moves entries)) c.note.ensures.added
-    ∙ ordinary_added c.note_turn.new.schedule.items
-    (move_of c.args.context false c.kept-kept.result)
-    (ordinary_move c.args.context c.kept-kept.result
+-- the step behind them too
+each_behind : (g : givens.Over) (c : After-note g) (test : Move → Bool)
+    → test (plain_move c.args.context) ≡ true
+    → test (move_of c.args.context false c.kept-kept.result) ≡ true
+    → list_all test (moves c.args.self.now.schedule) ≡ true
+    → list_all test (moves c.note.new.schedule.items) ≡ true
+each_behind g c test one behind before =
+    ap (λ (entries : List Entry). list_all test (moves entries)) c.note.ensures.added
+    ∙ all_added test c.note_turn.new.schedule.items
+    (move_of c.args.context false c.kept-kept.result) behind
+    (each g (goal.at.After-note g c).After-note_turn test one before)
+
+behind_fits : (g : givens.Over) (c : After-note g)
+    → fits (move_of c.args.context false c.kept-kept.result) ≡ true
+behind_fits g c =
+    move_fits c.args.context false c.kept-kept.result
     (let few = c.ranges.context.fits in omega (arith, few))
     (subst (λ (shown : Option (ℤ × ℤ)). are_words shown ≡ true) (sym c.kept-kept.ensures)
     (words_kept _ _ c.in-Ok.told c.in-Some.next.shown
-    (rw c.in-Some.is at c.go_on-made.ensures.words))))
-    (plain g (goal.at.returns-clause-ordinary g c).After-note_turn before)
+    (rw c.in-Some.is at c.go_on-made.ensures.words)))
+
+pub returns-clause-ordinary : goal.returns-clause-ordinary
+returns-clause-ordinary g c =
+    let at = (goal.at.returns-clause-ordinary g c).After-note in
+    each_behind g at is_ordinary
+    (plain_fits g (goal.at.After-note g at).After-note_turn) (behind_fits g at)
+
+pub returns-clause-fits : goal.returns-clause-fits
+returns-clause-fits g c =
+    let at = (goal.at.returns-clause-fits g c).After-note in
+    each_behind g at fits
+    (plain_fits g (goal.at.After-note g at).After-note_turn) (behind_fits g at)
 
 pub returns-clause-takes : goal.returns-clause-takes
 returns-clause-takes g c =

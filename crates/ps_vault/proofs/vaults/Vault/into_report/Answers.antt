@@ -5,4 +5,5 @@ use Rattle.ps_vault.proofs.vaults.Vault.into_report.Goals as goal
 pub returns-clause-run : goal.returns-clause-run
 returns-clause-run g c =
     run_at_end g.S.Interpret.asks _ c.self.inside.schedule.items _ c.args.steps _ c.args.self
-    c.args.outcome c.self.invariant c.self.view_is c.requires.few c.requires.ends
+    c.args.outcome c.self.invariant c.self.view_is c.requires.few c.requires.fits c.requires.room
+    c.requires.ends

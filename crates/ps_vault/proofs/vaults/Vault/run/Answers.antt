@@ -17,6 +17,7 @@ loop-made-init g c = record {
   program = refl;
   counted = omega arith;
   ordinary = λ plain. plain;
+  capacity = omega arith;
   order = λ none.
       let start : World = starting_world c.args.self.now.program in
       let steps = moves c.args.self.now.schedule in
@@ -57,6 +58,10 @@ loop-made-preserved-in_default g c =
       counted = ap (λ (s : Story). count_of s.schedule) same ∙ c.loop-made.invariant.counted;
       ordinary = λ plain. ap (λ (s : Story). are_ordinary (moves s.schedule)) same
           ∙ c.loop-made.invariant.ordinary plain;
+      capacity = (
+          let held = ap (λ (s : Story). s.capacity) same in
+          omega (arith, held, c.loop-made.invariant.capacity)
+          );
       order = λ none. (
         λ less. passing_anew c.args.quantum start c.loop-made.after steps
             (passing_now g at none less) idle,
@@ -149,6 +154,10 @@ loop-made-preserved g c =
       ordinary = λ plain. c.turns-turn.ensures.ordinary
           (ap (λ (s : Story). are_ordinary (moves s.schedule)) same
           ∙ c.loop-made.invariant.ordinary plain);
+      capacity = (
+          let held = ap (λ (s : Story). s.capacity) same in
+          omega (arith, held, c.turns-turn.ensures.capacity, c.loop-made.invariant.capacity)
+          );
       order = λ none. (λ less. passing_on g at none (c.if-turn.false) less, ordered_now g at none);
       calling = c.turns-turn.ensures.calling_on c.if-turn.false;
     }

@@ -14,6 +14,7 @@ invariant-loop-made g l = record {
   counted : count_of l.self.schedule ≡ count_of l.fn.self.schedule + l.made;
   ordinary : are_ordinary (moves l.fn.self.schedule) ≡ true
       → are_ordinary (moves l.self.schedule) ≡ true;
+  capacity : l.fn.self.capacity ≤ l.self.capacity;
   order : moves l.fn.self.schedule ≡ []
       → (l.made < l.steps
       → Passing l.quantum (starting_world l.fn.self.program) l.after (moves l.self.schedule))

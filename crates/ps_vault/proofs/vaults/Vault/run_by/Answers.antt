@@ -22,5 +22,9 @@ loop-made-preserved g c =
       ordinary = λ plain. c.turns-turn.ensures.ordinary
           (ap (λ (s : Story). are_ordinary (moves s.schedule)) same
           ∙ c.loop-made.invariant.ordinary plain);
+      capacity = (
+          let held = ap (λ (s : Story). s.capacity) same in
+          omega (arith, held, c.turns-turn.ensures.capacity, c.loop-made.invariant.capacity)
+          );
       calling = c.turns-turn.ensures.calling_on c.if-turn.false;
     }

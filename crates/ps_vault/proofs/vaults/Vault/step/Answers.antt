@@ -1,9 +1,13 @@
 -- A step more of the schedule, or none.
-use Rattle.std.proofs.Common.{◌≡◌, true, refl, ap, ◌∙◌}
+use Rattle.std.proofs.Common.{◌≡◌, List, true, refl, ap, ◌∙◌, arith}
+use Rattle.ps_language.specs.declared.schedules.Entry.{Entry}
 use Rattle.ps_language.specs.Locks.{is_ready}
+use Rattle.ps_language.specs.Schedules.{moves}
 use Rattle.ps_language.specs.Worlds.{after_move, world}
+use Rattle.ps_vault.specs.Reports.{all_fit, fits}
 use Rattle.ps_vault.specs.Stories.{Story, world_at, move_of}
 use Rattle.ps_vault.proofs.Keeping.{caller_there, keeps_step, held_step, may_step, world_added}
+use Rattle.ps_vault.proofs.Advancing.{all_added, move_fits}
 use Rattle.ps_vault.proofs.vaults.Vault.step.Goals as goal
 
 pub step-told-requires-clause-there : goal.step-told-requires-clause-there
@@ -28,6 +32,15 @@ returns-in-Ok-clause-world g c =
     (move_of c.args.context c.args.refused c.args.shown)
     ∙ ap (λ (s : Story). after_move (world_at s)
     (move_of c.args.context c.args.refused c.args.shown)) c.self.view_is)
+
+pub returns-in-Ok-clause-fits : goal.returns-in-Ok-clause-fits
+returns-in-Ok-clause-fits g c = λ words before.
+    ap (λ (entries : List Entry). all_fit (moves entries)) c.note.ensures.added
+    ∙ all_added fits c.self.inside.schedule.items
+    (move_of c.args.context c.args.refused c.args.shown)
+    (move_fits c.args.context c.args.refused c.args.shown
+    (let few = c.ranges.context.fits in omega (arith, few)) words)
+    (ap (λ (s : Story). all_fit (moves s.schedule)) c.self.view_is ∙ before)
 
 pub returns-in-Err-clause-held_up : goal.returns-in-Err-clause-held_up
 returns-in-Err-clause-held_up g c =

@@ -33,6 +33,7 @@ loop-context-init g c = record {
   program = refl;
   counted = omega arith;
   ordinary = λ plain. plain;
+  capacity = omega arith;
   rest = omega arith;
   turns = begun_none c.args.quantum (starting_world c.args.self.now.program) c.args.context
       (moves c.args.self.now.schedule);
@@ -274,6 +275,16 @@ loop-context-preserved g c =
           ∙ c.advance-advanced.ensures.ordinary
           (subst (λ (entries : List Entry). are_ordinary (moves entries) ≡ true)
           (sym (same_schedule g at)) (c.loop-context.invariant.ordinary plain));
+      capacity = (
+          let held = ap (λ (s : Story). s.capacity) same in
+          omega (
+            arith,
+            held,
+            c.advance-advanced.ensures.capacity,
+            c.reserve_entries.ensures.capacity,
+            c.loop-context.invariant.capacity,
+          )
+          );
       rest = refl;
       turns = subst (λ (s : Story). Begun c.args.quantum
           (starting_world c.args.self.now.program) c.args.context

@@ -1,4 +1,4 @@
-use Rattle.std.proofs.Common.{◌≡◌, ◌<◌, ◌+◌, ◌-◌, ◌%◌, true, None}
+use Rattle.std.proofs.Common.{◌≡◌, ◌≤◌, ◌<◌, ◌+◌, ◌-◌, ◌%◌, true, None}
 use Rattle.ps_language.specs.Locks as locks
 use Rattle.ps_language.specs.Schedules.{count_of, moves}
 use Rattle.ps_language.specs.Worlds.{starting_world}
@@ -15,6 +15,7 @@ invariant-loop-context g l = record {
   counted : count_of l.self.schedule ≡ count_of l.fn.self.schedule + l.made;
   ordinary : are_ordinary (moves l.fn.self.schedule) ≡ true
       → are_ordinary (moves l.self.schedule) ≡ true;
+  capacity : l.fn.self.capacity ≤ l.self.capacity;
   rest : l.begun ≡ l.made % l.quantum;
   turns : Begun l.quantum (starting_world l.fn.self.program) l.context
       (moves l.fn.self.schedule) l.begun (moves l.self.schedule);

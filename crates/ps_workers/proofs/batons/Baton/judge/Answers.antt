@@ -1,5 +1,5 @@
 -- The run ends as its vault's world says.
-use Rattle.std.proofs.Common.{◌≡◌, ap, false, refl, sym, subst, ◌==◌}
+use Rattle.std.proofs.Common.{ap, arith, false, sym, subst, ◌==◌}
 use Rattle.ps_vault.specs.Reports.{EndsAs}
 use Rattle.ps_vault.specs.Stories.{Story, world_at}
 use Rattle.ps_workers.proofs.Keeping.{progress, keeps_ended}
@@ -12,6 +12,7 @@ invariant_of-self g c =
     c.self.inside.made c.self.inside.outcome) c.outcome-outcome.new.self c.outcome-outcome.result
     c.self.invariant (ap (λ (s : Story). s.program) same) (ap (λ (s : Story). s.schedule) same)
     (ap (λ (s : Story). s.caller) same)
+    (let held = ap (λ (s : Story). s.capacity) same in omega (arith, held))
     (subst (λ (s : Story). EndsAs g.S.Interpret.asks (world_at s) s.capacity s.schedule
     (c.self.inside.made == c.self.inside.config.steps) false c.outcome-outcome.result) (sym same)
     (c.outcome-outcome.ensures.ends false))

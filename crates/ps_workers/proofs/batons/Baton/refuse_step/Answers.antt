@@ -1,9 +1,10 @@
 -- A refused step more, or the end for want of memory.
-use Rattle.std.proofs.Common.{◌≡◌, ◌+◌, ◌<◌, ◌≤◌, ◌^◌, ℕ, ap, refl, sym, subst, ◌∙◌, arith, None, Some, List, true, false, Option}
+use Rattle.std.proofs.Common.{◌≡◌, ◌+◌, ◌<◌, ◌^◌, ap, refl, sym, subst, ◌∙◌, arith, None, List, true, false}
 use Rattle.ps_language.specs.declared.schedules.Entry.{Entry}
-use Rattle.ps_language.specs.Schedules.{count_of}
+use Rattle.ps_language.specs.Schedules.{count_of, moves}
+use Rattle.ps_vault.specs.Reports.{all_fit}
 use Rattle.ps_language.proofs.ScheduleLaws.{count_of-added}
-use Rattle.ps_vault.specs.Stories.{Story, move_of, world_at}
+use Rattle.ps_vault.specs.Stories.{move_of, world_at}
 use Rattle.std.specs.Prelude.{IsTrue}
 use Rattle.ps_world.specs.Needs.{step_wants}
 use Rattle.ps_workers.specs.Batons.{Progress, MayGoOn, Keeps}
@@ -16,7 +17,8 @@ invariant_of-self g c =
     c.self.inside.made c.self.inside.outcome) c.reserve_entries.new.self c.args.context
     c.self.invariant (subst (λ (p : Progress). MayGoOn p c.args.context) (sym c.self.view_is)
     c.requires.may) c.reserve_entries.ensures.program c.reserve_entries.ensures.schedule
-    c.reserve_entries.ensures.calling (on_error c.reserve_entries.result _
+    c.reserve_entries.ensures.calling c.reserve_entries.ensures.capacity
+    (on_error c.reserve_entries.result _
     c.reserve_entries.ensures.short (sym c.is_err.ensures.value ∙ c.if-is_err.true))
 
 pub overflow_add-self : goal.overflow_add-self
@@ -43,7 +45,12 @@ invariant_of-self-in-Ok g c =
     (c.self.inside.made + 1) o)) (sym (ap (λ (p : Progress). p.outcome) c.self.view_is
     ∙ c.requires.outcome))
     (keeps_made g.S.Interpret.asks (progress c.self.inside.vault c.self.inside.config
-    c.self.inside.made c.self.inside.outcome) c.step.new.self 1 None c.self.invariant made
+    c.self.inside.made c.self.inside.outcome) c.step.new.self 1 None c.self.invariant (record {
+      counted = made;
+      fits = λ fit. c.in-Ok.ensures.fits refl
+          (ap (λ (s : List Entry). all_fit (moves s)) c.reserve_entries.ensures.schedule ∙ fit);
+      more = omega (arith, c.reserve_entries.ensures.capacity, c.step.ensures.capacity);
+    })
     (omega (arith, may.left))
     (waits_none (progress c.step.new.self c.self.inside.config (c.self.inside.made + 1) None)
     c.in-Ok.ensures.calling_on) tt)
@@ -58,5 +65,6 @@ invariant_of-self-in-Err-Memory g c =
     c.self.invariant may (c.step.ensures.program ∙ c.reserve_entries.ensures.program)
     (c.in-Err-Memory.ensures.not_made ∙ c.reserve_entries.ensures.schedule)
     c.step.ensures.calling
+    (omega (arith, c.reserve_entries.ensures.capacity, c.step.ensures.capacity))
     (subst (λ (p : Progress). IsTrue (step_wants g.S.Interpret.asks c.args.context false
     (world_at p.story))) (sym c.self.view_is) c.requires.wants)

@@ -1,5 +1,5 @@
 -- The end for want of memory.
-use Rattle.std.proofs.Common.{◌≡◌, ◌+◌, ◌<◌, ◌≤◌, ℕ, ap, false, refl, sym, subst, ◌∙◌, arith, None, Some}
+use Rattle.std.proofs.Common.{false, refl, sym, subst, arith}
 use Rattle.ps_vault.specs.Stories.{world_at}
 use Rattle.ps_world.specs.Needs.{step_wants}
 use Rattle.std.specs.Prelude.{IsTrue}
@@ -20,4 +20,4 @@ invariant_of-self g c =
     let here : Progress = progress c.self.inside.vault c.self.inside.config c.self.inside.made
     c.self.inside.outcome in
     keeps_starved g.S.Interpret.asks here c.self.inside.vault c.args.context c.self.invariant may
-    refl refl refl (wants_some g.S.Interpret.asks here c.args.context may wants)
+    refl refl refl (omega arith) (wants_some g.S.Interpret.asks here c.args.context may wants)

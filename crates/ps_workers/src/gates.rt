@@ -1,0 +1,112 @@
+//! A memory that tells a gate of each store before it makes it.
+
+ghost use Rattle.std.specs.Prelude.{◌≡◌};
+
+use ps_flips::collected::{CollectedMemory, Counts};
+use ps_language::kinds::Kind;
+use ps_mem::{Memory, NeedFault, Permit};
+use ps_word::headers::Header;
+use ps_word::words::Word;
+
+/// What is told of the work on a memory. A test can wait there, and so choose where a run stops.
+pub trait Gate {
+    /// A store or a copy comes next; whether a cycle of the collector is open. It must return.
+    fn store(&self, cycle_open: bool);
+}
+
+/// A memory that is collected, with its gate.
+#[derive(Drop)]
+pub struct Gated<'g, M: CollectedMemory + Drop, G: Gate> {
+    memory: M,
+    gate: &'g G,
+}
+
+impl<'g, M: CollectedMemory + Drop, G: Gate> Gated<'g, M, G> {
+    /// A memory whose stores are told to this gate.
+    pub fn new(memory: M, gate: &'g G) -> Gated<'g, M, G>
+        ensures { result.memory ≡ memory }
+    {
+        Gated { memory, gate }
+    }
+}
+
+impl<M: CollectedMemory + Drop, G: Gate> Memory for Gated<'_, M, G> {
+    ghost heap = { λ g. M.heap g.memory };
+
+    ghost grants = { λ g. M.grants g.memory };
+
+    fn used(&mut self) -> u32 {
+        self.memory.used()
+    }
+
+    fn size(&mut self) -> u32 {
+        self.memory.size()
+    }
+
+    fn room(&mut self, words: u32, births: u32) -> bool {
+        self.memory.room(words, births)
+    }
+
+    fn need(&mut self, words: u32, births: u32) -> Result<(), NeedFault> {
+        self.memory.need(words, births)
+    }
+
+    fn alloc(&mut self, kind: Kind, fields: u32) -> u32 {
+        self.memory.alloc(kind, fields)
+    }
+
+    fn alloc_body(&mut self, dictionary: u32, fields: u32) -> u32 {
+        self.memory.alloc_body(dictionary, fields)
+    }
+
+    fn header(&mut self, address: u32) -> Header {
+        self.memory.header(address)
+    }
+
+    fn load(&mut self, address: u32, place: u32) -> Word {
+        self.memory.load(address, place)
+    }
+
+    fn fill(&mut self, address: u32, place: u32, word: Word) {
+        self.memory.fill(address, place, word);
+    }
+
+    fn store(&mut self, slot: u32, address: u32, place: u32, items: &[Word]) {
+        let cycle_open = self.memory.is_open();
+        self.gate.store(cycle_open);
+        self.memory.store(slot, address, place, items);
+    }
+
+    fn copy(&mut self, slot: u32, from: u32, from_place: u32, to: u32, to_place: u32, count: u32) {
+        let cycle_open = self.memory.is_open();
+        self.gate.store(cycle_open);
+        self.memory
+            .copy(slot, from, from_place, to, to_place, count);
+    }
+
+    fn permit(&mut self, slot: u32, count: u32) -> Permit {
+        self.memory.permit(slot, count)
+    }
+}
+
+impl<M: CollectedMemory + Drop, G: Gate> CollectedMemory for Gated<'_, M, G> {
+    fn is_open(&mut self) -> bool {
+        self.memory.is_open()
+    }
+
+    fn open_cycle(&mut self, roots: &[Word]) -> bool {
+        self.memory.open_cycle(roots)
+    }
+
+    fn work(&mut self, actions: u32) -> bool {
+        self.memory.work(actions)
+    }
+
+    fn end_cycle(&mut self, roots: &mut [Word]) -> bool {
+        self.memory.end_cycle(roots)
+    }
+
+    fn counts(&mut self) -> Counts {
+        self.memory.counts()
+    }
+}
