@@ -19,6 +19,9 @@ use std::alloc::{AllocError, Global};
 use std::hash::RandomState;
 use std::marker::Model;
 
+/// The most turns of one hold of the baton: to hand it on costs as much as some turns.
+const TURNS: u32 = 1024;
+
 /// The vault, and whose turn is next.
 #[derive(Drop)]
 pub struct Baton<'a, M: CollectedMemory + Drop, S: Interpret + Drop, D: Deeds + Drop> {
@@ -101,9 +104,22 @@ impl<'a, M: CollectedMemory + Drop, S: Interpret + Drop, D: Deeds + Drop> Baton<
 }
 
 impl<M: CollectedMemory + Drop, S: Interpret + Drop, D: Deeds + Drop> Baton<'_, M, S, D> {
+    /// The turns of one hold of the baton. True: the run is over, or a thread could not be started.
+    pub fn turns(&mut self) -> bool
+        ensures goes_on { GoesOn self.old self.new }
+        ensures over { IsSome self.old.outcome → self.new ≡ self.old }
+    {
+        for _ in 0..TURNS {
+            if self.turn() {
+                return true;
+            }
+        }
+        false
+    }
+
     /// A turn of the next context: at most a quantum of its steps, and only one while a cycle is
     /// open. True: the run is over, or a thread could not be started.
-    pub fn turn(&mut self) -> bool
+    fn turn(&mut self) -> bool
         ensures goes_on { GoesOn self.old self.new }
         ensures over { IsSome self.old.outcome → self.new ≡ self.old }
     {

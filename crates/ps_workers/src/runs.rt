@@ -17,13 +17,13 @@ use std::sync::{Mutex, Wait};
 use std::thread;
 use std::thread::Threads;
 
-/// A worker: turn after turn under the lock, until the run is over.
+/// A worker: turns under the lock, again and again, until the run is over.
 fn work<M: CollectedMemory + Drop, S: Interpret + Drop, D: Deeds + Drop, R: Wait>(
     rt: &R,
     baton: &Mutex<Baton<'_, M, S, D>>,
 ) {
     for _ in rt.forever() {
-        if baton.lock(rt).turn() {
+        if baton.lock(rt).turns() {
             return;
         }
     }
