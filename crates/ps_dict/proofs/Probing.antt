@@ -22,7 +22,7 @@ use Rattle.ps_dict.specs.Keys.{same_words}
 use Rattle.ps_dict.specs.Places.{count_at, capacity_at, body_at, pairs_at, place_of}
 use Rattle.ps_dict.proofs.Reading.{key-pair, key-place, loaded}
 use Rattle.ps_dict.proofs.Shapes.{shape, capacity-is, body-room, count-fits, length-pairs, indexed-is}
-use Rattle.ps_dict.proofs.IndexPlaces.{turned, turned-length, IsBelow, AreBelow, IsIndex, is-index, below-turned}
+use Rattle.ps_dict.proofs.IndexPlaces.{turned, IsBelow, AreBelow, IsIndex, is-index, below-turned}
 use Rattle.ps_dict.proofs.IndexSearch.{looked_up, same_found, same_at, no_pair, index-finds}
 
 -- ---- a word of the index
@@ -124,12 +124,6 @@ drop-at [] k x e = cc
 drop-at (y ∷ xs) zero x e = let is : y ≡ x = cc in ap (λ z. z ∷ xs) is
 drop-at (y ∷ xs) (suc k) x e = drop-at xs k x e
 
-drop-past : {A : Type 0} (xs : List A) (k : ℕ) → length xs ≤ k → drop k xs ≡ []
-drop-past [] zero h = refl
-drop-past [] (suc k) h = refl
-drop-past (x ∷ xs) zero h = absurd (omega (arith, h))
-drop-past (x ∷ xs) (suc k) h = drop-past xs k (omega (arith, h))
-
 pub from-map : (places : List (Option ℕ)) (i : ℕ) (w : Word)
     → slice_get (map index_word places) i ≡ Some w → (x : Option ℕ) × (slice_get places i ≡ Some x)
     × (index_word x ≡ w)
@@ -146,6 +140,13 @@ StillAhead h a key k =
     (drop k (turned (hash_of (birth_at h) key % capacity_at h a)
     (index_of (capacity_at h a) (hashes_of (birth_at h) (pairs_at h a))))) ≡ place_of
     (pairs_at h a) key
+
+-- the place itself is the one that lies nothing behind it
+pub first-behind : (s n : ℕ) → s < n → s ≡ (if nat_lt (s + 0) n then s + 0 else s + 0 - n)
+first-behind s n below =
+    let none : s ≡ s + 0 = omega (arith) in
+    none ∙ ap (λ b. if b then s + 0 else s + 0 - n)
+    (sym (below_test (s + 0) n (omega (arith, below))))
 
 pub ahead-in : (g h : Heap) (a : ℕ) (key : Word) (k : ℕ) → g ≡ h → StillAhead g a key k
     → StillAhead h a key k
@@ -201,16 +202,6 @@ module _ (h : Heap) (a : ℕ) (known : StandsAs h DictionaryKind a 4) (sound : I
         empty : (ps : List (Word × Word)) → length ps ≡ 0 → place_of ps key ≡ None
         empty [] e = no_pair key
         empty (p ∷ ps) e = absurd (omega (arith, e))
-
-    length-turned : length (turned start places) ≡ capacity_at h a
-    length-turned = turned-length start places ∙ places-index.count
-
-    pub ahead-end : (k : ℕ) → capacity_at h a ≤ k → IsStillAhead k
-        → place_of (pairs_at h a) key ≡ None
-    ahead-end k past ahead =
-        let count = length-turned in
-        sym (sym (ap (looked_up (same_at (pairs_at h a) key))
-        (drop-past (turned start places) k (omega (arith, count, past)))) ∙ ahead)
 
     module _ (k : ℕ) (below : k < capacity_at h a) (w : Word)
         (read : slice_get (fields_at h (body_at h a))

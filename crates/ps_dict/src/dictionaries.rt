@@ -1,6 +1,6 @@
 //! Dictionaries that are read (PLRM2, 3.3.9 and 8: length, maxlength, get, known, forall).
 
-ghost use Rattle.std.specs.Prelude.{◌≡◌, ◌≢◌, ℕ, ◌+◌, ◌<◌, ◌^◌, List, length, Option, Some, IfSome, option_map, slice_get};
+ghost use Rattle.std.specs.Prelude.{◌≡◌, ◌≢◌, ℕ, ◌+◌, ◌<◌, ◌≤◌, ◌^◌, List, length, Option, Some, IfSome, option_map, slice_get};
 ghost use Rattle.std.specs.List.{AllPairs};
 ghost use Rattle.ps_language.specs.Value.{Store};
 ghost use Rattle.ps_language.specs.Access.{dictionary_at};
@@ -27,6 +27,9 @@ pub(crate) const CAPACITY: u32 = 1;
 pub(crate) const ACCESS: u32 = 2;
 
 pub(crate) const BODY: u32 = 3;
+
+/// Of so many places of an index one is looked at.
+const PLACES_A_LOOK: u32 = 8;
 
 /// The natural number in a field: in a sound memory it needs no test of its type.
 #[inline(always)]
@@ -97,8 +100,7 @@ pub(crate) fn body<M: Memory>(memory: &mut M, address: u32) -> u32
     memory.load(address, BODY).low_address()
 }
 
-/// The place of the first pair whose key is the same, counted from 0 in the order of insertion. In
-/// a dictionary that is full, each pair is looked at in order; else the index is looked through.
+/// The place of the first pair whose key is the same, counted from 0 in the order of insertion.
 #[inline(always)]
 pub fn position<M: Memory>(memory: &mut M, address: u32, key: Word) -> Option<u32>
     requires sound { IsSound (M.heap memory.old) }
@@ -114,18 +116,55 @@ pub fn position<M: Memory>(memory: &mut M, address: u32, key: Word) -> Option<u3
         → result ≡ first_place (dictionary_at s (birth_at (M.heap memory.old) address)).pairs
         (value_of (birth_at (M.heap memory.old)) names key) }
 {
-    let count = length(memory, address);
     let capacity = capacity(memory, address);
-    if count < capacity {
-        indexed_position(memory, address, capacity, key)
-    } else {
-        ordered_position(memory, address, count, key)
+    if capacity == 0 {
+        return None;
+    }
+    near_position(memory, address, capacity, key)
+}
+
+/// The same by the place of the key's hash number, where most keys stand that are there; else by
+/// the places behind it.
+#[inline(always)]
+fn near_position<M: Memory>(memory: &mut M, address: u32, capacity: u32, key: Word) -> Option<u32>
+    requires capacity { capacity ≡ capacity_at (M.heap memory.old) address }
+    requires some { 0 < capacity }
+    requires sound { IsSound (M.heap memory.old) }
+    requires known { StandsAs (M.heap memory.old) Kind.Dictionary address 4 }
+    requires held { IsValue (M.heap memory.old) key }
+    ensures heap { M.heap memory.new ≡ M.heap memory.old }
+    ensures grants { M.grants memory.new ≡ M.grants memory.old }
+    ensures within { IfSome result (λ place. place < count_at (M.heap memory.old) address) }
+    ensures words { result ≡ place_of (pairs_at (M.heap memory.old) address) key }
+{
+    let body = body(memory, address);
+    let place = first_place(memory, key, capacity);
+    match memory.load(body, 2 * capacity + place).as_integer() {
+        Some(number) => {
+            let position = number.unsigned_abs();
+            let word = memory.load(body, 2 * position);
+            if is_same_key(word, key) {
+                return Some(position);
+            }
+            indexed_position(memory, address, capacity, key)
+        }
+        None => None,
     }
 }
 
-/// The same by the index, from the place of the key's hash number on: where places are free, a few
-/// looks tell that a key is absent.
+/// How many places of an index are looked at before the pairs are gone through in order: a key that
+/// is there mostly stands that near.
 #[inline(always)]
+fn looks_in(capacity: u32) -> u32
+    requires { 0 < capacity }
+    ensures { result ≤ capacity }
+{
+    capacity / PLACES_A_LOOK + 1
+}
+
+/// The same by the index, from the place of the key's hash number on: where places are free, a few
+/// looks tell that a key is absent. Where they tell nothing, by the order.
+#[inline(never)]
 fn indexed_position<M: Memory>(
     memory: &mut M,
     address: u32,
@@ -144,7 +183,7 @@ fn indexed_position<M: Memory>(
 {
     let body = body(memory, address);
     let start = first_place(memory, key, capacity);
-    for behind in 0..capacity {
+    for behind in 0..looks_in(capacity) {
         let place = place_behind(start, behind, capacity);
         match memory.load(body, 2 * capacity + place).as_integer() {
             Some(number) => {
@@ -157,12 +196,12 @@ fn indexed_position<M: Memory>(
             None => return None,
         }
     }
-    None
+    let count = length(memory, address);
+    ordered_position(memory, address, count, key)
 }
 
-/// The same in the order of insertion: where no place of the index is free, this takes half the
-/// loads.
-#[inline(never)]
+/// The same in the order of insertion: of an absent key this takes half the loads of an index in
+/// which no place is free.
 fn ordered_position<M: Memory>(memory: &mut M, address: u32, count: u32, key: Word) -> Option<u32>
     requires count { count ≡ count_at (M.heap memory.old) address }
     requires sound { IsSound (M.heap memory.old) }

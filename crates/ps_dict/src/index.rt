@@ -52,7 +52,7 @@ pub(crate) fn first_place<M: Memory>(memory: &mut M, key: Word, capacity: u32) -
     ensures answer { result ≡ hash_of (birth_at (M.heap memory.old)) key % capacity }
     ensures below { result < capacity }
 {
-    let Some(name) = key.as_name() else {
+    let Content::Name(name) = key.content() else {
         return (hash_number(memory, key) % capacity as u64) as u32;
     };
     let number = name as u32;

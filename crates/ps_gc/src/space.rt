@@ -26,15 +26,18 @@ use ps_word::headers::Header;
 use ps_word::words::Word;
 use std::alloc::{AllocError, Global};
 
+/// Of so many actions of the collector one looks at a log.
+const ACTIONS_A_LOOK: u32 = 8;
+
 /// A memory of one table, with its collector.
 #[derive(Drop)]
 pub struct CollectedSpace {
     vm: VmSeat,
     collector: Collector,
-    /// The slot that is drained next.
+    /// The slot whose log is looked at next.
     slot: u32,
-    /// Whether a field is scanned next, and no log drained.
-    scans: bool,
+    /// How many looks in a row found nothing.
+    idle: u32,
     ghost seated: { vm.seat.table_id ≡ collector.gc.seat.table_id },
     ghost is_slot: { slot < slots },
 }
@@ -54,7 +57,7 @@ impl CollectedSpace {
             vm,
             collector: Collector::new(gc, space),
             slot: 0,
-            scans: false,
+            idle: 0,
         })
     }
 
@@ -73,20 +76,34 @@ impl CollectedSpace {
         self.collector.add_roots(roots);
     }
 
-    /// One action of the collector: it looks for a record of the next slot, or copies a field.
-    /// False: there is none.
-    fn act(&mut self) -> bool
+    /// So many looks at logs, slot by slot; a log is looked at again where a record was taken.
+    fn drain_some(&mut self, looks: u32)
         requires open { knows_open self.old.collector.gc.seat.me.0.gc ≡ true }
         ensures open { knows_open self.new.collector.gc.seat.me.0.gc ≡ true }
         ensures vm { self.new.vm ≡ self.old.vm }
     {
-        self.scans = !self.scans;
-        if !self.scans {
-            return self.collector.scan_one();
+        for _ in 0..looks {
+            if let Drained::Took(_) = self.collector.drain_one(self.slot) {
+                self.idle = 0;
+            } else {
+                self.idle = self.idle.saturating_add(1);
+                self.slot = (self.slot + 1) % SLOTS;
+            }
         }
-        let drained = self.collector.drain_one(self.slot);
-        self.slot = (self.slot + 1) % SLOTS;
-        matches!(drained, Drained::Took(_))
+    }
+
+    /// Copies so many fields, or as many as are left. False: none was.
+    fn scan_some(&mut self, fields: u32) -> bool
+        requires open { knows_open self.old.collector.gc.seat.me.0.gc ≡ true }
+        ensures open { knows_open self.new.collector.gc.seat.me.0.gc ≡ true }
+        ensures vm { self.new.vm ≡ self.old.vm }
+    {
+        for scanned in 0..fields {
+            if !self.collector.scan_one() {
+                return scanned > 0;
+            }
+        }
+        fields > 0
     }
 
     /// Closes the log of a slot; where it is full, records are taken of it until it isn't. False:
@@ -238,20 +255,20 @@ impl CollectedMemory for CollectedSpace {
         true
     }
 
-    /// As the memory's; false after a look at each log and at the scan, one after another, that
-    /// found nothing.
+    /// As the memory's. One action of eight looks at a log, the others scan; where no field is left
+    /// they look at logs too. False: each log was looked at in a row, and nothing was found.
     fn work(&mut self, actions: u32) -> bool {
         if !self.collector.begin_cycle() {
             return false;
         }
-        let mut idle: u32 = 0;
-        for _ in 0..actions {
-            idle = if self.act() { 0 } else { idle.wrapping_add(1) };
-            if idle == 2 * SLOTS {
-                return false;
-            }
+        let looks = actions / ACTIONS_A_LOOK;
+        let left = actions - looks;
+        self.drain_some(looks);
+        if self.scan_some(left) {
+            return true;
         }
-        true
+        self.drain_some(left.saturating_sub(2));
+        self.idle < SLOTS || self.collector.scan_one()
     }
 
     /// As the memory's; where no cycle is open nothing changes, and where the cycle could not end

@@ -192,8 +192,7 @@ module _ (asks : world.Status → Around → Scene → acts.Asked) (program : Li
 
   -- a run with a budget of steps, whose schedule has a text that can be read again
   pub record IsRecordable (steps : ℕ) (report : Report) : Type 0 where
-    pub run : IsRunIn asks program steps report.printed.items (vec_capacity report.schedule)
-        report.schedule.items report.outcome
+    pub run : IsRunIn asks program steps report
     pub entries : AreEntries report.schedule.items
 
   -- over memory that is never collected no step is refused, and there are passes with turns of at

@@ -28,13 +28,13 @@ pub fn access_of<M: Memory>(memory: &mut M, word: Word) -> Option<Access>
     ensures access { (names : List (List ℕ)) (s : Store) → Shows (M.heap memory.old) names s
         → language.access_of s (value_of (birth_at (M.heap memory.old)) names word) ≡ result }
 {
-    if let Some(part) = word.as_part() {
-        return Some(part.access);
+    if let Some(address) = word.as_dictionary() {
+        return Some(access(memory, address));
     }
-    let Some(address) = word.as_dictionary() else {
+    let Some(part) = word.as_part() else {
         return None;
     };
-    Some(access(memory, address))
+    Some(part.access)
 }
 
 /// `X rcheck t`: whether an array, a string or a dictionary can be read. Raises `stackunderflow`

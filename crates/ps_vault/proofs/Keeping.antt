@@ -1,6 +1,6 @@
 -- What a vault keeps, over its steps.
 use Rattle.std.proofs.Common.{◌≡◌, ◌≢◌, ℕ, ℤ, zero, suc, ◌<◌, ◌≤◌, Bool, true, false, ◌&&◌, Option, Some, None, Ok, Err, List, [], ◌∷◌, refl, sym, ◌∙◌, ap, subst, arith}
-use Rattle.std.specs.Prelude.{slice_get, IsTrue, IsSome, IfSome, IfNone, MatchOption, ◌==◌, length}
+use Rattle.std.specs.Prelude.{slice_get, IsTrue, IsSome, IfSome, IfNone, MatchOption, ◌==◌, length, vec_capacity}
 use Rattle.std.specs.Option.{option_map, option_map_or}
 use Rattle.std.proofs.lemmas.Bool.{true≢false}
 use Rattle.ps_language.specs.declared.schedules.Entry.{Entry}
@@ -37,6 +37,7 @@ use Rattle.ps_world.specs.Needs.{step_wants}
 use Rattle.ps_world.specs.Notes.{note_of}
 use Rattle.ps_world.specs.Steps.{Steps}
 use Rattle.ps_vault.specs.declared.reports.Outcome.{Outcome}
+use Rattle.ps_vault.specs.declared.reports.Report.{Report}
 use Rattle.ps_vault.specs.Holds.{slot, Grows, IsHeldUp, OnlyGrows}
 use Rattle.ps_vault.specs.Order.{IsOnlyLeft}
 use Rattle.ps_vault.specs.declared.reports.TheConstants.{FIRST_ENTRIES}
@@ -274,27 +275,31 @@ printed_by (Some calling) d w at =
     (at.leaves false)).is ∙ at.world.printed
 
 -- a vault at its end is a run
-pub run_at_end : (asks : Status → Around → Scene → Asked) (h : Held) (schedule : List Entry)
-    (capacity steps : ℕ) (caller : Option ℕ) (story : Story) (outcome : Outcome)
-    → Keeps h schedule
+pub run_at_end : (asks : Status → Around → Scene → Asked) (h : Held) (report : Report)
+    (steps : ℕ) (caller : Option ℕ) (story : Story)
+    → report.printed.items ≡ h.desk.printed
+    → Keeps h report.schedule.items
     → record {
       program = h.desk.program;
-      schedule = schedule;
-      capacity = capacity;
+      schedule = report.schedule.items;
+      capacity = vec_capacity report.schedule;
       caller = caller;
     } ≡ story
     → count_of story.schedule ≤ steps
     → all_fit (moves story.schedule) ≡ true → FIRST_ENTRIES ≤ story.capacity
     → EndsAs asks (world_at story) story.capacity story.schedule
-    (count_of story.schedule == steps) false outcome
-    → IsRunIn asks story.program steps h.desk.printed capacity schedule outcome
+    (count_of story.schedule == steps) false report.outcome
+    → IsRunIn asks story.program steps report
 unfolding printed
-run_at_end asks h schedule capacity steps caller story outcome keeps view few fit room ends =
+run_at_end asks h report steps caller story prints keeps view few fit room ends =
+    let schedule : List Entry = report.schedule.items in
+    let outcome : Outcome = report.outcome in
+    let capacity : ℕ = vec_capacity report.schedule in
     let same : h.desk.program ≡ story.program = ap (λ (s : Story). s.program) view in
     let made : story.schedule ≡ schedule = sym (ap (λ (s : Story). s.schedule) view) in
     let here : World = world h.desk.program schedule in
     record {
-      prints = sym (printed_by h.calling h.desk here keeps.at)
+      prints = prints ∙ sym (printed_by h.calling h.desk here keeps.at)
           ∙ ap (λ (p : List ℕ). (world p schedule).printed) same;
       proper = subst (λ (p : List ℕ). IsProper p schedule) same keeps.proper;
       longest = keeps.longest;

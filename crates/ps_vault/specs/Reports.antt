@@ -1,5 +1,5 @@
 -- What runs promise.
-use Rattle.std.specs.Prelude.{◌≡◌, ℕ, ◌+◌, ◌<◌, ◌≤◌, ◌^◌, ◌==◌, nat_lt, ℤ, pos, negsuc, Bool, true, false, IsTrue, Option, Some, None, List, [], ◌∷◌, length, drop, not, ◌&&◌, ◌⊎◌}
+use Rattle.std.specs.Prelude.{◌≡◌, ℕ, ◌+◌, ◌<◌, ◌≤◌, ◌^◌, ◌==◌, nat_lt, ℤ, pos, negsuc, Bool, true, false, IsTrue, Option, Some, None, List, [], ◌∷◌, length, drop, not, ◌&&◌, ◌⊎◌, vec_capacity}
 use Rattle.std.specs.List.{list_all}
 use Rattle.ps_language.specs.declared.schedules.Entry.{Entry}
 use Rattle.ps_language.specs.Effect.{Around, Scene}
@@ -13,6 +13,7 @@ use Rattle.ps_world.specs.Needs.{step_wants}
 use Rattle.ps_vault.specs.declared.reports.Config.{Config}
 use Rattle.ps_vault.specs.declared.reports.Outcome.{Outcome}
 use Rattle.ps_vault.specs.declared.reports.Outcome.TheVariants.{Finished, Faulted, AllWaiting, StepsOut, Memory}
+use Rattle.ps_vault.specs.declared.reports.Report.{Report}
 use Rattle.ps_vault.specs.declared.reports.TheConstants.{FIRST_ENTRIES}
 
 -- each number is in its range
@@ -38,13 +39,13 @@ are_words (Some pair) = is_number_of_words pair.0 && is_number_of_words pair.1
 abbrev pub fits : Move → Bool
 fits move = nat_lt move.context (2 ^ 32) && are_words move.shown
 
+-- it can have those of each
+abbrev pub all_fit : List Move → Bool
+all_fit steps = list_all fits steps
+
 -- an ordinary step: it isn't refused either
 abbrev pub is_ordinary : Move → Bool
 is_ordinary move = not move.refused && fits move
-
--- those of each step
-abbrev pub all_fit : List Move → Bool
-all_fit steps = list_all fits steps
 
 abbrev pub are_ordinary : List Move → Bool
 are_ordinary steps = list_all is_ordinary steps
@@ -87,22 +88,21 @@ module _ (asks : Status → Around → Scene → Asked) where
   -- a run of the program with a budget of steps: its bytes are those that the definitions print
   -- under its schedule, which is proper and of the longest entries, and the outcome is that of its
   -- world; its steps may be refused. The schedule had room from the start, and can have its numbers
-  pub record IsRunIn (program : List ℕ) (steps : ℕ) (printed : List ℕ) (capacity : ℕ)
-      (schedule : List Entry) (outcome : Outcome) : Type 0 where
-    pub prints : printed ≡ worlds.printed program schedule
-    pub proper : IsProper program schedule
-    pub longest : is_longest schedule ≡ true
-    pub within : count_of schedule ≤ steps
-    pub fits : all_fit (moves schedule) ≡ true
-    pub room : FIRST_ENTRIES ≤ capacity
-    pub ends : EndsAs (worlds.world program schedule) capacity schedule
-        (count_of schedule == steps) false outcome
+  pub record IsRunIn (program : List ℕ) (steps : ℕ) (report : Report) : Type 0 where
+    pub prints : report.printed.items ≡ worlds.printed program report.schedule.items
+    pub proper : IsProper program report.schedule.items
+    pub longest : is_longest report.schedule.items ≡ true
+    pub within : count_of report.schedule.items ≤ steps
+    pub fits : all_fit (moves report.schedule.items) ≡ true
+    pub room : FIRST_ENTRIES ≤ vec_capacity report.schedule
+    pub ends : EndsAs (worlds.world program report.schedule.items)
+        (vec_capacity report.schedule) report.schedule.items
+        (count_of report.schedule.items == steps) false report.outcome
 
   -- a run whose steps are all ordinary
-  pub record IsRunOf (program : List ℕ) (steps : ℕ) (printed : List ℕ) (capacity : ℕ)
-      (schedule : List Entry) (outcome : Outcome) : Type 0 where
-    pub run : IsRunIn program steps printed capacity schedule outcome
-    pub ordinary : are_ordinary (moves schedule) ≡ true
+  pub record IsRunOf (program : List ℕ) (steps : ℕ) (report : Report) : Type 0 where
+    pub run : IsRunIn program steps report
+    pub ordinary : are_ordinary (moves report.schedule.items) ≡ true
 
 -- whether it is for want of memory
 abbrev pub is_memory : Outcome → Bool

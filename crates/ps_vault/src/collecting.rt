@@ -1,7 +1,7 @@
 //! A vault over a memory that is collected: what the collector does between steps leaves the world,
 //! and the schedule.
 
-ghost use Rattle.std.specs.Prelude.{◌≡◌, IsTrue};
+ghost use Rattle.std.specs.Prelude.{◌≡◌, ◌↔◌, IsTrue};
 
 use crate::vaults::Vault;
 use ps_flips::collected::{CollectedMemory, Counts};
@@ -17,11 +17,18 @@ impl<M: CollectedMemory + Drop, S: Interpret + Drop, D: Deeds + Drop> Vault<'_, 
         self.memory.is_open()
     }
 
-    /// Whether more than half of the space is used.
-    pub fn is_half_used(&mut self) -> bool
+    /// The words that are used of the space.
+    pub fn used(&mut self) -> u32
         ensures { self.new ≡ self.old }
     {
-        self.memory.used() > self.memory.size() / 2
+        self.memory.used()
+    }
+
+    /// Whether more than half is used of what was free of the space while so many words were used.
+    pub fn is_half_used(&mut self, kept: u32) -> bool
+        ensures { self.new ≡ self.old }
+    {
+        self.memory.used() > kept / 2 + self.memory.size() / 2
     }
 
     /// Opens a cycle where none is open and cycles are left: the collector is handed the roots of
@@ -59,7 +66,7 @@ impl<M: CollectedMemory + Drop, S: Interpret + Drop, D: Deeds + Drop> Vault<'_, 
 
     /// Whether it is a vault of this program.
     pub fn is_of(&self, program: &[u8]) -> bool
-        ensures { IsTrue result → self.now.program ≡ program.now }
+        ensures { IsTrue result ↔ self.now.program ≡ program.now }
     {
         self.world.contexts.shared.program == program
     }

@@ -1,6 +1,6 @@
 //! Runs in an order that a caller chooses, turn by turn (PLRM2, 7.1).
 
-ghost use Rattle.std.specs.Prelude.{◌≡◌, ℕ, ◌+◌, ◌<◌, ◌≤◌, false, true, IfOk, IfSome, IfNone, vec_capacity};
+ghost use Rattle.std.specs.Prelude.{◌≡◌, ℕ, ◌+◌, ◌<◌, ◌≤◌, false, true, IfOk, IfSome, IfNone};
 ghost use Rattle.ps_language.specs.Locks as locks;
 ghost use Rattle.ps_language.specs.Schedules.{count_of, moves};
 ghost use Rattle.ps_vault.specs.Holds.{OnlyGrows};
@@ -112,8 +112,7 @@ pub fn run_in_order<S: Interpret + Drop, D: Deeds + Drop, O: TurnOrder>(
     keys: RandomState,
     order: &mut O,
 ) -> Result<Report, AllocError>
-    ensures run { IfOk result (λ report. IsRunOf S.asks program.now steps report.printed.items
-        (vec_capacity report.schedule) report.schedule.items report.outcome) }
+    ensures run { IfOk result (IsRunOf S.asks program.now steps) }
 {
     let memory = PlainMemory::new(alloc);
     let mut vault = Vault::new(

@@ -11,6 +11,7 @@ ghost use Rattle.ps_vault.specs.Stories.{world_at};
 use crate::reports::{Config, FIRST_ENTRIES, Outcome, Report, RunFault};
 use crate::turns::Turn;
 use crate::vaults::Vault;
+use ps_flips::collected::Counts;
 use ps_interpreter::interprets::Interpret;
 use ps_mem::Memory;
 use ps_mem::plain::PlainMemory;
@@ -36,9 +37,7 @@ pub fn run_plain<S: Interpret + Drop, D: Deeds + Drop>(
     keys: RandomState,
 ) -> Result<Report, RunFault>
     ensures config { (result ≡ Err RunFault.Config) ↔ ¬ IsWithin config }
-    ensures run { IfOk result
-        (λ report. IsRunOf S.asks program.now config.steps report.printed.items
-        (vec_capacity report.schedule) report.schedule.items report.outcome) }
+    ensures run { IfOk result (IsRunOf S.asks program.now config.steps) }
     ensures order { IfOk result (λ report. InOrder config.quantum
         (starting_world program.now) (moves report.schedule.items)) }
     ensures starved { IfOk result (λ report. is_memory report.outcome ≡ true → (context : ℕ)
@@ -80,18 +79,18 @@ impl<M: Memory + Drop, S: Interpret + Drop, D: Deeds + Drop> Vault<'_, M, S, D> 
         requires starved { run.held ≡ true
             → IsOneStarved S.asks false (world_at self) self.capacity self.schedule }
         requires ended { run.held ≡ false → run.made < steps → IsNoneAbove (world_at self) 0 }
-        ensures run { IsRunOf S.asks self.entry.program steps result.printed.items
-            (vec_capacity result.schedule) result.schedule.items result.outcome }
+        ensures run { IsRunOf S.asks self.entry.program steps result }
         ensures schedule { result.schedule.items ≡ self.entry.schedule }
         ensures capacity { vec_capacity result.schedule ≡ self.entry.capacity }
         ensures memory { is_memory result.outcome ≡ run.held }
         ensures flips { result.flips ≡ 0 }
         ensures taken { result.taken ≡ 0 }
     {
+        let counts = Counts { flips: 0, taken: 0 };
         if run.held {
-            return self.into_report(steps, Outcome::Memory);
+            return self.into_report(steps, Outcome::Memory, counts);
         }
         let outcome = self.outcome(run.made == steps);
-        self.into_report(steps, outcome)
+        self.into_report(steps, outcome, counts)
     }
 }

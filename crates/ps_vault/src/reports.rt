@@ -6,8 +6,8 @@ ghost use Rattle.ps_vault.specs.Reports.{is_memory, IsWithin};
 use ps_language::schedules::Entry;
 use thiserror::Error;
 
-/// How many entries find room in the schedule of a run from its start: want of room for more is the
-/// only other end of a run whose memory is ample.
+/// How many entries find room in the schedule of a run from its start. So a run that has hardly
+/// begun can't end for want of room for the next.
 pub const FIRST_ENTRIES: usize = 4096;
 
 /// The numbers of a run.

@@ -19,6 +19,7 @@ use crate::reports::{Outcome, Report};
 use crate::schedules::{kept, note, note_turn};
 use ps_acts::lent::{Shared, Trial};
 use ps_contexts::contexts::Contexts;
+use ps_flips::collected::Counts;
 use ps_interpreter::interprets::Interpret;
 use ps_language::schedules::Entry;
 use ps_mem::Memory;
@@ -379,20 +380,19 @@ impl<M: Memory + Drop, S: Interpret + Drop, D: Deeds + Drop> Vault<'_, M, S, D> 
         (printed, room)
     }
 
-    /// The report of a run with a budget of steps, at the end; no collector is counted.
-    pub fn into_report(self, steps: u32, outcome: Outcome) -> Report
+    /// The report of a run with a budget of steps, at the end, and how much a collector has done.
+    pub fn into_report(self, steps: u32, outcome: Outcome, counts: Counts) -> Report
         requires few { count_of self.schedule ≤ steps }
         requires fits { all_fit (moves self.schedule) ≡ true }
         requires room { FIRST_ENTRIES ≤ self.capacity }
         requires ends { EndsAs S.asks (world_at self) self.capacity self.schedule
             (count_of self.schedule == steps) false outcome }
-        ensures run { IsRunIn S.asks self.entry.program steps result.printed.items
-            (vec_capacity result.schedule) result.schedule.items result.outcome }
+        ensures run { IsRunIn S.asks self.entry.program steps result }
         ensures schedule { result.schedule.items ≡ self.entry.schedule }
         ensures capacity { vec_capacity result.schedule ≡ self.entry.capacity }
         ensures outcome { result.outcome ≡ outcome }
-        ensures flips { result.flips ≡ 0 }
-        ensures taken { result.taken ≡ 0 }
+        ensures flips { result.flips ≡ counts.flips }
+        ensures taken { result.taken ≡ counts.taken }
     {
         let Vault {
             world,
@@ -406,8 +406,8 @@ impl<M: Memory + Drop, S: Interpret + Drop, D: Deeds + Drop> Vault<'_, M, S, D> 
             printed,
             schedule,
             outcome,
-            flips: 0,
-            taken: 0,
+            flips: counts.flips,
+            taken: counts.taken,
         }
     }
 }

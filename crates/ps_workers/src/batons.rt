@@ -4,7 +4,7 @@
 //! It keeps (`Keeps`) that the steps made are counted and within the budget, and that an outcome,
 //! once it stands, is that of the vault's world.
 
-ghost use Rattle.std.specs.Prelude.{◌≡◌, ◌<◌, ◌≢◌, IfOk, IfSome, IfNone, IsSome, None, Err, vec_capacity};
+ghost use Rattle.std.specs.Prelude.{◌≡◌, ◌<◌, ◌≢◌, IfOk, IfSome, IfNone, IsSome, None, Err};
 ghost use Rattle.ps_start.specs.Starts.{IsEmptyHeap};
 ghost use Rattle.ps_vault.specs.Order.{IsNoneAbove};
 ghost use Rattle.ps_vault.specs.Reports.{IsRunIn, IsWithin};
@@ -33,8 +33,10 @@ pub struct Baton<'a, M: CollectedMemory + Drop, S: Interpret + Drop, D: Deeds + 
     pub(crate) made: u32,
     /// Whose turn was the last.
     pub(crate) after: u32,
-    /// Whether a cycle is opened where more than half of the space is used.
+    /// Whether a cycle is opened where more than half is used of what was free after the last.
     pub(crate) may_open: bool,
+    /// The words that were used after the last cycle.
+    pub(crate) kept: u32,
     pub(crate) outcome: Option<Outcome>,
     /// A thread could not be started.
     pub(crate) refused: bool,
@@ -97,6 +99,7 @@ impl<'a, M: CollectedMemory + Drop, S: Interpret + Drop, D: Deeds + Drop> Baton<
             made: 0,
             after: 0,
             may_open: true,
+            kept: 0,
             outcome: None,
             refused: false,
         })
@@ -191,9 +194,7 @@ impl<M: CollectedMemory + Drop, S: Interpret + Drop, D: Deeds + Drop> Baton<'_, 
 
     /// The run's report, if it is over and was one of this program with these numbers.
     pub fn into_report(self, program: &[u8], config: Config) -> Result<Report, RunFault>
-        ensures run { IfOk result (λ report. IsRunIn S.asks program.now config.steps
-            report.printed.items (vec_capacity report.schedule) report.schedule.items
-            report.outcome) }
+        ensures run { IfOk result (IsRunIn S.asks program.now config.steps) }
         ensures fault { result ≢ Err RunFault.Config }
     {
         let Baton {
@@ -210,11 +211,6 @@ impl<M: CollectedMemory + Drop, S: Interpret + Drop, D: Deeds + Drop> Baton<'_, 
             return Err(RunFault::Memory);
         }
         let counts = vault.counts();
-        let report = vault.into_report(config.steps, outcome);
-        Ok(Report {
-            flips: counts.flips,
-            taken: counts.taken,
-            ..report
-        })
+        Ok(vault.into_report(config.steps, outcome, counts))
     }
 }

@@ -42,7 +42,7 @@ impl<M: CollectedMemory + Drop, S: Interpret + Drop, D: Deeds + Drop> Baton<'_, 
         requires outcome { self.old.outcome ≡ None }
         ensures goes_on { GoesOn self.old self.new }
     {
-        self.vault.stop_all(&mut self.roots);
+        self.stop_all();
         if let Some(reason) = self.advance(context, 1) {
             self.relieve(context, reason);
         }
@@ -92,9 +92,7 @@ impl<M: CollectedMemory + Drop, S: Interpret + Drop, D: Deeds + Drop> Baton<'_, 
             NotMade::LogFull => {
                 self.vault.work(DRAIN_ACTIONS);
             }
-            NotMade::LogClosed => {
-                self.vault.end_cycle(&mut self.roots);
-            }
+            NotMade::LogClosed => self.end_cycle(),
         }
     }
 
@@ -124,16 +122,33 @@ impl<M: CollectedMemory + Drop, S: Interpret + Drop, D: Deeds + Drop> Baton<'_, 
         ensures { self.new ≡ self.old }
     {
         match wish {
-            Some(1) | Some(2) => self.vault.stop_all(&mut self.roots),
+            Some(1) | Some(2) => self.stop_all(),
             Some(number) => self.may_open = number == 0,
             None => {}
         }
         if self.vault.is_open() {
             if !self.vault.work(ACTIONS) {
-                self.vault.end_cycle(&mut self.roots);
+                self.end_cycle();
             }
-        } else if self.may_open && self.vault.is_half_used() {
+        } else if self.may_open && self.vault.is_half_used(self.kept) {
             self.vault.open_cycle(&mut self.roots);
         }
+    }
+
+    /// The open cycle is ended, if it can be.
+    fn end_cycle(&mut self)
+        ensures { self.new ≡ self.old }
+    {
+        if self.vault.end_cycle(&mut self.roots) {
+            self.kept = self.vault.used();
+        }
+    }
+
+    /// The open cycle is ended, and a whole one more is made.
+    fn stop_all(&mut self)
+        ensures { self.new ≡ self.old }
+    {
+        self.vault.stop_all(&mut self.roots);
+        self.kept = self.vault.used();
     }
 }

@@ -1,6 +1,6 @@
-//! A run by workers: threads that take the baton for a turn, one at a time.
+//! A run by workers: threads that take the baton one at a time, for some turns each.
 
-ghost use Rattle.std.specs.Prelude.{◌≡◌, ◌↔◌, Err, IfOk, vec_capacity};
+ghost use Rattle.std.specs.Prelude.{◌≡◌, ◌↔◌, Err, IfOk};
 ghost use Rattle.ps_start.specs.Starts.{IsEmptyHeap};
 ghost use Rattle.ps_vault.specs.Reports.{IsRunIn, IsWithin};
 
@@ -9,9 +9,10 @@ use crate::gates::{Gate, Gated};
 use ps_flips::collected::CollectedMemory;
 use ps_gc::CollectedSpace;
 use ps_interpreter::interprets::Interpret;
+use ps_mem::Memory;
 use ps_vault::{Config, Report, RunFault};
 use ps_world::deeds::Deeds;
-use std::alloc::Global;
+use std::alloc::{AllocError, Global};
 use std::hash::RandomState;
 use std::sync::{Mutex, Wait};
 use std::thread;
@@ -50,8 +51,9 @@ fn work_all<
 /// for at most so many steps. The keys are for the names alone.
 ///
 /// The fault is `Config` where a number is out of its range. It is `Memory` where the room that the
-/// run starts with can't be had, or a thread can't be started. A growth that is refused later ends
-/// the run, and the report has what was made so far.
+/// run starts with can't be had, or a thread can't be started; also where what the lock held was of
+/// another program or other numbers, which no run meets. A growth that is refused later ends the
+/// run, and the report has what was made so far.
 pub fn run_in<
     M: CollectedMemory + Drop + Send,
     S: Interpret + Drop + Send,
@@ -69,9 +71,7 @@ pub fn run_in<
 ) -> Result<Report, RunFault>
     requires { IsEmptyHeap (M.heap memory) }
     ensures config { (result ≡ Err RunFault.Config) ↔ ¬ IsWithin config }
-    ensures run { IfOk result (λ report. IsRunIn S.asks program.now config.steps
-        report.printed.items (vec_capacity report.schedule) report.schedule.items
-        report.outcome) }
+    ensures run { IfOk result (IsRunIn S.asks program.now config.steps) }
 {
     if !config.is_within() {
         return Err(RunFault::Config);
@@ -82,6 +82,14 @@ pub fn run_in<
     let shared = Mutex::new(baton);
     work_all(rt, &shared, config.workers);
     shared.into_inner().into_report(program, config)
+}
+
+/// A space of the configuration's size, in which nothing stands. `AllocError`: it can't be had.
+fn space_of(alloc: Global, config: Config) -> Result<CollectedSpace, AllocError>
+    requires { IsWithin config }
+    ensures { IfOk result (λ space. IsEmptyHeap (⟦<CollectedSpace as Memory>⟧.heap space)) }
+{
+    CollectedSpace::new(alloc, config.space)
 }
 
 /// Runs a program with so many workers in a space of the configuration's size, which is collected;
@@ -96,14 +104,12 @@ pub fn run<S: Interpret + Drop + Send, D: Deeds + Drop + Send, R: Threads + Wait
     keys: RandomState,
 ) -> Result<Report, RunFault>
     ensures config { (result ≡ Err RunFault.Config) ↔ ¬ IsWithin config }
-    ensures run { IfOk result (λ report. IsRunIn S.asks program.now config.steps
-        report.printed.items (vec_capacity report.schedule) report.schedule.items
-        report.outcome) }
+    ensures run { IfOk result (IsRunIn S.asks program.now config.steps) }
 {
     if !config.is_within() {
         return Err(RunFault::Config);
     }
-    let Ok(memory) = CollectedSpace::new(alloc, config.space) else {
+    let Ok(memory) = space_of(alloc, config) else {
         return Err(RunFault::Memory);
     };
     run_in(rt, alloc, memory, interpret, deeds, program, config, keys)
@@ -126,14 +132,12 @@ pub fn run_gated<
     gate: &G,
 ) -> Result<Report, RunFault>
     ensures config { (result ≡ Err RunFault.Config) ↔ ¬ IsWithin config }
-    ensures run { IfOk result (λ report. IsRunIn S.asks program.now config.steps
-        report.printed.items (vec_capacity report.schedule) report.schedule.items
-        report.outcome) }
+    ensures run { IfOk result (IsRunIn S.asks program.now config.steps) }
 {
     if !config.is_within() {
         return Err(RunFault::Config);
     }
-    let Ok(memory) = CollectedSpace::new(alloc, config.space) else {
+    let Ok(memory) = space_of(alloc, config) else {
         return Err(RunFault::Memory);
     };
     let gated = Gated::new(memory, gate);

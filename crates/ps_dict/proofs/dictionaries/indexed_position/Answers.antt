@@ -3,11 +3,11 @@ use Rattle.std.proofs.lemmas.Int.{to_z-of_z}
 use Rattle.std.specs.Prelude.{unsigned_abs, slice_get}
 use Rattle.ps_word.specs.Format.{content_in}
 use Rattle.ps_word.specs.Readers.{as_integer}
-use Rattle.ps_mem.specs.Heap.{fields_at}
-use Rattle.ps_dict.specs.Places.{body_at, count_at, capacity_at}
+use Rattle.ps_mem.specs.Heap.{Heap, fields_at}
+use Rattle.ps_dict.specs.Places.{body_at, count_at, capacity_at, pairs_at, place_of}
 use Rattle.ps_dict.proofs.Reading.{loaded, key-value}
 use Rattle.ps_dict.proofs.Shapes.{count-fits}
-use Rattle.ps_dict.proofs.Probing.{few-places, StillAhead, ahead-in, ahead-first, ahead-end, few-here, look-fits, key-fits, looked-at, start-here, look-free, number-fits, position-within, look-found, look-on}
+use Rattle.ps_dict.proofs.Probing.{few-places, StillAhead, ahead-in, ahead-first, few-here, look-fits, key-fits, looked-at, start-here, look-free, number-fits, position-within, look-found, look-on}
 use Rattle.ps_dict.proofs.dictionaries.indexed_position.Goals as goal
 
 pub loop-behind-init : goal.loop-behind-init
@@ -91,7 +91,8 @@ overflow_mul-position g c =
     c.body-body.result c.args.capacity c.requires.known c.requires.sound same is capacity
     c.args.key c.first_place-start.result (g.M.Memory.heap c.body-body.new.memory) body_before
     c.first_place-start.ensures.answer in
-    let within : c.loop-behind.behind < capacity_at h c.args.address = omega (arith, capacity) in
+    let within : c.loop-behind.behind < capacity_at h c.args.address =
+    omega (arith, capacity, c.looks_in-behind-end.ensures) in
     let read = looked-at (g.M.Memory.heap c.loop-behind.memory) h c.args.address c.body-body.result
     c.args.capacity c.requires.known c.requires.sound same is capacity c.args.key
     c.first_place-start.result c.place_behind-place.result c.loop-behind.behind c.load.result
@@ -126,7 +127,8 @@ load-word-requires g c =
     c.body-body.result c.args.capacity c.requires.known c.requires.sound same is capacity
     c.args.key c.first_place-start.result (g.M.Memory.heap c.body-body.new.memory) body_before
     c.first_place-start.ensures.answer in
-    let within : c.loop-behind.behind < capacity_at h c.args.address = omega (arith, capacity) in
+    let within : c.loop-behind.behind < capacity_at h c.args.address =
+    omega (arith, capacity, c.looks_in-behind-end.ensures) in
     let read = looked-at (g.M.Memory.heap c.loop-behind.memory) h c.args.address c.body-body.result
     c.args.capacity c.requires.known c.requires.sound same is capacity c.args.key
     c.first_place-start.result c.place_behind-place.result c.loop-behind.behind c.load.result
@@ -163,7 +165,8 @@ is_same_key-requires-clause-left g c =
     c.body-body.result c.args.capacity c.requires.known c.requires.sound same is capacity
     c.args.key c.first_place-start.result (g.M.Memory.heap c.body-body.new.memory) body_before
     c.first_place-start.ensures.answer in
-    let within : c.loop-behind.behind < capacity_at h c.args.address = omega (arith, capacity) in
+    let within : c.loop-behind.behind < capacity_at h c.args.address =
+    omega (arith, capacity, c.looks_in-behind-end.ensures) in
     let read = looked-at (g.M.Memory.heap c.loop-behind.memory) h c.args.address c.body-body.result
     c.args.capacity c.requires.known c.requires.sound same is capacity c.args.key
     c.first_place-start.result c.place_behind-place.result c.loop-behind.behind c.load.result
@@ -201,7 +204,8 @@ is_same_key-requires-clause-visible g c =
     c.body-body.result c.args.capacity c.requires.known c.requires.sound same is capacity
     c.args.key c.first_place-start.result (g.M.Memory.heap c.body-body.new.memory) body_before
     c.first_place-start.ensures.answer in
-    let within : c.loop-behind.behind < capacity_at h c.args.address = omega (arith, capacity) in
+    let within : c.loop-behind.behind < capacity_at h c.args.address =
+    omega (arith, capacity, c.looks_in-behind-end.ensures) in
     let read = looked-at (g.M.Memory.heap c.loop-behind.memory) h c.args.address c.body-body.result
     c.args.capacity c.requires.known c.requires.sound same is capacity c.args.key
     c.first_place-start.result c.place_behind-place.result c.loop-behind.behind c.load.result
@@ -239,7 +243,8 @@ returns-then-is_same_key-clause-within g c =
     c.body-body.result c.args.capacity c.requires.known c.requires.sound same is capacity
     c.args.key c.first_place-start.result (g.M.Memory.heap c.body-body.new.memory) body_before
     c.first_place-start.ensures.answer in
-    let within : c.loop-behind.behind < capacity_at h c.args.address = omega (arith, capacity) in
+    let within : c.loop-behind.behind < capacity_at h c.args.address =
+    omega (arith, capacity, c.looks_in-behind-end.ensures) in
     let read = looked-at (g.M.Memory.heap c.loop-behind.memory) h c.args.address c.body-body.result
     c.args.capacity c.requires.known c.requires.sound same is capacity c.args.key
     c.first_place-start.result c.place_behind-place.result c.loop-behind.behind c.load.result
@@ -271,7 +276,8 @@ returns-then-is_same_key-clause-words g c =
     c.body-body.result c.args.capacity c.requires.known c.requires.sound same is capacity
     c.args.key c.first_place-start.result (g.M.Memory.heap c.body-body.new.memory) body_before
     c.first_place-start.ensures.answer in
-    let within : c.loop-behind.behind < capacity_at h c.args.address = omega (arith, capacity) in
+    let within : c.loop-behind.behind < capacity_at h c.args.address =
+    omega (arith, capacity, c.looks_in-behind-end.ensures) in
     let read = looked-at (g.M.Memory.heap c.loop-behind.memory) h c.args.address c.body-body.result
     c.args.capacity c.requires.known c.requires.sound same is capacity c.args.key
     c.first_place-start.result c.place_behind-place.result c.loop-behind.behind c.load.result
@@ -309,7 +315,8 @@ returns-in-None-clause-words g c =
     c.body-body.result c.args.capacity c.requires.known c.requires.sound same is capacity
     c.args.key c.first_place-start.result (g.M.Memory.heap c.body-body.new.memory) body_before
     c.first_place-start.ensures.answer in
-    let within : c.loop-behind.behind < capacity_at h c.args.address = omega (arith, capacity) in
+    let within : c.loop-behind.behind < capacity_at h c.args.address =
+    omega (arith, capacity, c.looks_in-behind-end.ensures) in
     let read = looked-at (g.M.Memory.heap c.loop-behind.memory) h c.args.address c.body-body.result
     c.args.capacity c.requires.known c.requires.sound same is capacity c.args.key
     c.first_place-start.result c.place_behind-place.result c.loop-behind.behind c.load.result
@@ -334,7 +341,8 @@ loop-behind-preserved g c =
     c.body-body.result c.args.capacity c.requires.known c.requires.sound same is capacity
     c.args.key c.first_place-start.result (g.M.Memory.heap c.body-body.new.memory) body_before
     c.first_place-start.ensures.answer in
-    let within : c.loop-behind.behind < capacity_at h c.args.address = omega (arith, capacity) in
+    let within : c.loop-behind.behind < capacity_at h c.args.address =
+    omega (arith, capacity, c.looks_in-behind-end.ensures) in
     let read = looked-at (g.M.Memory.heap c.loop-behind.memory) h c.args.address c.body-body.result
     c.args.capacity c.requires.known c.requires.sound same is capacity c.args.key
     c.first_place-start.result c.place_behind-place.result c.loop-behind.behind c.load.result
@@ -365,17 +373,13 @@ loop-behind-preserved g c =
 pub returns-clause-words : goal.returns-clause-words
 returns-clause-words g c =
     let h = g.M.Memory.heap c.args.memory.now in
-    let capacity : c.args.capacity ≡ capacity_at h c.args.address = c.requires.capacity in
     let body_before : g.M.Memory.heap c.body-body.new.memory ≡ h = c.body-body.ensures.heap in
     let before : g.M.Memory.heap c.first_place-start.new.memory ≡ h =
     c.first_place-start.ensures.heap ∙ body_before in
-    let is : c.body-body.result ≡ body_at h c.args.address = c.body-body.ensures.words in
-    let same : g.M.Memory.heap c.loop-behind.memory ≡ h = c.loop-behind.invariant.0 ∙ before in
-    let ahead : StillAhead h c.args.address c.args.key c.loop-behind.behind =
-    ahead-in (g.M.Memory.heap c.first_place-start.new.memory) h c.args.address c.args.key
-    c.loop-behind.behind before c.loop-behind.invariant.2 in
-    sym (ahead-end h c.args.address c.requires.known c.requires.sound c.args.key
-    c.loop-behind.behind (omega (arith, capacity)) ahead)
+    let same : g.M.Memory.heap c.length-count.new.memory ≡ h =
+    c.length-count.ensures.heap ∙ (c.loop-behind.invariant.0 ∙ before) in
+    c.ordered_position.ensures.words
+    ∙ ap (λ (k : Heap). place_of (pairs_at k c.args.address) c.args.key) same
 
 pub overflow_mul-capacity : goal.overflow_mul-capacity
 overflow_mul-capacity g c =

@@ -19,12 +19,9 @@ use Rattle.ps_run.proofs.driver.make.Goals as goal
 -- the budget is one of 32 bits
 recordable : (asks : Status → Around → Scene → acts.Asked) (program : List ℕ)
     (budget steps : ℕ) (report : Report) → budget ≤ 4294967295 → budget ≡ steps
-    → IsRunIn asks program budget report.printed.items (vec_capacity report.schedule)
-    report.schedule.items report.outcome
-    → IsRecordable asks program steps report
+    → IsRunIn asks program budget report → IsRecordable asks program steps report
 recordable asks program budget steps report few same run = record {
-  run = subst (λ (n : ℕ). IsRunIn asks program n report.printed.items
-      (vec_capacity report.schedule) report.schedule.items report.outcome) same run;
+  run = subst (λ (n : ℕ). IsRunIn asks program n report) same run;
   entries = are_entries program report.schedule.items (omega (arith, run.within, few))
       run.longest run.proper run.fits;
 }

@@ -1,10 +1,5 @@
--- Nothing stands in a new space.
-use Rattle.std.proofs.Common.{ap, sym, ◌∙◌}
-use Rattle.ps_mem.specs.Heap.{Heap, empty_heap}
+-- Nothing stands in a new space, also behind a gate.
 use Rattle.ps_workers.proofs.runs.run_gated.Goals as goal
 
 pub run_in-requires-after_bounds : goal.run_in-requires-after_bounds
-unfolding empty_heap
-run_in-requires-after_bounds g c κs within =
-    rw c.new-gated.ensures (c.in-Ok.ensures.heap
-    ∙ ap empty_heap (sym (ap (λ (h : Heap). h.space) c.in-Ok.ensures.heap)))
+run_in-requires-after_bounds g c κs within = rw c.new-gated.ensures c.in-Ok.ensures

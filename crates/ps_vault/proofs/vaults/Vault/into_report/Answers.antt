@@ -1,9 +1,9 @@
 -- A run at its end.
+use Rattle.std.proofs.Common.{refl}
 use Rattle.ps_vault.proofs.Keeping.{run_at_end}
 use Rattle.ps_vault.proofs.vaults.Vault.into_report.Goals as goal
 
 pub returns-clause-run : goal.returns-clause-run
 returns-clause-run g c =
-    run_at_end g.S.Interpret.asks _ c.self.inside.schedule.items _ c.args.steps _ c.args.self
-    c.args.outcome c.self.invariant c.self.view_is c.requires.few c.requires.fits c.requires.room
-    c.requires.ends
+    run_at_end g.S.Interpret.asks _ _ c.args.steps _ c.args.self refl c.self.invariant
+    c.self.view_is c.requires.few c.requires.fits c.requires.room c.requires.ends
