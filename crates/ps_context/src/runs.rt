@@ -100,8 +100,8 @@ fn run_procedure<O: Operate, M: Memory>(
     let first = do_first(rest, most, operators, dictionaries, operands, memory);
     advance(&mut context.frames, rest, first.done);
     let made = first.done as u32;
-    let left = left_of(rest, first.done);
     if let Some(element) = first.next {
+        let left = left_of(rest, first.done);
         let next = element_turn(left, element, operators, context, shared, memory, trial);
         return Run {
             made,
@@ -109,6 +109,7 @@ fn run_procedure<O: Operate, M: Memory>(
         };
     }
     if made == 0 {
+        let left = left_of(rest, first.done);
         let next = procedure_turn(left, operators, context, shared, memory, trial);
         return Run {
             made,

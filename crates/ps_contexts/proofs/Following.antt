@@ -54,6 +54,13 @@ module _ (seats searched_in : List ℕ) (high identifier : ℕ) (rising : IsRisi
         above = λ k behind within. around.2 k behind within;
       })
 
+-- all are above none
+pub cut_first : (seats : List ℕ) (high : ℕ) → IsRising 0 seats high → IsCut seats 0 0
+cut_first seats high rising = record {
+  below = λ k before within. let bad : ⊥ = omega (arith, before) in absurd bad;
+  above = λ k behind within. rising_above 0 seats high rising k within;
+}
+
 module _ {A : Type 0} (seats : List ℕ) (items : List A) (made : ℕ) (are : AreSeats seats items made)
     (identifier place : ℕ) (cut : IsCut seats identifier place) where
   -- nothing is left under one that is no seat

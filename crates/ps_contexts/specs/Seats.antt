@@ -1,6 +1,6 @@
 -- Items under rising identifiers, and the list that they stand for: the item of identifier n is at
 -- place n - 1, and nothing is left of one that is gone (PLRM2, 7.1).
-use Rattle.std.specs.Prelude.{◌≡◌, ℕ, zero, suc, ◌+◌, ◌<◌, ◌≤◌, ◌==◌, Option, Some, None, List, [], ◌∷◌, length, map, slice_get, slice_set, if◌then◌else◌, option_and_then}
+use Rattle.std.specs.Prelude.{◌≡◌, ℕ, zero, suc, ◌+◌, ◌<◌, ◌≤◌, ◌==◌, Option, Some, None, IsSome, List, [], ◌∷◌, length, map, slice_get, slice_set, if◌then◌else◌, option_and_then}
 use Rattle.std.specs.List.{range_with_len}
 use Rattle.ps_language.specs.Limits.{context_limit, identifier_limit}
 
@@ -32,6 +32,12 @@ pub record AreSeats {A : Type 0} (seats : List ℕ) (items : List A) (made : ℕ
 abbrev pub item_at : {A : Type 0} → List (Option A) → (identifier : ℕ) → Option A
 item_at list zero = None
 item_at list (suc place) = option_and_then (λ item. item) (slice_get list place)
+
+-- the least identifier above another under which an item is left, if there is one
+abbrev pub IsNextLeft : {A : Type 0} → List (Option A) → (identifier : ℕ) → Option ℕ → Type 0
+IsNextLeft list identifier None = (k : ℕ) → identifier < k → item_at list k ≡ None
+IsNextLeft list identifier (Some next) = (identifier < next) × IsSome (item_at list next)
+    × ((k : ℕ) → identifier < k → k < next → item_at list k ≡ None)
 
 -- another in its place
 abbrev pub with_item : {A : Type 0} → List (Option A) → (identifier : ℕ) → Option A

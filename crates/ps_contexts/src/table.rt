@@ -5,11 +5,11 @@
 //! or by halves where one before it is gone. All room
 //! is reserved when the table is made: no later call takes memory, and what is gone holds nothing.
 
-ghost use Rattle.std.specs.Prelude.{◌≡◌, ℕ, MatchOption, ◌+◌, ◌<◌, ◌≤◌, [], ◌∷◌, ◌++◌, length, map, IfOk, IfErr, IfNone, OnOk, OnSome, IsSome, Some, None, option_map};
+ghost use Rattle.std.specs.Prelude.{◌≡◌, ◌+◌, ◌<◌, ◌≤◌, [], ◌∷◌, ◌++◌, length, map, IfOk, IfErr, IfNone, OnOk, OnSome, IsSome, Some, None, option_map};
 ghost use Rattle.std.specs.Borrow.{sem};
 ghost use Rattle.std.specs.Ordering.{nat_cmp};
 ghost use Rattle.std.specs.List.Sorted.{IsBinarySearchResult, IsSearchInRange};
-ghost use Rattle.ps_contexts.specs.Seats.{item_at, with_item, count_left, items_left};
+ghost use Rattle.ps_contexts.specs.Seats.{item_at, IsNextLeft, with_item, count_left, items_left};
 
 use std::alloc::{AllocError, Global};
 use std::marker::Model;
@@ -122,13 +122,25 @@ impl<T> Table<T> {
         &mut self.items[place]
     }
 
+    /// The least identifier under which an item is left.
+    #[inline]
+    fn first(&self) -> Option<u32>
+        ensures { IsNextLeft self.now 0 result }
+    {
+        if 0 < self.identifiers.len() {
+            Some(self.identifiers[0])
+        } else {
+            None
+        }
+    }
+
     /// The least identifier above another under which an item is left.
     pub fn next(&self, identifier: u32) -> Option<u32>
-        ensures { MatchOption result
-            ((k : ℕ) → identifier < k → item_at self.now k ≡ None)
-            (λ next. (identifier < next) × IsSome (item_at self.now next)
-            × ((k : ℕ) → identifier < k → k < next → item_at self.now k ≡ None)) }
+        ensures { IsNextLeft self.now identifier result }
     {
+        if identifier == 0 {
+            return self.first();
+        }
         let place = match place_of(&self.identifiers, identifier) {
             Ok(place) => place + 1,
             Err(place) => place,

@@ -267,6 +267,7 @@ impl CollectedMemory for CollectedSpace {
         if self.scan_some(left) {
             return true;
         }
+        // The scan that found no field was an action too, and so may be the one below.
         self.drain_some(left.saturating_sub(2));
         self.idle < SLOTS || self.collector.scan_one()
     }

@@ -51,6 +51,7 @@ fn monitor_waits<M: Memory>(caller: u32, operands: &Operands, memory: &mut M) ->
 
 /// Whether what is tried again with these operands waits again: `join` with an identifier on top,
 /// `monitor` with anything else. The memory is only read.
+#[inline(never)]
 fn waits_again<M: Memory>(
     caller: u32,
     operands: &Operands,
@@ -79,6 +80,7 @@ fn waits_again<M: Memory>(
 
 /// Whether the context of an identifier may step: one that runs or is unwinding, one whose
 /// `monitor` or `join` wouldn't wait now, or one whose lock is free. The memory is only read.
+#[inline(always)]
 pub fn is_ready<M: Memory>(identifier: u32, contexts: &Contexts, memory: &mut M) -> bool
     requires steady { IsSteady
         (over (M.heap memory.old) (M.grants memory.old) contexts.now) }

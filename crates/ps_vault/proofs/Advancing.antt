@@ -1,10 +1,11 @@
 -- What a vault keeps over steps of one context.
-use Rattle.std.proofs.Common.{◌≡◌, ◌≢◌, ℕ, ℤ, zero, suc, ◌+◌, ◌^◌, ◌<◌, ◌≤◌, Bool, true, false, ◌&&◌, Option, Some, None, Result, Ok, Err, List, [], ◌∷◌, ◌++◌, refl, sym, ◌∙◌, ap, subst, arith}
+use Rattle.std.proofs.Common.{◌≡◌, ℕ, ℤ, zero, suc, ◌+◌, ◌^◌, ◌<◌, ◌≤◌, Bool, true, false, ◌&&◌, Option, Some, None, Result, Ok, Err, List, [], ◌∷◌, ◌++◌, refl, sym, ◌∙◌, ap, subst, arith}
 use Rattle.std.specs.Prelude.{IsTrue, IfSome, min, max, not, replicate}
 use Rattle.std.specs.List.{list_all}
 use Rattle.std.specs.Option.{option_map_or}
 use Rattle.std.proofs.lemmas.Bool.{lt-ltb, true≢false}
 use Rattle.ps_language.specs.declared.schedules.Entry.{Entry}
+use Rattle.ps_language.specs.Effect as effect
 use Rattle.ps_language.specs.Effect.{turn_ends, Around, Scene}
 use Rattle.ps_language.specs.Locks.{is_ready_as, is_ready}
 use Rattle.ps_language.specs.Schedules.{Move, plain_move, added, moves, count_of, is_longest}
@@ -23,8 +24,8 @@ use Rattle.ps_world.specs.Notes.{note_of}
 use Rattle.ps_world.specs.Steps.{AllFrom, AreShown, HasMade, IsQuiet, IsUnready, KeepsOthers, StepsBehind, ordinary, words_shown}
 use Rattle.ps_language.specs.Step.{stepped}
 use Rattle.ps_vault.specs.Holds as holds
-use Rattle.ps_vault.specs.Holds.{IsHeldUp}
-use Rattle.ps_vault.specs.Order.{IsOnlyLeft, IsAlone, KeepsTurn, NoneEnds, IsOfOne, AllOfOne, OnlyLastMayEnd, EndsTurn}
+use Rattle.ps_vault.specs.Holds.{IsHeldUp, wish_in}
+use Rattle.ps_vault.specs.Order.{IsOnlyLeft, IsAlone, Tells, IsNoEnd, IsNoWish, AllTell, IsOfOne, AllOfOne, AllTellButLast, EndsWith}
 use Rattle.ps_vault.specs.Reports.{are_words, fits, is_number_of_words, is_ordinary}
 use Rattle.ps_vault.specs.Stories.{Keeps, move_of}
 use Rattle.ps_vault.specs.Turns.{added_times}
@@ -135,16 +136,22 @@ ordinary_fit (first ∷ steps) h =
     let p = both (is_ordinary first) (list_all is_ordinary steps) h in
     and_both _ _ (both (not first.refused) (fits first) p.0).1 (ordinary_fit steps p.1)
 
--- ---- what ends a turn
+-- ---- what is told of steps
 
--- steps of which nothing is told end none
-quiet_keep : (now : World) (steps : List Move) → AllFrom IsQuiet now steps
-    → AllFrom KeepsTurn now steps
-quiet_keep now [] quiet = tt
-quiet_keep now (step ∷ steps) quiet = (
-  record { shown = step.shown; told = λ ends. absurd (cc) },
-  quiet_keep (after_move now step) steps quiet.1,
+-- of quiet ones nothing is
+quiet_tell : (IsSo : effect.Note → Type 0) → IsSo effect.nothing → (now : World)
+    → (steps : List Move) → AllFrom IsQuiet now steps → AllFrom (Tells IsSo) now steps
+quiet_tell IsSo none now [] quiet = tt
+quiet_tell IsSo none now (step ∷ steps) quiet = (
+  record { shown = step.shown; told = subst IsSo (sym quiet.0) none },
+  quiet_tell IsSo none (after_move now step) steps quiet.1,
 )
+
+pub nothing_ends : IsNoEnd effect.nothing
+nothing_ends = λ is. absurd (cc)
+
+pub nothing_wishes : IsNoWish effect.nothing
+nothing_wishes = λ number is. absurd (cc)
 
 -- ---- a context that alone is left
 
@@ -175,11 +182,24 @@ alone_times context (suc made) now left keep ready =
 
 -- ---- many steps
 
-ends_noted : (note : Note) → note_of note ≡ turn_ends → note ≡ TurnEnds
+pub ends_noted : (note : Note) → note_of note ≡ turn_ends → note ≡ TurnEnds
 ends_noted Nothing is = absurd (cc)
 ends_noted TurnEnds is = refl
 ends_noted ShowsMemory is = absurd (cc)
 ends_noted (Wishes number) is = absurd (cc)
+
+pub wish_noted : (note : Note) (number : ℤ) → wish_in note ≡ Some number
+    → note_of note ≡ effect.wishes number
+wish_noted Nothing number is = absurd (cc)
+wish_noted TurnEnds number is = absurd (cc)
+wish_noted ShowsMemory number is = absurd (cc)
+wish_noted (Wishes one) number is = cc
+
+pub no_wish_noted : (note : Note) → wish_in note ≡ None → IsNoWish (note_of note)
+no_wish_noted Nothing none = λ number is. absurd (cc)
+no_wish_noted TurnEnds none = λ number is. absurd (cc)
+no_wish_noted ShowsMemory none = λ number is. absurd (cc)
+no_wish_noted (Wishes one) none = absurd (cc)
 
 -- so many were made
 module _ (context made : ℕ) (old new : Held) (schedule : List Entry) (keeps : Keeps old schedule)
@@ -200,12 +220,14 @@ module _ (context made : ℕ) (old new : Held) (schedule : List Entry) (keeps : 
     longest = longest_times made schedule (plain_move context) keeps.longest;
   }
 
-  pub none_ends_made : NoneEnds (starting_world old.desk.program) (moves schedule) (moves later)
+  pub tell_made : (IsSo : effect.Note → Type 0) → IsSo effect.nothing
+      → AllTell IsSo (starting_world old.desk.program) (moves schedule) (moves later)
   unfolding world
-  none_ends_made = record {
+  tell_made IsSo none = record {
     steps = replicate made (plain_move context);
     is = times_moves made schedule (plain_move context);
-    all = quiet_keep (world old.desk.program schedule) (replicate made (plain_move context))
+    all = quiet_tell IsSo none (world old.desk.program schedule)
+        (replicate made (plain_move context))
         (has.quiet (world old.desk.program schedule) keeps.at ready);
   }
 
@@ -264,9 +286,9 @@ module _ (asks : Status → Around → Scene → Asked) (context slot made : ℕ
     ready_mid = ap (λ (p : List ℕ). is_ready (world p so_far) context) behind.makes.program
         ∙ ready_here
 
-    pub none_ends_mid : NoneEnds (starting_world old.desk.program) (moves schedule)
-        (moves so_far)
-    none_ends_mid = none_ends_made context made old behind.mid schedule keeps ready behind.makes
+    pub tell_mid : (IsSo : effect.Note → Type 0) → IsSo effect.nothing
+        → AllTell IsSo (starting_world old.desk.program) (moves schedule) (moves so_far)
+    tell_mid = tell_made context made old behind.mid schedule keeps ready behind.makes
 
     module _ (left : IsOnlyLeft (world old.desk.program schedule) context) where
       pub alone_mid : AllOfOne context (starting_world old.desk.program) (moves schedule)
@@ -294,22 +316,20 @@ module _ (asks : Status → Around → Scene → Asked) (context slot made : ℕ
           ap (λ (p : List ℕ). (stepped (world p so_far) context false shown).note)
           (sym behind.makes.program) ∙ sym to.2
 
-      -- none behind the old ones ended the turn
-      pub none_ends_behind : (kept : Option (ℤ × ℤ)) → note ≢ TurnEnds
-          → NoneEnds (starting_world old.desk.program) (moves schedule)
+      -- such a note is told of it too
+      pub tell_behind : (IsSo : effect.Note → Type 0) → IsSo effect.nothing
+          → (kept : Option (ℤ × ℤ)) → IsSo (note_of note)
+          → AllTell IsSo (starting_world old.desk.program) (moves schedule)
           (moves (added so_far (move_of context false kept)))
       unfolding world
-      none_ends_behind kept goes =
-          adds_all_more KeepsTurn (starting_world old.desk.program) (moves schedule)
+      tell_behind IsSo none kept so =
+          adds_all_more (Tells IsSo) (starting_world old.desk.program) (moves schedule)
           (moves so_far) (moves (added so_far (move_of context false kept)))
-          (none_ends_mid (Ok note) behind)
+          (tell_mid (Ok note) behind IsSo none)
           (record {
             steps = move_of context false kept ∷ [];
             is = moves-added so_far (move_of context false kept);
-            all = (
-              record { shown = shown; told = λ is. goes (ends_noted note (sym told ∙ is)) },
-              tt,
-            );
+            all = (record { shown = shown; told = subst IsSo (sym told) so }, tt);
           })
 
       -- it and those before it were made by a context that alone was ready
@@ -335,29 +355,30 @@ module _ (asks : Status → Around → Scene → Asked) (context slot made : ℕ
             );
           })
 
-      -- none but it did
-      pub only_last_behind : (kept : Option (ℤ × ℤ))
-          → OnlyLastMayEnd (starting_world old.desk.program) (moves schedule)
+      -- of all but it such a note is told
+      pub others_behind : (IsSo : effect.Note → Type 0) → IsSo effect.nothing
+          → (kept : Option (ℤ × ℤ))
+          → AllTellButLast IsSo (starting_world old.desk.program) (moves schedule)
           (moves (added so_far (move_of context false kept)))
-      only_last_behind kept = record {
+      others_behind IsSo none kept = record {
         before = moves so_far;
         last = move_of context false kept;
         is = moves-added so_far (move_of context false kept);
-        others = none_ends_mid (Ok note) behind;
+        others = tell_mid (Ok note) behind IsSo none;
       }
 
-      -- it ended the turn
-      pub ends_behind : (kept : Option (ℤ × ℤ)) → note ≡ TurnEnds
-          → EndsTurn (starting_world old.desk.program) context
+      -- and of it this
+      pub ends_behind : (kept : Option (ℤ × ℤ)) (what : effect.Note) → note_of note ≡ what
+          → EndsWith what (starting_world old.desk.program) context
           (moves (added so_far (move_of context false kept)))
       unfolding world
-      ends_behind kept ends =
+      ends_behind kept what is =
           record {
             before = moves so_far;
             last = move_of context false kept;
             is = moves-added so_far (move_of context false kept);
             shown = shown;
-            told = told ∙ ap note_of ends;
+            told = told ∙ is;
           }
 
   -- it was not

@@ -1,6 +1,6 @@
 -- What a vault keeps, over its steps.
 use Rattle.std.proofs.Common.{◌≡◌, ◌≢◌, ℕ, ℤ, zero, suc, ◌<◌, ◌≤◌, Bool, true, false, ◌&&◌, Option, Some, None, Ok, Err, List, [], ◌∷◌, refl, sym, ◌∙◌, ap, subst, arith}
-use Rattle.std.specs.Prelude.{slice_get, IsTrue, IsSome, IfSome, IfNone, MatchOption, ◌==◌, length, vec_capacity}
+use Rattle.std.specs.Prelude.{slice_get, IsTrue, IsSome, IfSome, IfNone, ◌==◌, length, vec_capacity}
 use Rattle.std.specs.Option.{option_map, option_map_or}
 use Rattle.std.proofs.lemmas.Bool.{true≢false}
 use Rattle.ps_language.specs.declared.schedules.Entry.{Entry}
@@ -22,7 +22,7 @@ use Rattle.ps_acts.specs.declared.lent.Trial.{Trial}
 use Rattle.ps_acts.specs.Acts.{Asked}
 use Rattle.ps_mem.specs.Heap.{Heap, Grants}
 use Rattle.ps_contexts.specs.declared.members.Member.{Member}
-use Rattle.ps_contexts.specs.Seats.{item_at}
+use Rattle.ps_contexts.specs.Seats.{item_at, IsNextLeft}
 use Rattle.ps_contexts.specs.Worlds.{context_of, contexts_in}
 use Rattle.ps_contexts.specs.Desks.{Desk, IsWorld}
 use Rattle.ps_contexts.proofs.Holding.{contexts_in-found, contexts_in-length}
@@ -317,9 +317,7 @@ run_at_end asks h report steps caller story prints keeps view few fit room ends 
 
 pub next_found : (h : Heap) (names : List (List ℕ)) (members : List (Option Member)) (w : World)
     (after : ℕ) (found : Option ℕ) → w.contexts ≡ contexts_in h names members
-    → MatchOption found ((k : ℕ) → after < k → item_at members k ≡ None)
-    (λ next. (after < next) × IsSome (item_at members next)
-    × ((k : ℕ) → after < k → k < next → item_at members k ≡ None))
+    → IsNextLeft members after found
     → IfSome found (λ next. (after < next) × (next ≤ length w.contexts)
     × ((k : ℕ) → after < k → k < next → is_ready w k ≡ false))
 next_found h names members w after None same found = tt
@@ -338,9 +336,7 @@ next_found h names members w after (Some next) same found = (
 
 pub next_none : (h : Heap) (names : List (List ℕ)) (members : List (Option Member)) (w : World)
     (after : ℕ) (found : Option ℕ) → w.contexts ≡ contexts_in h names members
-    → MatchOption found ((k : ℕ) → after < k → item_at members k ≡ None)
-    (λ next. (after < next) × IsSome (item_at members next)
-    × ((k : ℕ) → after < k → k < next → item_at members k ≡ None))
+    → IsNextLeft members after found
     → IfNone found ((k : ℕ) → after < k → is_ready w k ≡ false)
 next_none h names members w after None same found = λ k above.
     gone_unready h names members w k same (found k above)

@@ -1,7 +1,7 @@
 -- In which order a run gives turns to contexts: in passes by rising identifier (PLRM2, 7.1).
-use Rattle.std.specs.Prelude.{◌≡◌, ◌≢◌, ℕ, ℤ, ◌<◌, ◌≤◌, true, false, Option, None, List, [], ◌∷◌, ◌++◌, map, replicate, ◌⊎◌}
+use Rattle.std.specs.Prelude.{◌≡◌, ◌≢◌, ℕ, ℤ, ◌<◌, ◌≤◌, true, false, Option, Some, None, List, [], ◌∷◌, ◌++◌, map, replicate, ◌⊎◌}
 use Rattle.ps_language.specs.Contexts.{context_at}
-use Rattle.ps_language.specs.Effect.{turn_ends}
+use Rattle.ps_language.specs.Effect.{Note, turn_ends, wishes}
 use Rattle.ps_language.specs.Locks.{is_ready}
 use Rattle.ps_language.specs.Schedules.{Move}
 use Rattle.ps_language.specs.Step.{stepped}
@@ -43,11 +43,22 @@ pub record AddsSteps (context count : ℕ) (old new : List Move) : Type 0 where
   pub is : new ≡ old ++ steps
   pub all : map (λ (step : Move). step.context) steps ≡ replicate count context
 
--- behind this step its context keeps its turn: it made no yield and doesn't wait. Shown is what a
--- vmstatus in it was shown
-pub record KeepsTurn (now : World) (step : Move) : Type 0 where
+-- such a note is told of this step. Shown is what a vmstatus in it was shown
+pub record Tells (IsSo : Note → Type 0) (now : World) (step : Move) : Type 0 where
   pub shown : Option (ℤ × ℤ)
-  pub told : (stepped now step.context step.refused shown).note ≢ turn_ends
+  pub told : IsSo (stepped now step.context step.refused shown).note
+
+-- it ends no turn: it is no yield, and doesn't wait
+abbrev pub IsNoEnd : Note → Type 0
+IsNoEnd note = note ≢ turn_ends
+
+-- it is no vmreclaim
+abbrev pub IsNoWish : Note → Type 0
+IsNoWish note = (number : ℤ) → note ≢ wishes number
+
+-- behind this step its context keeps its turn
+abbrev pub KeepsTurn : World → Move → Type 0
+KeepsTurn = Tells IsNoEnd
 
 -- the steps behind the old ones: each is so in the world before it
 pub record AddsAll (IsSo : World → Move → Type 0) (start : World) (old new : List Move) : Type 0
@@ -56,9 +67,13 @@ pub record AddsAll (IsSo : World → Move → Type 0) (start : World) (old new :
     pub is : new ≡ old ++ steps
     pub all : AllFrom IsSo (after_moves start old) steps
 
+-- such a note is told of each
+abbrev pub AllTell : (IsSo : Note → Type 0) → (start : World) → (old new : List Move) → Type 0
+AllTell IsSo start old new = AddsAll (Tells IsSo) start old new
+
 -- none of them ended its turn
 abbrev pub NoneEnds : (start : World) → (old new : List Move) → Type 0
-NoneEnds start old new = AddsAll KeepsTurn start old new
+NoneEnds start old new = AllTell IsNoEnd start old new
 
 -- a step of this context, which alone is ready
 abbrev pub IsOfOne : (context : ℕ) → World → Move → Type 0
@@ -68,20 +83,40 @@ IsOfOne context w step = (step.context ≡ context) × IsAlone context w
 abbrev pub AllOfOne : (context : ℕ) → (start : World) → (old new : List Move) → Type 0
 AllOfOne context start old new = AddsAll (IsOfOne context) start old new
 
--- none of them but the last
-pub record OnlyLastMayEnd (start : World) (old new : List Move) : Type 0 where
-  pub before : List Move
-  pub last : Move
-  pub is : new ≡ before ++ last ∷ []
-  pub others : NoneEnds start old before
+-- such a note is told of each but the last
+pub record AllTellButLast (IsSo : Note → Type 0) (start : World) (old new : List Move) : Type 0
+  where
+    pub before : List Move
+    pub last : Move
+    pub is : new ≡ before ++ last ∷ []
+    pub others : AllTell IsSo start old before
 
--- the last of all steps from the start ended the turn of its context, by yield or where it waits
-pub record EndsTurn (start : World) (context : ℕ) (steps : List Move) : Type 0 where
+-- none of them but the last ended its turn
+abbrev pub OnlyLastMayEnd : (start : World) → (old new : List Move) → Type 0
+OnlyLastMayEnd start old new = AllTellButLast IsNoEnd start old new
+
+-- the last of all steps from the start is of this context, and this is told of it
+pub record EndsWith (note : Note) (start : World) (context : ℕ) (steps : List Move) : Type 0 where
   pub before : List Move
   pub last : Move
   pub is : steps ≡ before ++ last ∷ []
   pub shown : Option (ℤ × ℤ)
-  pub told : (stepped (after_moves start before) context false shown).note ≡ turn_ends
+  pub told : (stepped (after_moves start before) context false shown).note ≡ note
+
+-- it ended its turn, by yield or where it waits
+abbrev pub EndsTurn : (start : World) → (context : ℕ) → (steps : List Move) → Type 0
+EndsTurn start context steps = EndsWith turn_ends start context steps
+
+-- the last of the steps behind the old ones is a vmreclaim of this number; no other is one
+pub record WishesLast (number : ℤ) (start : World) (context : ℕ) (old new : List Move) : Type 0
+  where
+    pub others : AllTellButLast IsNoWish start old new
+    pub last : EndsWith (wishes number) start context new
+
+-- or none is one
+abbrev pub WishesAs : Option ℤ → (start : World) → (context : ℕ) → (old new : List Move) → Type 0
+WishesAs (Some number) start context old new = WishesLast number start context old new
+WishesAs None start context old new = AllTell IsNoWish start old new
 
 -- behind all steps from the start, a turn of so many is over: it had as many as a turn may have, or
 -- its context isn't ready, or its last step ended it

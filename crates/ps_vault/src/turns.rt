@@ -1,6 +1,6 @@
 //! Turns of contexts, and which context is next (PLRM2, 7.1).
 
-ghost use Rattle.std.specs.Prelude.{◌≡◌, ℕ, ◌+◌, ◌<◌, ◌≤◌, false, true, [], IfSome, IfNone};
+ghost use Rattle.std.specs.Prelude.{◌≡◌, ℕ, ◌+◌, ◌%◌, ◌<◌, ◌≤◌, false, true, [], IfSome, IfNone};
 ghost use Rattle.ps_language.specs.Locks as locks;
 ghost use Rattle.ps_language.specs.Schedules.{count_of, moves};
 ghost use Rattle.ps_language.specs.Worlds.{starting_world};
@@ -19,6 +19,22 @@ use ps_world::deeds::Deeds;
 pub struct Turn {
     pub made: u32,
     pub held: bool,
+}
+
+/// Of so many steps, made in turns of a quantum each, how many the last turn has that isn't full.
+/// Of one turn alone it is told without a division.
+#[inline(always)]
+fn begun_of(made: u32, quantum: u32) -> u32
+    requires { 1 ≤ quantum }
+    ensures { result ≡ made % quantum }
+{
+    if made < quantum {
+        return made;
+    }
+    if made == quantum {
+        return 0;
+    }
+    made % quantum
 }
 
 impl<M: Memory + Drop, S: Interpret + Drop, D: Deeds + Drop> Vault<'_, M, S, D> {
@@ -61,7 +77,7 @@ impl<M: Memory + Drop, S: Interpret + Drop, D: Deeds + Drop> Vault<'_, M, S, D> 
                 Told::TurnEnds => return Turn { made, held: false },
                 Told::HeldUp(_) => return Turn { made, held: true },
             }
-            begun = made % quantum;
+            begun = begun_of(made, quantum);
             if begun == 0 || made == most {
                 return Turn { made, held: false };
             }
@@ -72,6 +88,7 @@ impl<M: Memory + Drop, S: Interpret + Drop, D: Deeds + Drop> Vault<'_, M, S, D> 
     }
 
     /// The ready context of the least identifier above another.
+    #[inline]
     pub fn next_ready(&mut self, after: u32) -> Option<u32>
         requires { self.old.caller ≡ None }
         ensures same { self.new ≡ self.old }

@@ -7,7 +7,7 @@ ghost use Rattle.ps_language.specs.Locks as locks;
 ghost use Rattle.ps_language.specs.Schedules.{added, count_of, moves, plain_move};
 ghost use Rattle.ps_language.specs.Worlds as worlds;
 ghost use Rattle.ps_language.specs.Worlds.{after_move, after_moves, starting_world};
-ghost use Rattle.ps_vault.specs.Order.{IsNoneAbove, IsOnlyLeft, AddsSteps, AllOfOne, NoneEnds, OnlyLastMayEnd, EndsTurn};
+ghost use Rattle.ps_vault.specs.Order.{IsNoneAbove, IsOnlyLeft, AddsSteps, AllOfOne, NoneEnds, OnlyLastMayEnd, EndsTurn, WishesAs};
 ghost use Rattle.ps_start.specs.Starts.{IsEmptyHeap};
 ghost use Rattle.ps_vault.specs.Holds.{IfHeldUp, IsHeldUp, is_held_up, wish_in};
 ghost use Rattle.ps_vault.specs.Reports.{all_fit, are_ordinary, are_words, is_memory, EndsAs, IsRunIn, IsShort};
@@ -144,6 +144,7 @@ impl<'a, M: Memory + Drop, S: Interpret + Drop, D: Deeds + Drop> Vault<'a, M, S,
 
 impl<M: Memory + Drop, S: Interpret + Drop, D: Deeds + Drop> Vault<'_, M, S, D> {
     /// Whether a context is ready.
+    #[inline(always)]
     pub fn is_ready(&mut self, context: u32) -> bool
         requires { self.old.caller ≡ None }
         ensures same { self.new ≡ self.old }
@@ -274,6 +275,8 @@ impl<M: Memory + Drop, S: Interpret + Drop, D: Deeds + Drop> Vault<'_, M, S, D> 
             (starting_world self.old.program) context (moves self.new.schedule) }
         ensures only_last { result.told ≡ Told.TurnEnds → OnlyLastMayEnd
             (starting_world self.old.program) (moves self.old.schedule) (moves self.new.schedule) }
+        ensures wish { WishesAs result.wish (starting_world self.old.program) context
+            (moves self.old.schedule) (moves self.new.schedule) }
         ensures alone { IsOnlyLeft (world_at self.old) context → AllOfOne context
             (starting_world self.old.program) (moves self.old.schedule) (moves self.new.schedule) }
         ensures left { is_held_up result.told ≡ true → IsOnlyLeft (world_at self.old) context

@@ -1,18 +1,22 @@
 -- So many steps more of the schedule, and the one behind them.
-use Rattle.std.proofs.Common.{◌≡◌, ℕ, ℤ, Bool, false, true, List, Option, None, Err, refl, sym, ap, subst, ◌∙◌, ◌+◌, arith}
+use Rattle.std.proofs.Common.{◌≡◌, ℕ, ℤ, Bool, false, true, List, Option, Some, None, Err, refl, sym, ap, subst, ◌∙◌, ◌+◌, arith}
 use Rattle.std.specs.List.{list_all}
 use Rattle.ps_language.specs.declared.schedules.Entry.{Entry}
+use Rattle.ps_language.specs.Effect as effect
+use Rattle.ps_language.specs.Effect.{turn_ends}
 use Rattle.ps_language.specs.Locks.{is_ready}
 use Rattle.ps_language.specs.Schedules.{Move, plain_move, count_of, moves}
 use Rattle.ps_language.specs.Worlds.{starting_world, world}
 use Rattle.ps_language.proofs.ScheduleLaws.{count_of-added}
-use Rattle.ps_vault.specs.Order.{IsOnlyLeft, AddsSteps, NoneEnds, AllOfOne, OnlyLastMayEnd}
+use Rattle.ps_world.specs.Notes.{note_of}
+use Rattle.ps_vault.specs.Holds.{wish_in}
+use Rattle.ps_vault.specs.Order.{IsOnlyLeft, AddsSteps, NoneEnds, AllOfOne, OnlyLastMayEnd, IsNoEnd, IsNoWish, AllTell, WishesLast, WishesAs}
 use Rattle.ps_vault.specs.Reports.{are_words, fits, is_ordinary}
 use Rattle.ps_vault.specs.Stories.{Story, world_at, move_of}
 use Rattle.ps_vault.specs.Turns.{added_times}
 use Rattle.ps_vault.proofs.Following.{times_noted}
 use Rattle.ps_vault.proofs.Keeping.{caller_there, may_step}
-use Rattle.ps_vault.proofs.Advancing.{keeps_made, count_times, move_fits, all_added, all_times, words_kept, some_made, none_ends_made, none_ends_mid, none_ends_behind, only_last_behind, keeps_behind, ends_behind, keeps_held, held_behind, kept_none, alone_made, alone_mid, alone_behind, left_held}
+use Rattle.ps_vault.proofs.Advancing.{keeps_made, count_times, move_fits, all_added, all_times, words_kept, some_made, tell_made, tell_mid, tell_behind, others_behind, nothing_ends, nothing_wishes, ends_noted, wish_noted, no_wish_noted, keeps_behind, ends_behind, keeps_held, held_behind, kept_none, alone_made, alone_mid, alone_behind, left_held}
 use Rattle.ps_vault.proofs.Ordering.{adds_times, adds_one, adds_more}
 use Rattle.ps_vault.proofs.vaults.Vault.advance.Given as givens
 use Rattle.ps_vault.proofs.vaults.Vault.advance.Goals as goal
@@ -124,9 +128,19 @@ returns-in_default-clause-keeps g c = λ _.
     (λ p entries. NoneEnds (starting_world p) (moves entries)
     (moves c.note_turn.new.schedule.items))
     (rw c.note_turn.ensures.added
-    (none_ends_made c.args.context c.go_on-made.result.made _ _ c.self.inside.schedule.items
+    (tell_made c.args.context c.go_on-made.result.made _ _ c.self.inside.schedule.items
     c.self.invariant (ready_before g (goal.at.returns-in_default-clause-keeps g c).After-go_on-made)
-    (rw c.in_default.is at c.go_on-made.ensures.makes)))
+    (rw c.in_default.is at c.go_on-made.ensures.makes) IsNoEnd nothing_ends))
+
+pub returns-in_default-clause-wish : goal.returns-in_default-clause-wish
+returns-in_default-clause-wish g c =
+    of_story g (goal.at.returns-in_default-clause-wish g c).After-note_turn
+    (λ p entries. AllTell IsNoWish (starting_world p) (moves entries)
+    (moves c.note_turn.new.schedule.items))
+    (rw c.note_turn.ensures.added
+    (tell_made c.args.context c.go_on-made.result.made _ _ c.self.inside.schedule.items
+    c.self.invariant (ready_before g (goal.at.returns-in_default-clause-wish g c).After-go_on-made)
+    (rw c.in_default.is at c.go_on-made.ensures.makes) IsNoWish nothing_wishes))
 
 pub returns-in_default-clause-alone : goal.returns-in_default-clause-alone
 returns-in_default-clause-alone g c = λ left.
@@ -181,10 +195,21 @@ returns-in-Err-clause-keeps g c = λ _.
     (λ p entries. NoneEnds (starting_world p) (moves entries)
     (moves c.note_turn.new.schedule.items))
     (rw c.note_turn.ensures.added
-    (none_ends_mid g.S.Interpret.asks c.args.context 0 c.go_on-made.result.made
+    (tell_mid g.S.Interpret.asks c.args.context 0 c.go_on-made.result.made
     c.in-Some.next.shown _ _ c.self.inside.schedule.items c.self.invariant
     (ready_before g (goal.at.returns-in-Err-clause-keeps g c).After-go_on-made) (Err c.in-Err.reason)
-    (rw (c.in-Some.is, c.in-Err.is) at c.go_on-made.ensures.makes)))
+    (rw (c.in-Some.is, c.in-Err.is) at c.go_on-made.ensures.makes) IsNoEnd nothing_ends))
+
+pub returns-in-Err-clause-wish : goal.returns-in-Err-clause-wish
+returns-in-Err-clause-wish g c =
+    of_story g (goal.at.returns-in-Err-clause-wish g c).After-note_turn
+    (λ p entries. AllTell IsNoWish (starting_world p) (moves entries)
+    (moves c.note_turn.new.schedule.items))
+    (rw c.note_turn.ensures.added
+    (tell_mid g.S.Interpret.asks c.args.context 0 c.go_on-made.result.made
+    c.in-Some.next.shown _ _ c.self.inside.schedule.items c.self.invariant
+    (ready_before g (goal.at.returns-in-Err-clause-wish g c).After-go_on-made) (Err c.in-Err.reason)
+    (rw (c.in-Some.is, c.in-Err.is) at c.go_on-made.ensures.makes) IsNoWish nothing_wishes))
 
 pub returns-in-Err-clause-alone : goal.returns-in-Err-clause-alone
 returns-in-Err-clause-alone g c = λ left.
@@ -276,18 +301,19 @@ returns-clause-ends g c = λ ends.
     c.in-Some.next.shown _ _ c.self.inside.schedule.items c.self.invariant
     (ready_before g (goal.at.returns-clause-ends g c).After-go_on-made)
     c.in-Ok.told (rw (c.in-Some.is, c.in-Ok.is) at c.go_on-made.ensures.makes)
-    c.kept-kept.result (c.of.ensures.ends.0 ends))
+    c.kept-kept.result turn_ends (ap note_of (c.of.ensures.ends.0 ends)))
 
 pub returns-clause-keeps : goal.returns-clause-keeps
 returns-clause-keeps g c = λ goes.
     of_story g (goal.at.returns-clause-keeps g c).After-note_turn
     (λ p entries. NoneEnds (starting_world p) (moves entries) (moves c.note.new.schedule.items))
     (rw (c.note.ensures.added, c.note_turn.ensures.added)
-    (none_ends_behind g.S.Interpret.asks c.args.context 0 c.go_on-made.result.made
+    (tell_behind g.S.Interpret.asks c.args.context 0 c.go_on-made.result.made
     c.in-Some.next.shown _ _ c.self.inside.schedule.items c.self.invariant
     (ready_before g (goal.at.returns-clause-keeps g c).After-go_on-made)
     c.in-Ok.told (rw (c.in-Some.is, c.in-Ok.is) at c.go_on-made.ensures.makes)
-    c.kept-kept.result (λ ends. goes (c.of.ensures.ends.1 ends))))
+    IsNoEnd nothing_ends c.kept-kept.result
+    (λ is. goes (c.of.ensures.ends.1 (ends_noted c.in-Ok.told is)))))
 
 pub returns-clause-only_last : goal.returns-clause-only_last
 returns-clause-only_last g c = λ _.
@@ -295,11 +321,55 @@ returns-clause-only_last g c = λ _.
     (λ p entries. OnlyLastMayEnd (starting_world p) (moves entries)
     (moves c.note.new.schedule.items))
     (rw (c.note.ensures.added, c.note_turn.ensures.added)
-    (only_last_behind g.S.Interpret.asks c.args.context 0 c.go_on-made.result.made
+    (others_behind g.S.Interpret.asks c.args.context 0 c.go_on-made.result.made
     c.in-Some.next.shown _ _ c.self.inside.schedule.items c.self.invariant
     (ready_before g (goal.at.returns-clause-only_last g c).After-go_on-made)
     c.in-Ok.told (rw (c.in-Some.is, c.in-Ok.is) at c.go_on-made.ensures.makes)
-    c.kept-kept.result))
+    IsNoEnd nothing_ends c.kept-kept.result))
+
+-- ---- what the step behind wishes
+
+module _ (g : givens.Over) (c : After-note g) where
+  abbrev entries_behind : List Entry
+  entries_behind = c.note.new.schedule.items
+
+  -- by whether it is a vmreclaim
+  wishes_as : (wish : Option ℤ) → wish_in c.in-Ok.told ≡ wish
+      → WishesAs wish (starting_world c.args.self.now.program) c.args.context
+      (moves c.args.self.now.schedule) (moves entries_behind)
+  wishes_as None is =
+      of_story g (goal.at.After-note g c).After-note_turn
+      (λ p entries. AllTell IsNoWish (starting_world p) (moves entries) (moves entries_behind))
+      (rw (c.note.ensures.added, c.note_turn.ensures.added)
+      (tell_behind g.S.Interpret.asks c.args.context 0 c.go_on-made.result.made
+      c.in-Some.next.shown _ _ c.self.inside.schedule.items c.self.invariant
+      (ready_before g (goal.at.After-note g c).After-go_on-made)
+      c.in-Ok.told (rw (c.in-Some.is, c.in-Ok.is) at c.go_on-made.ensures.makes)
+      IsNoWish nothing_wishes c.kept-kept.result
+      (no_wish_noted c.in-Ok.told is)))
+  wishes_as (Some number) is =
+      of_story g (goal.at.After-note g c).After-note_turn
+      (λ p entries. WishesLast number (starting_world p) c.args.context (moves entries)
+      (moves entries_behind))
+      (rw (c.note.ensures.added, c.note_turn.ensures.added)
+      (record {
+        others = others_behind g.S.Interpret.asks c.args.context 0 c.go_on-made.result.made
+            c.in-Some.next.shown _ _ c.self.inside.schedule.items c.self.invariant
+            (ready_before g (goal.at.After-note g c).After-go_on-made)
+            c.in-Ok.told (rw (c.in-Some.is, c.in-Ok.is) at c.go_on-made.ensures.makes)
+            IsNoWish nothing_wishes c.kept-kept.result;
+        last = ends_behind g.S.Interpret.asks c.args.context 0 c.go_on-made.result.made
+            c.in-Some.next.shown _ _ c.self.inside.schedule.items c.self.invariant
+            (ready_before g (goal.at.After-note g c).After-go_on-made)
+            c.in-Ok.told (rw (c.in-Some.is, c.in-Ok.is) at c.go_on-made.ensures.makes)
+            c.kept-kept.result (effect.wishes number)
+            (wish_noted c.in-Ok.told number is);
+      }))
+
+pub returns-clause-wish : goal.returns-clause-wish
+returns-clause-wish g c =
+    wishes_as g (goal.at.returns-clause-wish g c).After-note c.wish_of.result
+    (sym c.wish_of.ensures)
 
 pub returns-clause-alone : goal.returns-clause-alone
 returns-clause-alone g c = λ left.

@@ -285,12 +285,13 @@ loop-context-preserved g c =
             c.loop-context.invariant.capacity,
           )
           );
-      rest = refl;
+      rest = c.begun_of-begun.ensures;
       turns = subst (λ (s : Story). Begun c.args.quantum
           (starting_world c.args.self.now.program) c.args.context
-          (moves c.args.self.now.schedule) ((c.loop-context.made + c.advance-advanced.result.made)
-          % c.args.quantum) (moves s.schedule)) (sym same)
-          (begun_on g at goes (omega arith));
+          (moves c.args.self.now.schedule) c.begun_of-begun.result (moves s.schedule)) (sym same)
+          (subst (λ n. Begun c.args.quantum (starting_world c.args.self.now.program) c.args.context
+          (moves c.args.self.now.schedule) n (moves c.advance-advanced.new.self.schedule))
+          (sym c.begun_of-begun.ensures) (begun_on g at goes (omega arith)));
       calling = ap (λ (s : Story). s.caller) same
           ∙ c.advance-advanced.ensures.calling_on (search rules);
       ready = ap (λ (s : Story). is_ready (world_at s) c.args.context) same
