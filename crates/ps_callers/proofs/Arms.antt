@@ -1,7 +1,6 @@
 -- An operator that changes its caller alone does what the definitions say.
-use Rattle.std.proofs.Common.{◌≡◌, ℕ, ◌≤◌, ℤ, Bool, true, false, List, [], length, Option, Some, None, Ok, Err, refl, sym, ap, subst, ◌∙◌}
-use Rattle.std.proofs.lemmas.Bool.{lt-ltb}
-use Rattle.std.specs.Prelude.{Result, not, nat_lt, ◌||◌}
+use Rattle.std.proofs.Common.{◌≡◌, ℕ, ◌≤◌, ℤ, Bool, false, List, [], Option, Some, None, Ok, Err, refl, sym, ap, subst, ◌∙◌}
+use Rattle.std.specs.Prelude.{Result, not}
 use Rattle.ps_language.specs.declared.errors.ErrorName.{ErrorName}
 use Rattle.ps_language.specs.declared.errors.ErrorName.TheVariants.{VmError}
 use Rattle.ps_language.specs.declared.operators.Operator.{Operator}
@@ -31,21 +30,18 @@ use Rattle.ps_contexts.proofs.Turning.{member_at, same_world}
 use Rattle.ps_world.specs.declared.notes.Note.{Note}
 use Rattle.ps_world.specs.Notes.{note_of}
 use Rattle.ps_world.specs.Calls.{RunsAt, AreFramedBut, IsHeldUpAs, call_by, call_wants, deed_wants}
+use Rattle.ps_world.specs.Growth.{Growth}
 use Rattle.ps_context_operators.specs.Deeds.{part_at, with_scene_of, after_part, scene_deed}
 use Rattle.ps_callers.specs.Done.{IsLeftAs, ComesTo, outcome_of, noted, DoesBy}
 use Rattle.ps_callers.proofs.Parts.{IsPlain, IsWithStore, IsFew, same_desk, part_runs, part_framed, part_steady, part_is, made_by, raised_by, unmade_by, held_up_by, unwinds_not}
 
 -- what makes objects wants memory for them
-wants_by : (operator : Operator) (w : World) (context : Context) (scene : Scene)
+words_by : (operator : Operator) (w : World) (context : Context) (scene : Scene)
     (outcome : Outcome Deed) → IsWithStore scene outcome
-    → nat_lt 0 (made_between w.store scene.store) ≡ true
-    → deed_wants operator w context outcome ≡ true
-wants_by operator w context scene (leaves (does note next)) same some =
-    ap (λ (store : Store). nat_lt 0 (made_between w.store store)
-    || nat_lt (length w.contexts) (length next.contexts)) same
-    ∙ ap (λ b. b || nat_lt (length w.contexts) (length next.contexts)) some
-wants_by operator w context scene (leaves waits) same some = absurd same
-wants_by operator w context scene (fails error) same some = absurd same
+    → (deed_wants operator w context outcome).words ≡ made_between w.store scene.store
+words_by operator w context scene (leaves (does note next)) same = ap (made_between w.store) same
+words_by operator w context scene (leaves waits) same = absurd same
+words_by operator w context scene (fails error) same = absurd same
 
 -- with room it is left
 room_for_it : (refused : Bool) (w : World) (scene : Scene) (outcome : Outcome Deed)
@@ -132,11 +128,12 @@ module _ (operator : Operator) (caller : ℕ) (trial : Trial) (shown : Option (�
 
   pub held_so : (reason : Reason)
       → Acts asks row trial (Err (NotMade reason)) (lent_to d member.context) new → (w : World)
-      → IsWorld d w → (may : Bool) → ((scene : Scene)
+      → IsWorld d w → (wanted : Growth) → ((scene : Scene)
       → effect_in row (lent_to d member.context) w.store ≡ makes scene []
       → lacks_room trial.refused w.store scene.store ≡ false
-      → 1 ≤ made_between w.store scene.store → may ≡ true)
-      → IsHeldUpAs may trial.slot new.heap new.grants reason
+      → 1 ≤ made_between w.store scene.store
+      → wanted.words ≡ made_between w.store scene.store)
+      → IsHeldUpAs wanted trial.slot new.heap new.grants reason
   held_so reason acts w at =
       let why = Err (NotMade reason) in
       held_up_by d caller member found runs new steady acts.keeps acts.stays acts.good w at None
@@ -222,10 +219,10 @@ module _ (operator : Operator) (caller : ℕ) (trial : Trial) (shown : Option (�
       broke_off_so (all shown) (λ error acts w at any. (raised_so error acts w at any (all any)).0)
       (λ reason acts w at. held_so reason acts w at
       (call_wants operator caller trial.refused w here)
-      (λ scene is enough some. ap (deed_wants operator w here)
+      (λ scene is enough some. ap (λ (outcome : Outcome Deed).
+      (deed_wants operator w here outcome).words)
       (outcome_is (Err (NotMade reason)) acts w at None scene (all None) is enough)
-      ∙ wants_by operator w here scene (next None w scene) (stores None w scene (all None) is)
-      (lt-ltb 0 _ some)))
+      ∙ words_by operator w here scene (next None w scene) (stores None w scene (all None) is)))
 
   -- ---- it acted, and others were changed so that the rest of the desk is the same
 

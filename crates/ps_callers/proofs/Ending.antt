@@ -1,6 +1,6 @@
 -- What was done comes to its end: its caller settles, or its error is noted.
-use Rattle.std.proofs.Common.{◌≡◌, ℕ, ◌-◌, ◌≤◌, arith, ℤ, Bool, true, false, List, [], ◌∷◌, length, Option, Some, None, Ok, Err, refl, sym, ap, subst, ◌∙◌}
-use Rattle.std.specs.Prelude.{nat_lt, ◌||◌}
+use Rattle.std.proofs.Common.{◌≡◌, ℕ, ◌≤◌, arith, ℤ, Bool, false, List, [], ◌∷◌, Option, Some, None, Ok, Err, refl, sym, ap, subst, ◌∙◌}
+use Rattle.std.specs.Prelude.{◌||◌}
 use Rattle.ps_language.specs.declared.errors.ErrorName.{ErrorName}
 use Rattle.ps_language.specs.declared.operators.Operator.{Operator}
 use Rattle.ps_language.specs.Contexts.{context_at}
@@ -40,12 +40,12 @@ use Rattle.ps_contexts.proofs.Stepping.{context_there}
 use Rattle.ps_contexts.proofs.Turning.{member_at, frame_after, went_steady, turned_reaches, unmade_steady, unmade_world}
 use Rattle.ps_world.specs.declared.notes.Note.{Note}
 use Rattle.ps_world.specs.declared.notes.Note.TheVariants.{Nothing}
-use Rattle.ps_interpreter.specs.Needs.{wants}
 use Rattle.ps_world.specs.Calls.{RunsAt, AreFramedBut, IsSameDesk, IsHeldUpAs, CallsTo, Calls, call_wants, deed_wants}
+use Rattle.ps_world.specs.Growth.{Growth, growth_for}
 use Rattle.ps_world.proofs.Called.{same_members}
-use Rattle.ps_world.proofs.Starving.{few_in, held_more, held_by}
+use Rattle.ps_world.proofs.Starving.{few_in, held_by}
 use Rattle.ps_callers.specs.Done.{IsLeftAs, outcome_of, DoesBy, own_of}
-use Rattle.ps_callers.proofs.Parts.{or_false, bytes_wanted, same_desk, same_then, part_runs, part_framed}
+use Rattle.ps_callers.proofs.Parts.{or_false, same_desk, same_then, part_runs, part_framed}
 
 held_after : (h : Heap) (frames : List Frame) → IsCourseHeld h (course_after Goes frames)
 held_after h [] = tt
@@ -252,16 +252,13 @@ module _ (operator : Operator) (caller : ℕ) (trial : Trial) (shown : Option (�
 
       -- by the line of the error, of which the output has no room
       line_wants : (w : World) → IsWorld d w
-          → wants true (needs_in trial nothing_more turn (lent_to d member.context) w.store) ≡ true
-          → deed_wants operator w (context_of d.heap d.names member) (fails error) ≡ true
-      line_wants w at h =
-          let l = lent_to d member.context in
-          let none : length l.names - length l.names ≡ 0 = omega arith in
-          (λ i. nat_lt 0 (error_needs no_rooms (birth_at d.heap member.context.error_dictionary)
-          (record (scene_of (lent_to d member.context) w.store) { names = at.names i }) error
+          → growth_for (needs_in trial nothing_more turn (lent_to d member.context) w.store)
+          ≡ deed_wants operator w (context_of d.heap d.names member) (fails error)
+      line_wants w at = λ i.
+          growth_for (error_needs no_rooms (birth_at d.heap member.context.error_dictionary)
+          (record (scene_of (lent_to d member.context) w.store) { names = sym at.names i }) error
           (command_of operator)
-          (record (scene_of (lent_to d member.context) w.store) { names = at.names i })).bytes)
-          ∙ bytes_wanted (needs_in trial nothing_more turn l w.store) none refl refl h
+          (record (scene_of (lent_to d member.context) w.store) { names = sym at.names i }))
 
       line_held : (w : World) (context : Context) → IsWorld d w
           → context_at w caller ≡ Some context
@@ -279,9 +276,8 @@ module _ (operator : Operator) (caller : ℕ) (trial : Trial) (shown : Option (�
           let same : context_of d.heap d.names member ≡ context = cc in
           subst (λ (one : Context). IsHeldUpAs (deed_wants operator w one (fails error))
           trial.slot new.heap new.grants reason) same
-          (held_more (wants true needs)
-          (deed_wants operator w (context_of d.heap d.names member) (fails error))
-          (line_wants w at) trial.slot new.heap new.grants reason
+          (subst (λ (wanted : Growth). IsHeldUpAs wanted trial.slot new.heap new.grants reason)
+          (line_wants w at)
           (held_by needs trial.slot l new reason fewer by.did.1 by.logs.closed by.did.0))
 
       -- the desk before what was done is the same but for what was granted

@@ -1,6 +1,5 @@
 -- The caller's part of an operator, in the world of all.
 use Rattle.std.proofs.Common.{◌≡◌, ℕ, ◌≤◌, ◌-◌, arith, ℤ, Bool, true, false, List, [], ◌∷◌, ◌++◌, length, Option, Some, None, Ok, Err, refl, sym, ap, subst, ◌∙◌}
-use Rattle.std.proofs.lemmas.Bool.Decides.{nat_tests}
 use Rattle.std.specs.Prelude.{Result, not, nat_lt, ◌&&◌, ◌||◌}
 use Rattle.ps_language.specs.declared.errors.ErrorName.{ErrorName}
 use Rattle.ps_language.specs.declared.errors.ErrorName.TheVariants.{VmError}
@@ -31,9 +30,10 @@ use Rattle.ps_contexts.specs.Desks.{Desk, lent_to, returned, desk_of, desk_after
 use Rattle.ps_contexts.proofs.Places.{with_item-same, with_item-twice, item_at-with_item}
 use Rattle.ps_contexts.proofs.Turning.{member_at, went_steady, went_world, same_world}
 use Rattle.ps_world.specs.Calls.{RunsAt, AreFramedBut, IsSameDesk, IsHeldUpAs, call_by}
+use Rattle.ps_world.specs.Growth.{Growth, growth_for}
 use Rattle.ps_interpreter.specs.Needs.{wants_rooms, wants}
 use Rattle.ps_world.proofs.Calling.{none_left}
-use Rattle.ps_world.proofs.Starving.{held_more, held_by}
+use Rattle.ps_world.proofs.Starving.{held_more, words_part, held_by}
 use Rattle.ps_context_operators.specs.Deeds.{part_at, with_scene_of, after_part}
 
 -- ---- effects that print nothing and form no name
@@ -61,27 +61,17 @@ pub or_false : (b : Bool) → b || false ≡ b
 or_false true = refl
 or_false false = refl
 
-and_true : (b : Bool) → b && true ≡ b
-and_true true = refl
-and_true false = refl
+and_false : (b : Bool) → b && false ≡ false
+and_false true = refl
+and_false false = refl
 
--- what prints nothing and forms no name may want a growth for its words alone
-words_wanted : (needs : Needs) → needs.bytes ≡ 0 → needs.names ≡ 0 → needs.scratch ≡ no_rooms
-    → wants true needs ≡ true → 1 ≤ needs.words
-words_wanted needs bytes names scratch h =
-    let some : nat_lt 0 needs.words ≡ true =
-    sym (or_false _ ∙ and_true (nat_lt 0 needs.words))
-    ∙ ((λ i. nat_lt 0 (sym bytes i) || (nat_lt 0 (sym names i)
-    || ((nat_lt 0 needs.words && true) || wants_rooms (sym scratch i)))) ∙ h) in
-    grind (arith, nat_tests)
-
--- what makes nothing and forms no name may want one for its bytes alone
-pub bytes_wanted : (needs : Needs) → needs.names ≡ 0 → needs.words ≡ 0
-    → needs.scratch ≡ no_rooms → wants true needs ≡ true → nat_lt 0 needs.bytes ≡ true
-bytes_wanted needs names words scratch h =
-    sym (or_false (nat_lt 0 needs.bytes))
-    ∙ ((λ i. nat_lt 0 needs.bytes || (nat_lt 0 (sym names i)
-    || ((nat_lt 0 (sym words i) && true) || wants_rooms (sym scratch i)))) ∙ h)
+-- what prints nothing, forms no name and reads nothing may want a growth for its words alone
+words_alone : (needs : Needs) → needs.bytes ≡ 0 → needs.names ≡ 0 → needs.scratch ≡ no_rooms
+    → wants false needs ≡ false
+words_alone needs bytes names scratch =
+    (λ i. nat_lt 0 (bytes i) || (nat_lt 0 (names i)
+    || ((nat_lt 0 needs.words && false) || wants_rooms (scratch i))))
+    ∙ (or_false _ ∙ and_false (nat_lt 0 needs.words))
 
 -- ---- desks where nothing has changed
 
@@ -278,28 +268,29 @@ module _ (d : Desk) (caller : ℕ) (member : Member)
         pub held_up_by : (reason : Reason) (effect : Effect) (lacking : Bool)
             → lacks trial.refused before effect ≡ lacking → IsPlain before effect
             → Did (Err (NotMade reason)) effect lacking → new.grants.closed ≡ d.grants.closed
-            → (may : Bool) → ((scene : Scene) → effect ≡ makes scene []
+            → (wanted : Growth) → ((scene : Scene) → effect ≡ makes scene []
             → lacks_room trial.refused w.store scene.store ≡ false
-            → 1 ≤ made_between w.store scene.store → may ≡ true)
-            → IsHeldUpAs may trial.slot new.heap new.grants reason
-        held_up_by reason (makes scene output) false is plain did closed may so =
+            → 1 ≤ made_between w.store scene.store
+            → wanted.words ≡ made_between w.store scene.store)
+            → IsHeldUpAs wanted trial.slot new.heap new.grants reason
+        held_up_by reason (makes scene output) false is plain did closed wanted so =
             let needs : Needs = needs_between asked before scene output in
-            held_more (wants true needs) may
-            (λ h. so scene (ap (makes scene) plain.0) is
-            (words_wanted needs (ap length plain.0) (no_names scene plain.1) few.0 h)) trial.slot
-            new.heap new.grants reason
+            held_more (growth_for needs) wanted
+            (words_part needs wanted
+            (words_alone needs (ap length plain.0) (no_names scene plain.1) few.0)
+            (so scene (ap (makes scene) plain.0) is)) trial.slot new.heap new.grants reason
             (held_by needs trial.slot l new reason few.1 did.1 closed did.0)
-        held_up_by reason (makes scene output) true is plain did closed may so =
+        held_up_by reason (makes scene output) true is plain did closed wanted so =
             let needs : Needs = needs_of_refused asked.scratch 0 in
-            held_more (wants true needs) may
-            (λ h. let none = words_wanted needs refl refl few.0 h in absurd (omega (arith, none)))
-            trial.slot new.heap new.grants reason
+            held_more (growth_for needs) wanted
+            (words_part needs wanted (words_alone needs refl refl few.0)
+            (λ some. absurd (omega (arith, some)))) trial.slot new.heap new.grants reason
             (held_by needs trial.slot l new reason (omega arith) did.1 closed
             (subst (λ n. IsReason (needs_of_refused asked.scratch n) trial.slot l new reason)
             (no_names scene plain.1) did.0))
-        held_up_by reason (raises raised) lacking is plain did closed may so = absurd did
-        held_up_by reason (unwinds cause scene) lacking is plain did closed may so = absurd did
-        held_up_by reason (calls deed) lacking is plain did closed may so = absurd did
+        held_up_by reason (raises raised) lacking is plain did closed wanted so = absurd did
+        held_up_by reason (unwinds cause scene) lacking is plain did closed wanted so = absurd did
+        held_up_by reason (calls deed) lacking is plain did closed wanted so = absurd did
 
         pub unwinds_not : (cause : _) (effect : Effect) (lacking : Bool) → IsPlain before effect
             → Did (Err (Unwinds cause)) effect lacking → ⊥

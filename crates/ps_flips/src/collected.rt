@@ -56,4 +56,7 @@ pub trait CollectedMemory: Memory {
     fn counts(&mut self) -> Counts
         ensures heap { Self.heap self.new ≡ Self.heap self.old }
         ensures grants { Self.grants self.new ≡ Self.grants self.old };
+
+    /// It never grows: all that stands lies in a space of one size.
+    ghost bounded: { (m : Self) → (Self.heap m).space.grows ≡ false };
 }

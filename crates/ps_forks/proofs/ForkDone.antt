@@ -1,23 +1,25 @@
 -- A context is begun by an operator of its caller.
-use Rattle.std.proofs.Common.{◌≡◌, ℕ, ◌+◌, ◌<◌, arith, ℤ, Bool, true, false, List, [], ◌∷◌, ◌++◌, length, Option, Some, None, Ok, Err, refl, sym, ap, subst, ◌∙◌}
-use Rattle.std.specs.Prelude.{◌||◌, IsSome, OnSome, nat_lt, option_and_then, option_map, if◌then◌else◌}
+use Rattle.std.proofs.Common.{◌≡◌, ℕ, zero, suc, ◌+◌, ◌<◌, arith, ℤ, Bool, true, false, List, [], ◌∷◌, ◌++◌, length, Option, Some, None, Ok, Err, refl, sym, ap, subst, ◌∙◌}
+use Rattle.std.proofs.lemmas.Bool.{lt-ltb}
+use Rattle.std.proofs.lemmas.List.{length-append, length-set}
+use Rattle.std.specs.Prelude.{IsSome, OnSome, nat_lt, option_and_then, option_map, if◌then◌else◌}
 use Rattle.std.specs.Option.{is_some}
 use Rattle.ps_language.specs.declared.errors.ErrorName.TheVariants.{InvalidAccess, LimitCheck, TypeCheck, UnmatchedMark}
 use Rattle.ps_language.specs.declared.operators.Operator.TheVariants.{Fork}
 use Rattle.ps_language.specs.Access.{is_executable}
 use Rattle.ps_language.specs.Acts.{change_effect}
-use Rattle.ps_language.specs.Contexts.{doing, fork_row, new_context}
+use Rattle.ps_language.specs.Contexts.{contexts_with, doing, fork_row, left_of, new_context, with_context}
 use Rattle.ps_language.specs.Control.{as_procedure}
-use Rattle.ps_language.specs.Effect.{Scene, Call, Deed, does, waits, Effect, makes, unwinds, raises, calls}
-use Rattle.ps_language.specs.Objects.{changing, made_between}
-use Rattle.ps_language.specs.Outcome.{Outcome, Change, leaves, fails, given, given_that}
+use Rattle.ps_language.specs.Effect.{Scene, Call, Deed, Effect, makes, unwinds, raises, calls}
+use Rattle.ps_language.specs.Objects.{changing}
+use Rattle.ps_language.specs.Outcome.{Outcome, Change, given, given_that}
 use Rattle.ps_language.specs.Readers.{natural}
 use Rattle.ps_language.specs.RowsStack.{split_at_mark}
-use Rattle.ps_language.specs.Step.{deed_given_room}
+use Rattle.ps_language.specs.Machines.{with_scene}
+use Rattle.ps_language.specs.Step.{deed_given_room, machine_of}
 use Rattle.ps_language.specs.StepErrors.{new_error_dictionary}
 use Rattle.ps_language.specs.Value.{Part, Value, Store}
 use Rattle.ps_language.specs.World.{Context, World}
-use Rattle.ps_language.proofs.AskedLemmas.{made-new}
 use Rattle.ps_mem.specs.Heap.{Heap, birth_at}
 use Rattle.ps_ops.specs.declared.failure.NotMade.TheVariants.{Memory}
 use Rattle.ps_control.specs.declared.frames.Frame.{Frame}
@@ -40,6 +42,8 @@ use Rattle.ps_contexts.proofs.Places.{with_item-same}
 use Rattle.ps_contexts.proofs.Turning.{member_at, frame_after}
 use Rattle.ps_world.specs.declared.notes.Note.TheVariants.{Nothing}
 use Rattle.ps_world.specs.Calls.{RunsAt, IsHeldUpAs, call_by, call_wants, deed_wants}
+use Rattle.ps_world.specs.Growth.{may_fail}
+use Rattle.ps_world.proofs.Starving.{or_true}
 use Rattle.ps_context_operators.specs.Deeds.{part_at, scene_at, with_scene_of, after_part, with_context_more, forked}
 use Rattle.ps_context_operators.specs.declared.forks.Unforked.{Unforked}
 use Rattle.ps_context_operators.specs.declared.forks.Unforked.TheVariants.{Breaks, NoStacks}
@@ -132,6 +136,16 @@ begun_is d begun store = λ i. record (context_of d.heap d.names (begun_member b
     { status = status-begun (birth_at d.heap) begun.frames i }
 
 -- ---- the seat
+
+-- with a context more there are more, whatever the caller is now
+contexts_more : (contexts : List (Option Context)) (caller : ℕ) (now more : Option Context)
+    → nat_lt (length contexts) (length (contexts_with contexts caller now ++ more ∷ [])) ≡ true
+contexts_more contexts caller now more =
+    lt-ltb _ _ (simp length-append (by caller))
+  where
+    by : (caller : ℕ) → length contexts < length (contexts_with contexts caller now) + 1
+    by zero = omega arith
+    by (suc place) = omega (arith, length-set contexts place now)
 
 pub given_seat : {P : Type 0} (seat : Option ℕ) → is_some seat ≡ true → OnSome seat P → P
 given_seat None some p = absurd (cc)
@@ -272,29 +286,37 @@ module _ (caller : ℕ) (trial : Trial) (shown : Option (ℤ × ℤ)) (d : Desk)
       (λ any w says at. law_there any w at) new (λ any. tt) why acts
 
   -- where a step makes a context, it wants memory for it
-  wants_more : (w : World) (scene : Scene) (next : Outcome Deed) → IsWithStore scene next
-      → scene.store ≡ w.store ++ new_error_dictionary ∷ [] → trial.refused ≡ false
-      → deed_wants Fork w here (deed_given_room trial.refused w next) ≡ true
-  wants_more w scene (leaves (does note after)) same store given_it =
-      let wants : nat_lt 0 (made_between w.store after.store) ≡ true =
-      ap (λ (s : Store). nat_lt 0 (made_between w.store s)) (same ∙ store)
-      ∙ ap (nat_lt 0) (made-new w.store new_error_dictionary) in
-      ap (λ b. deed_wants Fork w here (deed_given_room b w (leaves (does note after)))) given_it
-      ∙ ap (λ b. b || nat_lt (length w.contexts) (length after.contexts)) wants
-  wants_more w scene (leaves waits) same store given_it = absurd same
-  wants_more w scene (fails error) same store given_it = absurd same
+  one_more : (w : World) (scene : Scene) (context : Context)
+      → nat_lt (length w.contexts) (length (with_context_more context
+      (with_scene_of (call_by caller None w here) scene)).contexts) ≡ true
+  unfolding with_context
+  one_more w scene context =
+      contexts_more w.contexts caller (left_of (with_scene scene here.status
+      (machine_of w here)).context) (Some context)
+
+  wants_more : (w : World) (scene : Scene) (begun : Option Context) → trial.refused ≡ false
+      → IsWithStore scene (given begun TypeCheck λ context.
+      doing (with_context_more context (with_scene_of (call_by caller None w here) scene)))
+      → (deed_wants Fork w here (deed_given_room trial.refused w (given begun TypeCheck λ context.
+      doing (with_context_more context (with_scene_of (call_by caller None w here) scene))))).beside
+      ≡ true
+  wants_more w scene None given_it same = absurd same
+  wants_more w scene (Some context) given_it same =
+      ap (λ b. (deed_wants Fork w here (deed_given_room b w (doing (with_context_more context
+      (with_scene_of (call_by caller None w here) scene))))).beside) given_it
+      ∙ one_more w scene context
 
   starved : (w : World) → IsWorld d w → trial.refused ≡ false → (effect : Effect)
       → effect_in (fork_caller seat) l w.store ≡ effect → IsMaking effect
       → IsPlain (scene_of l w.store) effect
-      → call_wants Fork caller trial.refused w here ≡ true
+      → (call_wants Fork caller trial.refused w here).beside ≡ true
   starved w at given_it (makes scene output) is making plain =
       let made = is ∙ ap (makes scene) plain.0 in
-      ap (λ (o : Outcome Deed). deed_wants Fork w here (deed_given_room trial.refused w o))
+      ap (λ (o : Outcome Deed). (deed_wants Fork w here (deed_given_room trial.refused w o)).beside)
       (law_there None w at
       ∙ ap (λ e. after_part e (fork_next None w)) (part_is_there w at ∙ made))
-      ∙ wants_more w scene (fork_next None w scene) (stores_there None w scene made)
-      (fork_makes (scene_of l w.store) scene seat w.store here.operands made).1 given_it
+      ∙ wants_more w scene (forked here here.operands (length w.store)) given_it
+      (stores_there None w scene made)
     where
       part_is_there : (w : World) → IsWorld d w
           → part_at (call_by caller None w here) (fork_caller seat)
@@ -328,10 +350,11 @@ module _ (caller : ℕ) (trial : Trial) (shown : Option (ℤ × ℤ)) (d : Desk)
             let why : Memory ≡ reason = cc in
             subst (λ r. IsHeldUpAs (call_wants Fork caller trial.refused w context) trial.slot
             d.heap d.grants r) why
-            (subst (λ (one : Context). call_wants Fork caller trial.refused w one ≡ true)
+            (subst (λ (one : Context).
+            may_fail d.heap.space.grows (call_wants Fork caller trial.refused w one) ≡ true)
             (here_is d w at caller member found context there)
-            (starved w at given_it (effect_in (fork_caller seat) l w.store) refl
-            (making w.store (shown_there w at)) (fork_plain l w.store)));
+            (or_true _ _ (starved w at given_it (effect_in (fork_caller seat) l w.store) refl
+            (making w.store (shown_there w at)) (fork_plain l w.store))));
         logs = logs-same 0 d.grants trial.slot;
       }
 

@@ -1,7 +1,7 @@
 //! Both seats in one value: a memory that its collector copies while it is used.
 //!
 //! The two seats are at one table, and the slot that is drained next is one.
-ghost use Rattle.std.specs.Prelude.{◌≡◌, ◌<◌, ◌+◌, ◌-◌, ◌^◌, ◌&&◌, not, nat_lt, min, true, false, IfOk};
+ghost use Rattle.std.specs.Prelude.{◌≡◌, ◌<◌, ◌+◌, ◌-◌, ◌^◌, ◌&&◌, not, nat_lt, min, true, false, IfOk, refl};
 ghost use Rattle.ps_word.specs.Headers.{cycle_limit};
 ghost use Rattle.ps_record.specs.Format.{slots};
 ghost use Rattle.ps_mem.specs.Heap.{empty_heap};
@@ -321,4 +321,6 @@ impl CollectedMemory for CollectedSpace {
             taken,
         }
     }
+
+    ghost bounded = { λ s. refl };
 }

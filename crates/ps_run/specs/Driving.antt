@@ -1,5 +1,5 @@
 -- What a run from a command line is, its exit status, and what is written.
-use Rattle.std.specs.Prelude.{◌≡◌, ◌<◌, ◌≤◌, ◌+◌, ◌⊎◌, ◌++◌, ◌-◌, ◌^◌, ⊤, min, ℕ, Bool, true, false, not, All, List, [], ◌∷◌, slice_index_or, Option, Some, None, IsSome, IfSome, option_map, length, vec_capacity, codes, if◌then◌else◌}
+use Rattle.std.specs.Prelude.{◌≡◌, ◌<◌, ◌≤◌, ◌+◌, ◌⊎◌, ◌++◌, ◌-◌, ◌^◌, ⊤, min, ℕ, Bool, true, false, not, All, List, [], ◌∷◌, slice_index_or, Option, Some, None, IsSome, IfSome, option_map, length, codes, if◌then◌else◌}
 use Rattle.std.specs.Fmt.{decimal}
 use Rattle.std.specs.Io.KnownBytes.{Appends}
 use Rattle.ps_language.specs.declared.schedules.Entry.{Entry}
@@ -18,7 +18,7 @@ use Rattle.ps_vault.specs.declared.reports.Report.{Report}
 use Rattle.ps_vault.specs.declared.reports.Outcome.TheVariants.{Finished, Faulted, AllWaiting, StepsOut, Memory}
 use Rattle.ps_vault.specs.Endings.{AreEndings}
 use Rattle.ps_vault.specs.Order.{InOrder}
-use Rattle.ps_vault.specs.Reports.{EndsAs, IsRunIn, IsWithin, are_ordinary, is_memory, is_next_refused}
+use Rattle.ps_vault.specs.Reports.{EndsAs, IsRunIn, IsWithin, MayWantNext, are_ordinary, is_memory}
 use Rattle.ps_run.specs.declared.files.ReadFault.{ReadFault}
 use Rattle.ps_run.specs.declared.files.ReadFault.TheVariants as fault
 use Rattle.ps_run.specs.declared.statuses.Status.{Status}
@@ -185,14 +185,14 @@ module _ (asks : world.Status → Around → Scene → acts.Asked) (program : Li
     pub whole : is_memory report.outcome ≡ false → report.schedule.items ≡ given
     pub refused : is_memory report.outcome ≡ true
         → count_of report.schedule.items < count_of given
-    pub ends : EndsAs asks (worlds.world program report.schedule.items)
-        (vec_capacity report.schedule) report.schedule.items (not (is_memory report.outcome))
-        (is_next_refused given report.schedule.items) report.outcome
+    pub ends : EndsAs (worlds.world program report.schedule.items) (not (is_memory report.outcome))
+        (MayWantNext asks program given report.schedule.items) report.outcome
     pub uncollected : IsUncollected report
 
-  -- a run with a budget of steps, whose schedule has a text that can be read again
-  pub record IsRecordable (steps : ℕ) (report : Report) : Type 0 where
-    pub run : IsRunIn asks program steps report
+  -- a run with a budget of steps, in memory that grows or doesn't, whose schedule has a text that
+  -- can be read again
+  pub record IsRecordable (grows : Bool) (steps : ℕ) (report : Report) : Type 0 where
+    pub run : IsRunIn asks grows program steps report
     pub entries : AreEntries report.schedule.items
 
   -- over memory that is never collected no step is refused, and there are passes with turns of at
@@ -202,11 +202,12 @@ module _ (asks : world.Status → Around → Scene → acts.Asked) (program : Li
     pub order : InOrder quantum (worlds.starting_world program) (moves report.schedule.items)
     pub uncollected : IsUncollected report
 
-  -- a run with a budget of steps, in a space that is collected or over plain memory; or one under a
-  -- schedule that is given
+  -- a run with a budget of steps, in a space that is collected or over plain memory, which grows;
+  -- or one under a schedule that is given
   abbrev pub IsMade : Option (List Entry) → Asked → Report → Type 0
   IsMade None asked report =
-      IsRecordable asked.steps report × (asked.plain ≡ true → IsPlain asked.quantum report)
+      IsRecordable asked.plain asked.steps report
+      × (asked.plain ≡ true → IsPlain asked.quantum report)
   IsMade (Some given) asked report = IsReplayOf given report
 
 -- a run of a file's bytes, under the schedule of another file where one is named

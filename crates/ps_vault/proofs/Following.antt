@@ -16,7 +16,7 @@ use Rattle.std.specs.List.{list_all}
 use Rattle.ps_acts.specs.Acts.{Asked}
 use Rattle.ps_vault.specs.declared.reports.Outcome.{Outcome}
 use Rattle.ps_vault.specs.declared.reports.Outcome.TheVariants.{Finished, Faulted, AllWaiting, StepsOut, Memory}
-use Rattle.ps_vault.specs.Reports.{EndsAs, is_memory}
+use Rattle.ps_vault.specs.Reports.{EndsAs, IsOneStarved, IsStarved, is_memory}
 use Rattle.ps_vault.specs.Stories.{Story, world_at, move_of}
 use Rattle.ps_vault.specs.Turns.{added_times}
 use Rattle.ps_language.proofs.ScheduleLaws.{moves-single, moves-append, moves-added, plain_entry, begins-part}
@@ -391,25 +391,52 @@ fewer_with_part given schedule i few d lt less steps =
 
 -- ---- how a run ends
 
--- a run that used up its steps ends as it does whatever room there is, and whatever step would come
--- next
-pub ends_used : (asks : Status → Around → Scene → Asked) (now : World)
-    (capacity room : ℕ) (schedule entries : List Entry) (refused next : Bool) (outcome : Outcome)
-    → is_memory outcome ≡ false
-    → EndsAs asks now capacity schedule true refused outcome
-    → EndsAs asks now room entries (not (is_memory outcome)) next outcome
-ends_used asks now capacity room schedule entries refused next Finished known ends = ends
-ends_used asks now capacity room schedule entries refused next Faulted known ends = ends
-ends_used asks now capacity room schedule entries refused next AllWaiting known ends = ends
-ends_used asks now capacity room schedule entries refused next StepsOut known ends = ends
-ends_used asks now capacity room schedule entries refused next Memory known ends =
-    absurd (true≢false known)
+-- a context is starved whose step is an ordinary one
+pub ordinary_starved : (asks : Status → Around → Scene → Asked) (grows : Bool) (context : ℕ)
+    (w : World) (capacity : ℕ) (schedule : List Entry)
+    → IsStarved asks grows context false w capacity schedule
+    → IsOneStarved asks grows w capacity schedule
+ordinary_starved asks grows context w capacity schedule starved =
+    record {
+      context = context;
+      refused = false;
+      makes = λ is. absurd (true≢false (sym is));
+      starved = starved;
+    }
+
+-- a run that wanted no memory ends as it does, whatever is starved
+pub ends_so : (now : World) (used_up : Bool) (Starved : Type 0) (outcome : Outcome)
+    → EndsAs now used_up ⊥ outcome → EndsAs now used_up Starved outcome
+ends_so now used_up Starved Finished ends = ends
+ends_so now used_up Starved Faulted ends = ends
+ends_so now used_up Starved AllWaiting ends = ends
+ends_so now used_up Starved StepsOut ends = ends
+ends_so now used_up Starved Memory ends = absurd ends.2
+
+-- so does one that used up its steps
+pub ends_used : (now : World) (Starved : Type 0) (outcome : Outcome)
+    → EndsAs now true ⊥ outcome → EndsAs now (not (is_memory outcome)) Starved outcome
+ends_used now Starved Finished ends = ends
+ends_used now Starved Faulted ends = ends
+ends_used now Starved AllWaiting ends = ends
+ends_used now Starved StepsOut ends = ends
+ends_used now Starved Memory ends = absurd ends.2
 
 -- a step before the last is an ordinary one
 pub part_refused : (entry : Entry) (made : ℕ) → made + 1 < entry.steps
     → false ≡ (entry.refused && (made + 1 == entry.steps))
 part_refused entry made less =
     and_false entry.refused (made + 1 == entry.steps) (grind (arith, nat_tests))
+
+-- the last one is refused where the entry says so
+pub last_refused : (entry : Entry) (made : ℕ) → made + 1 ≡ entry.steps
+    → entry.refused ≡ (entry.refused && (made + 1 == entry.steps))
+last_refused entry made whole =
+    by entry.refused (made + 1 == entry.steps) (grind (arith, nat_tests, whole))
+  where
+    by : (refused last : Bool) → last ≡ true → refused ≡ (refused && last)
+    by true last is = sym is
+    by false last is = refl
 
 -- an entry of ordinary steps at the end
 pub moves_with_part : (old new : List Entry) (context made : ℕ) → new ≡ old

@@ -32,6 +32,7 @@ use Rattle.ps_interpreter.proofs.Reached.{left_by}
 use Rattle.ps_world.specs.declared.notes.Note.{Note}
 use Rattle.ps_world.specs.declared.worlds.Calling.{Calling}
 use Rattle.ps_world.specs.Calls.{IsHeldUpAs}
+use Rattle.ps_world.specs.Growth.{Growth, may_fail}
 use Rattle.ps_world.specs.Held.{Held, held, IsAt, IsAtBy, AreFramedBy, IsSteadyHeld, MayStep}
 use Rattle.ps_world.specs.Needs.{step_wants}
 use Rattle.ps_world.specs.Notes.{note_of}
@@ -41,7 +42,7 @@ use Rattle.ps_vault.specs.declared.reports.Report.{Report}
 use Rattle.ps_vault.specs.Holds.{slot, Grows, IsHeldUp, OnlyGrows}
 use Rattle.ps_vault.specs.Order.{IsOnlyLeft}
 use Rattle.ps_vault.specs.declared.reports.TheConstants.{FIRST_ENTRIES}
-use Rattle.ps_vault.specs.Reports.{all_fit, EndsAs, IsRunIn, MayWant}
+use Rattle.ps_vault.specs.Reports.{all_fit, EndsAs, IsOneStarved, IsRunIn, MayWant}
 use Rattle.ps_vault.specs.Stories.{Story, Keeps, move_of, world_at}
 
 -- ---- one more move
@@ -164,36 +165,56 @@ module _ (asks : Status → Around → Scene → Asked) (context : ℕ) (trial :
         → new.desk.heap ≡ heap memory → new.desk.grants ≡ grants memory → trial.slot ≡ slot
         → IsHeldUp heap grants asks context trial.refused (world new.desk.program schedule) reason
     held_step heap grants memory same_heap same_grants logged =
+        let wanted : Growth = step_wants asks context trial.refused here in
         subst (λ (p : List ℕ).
         IsHeldUp heap grants asks context trial.refused (world p schedule) reason)
         (sym steps.program)
         (record {
           ready = ready;
           memory = memory;
-          held_up = rw (← same_heap, ← same_grants, ← logged)
-              (steps.held_up reason refl here keeps.at ready);
+          held_up =
+              subst (λ (n : ℕ). IsHeldUpAs wanted n (heap memory) (grants memory) reason) logged
+              (subst (λ (g : Grants). IsHeldUpAs wanted trial.slot (heap memory) g reason)
+              same_grants (subst (λ (h : Heap).
+              IsHeldUpAs wanted trial.slot h new.desk.grants reason) same_heap
+              (steps.held_up reason refl here keeps.at ready)));
         })
+
+-- ---- want of memory
+
+-- a growth fails, in memories that all grow, or of which none does
+pub memory_wanted : {M : Type 0} (heap : M → Heap) (grants : M → Grants)
+    (asks : Status → Around → Scene → Asked) (context : ℕ) (refused : Bool) (w : World)
+    (grows : Bool) → ((m : M) → (heap m).space.grows ≡ grows)
+    → IsHeldUp heap grants asks context refused w Memory → MayWant asks grows context refused w
+memory_wanted heap grants asks context refused w grows all held = record {
+  ready = held.ready;
+  wants = subst (λ b. IsTrue (may_fail b (step_wants asks context refused w)))
+      (all held.memory) held.held_up;
+}
 
 -- ---- a memory that only grows
 
-wants_of : (heap : Heap) (grants : Grants) (wants : Bool) (reason : Reason) → Grows heap grants
-    → IsHeldUpAs wants slot heap grants reason → IsTrue wants
-wants_of heap grants wants LogFull grows held =
+no_other : (heap : Heap) (grants : Grants) (wanted : Growth) (reason : Reason)
+    → Grows heap grants → IsHeldUpAs wanted slot heap grants reason → reason ≡ Memory
+no_other heap grants wanted LogFull grows held =
     let less = held.1 in let free = grows.free in absurd (omega (arith, less, free))
-wants_of heap grants wants LogClosed grows held = absurd (true≢false (sym held ∙ grows.opened))
-wants_of heap grants wants (NeedSpace words) grows held = held.0
-wants_of heap grants wants Memory grows held = held
+no_other heap grants wanted LogClosed grows held =
+    absurd (true≢false (sym held ∙ grows.opened))
+no_other heap grants wanted (NeedSpace words) grows held =
+    absurd (true≢false (sym grows.grows ∙ held.2))
+no_other heap grants wanted Memory grows held = refl
 
 -- a step over it is held up for want of memory alone
 pub may_want : {M : Type 0} (heap : M → Heap) (grants : M → Grants)
     (asks : Status → Around → Scene → Asked) (context : ℕ) (refused : Bool) (w : World)
     (reason : Reason) → OnlyGrows heap grants
-    → IsHeldUp heap grants asks context refused w reason → MayWant asks context refused w
-may_want heap grants asks context refused w reason grows held = record {
-  ready = held.ready;
-  wants = wants_of (heap held.memory) (grants held.memory) (step_wants asks context refused w)
-      reason (grows held.memory) held.held_up;
-}
+    → IsHeldUp heap grants asks context refused w reason → MayWant asks true context refused w
+may_want heap grants asks context refused w reason grows held =
+    memory_wanted heap grants asks context refused w true (λ m. (grows m).grows)
+    (subst (IsHeldUp heap grants asks context refused w)
+    (no_other (heap held.memory) (grants held.memory) (step_wants asks context refused w) reason
+    (grows held.memory) held.held_up) held)
 
 -- ---- what is told of its world
 
@@ -275,8 +296,8 @@ printed_by (Some calling) d w at =
     (at.leaves false)).is ∙ at.world.printed
 
 -- a vault at its end is a run
-pub run_at_end : (asks : Status → Around → Scene → Asked) (h : Held) (report : Report)
-    (steps : ℕ) (caller : Option ℕ) (story : Story)
+pub run_at_end : (asks : Status → Around → Scene → Asked) (grows : Bool) (h : Held)
+    (report : Report) (steps : ℕ) (caller : Option ℕ) (story : Story)
     → report.printed.items ≡ h.desk.printed
     → Keeps h report.schedule.items
     → record {
@@ -287,11 +308,11 @@ pub run_at_end : (asks : Status → Around → Scene → Asked) (h : Held) (repo
     } ≡ story
     → count_of story.schedule ≤ steps
     → all_fit (moves story.schedule) ≡ true → FIRST_ENTRIES ≤ story.capacity
-    → EndsAs asks (world_at story) story.capacity story.schedule
-    (count_of story.schedule == steps) false report.outcome
-    → IsRunIn asks story.program steps report
+    → EndsAs (world_at story) (count_of story.schedule == steps)
+    (IsOneStarved asks grows (world_at story) story.capacity story.schedule) report.outcome
+    → IsRunIn asks grows story.program steps report
 unfolding printed
-run_at_end asks h report steps caller story prints keeps view few fit room ends =
+run_at_end asks grows h report steps caller story prints keeps view few fit room ends =
     let schedule : List Entry = report.schedule.items in
     let outcome : Outcome = report.outcome in
     let capacity : ℕ = vec_capacity report.schedule in
@@ -306,10 +327,10 @@ run_at_end asks h report steps caller story prints keeps view few fit room ends 
       within = subst (λ (s : List Entry). count_of s ≤ steps) made few;
       fits = subst (λ (s : List Entry). all_fit (moves s) ≡ true) made fit;
       room = subst (λ (n : ℕ). FIRST_ENTRIES ≤ n) (sym (ap (λ (s : Story). s.capacity) view)) room;
-      ends = subst (λ (s : List Entry). EndsAs asks (world story.program s) capacity s
-          (count_of s == steps) false outcome) made
-          (subst (λ (n : ℕ). EndsAs asks (world_at story) n story.schedule
-          (count_of story.schedule == steps) false outcome)
+      ends = subst (λ (s : List Entry). EndsAs (world story.program s) (count_of s == steps)
+          (IsOneStarved asks grows (world story.program s) capacity s) outcome) made
+          (subst (λ (n : ℕ). EndsAs (world_at story) (count_of story.schedule == steps)
+          (IsOneStarved asks grows (world_at story) n story.schedule) outcome)
           (sym (ap (λ (s : Story). s.capacity) view)) ends);
     }
 

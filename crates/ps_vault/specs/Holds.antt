@@ -19,7 +19,7 @@ abbrev pub slot : ℕ
 slot = 0
 
 -- the context is ready, and its step is not made for this reason in such a memory: the log is
--- closed, or takes fewer records than a step may put, or the step may want words or a growth
+-- closed, or takes fewer records than a step may put, or what the step may want isn't to be had
 pub record IsHeldUp {M : Type 0} (heap : M → Heap) (grants : M → Grants)
     (asks : Status → Around → Scene → Asked) (context : ℕ) (refused : Bool) (w : World)
     (reason : NotMade) : Type 0 where

@@ -9,6 +9,7 @@ use Rattle.ps_language.specs.World.{Status, World}
 use Rattle.ps_language.specs.Worlds as worlds
 use Rattle.ps_language.specs.Worlds.{IsProper, is_all_over, is_some_ready, IsFinished, IsFaulted, IsAllWaiting}
 use Rattle.ps_acts.specs.Acts.{Asked}
+use Rattle.ps_world.specs.Growth.{may_fail}
 use Rattle.ps_world.specs.Needs.{step_wants}
 use Rattle.ps_vault.specs.declared.reports.Config.{Config}
 use Rattle.ps_vault.specs.declared.reports.Outcome.{Outcome}
@@ -54,36 +55,37 @@ are_ordinary steps = list_all is_ordinary steps
 abbrev pub IsShort : (capacity : ℕ) → List Entry → Type 0
 IsShort capacity schedule = capacity < length schedule + 2
 
--- asks: what a step asks for that the language doesn't say
-module _ (asks : Status → Around → Scene → Asked) where
-  -- the context is ready, and its step may want a growth
+-- how a run ended at this world; used up says that no step is left. Want of memory comes only
+-- before any other end, and only where something is starved
+abbrev pub EndsAs : World → (used_up : Bool) → (Starved : Type 0) → Outcome → Type 0
+EndsAs w used_up Starved Finished = IsFinished w
+EndsAs w used_up Starved Faulted = IsFaulted w
+EndsAs w used_up Starved AllWaiting = IsAllWaiting w
+EndsAs w used_up Starved StepsOut =
+    (is_all_over w ≡ false) × (is_some_ready w ≡ true) × (used_up ≡ true)
+EndsAs w used_up Starved Memory = (used_up ≡ false) × (is_all_over w ≡ false) × Starved
+
+-- asks: what a step asks for that the language doesn't say; grows: whether the memory of objects
+-- does
+module _ (asks : Status → Around → Scene → Asked) (grows : Bool) where
+  -- the context is ready, and a growth that its step may want may fail
   pub record MayWant (context : ℕ) (refused : Bool) (w : World) : Type 0 where
     pub ready : is_ready w context ≡ true
-    pub wants : IsTrue (step_wants asks context refused w)
+    pub wants : IsTrue (may_fail grows (step_wants asks context refused w))
 
   -- or the schedule has no room for it
   pub record IsStarved (context : ℕ) (refused : Bool) (w : World) (capacity : ℕ)
       (schedule : List Entry) : Type 0 where
     pub ready : is_ready w context ≡ true
-    pub wants : IsTrue (step_wants asks context refused w) ⊎ IsShort capacity schedule
+    pub wants : IsTrue (may_fail grows (step_wants asks context refused w))
+        ⊎ IsShort capacity schedule
 
-  -- one is
-  abbrev pub IsOneStarved : (refused : Bool) → World → (capacity : ℕ) → (schedule : List Entry)
-      → Type 0
-  IsOneStarved refused w capacity schedule =
-      (context : ℕ) × IsStarved context refused w capacity schedule
-
-  -- how a run ended at this world; used up says that no step is left, refused whether the next is
-  -- to be refused. Want of memory comes only before any other end, where a step may want some
-  abbrev pub EndsAs : World → (capacity : ℕ) → (schedule : List Entry) → (used_up refused : Bool)
-      → Outcome → Type 0
-  EndsAs w capacity schedule used_up refused Finished = IsFinished w
-  EndsAs w capacity schedule used_up refused Faulted = IsFaulted w
-  EndsAs w capacity schedule used_up refused AllWaiting = IsAllWaiting w
-  EndsAs w capacity schedule used_up refused StepsOut =
-      (is_all_over w ≡ false) × (is_some_ready w ≡ true) × (used_up ≡ true)
-  EndsAs w capacity schedule used_up refused Memory = (used_up ≡ false)
-      × (is_all_over w ≡ false) × IsOneStarved refused w capacity schedule
+  -- one is; a step is refused only where it makes objects, in a memory that doesn't grow
+  pub record IsOneStarved (w : World) (capacity : ℕ) (schedule : List Entry) : Type 0 where
+    pub context : ℕ
+    pub refused : Bool
+    pub makes : refused ≡ true → (1 ≤ (step_wants asks context false w).words) × (grows ≡ false)
+    pub starved : IsStarved context refused w capacity schedule
 
   -- a run of the program with a budget of steps: its bytes are those that the definitions print
   -- under its schedule, which is proper and of the longest entries, and the outcome is that of its
@@ -96,13 +98,15 @@ module _ (asks : Status → Around → Scene → Asked) where
     pub fits : all_fit (moves report.schedule.items) ≡ true
     pub room : FIRST_ENTRIES ≤ vec_capacity report.schedule
     pub ends : EndsAs (worlds.world program report.schedule.items)
-        (vec_capacity report.schedule) report.schedule.items
-        (count_of report.schedule.items == steps) false report.outcome
+        (count_of report.schedule.items == steps)
+        (IsOneStarved (worlds.world program report.schedule.items) (vec_capacity report.schedule)
+        report.schedule.items) report.outcome
 
-  -- a run whose steps are all ordinary
-  pub record IsRunOf (program : List ℕ) (steps : ℕ) (report : Report) : Type 0 where
-    pub run : IsRunIn program steps report
-    pub ordinary : are_ordinary (moves report.schedule.items) ≡ true
+-- a run over a memory that grows, whose steps are all ordinary
+pub record IsRunOf (asks : Status → Around → Scene → Asked) (program : List ℕ) (steps : ℕ)
+    (report : Report) : Type 0 where
+  pub run : IsRunIn asks true program steps report
+  pub ordinary : are_ordinary (moves report.schedule.items) ≡ true
 
 -- whether it is for want of memory
 abbrev pub is_memory : Outcome → Bool
@@ -130,3 +134,10 @@ is_next_refused given made = is_first_refused (steps_behind given made)
 -- whose it is
 abbrev pub next_identifier : (given made : List Entry) → ℕ
 next_identifier given made = first_identifier (steps_behind given made)
+
+-- the next of them may want a growth that may fail, in a memory that grows
+abbrev pub MayWantNext : (asks : Status → Around → Scene → Asked) → (program : List ℕ)
+    → (given made : List Entry) → Type 0
+MayWantNext asks program given made =
+    MayWant asks true (next_identifier given made) (is_next_refused given made)
+    (worlds.world program made)

@@ -77,7 +77,7 @@ impl<M: Memory + Drop, S: Interpret + Drop, D: Deeds + Drop> Vault<'_, M, S, D> 
         ensures calling_on { result.held ≡ false → self.new.caller ≡ None }
         ensures fewer { result.held ≡ true → result.made < steps }
         ensures starved { OnlyGrows M.heap M.grants → result.held ≡ true
-            → IsOneStarved S.asks false (world_at self.new) self.new.capacity self.new.schedule }
+            → IsOneStarved S.asks true (world_at self.new) self.new.capacity self.new.schedule }
         ensures ended { result.held ≡ false → result.made < steps
             → IsNoneAbove (world_at self.new) 0 }
     {

@@ -42,7 +42,7 @@ pub fn run_plain<S: Interpret + Drop, D: Deeds + Drop>(
         (starting_world program.now) (moves report.schedule.items)) }
     ensures starved { IfOk result (λ report. is_memory report.outcome ≡ true → (context : ℕ)
         × HasTurn config.quantum (starting_world program.now) context (moves report.schedule.items)
-        × IsStarved S.asks context false (world program.now report.schedule.items)
+        × IsStarved S.asks true context false (world program.now report.schedule.items)
         (vec_capacity report.schedule) report.schedule.items) }
     ensures flips { IfOk result (λ report. report.flips ≡ 0) }
     ensures taken { IfOk result (λ report. report.taken ≡ 0) }
@@ -77,7 +77,7 @@ impl<M: Memory + Drop, S: Interpret + Drop, D: Deeds + Drop> Vault<'_, M, S, D> 
         requires calling { run.held ≡ false → self.caller ≡ None }
         requires fewer { run.held ≡ true → run.made < steps }
         requires starved { run.held ≡ true
-            → IsOneStarved S.asks false (world_at self) self.capacity self.schedule }
+            → IsOneStarved S.asks true (world_at self) self.capacity self.schedule }
         requires ended { run.held ≡ false → run.made < steps → IsNoneAbove (world_at self) 0 }
         ensures run { IsRunOf S.asks self.entry.program steps result }
         ensures schedule { result.schedule.items ≡ self.entry.schedule }

@@ -6,7 +6,7 @@ ghost use Rattle.ps_language.specs.Locks as locks;
 ghost use Rattle.ps_language.specs.Schedules.{last_move, plain_move, moves_of, moves, count_of, Begins};
 ghost use Rattle.ps_language.specs.Worlds as worlds;
 ghost use Rattle.ps_language.specs.Worlds.{after_moves};
-ghost use Rattle.ps_vault.specs.Reports.{EndsAs, MayWant, is_memory, is_next_refused, next_identifier};
+ghost use Rattle.ps_vault.specs.Reports.{EndsAs, MayWant, MayWantNext, is_memory};
 ghost use Rattle.ps_vault.specs.Stories.{world_at};
 ghost use Rattle.ps_vault.specs.Turns.{added_times};
 
@@ -43,7 +43,7 @@ fn steps<S: Interpret + Drop, D: Deeds + Drop>(
     ensures unready { result.held ≡ false → result.made < most
         → locks.is_ready (world_at vault.new) context ≡ false }
     ensures fewer { result.held ≡ true → result.made < most }
-    ensures starved { result.held ≡ true → MayWant S.asks context false (world_at vault.new) }
+    ensures starved { result.held ≡ true → MayWant S.asks true context false (world_at vault.new) }
 {
     let mut made = 0;
     while made < most && vault.is_ready(context) {
@@ -77,7 +77,7 @@ fn follow_ordinary<S: Interpret + Drop, D: Deeds + Drop>(
         → world_at vault.new ≡ after_moves (world_at vault.old)
         (replicate result (plain_move entry.context)) }
     ensures starved { result < entry.steps
-        → MayWant S.asks entry.context false (world_at vault.new) }
+        → MayWant S.asks true entry.context false (world_at vault.new) }
 {
     let turn = steps(vault, entry.context, entry.steps);
     if turn.held {
@@ -105,7 +105,7 @@ fn follow_entry<S: Interpret + Drop, D: Deeds + Drop>(
     ensures part { result < entry.steps
         → world_at vault.new ≡ after_moves (world_at vault.old)
         (replicate result (plain_move entry.context)) }
-    ensures starved { result < entry.steps → MayWant S.asks entry.context
+    ensures starved { result < entry.steps → MayWant S.asks true entry.context
         (entry.refused && (result + 1 == entry.steps)) (world_at vault.new) }
 {
     if is_ordinary(&entry) {
@@ -153,13 +153,9 @@ pub fn replay<S: Interpret + Drop, D: Deeds + Drop>(
         (λ report. is_memory report.outcome ≡ true
         → count_of report.schedule.items < count_of schedule.now) }
     ensures ends { IfOk result
-        (λ report. EndsAs S.asks (worlds.world program.now report.schedule.items)
-        (vec_capacity report.schedule) report.schedule.items (not (is_memory report.outcome))
-        (is_next_refused schedule.now report.schedule.items) report.outcome) }
-    ensures starved { IfOk result (λ report. is_memory report.outcome ≡ true
-        → MayWant S.asks (next_identifier schedule.now report.schedule.items)
-        (is_next_refused schedule.now report.schedule.items)
-        (worlds.world program.now report.schedule.items)) }
+        (λ report. EndsAs (worlds.world program.now report.schedule.items)
+        (not (is_memory report.outcome))
+        (MayWantNext S.asks program.now schedule.now report.schedule.items) report.outcome) }
     ensures flips { IfOk result (λ report. report.flips ≡ 0) }
     ensures taken { IfOk result (λ report. report.taken ≡ 0) }
 {

@@ -60,7 +60,7 @@ impl<M: Memory + Drop, S: Interpret + Drop, D: Deeds + Drop> Vault<'_, M, S, D> 
         ensures calling_on { result.held ≡ false → self.new.caller ≡ None }
         ensures fewer { result.held ≡ true → result.made < most }
         ensures starved { OnlyGrows M.heap M.grants → result.held ≡ true
-            → IsStarved S.asks context false (world_at self.new) self.new.capacity
+            → IsStarved S.asks true context false (world_at self.new) self.new.capacity
             self.new.schedule }
     {
         let mut made = 0;
@@ -121,11 +121,11 @@ impl<M: Memory + Drop, S: Interpret + Drop, D: Deeds + Drop> Vault<'_, M, S, D> 
         ensures calling_on { result.held ≡ false → self.new.caller ≡ None }
         ensures fewer { result.held ≡ true → result.made < steps }
         ensures starved { OnlyGrows M.heap M.grants → result.held ≡ true
-            → IsOneStarved S.asks false (world_at self.new) self.new.capacity self.new.schedule }
+            → IsOneStarved S.asks true (world_at self.new) self.new.capacity self.new.schedule }
         ensures owed { OnlyGrows M.heap M.grants → result.held ≡ true
             → moves self.old.schedule ≡ [] → (context : ℕ)
             × HasTurn quantum (starting_world self.old.program) context (moves self.new.schedule)
-            × IsStarved S.asks context false (world_at self.new) self.new.capacity
+            × IsStarved S.asks true context false (world_at self.new) self.new.capacity
             self.new.schedule }
         ensures ended { result.held ≡ false → result.made < steps
             → IsNoneAbove (world_at self.new) 0 }

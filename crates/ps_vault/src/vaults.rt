@@ -10,7 +10,7 @@ ghost use Rattle.ps_language.specs.Worlds.{after_move, after_moves, starting_wor
 ghost use Rattle.ps_vault.specs.Order.{IsNoneAbove, IsOnlyLeft, AddsSteps, AllOfOne, NoneEnds, OnlyLastMayEnd, EndsTurn, WishesAs};
 ghost use Rattle.ps_start.specs.Starts.{IsEmptyHeap};
 ghost use Rattle.ps_vault.specs.Holds.{IfHeldUp, IsHeldUp, is_held_up, wish_in};
-ghost use Rattle.ps_vault.specs.Reports.{all_fit, are_ordinary, are_words, is_memory, EndsAs, IsRunIn, IsShort};
+ghost use Rattle.ps_vault.specs.Reports.{all_fit, are_ordinary, are_words, is_memory, EndsAs, IsOneStarved, IsRunIn, IsShort};
 ghost use Rattle.ps_vault.specs.declared.reports.TheConstants.{FIRST_ENTRIES};
 ghost use Rattle.ps_vault.specs.Stories.{Story, HasRoom, MayGo, world_at, move_of};
 ghost use Rattle.ps_vault.specs.Turns.{added_times};
@@ -331,8 +331,7 @@ impl<M: Memory + Drop, S: Interpret + Drop, D: Deeds + Drop> Vault<'_, M, S, D> 
         requires calling { self.old.caller ≡ None }
         requires ready { used_up ≡ false → IsNoneAbove (world_at self.old) 0 }
         ensures same { self.new ≡ self.old }
-        ensures ends { (refused : Bool) → EndsAs S.asks (world_at self.old) self.old.capacity
-            self.old.schedule used_up refused result }
+        ensures ends { EndsAs (world_at self.old) used_up ⊥ result }
         ensures known { is_memory result ≡ false }
     {
         if self.is_all_over() {
@@ -388,9 +387,10 @@ impl<M: Memory + Drop, S: Interpret + Drop, D: Deeds + Drop> Vault<'_, M, S, D> 
         requires few { count_of self.schedule ≤ steps }
         requires fits { all_fit (moves self.schedule) ≡ true }
         requires room { FIRST_ENTRIES ≤ self.capacity }
-        requires ends { EndsAs S.asks (world_at self) self.capacity self.schedule
-            (count_of self.schedule == steps) false outcome }
-        ensures run { IsRunIn S.asks self.entry.program steps result }
+        ensures run { (grows : Bool) → EndsAs (world_at self.entry)
+            (count_of self.entry.schedule == steps) (IsOneStarved S.asks grows
+            (world_at self.entry) self.entry.capacity self.entry.schedule) outcome
+            → IsRunIn S.asks grows self.entry.program steps result }
         ensures schedule { result.schedule.items ≡ self.entry.schedule }
         ensures capacity { vec_capacity result.schedule ≡ self.entry.capacity }
         ensures outcome { result.outcome ≡ outcome }

@@ -1,6 +1,6 @@
 -- What a baton keeps, over its turns.
 use Rattle.std.proofs.Common.{◌≡◌, ℕ, ◌+◌, ◌<◌, ◌≤◌, ◌^◌, ◌==◌, true, false, Option, Some, None, Ok, Err, List, refl, sym, ap, ◌∙◌, subst, inl, inr, arith}
-use Rattle.std.specs.Prelude.{IsTrue, IfSome, OnErr, Result}
+use Rattle.std.specs.Prelude.{Bool, IfSome, OnErr, Result}
 use Rattle.std.specs.Result.{is_err}
 use Rattle.std.proofs.lemmas.Bool.{true≢false}
 use Rattle.std.proofs.lemmas.Bool.Decides.{nat_tests}
@@ -14,10 +14,10 @@ use Rattle.ps_world.specs.Needs.{step_wants}
 use Rattle.ps_vault.specs.declared.reports.Config.{Config}
 use Rattle.ps_vault.specs.declared.reports.Outcome.{Outcome}
 use Rattle.ps_vault.specs.declared.reports.Outcome.TheVariants.{Memory}
-use Rattle.ps_vault.specs.Reports.{all_fit, EndsAs, IsShort, IsStarved}
+use Rattle.ps_vault.specs.Reports.{all_fit, EndsAs, IsShort, IsStarved, MayWant}
 use Rattle.ps_vault.specs.Stories.{Story, MayGo, world_at}
 use Rattle.ps_vault.proofs.Following.{ready_not_over}
-use Rattle.ps_workers.specs.Batons.{Progress, MayGoOn, Keeps}
+use Rattle.ps_workers.specs.Batons.{Progress, MayGoOn, IsStarvedAt, Keeps}
 
 abbrev pub progress : Story → Config → ℕ → Option Outcome → Progress
 progress story config made outcome =
@@ -47,22 +47,26 @@ waits_none p none =
 
 -- ---- how a run ends for want of memory
 
+-- a step is refused only where it makes objects
+abbrev pub MakesObjects : (asks : Status → Around → Scene → Asked) → (context : ℕ) → World
+    → Type 0
+MakesObjects asks context w = 1 ≤ (step_wants asks context false w).words
+
 pub ends_starved : (asks : Status → Around → Scene → Asked) (p : Progress) (context : ℕ)
-    → MayGoOn p context
-    → IsStarved asks context false (world_at p.story) p.story.capacity p.story.schedule
-    → EndsAs asks (world_at p.story) p.story.capacity p.story.schedule
-    (p.made == p.config.steps) false Memory
-ends_starved asks p context may starved = (
+    (refused : Bool) → MayGoOn p context
+    → (refused ≡ true → MakesObjects asks context (world_at p.story))
+    → IsStarved asks false context refused (world_at p.story) p.story.capacity p.story.schedule
+    → EndsAs (world_at p.story) (p.made == p.config.steps) (IsStarvedAt asks p.story) Memory
+ends_starved asks p context refused may makes starved = (
   let left : p.made < p.config.steps = may.left in grind (arith, nat_tests),
   ready_not_over (world_at p.story) context may.ready,
-  (context, starved),
+  record {
+    context = context;
+    refused = refused;
+    makes = λ is. (makes is, refl);
+    starved = starved;
+  },
 )
-
--- a step of it may want memory
-pub wants_some : (asks : Status → Around → Scene → Asked) (p : Progress) (context : ℕ)
-    → MayGoOn p context → IsTrue (step_wants asks context false (world_at p.story))
-    → IsStarved asks context false (world_at p.story) p.story.capacity p.story.schedule
-wants_some asks p context may wants = record { ready = may.ready; wants = inl wants }
 
 -- ---- the same steps, in another room
 
@@ -97,13 +101,26 @@ waits_same p story outcome waits program schedule caller =
     by (Some context) waits =
         may_same p story outcome context waits program schedule caller
 
+-- where the run has ended, by the steps that were counted
+pub kept_ends : (asks : Status → Around → Scene → Asked) (p : Progress) (outcome : Outcome)
+    (steps : ℕ) → Keeps asks p → p.outcome ≡ Some outcome → p.config.steps ≡ steps
+    → EndsAs (world_at p.story) (count_of p.story.schedule == steps) (IsStarvedAt asks p.story)
+    outcome
+kept_ends asks p outcome steps keeps is same =
+    let Ended : ℕ → ℕ → Type 0 = λ made most.
+    EndsAs (world_at p.story) (made == most) (IsStarvedAt asks p.story) outcome in
+    let ended : Ended p.made p.config.steps =
+    subst (λ (o : Option Outcome). IfSome o (EndsAs (world_at p.story) (p.made == p.config.steps)
+    (IsStarvedAt asks p.story))) is keeps.judged in
+    subst (λ (n : ℕ). Ended n steps) (sym keeps.counted)
+    (subst (λ (n : ℕ). Ended p.made n) same ended)
+
 -- the run ends where it is
 pub keeps_ended : (asks : Status → Around → Scene → Asked) (p : Progress) (story : Story)
     (outcome : Outcome) → Keeps asks p
     → story.program ≡ p.story.program → story.schedule ≡ p.story.schedule
     → story.caller ≡ p.story.caller → p.story.capacity ≤ story.capacity
-    → EndsAs asks (world_at story) story.capacity story.schedule (p.made == p.config.steps) false
-    outcome
+    → EndsAs (world_at story) (p.made == p.config.steps) (IsStarvedAt asks story) outcome
     → Keeps asks (progress story p.config p.made (Some outcome))
 keeps_ended asks p story outcome keeps program schedule caller more ends = record {
   numbers = keeps.numbers;
@@ -116,18 +133,6 @@ keeps_ended asks p story outcome keeps program schedule caller more ends = recor
   judged = ends;
 }
 
--- for want of memory
-pub keeps_starved : (asks : Status → Around → Scene → Asked) (p : Progress) (story : Story)
-    (context : ℕ) → Keeps asks p → MayGoOn p context
-    → story.program ≡ p.story.program → story.schedule ≡ p.story.schedule
-    → story.caller ≡ p.story.caller → p.story.capacity ≤ story.capacity
-    → IsStarved asks context false (world_at story) story.capacity story.schedule
-    → Keeps asks (progress story p.config p.made (Some Memory))
-keeps_starved asks p story context keeps may program schedule caller more starved =
-    keeps_ended asks p story Memory keeps program schedule caller more
-    (ends_starved asks (progress story p.config p.made None) context
-    (may_same p story None context may program schedule caller) starved)
-
 -- the schedule has no room
 pub short_starved : (asks : Status → Around → Scene → Asked) (p : Progress) (story : Story)
     (context : ℕ) → Keeps asks p → MayGoOn p context
@@ -136,10 +141,11 @@ pub short_starved : (asks : Status → Around → Scene → Asked) (p : Progress
     → IsShort story.capacity story.schedule
     → Keeps asks (progress story p.config p.made (Some Memory))
 short_starved asks p story context keeps may program schedule caller more short =
-    keeps_starved asks p story context keeps may program schedule caller more (record {
-      ready = (may_same p story None context may program schedule caller).ready;
-      wants = inr short;
-    })
+    let here : MayGoOn (progress story p.config p.made None) context =
+    may_same p story None context may program schedule caller in
+    keeps_ended asks p story Memory keeps program schedule caller more
+    (ends_starved asks (progress story p.config p.made None) context false here
+    (λ is. absurd (true≢false (sym is))) (record { ready = here.ready; wants = inr short }))
 
 -- ---- steps more
 
@@ -153,8 +159,8 @@ pub keeps_made : (asks : Status → Around → Scene → Asked) (p : Progress) (
     (count : ℕ) (outcome : Option Outcome) → Keeps asks p → Goes p story count
     → p.made + count ≤ p.config.steps
     → IfSome story.caller (MayGoOn (progress story p.config (p.made + count) outcome))
-    → IfSome outcome (EndsAs asks (world_at story) story.capacity story.schedule
-    (p.made + count == p.config.steps) false)
+    → IfSome outcome
+    (EndsAs (world_at story) (p.made + count == p.config.steps) (IsStarvedAt asks story))
     → Keeps asks (progress story p.config (p.made + count) outcome)
 keeps_made asks p story count outcome keeps goes within waits judged = record {
   numbers = keeps.numbers;
@@ -172,58 +178,29 @@ pub counts_on : (asks : Status → Around → Scene → Asked) (p : Progress) (c
     → Keeps asks p → p.made + count ≤ p.config.steps → p.made + count < 2 ^ 32
 counts_on asks p count keeps within = omega (arith, within, keeps.budget)
 
--- ---- a step that is held up behind steps that were made
+-- ---- the next step may want a growth that may fail
 
-pub may_after : (asks : Status → Around → Scene → Asked) (p : Progress) (story : Story)
-    (count : ℕ) (outcome : Option Outcome) (context : ℕ)
-    → MayGo story context → is_ready (world_at story) context ≡ true
-    → p.made + count < p.config.steps
-    → MayGoOn (progress story p.config (p.made + count) outcome) context
-may_after asks p story count outcome context calling ready left =
-    record { calling = calling; ready = ready; left = left }
-
--- they are counted
-pub keeps_held : (asks : Status → Around → Scene → Asked) (p : Progress) (story : Story)
-    (count context : ℕ) → Keeps asks p → Goes p story count
-    → MayGo story context → is_ready (world_at story) context ≡ true
-    → p.made + count < p.config.steps
-    → Keeps asks (progress story p.config (p.made + count) None)
-keeps_held asks p story count context keeps goes calling ready left =
-    keeps_made asks p story count None keeps goes (omega (arith, left))
-    (waits_as (progress story p.config (p.made + count) None) context
-    (may_after asks p story count None context calling ready left)) tt
-
--- and the run ends for want of memory
-pub keeps_ended_held : (asks : Status → Around → Scene → Asked) (p : Progress) (story : Story)
-    (count context : ℕ) → Keeps asks p → Goes p story count
-    → MayGo story context → is_ready (world_at story) context ≡ true
-    → p.made + count < p.config.steps
-    → IsTrue (step_wants asks context false (world_at story))
-    → Keeps asks (progress story p.config (p.made + count) (Some Memory))
-keeps_ended_held asks p story count context keeps goes calling ready left wants =
-    let now : Progress = progress story p.config (p.made + count) None in
-    let may : MayGoOn now context =
-    may_after asks p story count None context calling ready left in
-    keeps_starved asks now story context
-    (keeps_held asks p story count context keeps goes calling ready left) may refl refl refl
-    (omega arith) (wants_some asks now context may wants)
-
--- so it does where no step more was made
-pub keeps_ended_here : (asks : Status → Around → Scene → Asked) (p : Progress) (story : Story)
-    (context : ℕ) → Keeps asks p → MayGoOn p context
+-- the run ends there
+pub keeps_wanted : (asks : Status → Around → Scene → Asked) (p : Progress) (story : Story)
+    (context : ℕ) (refused : Bool) → Keeps asks p → MayGoOn p context
     → story.program ≡ p.story.program → story.schedule ≡ p.story.schedule → MayGo story context
     → p.story.capacity ≤ story.capacity
-    → IsTrue (step_wants asks context false (world_at p.story))
+    → (refused ≡ true → MakesObjects asks context (world_at p.story))
+    → MayWant asks false context refused (world_at story)
     → Keeps asks (progress story p.config p.made (Some Memory))
-keeps_ended_here asks p story context keeps may program schedule calling more wants =
-    let same : p.made + 0 ≡ p.made = omega arith in
-    subst (λ n. Keeps asks (progress story p.config n (Some Memory))) same
-    (keeps_ended_held asks p story 0 context keeps (record {
-      counted = ap count_of schedule ∙ omega arith;
-      fits = λ fit. ap (λ (s : List Entry). all_fit (moves s)) schedule ∙ fit;
-      more = more;
-    }) calling
-    (world_same p.story story program schedule (λ w. is_ready w context ≡ true) may.ready)
-    (omega (arith, may.left))
-    (world_same p.story story program schedule
-    (λ w. IsTrue (step_wants asks context false w)) wants))
+keeps_wanted asks p story context refused keeps may program schedule calling more makes wanted =
+    let here : MayGoOn (progress story p.config p.made None) context =
+    record { calling = calling; ready = wanted.ready; left = may.left } in
+    record {
+      numbers = keeps.numbers;
+      budget = keeps.budget;
+      counted = ap count_of schedule ∙ keeps.counted;
+      within = keeps.within;
+      fits = ap (λ (s : List Entry). all_fit (moves s)) schedule ∙ keeps.fits;
+      room = omega (arith, keeps.room, more);
+      waits = waits_as (progress story p.config p.made (Some Memory)) context
+          (record { calling = calling; ready = wanted.ready; left = may.left });
+      judged = ends_starved asks (progress story p.config p.made None) context refused here
+          (λ is. world_same p.story story program schedule (MakesObjects asks context) (makes is))
+          (record { ready = wanted.ready; wants = inl wanted.wants });
+    }

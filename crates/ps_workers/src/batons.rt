@@ -4,7 +4,7 @@
 //! It keeps (`Keeps`) that the steps made are counted and within the budget, and that an outcome,
 //! once it stands, is that of the vault's world.
 
-ghost use Rattle.std.specs.Prelude.{◌≡◌, ◌<◌, ◌≢◌, IfOk, IfSome, IfNone, IsSome, None, Err};
+ghost use Rattle.std.specs.Prelude.{◌≡◌, ◌<◌, ◌≢◌, false, IfOk, IfSome, IfNone, IsSome, None, Err};
 ghost use Rattle.ps_start.specs.Starts.{IsEmptyHeap};
 ghost use Rattle.ps_vault.specs.Order.{IsNoneAbove};
 ghost use Rattle.ps_vault.specs.Reports.{IsRunIn, IsWithin};
@@ -194,7 +194,7 @@ impl<M: CollectedMemory + Drop, S: Interpret + Drop, D: Deeds + Drop> Baton<'_, 
 
     /// The run's report, if it is over and was one of this program with these numbers.
     pub fn into_report(self, program: &[u8], config: Config) -> Result<Report, RunFault>
-        ensures run { IfOk result (IsRunIn S.asks program.now config.steps) }
+        ensures run { IfOk result (IsRunIn S.asks false program.now config.steps) }
         ensures fault { result ≢ Err RunFault.Config }
     {
         let Baton {

@@ -109,4 +109,6 @@ impl<M: CollectedMemory + Drop, G: Gate> CollectedMemory for Gated<'_, M, G> {
     fn counts(&mut self) -> Counts {
         self.memory.counts()
     }
+
+    ghost bounded = { λ g. M.bounded g.memory };
 }

@@ -1,7 +1,7 @@
 //! Steps under the baton, and what is done where one is held up: the collector makes room, or the
 //! step is made refused.
 
-ghost use Rattle.std.specs.Prelude.{◌≡◌, ◌+◌, ◌≤◌, false, None, IfSome, IsSome, IsTrue};
+ghost use Rattle.std.specs.Prelude.{◌≡◌, ◌+◌, ◌≤◌, false, None, IfSome, IsSome};
 ghost use Rattle.ps_vault.specs.Holds.{IsHeldUp};
 ghost use Rattle.ps_vault.specs.Stories.{world_at};
 ghost use Rattle.ps_world.specs.Needs.{step_wants};
@@ -96,11 +96,11 @@ impl<M: CollectedMemory + Drop, S: Interpret + Drop, D: Deeds + Drop> Baton<'_, 
         }
     }
 
-    /// A step that finds no room is made refused.
+    /// A step that makes objects, and found no room for them, is made refused.
     fn refuse_step(&mut self, context: u32)
         requires may { MayGoOn self.old context }
         requires outcome { self.old.outcome ≡ None }
-        requires wants { IsTrue (step_wants S.asks context false (world_at self.old.story)) }
+        requires makes { 1 ≤ (step_wants S.asks context false (world_at self.old.story)).words }
         ensures goes_on { GoesOn self.old self.new }
     {
         if self.vault.reserve_entries().is_err() {

@@ -1,6 +1,6 @@
 //! A run by workers: threads that take the baton one at a time, for some turns each.
 
-ghost use Rattle.std.specs.Prelude.{◌≡◌, ◌↔◌, Err, IfOk};
+ghost use Rattle.std.specs.Prelude.{◌≡◌, ◌↔◌, false, Err, IfOk};
 ghost use Rattle.ps_start.specs.Starts.{IsEmptyHeap};
 ghost use Rattle.ps_vault.specs.Reports.{IsRunIn, IsWithin};
 
@@ -53,7 +53,8 @@ fn work_all<
 /// The fault is `Config` where a number is out of its range. It is `Memory` where the room that the
 /// run starts with can't be had, or a thread can't be started; also where what the lock held was of
 /// another program or other numbers, which no run meets. A growth that is refused later ends the
-/// run, and the report has what was made so far.
+/// run, and the report has what was made so far. The outcome is `Memory` only where the step of a
+/// ready context may want a growth that is no object's, or the schedule has no room for it.
 pub fn run_in<
     M: CollectedMemory + Drop + Send,
     S: Interpret + Drop + Send,
@@ -71,7 +72,7 @@ pub fn run_in<
 ) -> Result<Report, RunFault>
     requires { IsEmptyHeap (M.heap memory) }
     ensures config { (result ≡ Err RunFault.Config) ↔ ¬ IsWithin config }
-    ensures run { IfOk result (IsRunIn S.asks program.now config.steps) }
+    ensures run { IfOk result (IsRunIn S.asks false program.now config.steps) }
 {
     if !config.is_within() {
         return Err(RunFault::Config);
@@ -104,7 +105,7 @@ pub fn run<S: Interpret + Drop + Send, D: Deeds + Drop + Send, R: Threads + Wait
     keys: RandomState,
 ) -> Result<Report, RunFault>
     ensures config { (result ≡ Err RunFault.Config) ↔ ¬ IsWithin config }
-    ensures run { IfOk result (IsRunIn S.asks program.now config.steps) }
+    ensures run { IfOk result (IsRunIn S.asks false program.now config.steps) }
 {
     if !config.is_within() {
         return Err(RunFault::Config);
@@ -132,7 +133,7 @@ pub fn run_gated<
     gate: &G,
 ) -> Result<Report, RunFault>
     ensures config { (result ≡ Err RunFault.Config) ↔ ¬ IsWithin config }
-    ensures run { IfOk result (IsRunIn S.asks program.now config.steps) }
+    ensures run { IfOk result (IsRunIn S.asks false program.now config.steps) }
 {
     if !config.is_within() {
         return Err(RunFault::Config);

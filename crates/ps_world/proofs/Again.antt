@@ -29,14 +29,15 @@ use Rattle.ps_contexts.proofs.Places.{with_item-same, with_item-twice, item_at-w
 use Rattle.ps_contexts.proofs.Stepping.{context_there}
 use Rattle.ps_contexts.proofs.Turning.{member_at, regranted}
 use Rattle.ps_world.specs.declared.notes.Note.{Note}
-use Rattle.ps_world.specs.Calls.{RunsAt, AreFramedBut, Calls, call_wants}
+use Rattle.ps_world.specs.Calls.{RunsAt, AreFramedBut, Calls, IsHeldUpAs, call_wants}
+use Rattle.ps_world.specs.Growth.{Growth}
 use Rattle.ps_world.specs.Held.{held, IsSteadyHeld}
 use Rattle.ps_world.specs.Needs.{wants_as, step_wants}
 use Rattle.ps_world.specs.Steps.{Steps}
 use Rattle.ps_world.proofs.Called.{same_members}
 use Rattle.ps_world.proofs.Calling.{none_left}
 use Rattle.ps_world.proofs.Owning.{framed_but}
-use Rattle.ps_world.proofs.Starving.{held_more, wants_there}
+use Rattle.ps_world.proofs.Starving.{wants_there}
 
 -- a context in another course
 abbrev pub in_course : Course → Member → Member
@@ -138,14 +139,14 @@ module _ (asks : Status → Around → Scene → Asked) (d : Desk)
         ∙ ap (λ (calling : CallingOf). called calling identifier trial.refused shown
         (with_machine identifier w machine) machine.context) (sym (tries d.heap d.names))))
 
-    wants_call : call_wants operator identifier trial.refused
-        (with_machine identifier w machine) machine.context ≡ true
-        → wants_as asks here.status identifier trial.refused w (machine_of w here) ≡ true
-    wants_call wants =
-        ap (λ status. wants_as asks status identifier trial.refused w (machine_of w here)) status_is
-        ∙ (ap (λ (calling : CallingOf). call_wants calling.operator identifier trial.refused
-        (with_machine identifier w machine) machine.context) (sym (tries d.heap d.names))
-        ∙ wants)
+    wants_call : step_wants asks identifier trial.refused w ≡ call_wants operator identifier
+        trial.refused (with_machine identifier w machine) machine.context
+    wants_call =
+        wants_there asks identifier trial.refused w here there
+        ∙ (ap (λ status. wants_as asks status identifier trial.refused w (machine_of w here))
+        status_is
+        ∙ ap (λ (calling : CallingOf). call_wants calling.operator identifier trial.refused
+        (with_machine identifier w machine) machine.context) (sym (tries d.heap d.names)))
 
   framed_here : AreFramedBut identifier running.members
   framed_here = framed_but d.members identifier (Some (in_course Running member)) steady.framed
@@ -229,11 +230,8 @@ module _ (asks : Status → Around → Scene → Asked) (d : Desk)
           subst (λ (one : Desk). IsWorld one w) (sym (final_is w at))
           (regranted d w new.grants new.room new.scratch at);
       held_up = λ why same w at ready.
-          held_more (call_wants operator identifier trial.refused
-          (with_machine identifier w (machine w at)) (machine w at).context)
-          (step_wants asks identifier trial.refused w)
-          (λ lacks. wants_there asks identifier trial.refused w (here w at) (there w at)
-          ∙ wants_call w at lacks) trial.slot new.heap new.grants why
+          subst (λ (wanted : Growth). IsHeldUpAs wanted trial.slot new.heap new.grants why)
+          (sym (wants_call w at))
           (calls.held_up why same (with_machine identifier w (machine w at))
           (machine w at).context (running_world d steady.steady identifier member found w at)
           (running_there d steady.steady identifier member found w at));

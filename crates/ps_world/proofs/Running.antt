@@ -1,5 +1,5 @@
 -- Many own steps of one context are so many moves of the world.
-use Rattle.std.proofs.Common.{◌≡◌, ◌≢◌, ℕ, zero, suc, Bool, true, false, IsTrue, Option, Some, None, refl, sym, ap, subst, ◌∙◌, List, [], ◌∷◌}
+use Rattle.std.proofs.Common.{◌≡◌, ℕ, zero, suc, Bool, true, false, IsTrue, Option, Some, None, refl, sym, ap, subst, ◌∙◌, List, [], ◌∷◌}
 use Rattle.std.specs.Prelude.{◌||◌, option_and_then}
 use Rattle.ps_language.specs.Contexts.{context_at, with_context}
 use Rattle.ps_language.specs.Effect.{nothing}

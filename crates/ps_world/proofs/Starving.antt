@@ -1,5 +1,6 @@
 -- Why steps that are not made are held up.
-use Rattle.std.proofs.Common.{◌≡◌, ℕ, ℤ, suc, ◌<◌, ◌≤◌, Bool, true, false, Option, Some, Err, refl, ap, subst, ◌∙◌, arith}
+use Rattle.std.proofs.Common.{◌≡◌, ℕ, ℤ, suc, ◌+◌, ◌<◌, ◌≤◌, Bool, true, false, Option, Some, Err, refl, sym, ap, subst, ◌∙◌, arith}
+use Rattle.std.proofs.lemmas.Bool.{true≢false}
 use Rattle.std.proofs.lemmas.Bool.Decides.{nat_tests}
 use Rattle.std.specs.Prelude.{◌&&◌, ◌||◌, nat_lt, if◌then◌else◌}
 use Rattle.std.specs.Option.{option_map_or}
@@ -32,14 +33,15 @@ use Rattle.ps_contexts.proofs.Stepping.{context_there}
 use Rattle.ps_contexts.proofs.Turning.{member_at}
 use Rattle.ps_world.specs.declared.worlds.Calling.{Calling}
 use Rattle.ps_world.specs.Calls.{Calls, IsHeldUpAs, call_wants}
+use Rattle.ps_world.specs.Growth.{Growth, no_growth, growth_for, growth_of_both, may_fail}
 use Rattle.ps_world.specs.Held.{IsCalling, course_in}
 use Rattle.ps_world.specs.Needs.{left_wants, own_wants, wants_as, step_wants}
 use Rattle.ps_world.proofs.Owning.{status_same, may_in}
 use Rattle.ps_world.proofs.Calling.{there}
 
--- ---- in a memory that grows or not
+-- ---- growth that may fail
 
-or_true : (a b : Bool) → b ≡ true → a || b ≡ true
+pub or_true : (a b : Bool) → b ≡ true → a || b ≡ true
 or_true true b h = refl
 or_true false b h = h
 
@@ -47,49 +49,102 @@ or_first : (a b : Bool) → a ≡ true → a || b ≡ true
 or_first true b h = refl
 or_first false b h = absurd (cc)
 
-growing : (words grows lists : Bool) → (words && grows) || lists ≡ true
-    → (words && true) || lists ≡ true
-growing true grows lists h = refl
-growing false grows lists h = h
+-- of what is asked for, that of objects may come first
+regrouped : (bytes names words grows lists : Bool)
+    → bytes || (names || ((words && grows) || lists)) ≡ true
+    → (words && grows) || (bytes || (names || ((words && false) || lists))) ≡ true
+regrouped true names words grows lists h = or_true (words && grows) _ refl
+regrouped false true words grows lists h = or_true (words && grows) _ refl
+regrouped false false true true lists h = refl
+regrouped false false true false lists h = h
+regrouped false false false grows lists h = h
 
-either : (a b c : Bool) → (b ≡ true → c ≡ true) → a || b ≡ true → a || c ≡ true
-either true b c more h = refl
-either false b c more h = more h
+pub failing : (grows : Bool) (needs : Needs) → wants grows needs ≡ true
+    → may_fail grows (growth_for needs) ≡ true
+failing grows needs h =
+    regrouped (nat_lt 0 needs.bytes) (nat_lt 0 needs.names) (nat_lt 0 needs.words) grows
+    (wants_rooms needs.scratch) h
 
-pub wants_more : (grows : Bool) (needs : Needs) → wants grows needs ≡ true
-    → wants true needs ≡ true
-wants_more grows needs h =
-    either (nat_lt 0 needs.bytes) _ _
-    (either (nat_lt 0 needs.names) _ _
-    (growing (nat_lt 0 needs.words) grows (wants_rooms needs.scratch))) h
-
-some_words : (needs : Needs) → 1 ≤ needs.words → wants true needs ≡ true
-some_words needs some =
-    let one : nat_lt 0 needs.words ≡ true = grind (arith, nat_tests) in
-    or_true (nat_lt 0 needs.bytes) _ (or_true (nat_lt 0 needs.names) _
-    (or_first (nat_lt 0 needs.words && true) _ (ap (λ b. b && true) one)))
+-- what fails of one fails of the other, and has the same words if it has any
+pub record IsPart (one other : Growth) : Type 0 where
+  pub words : 1 ≤ one.words → other.words ≡ one.words
+  pub fails : (grows : Bool) → may_fail grows one ≡ true → may_fail grows other ≡ true
 
 -- one that may want more is held up by the same
-pub held_more : (one other : Bool) → (one ≡ true → other ≡ true) → (slot : ℕ) (heap : Heap)
+pub held_more : (one other : Growth) → IsPart one other → (slot : ℕ) (heap : Heap)
     (grants : Grants) (reason : Reason) → IsHeldUpAs one slot heap grants reason
     → IsHeldUpAs other slot heap grants reason
-held_more one other more slot heap grants LogFull held = held
-held_more one other more slot heap grants LogClosed held = held
-held_more one other more slot heap grants (NeedSpace words) held =
-    (more held.0, held.1, held.2)
-held_more one other more slot heap grants Memory held = more held
+held_more one other part slot heap grants LogFull held = held
+held_more one other part slot heap grants LogClosed held = held
+held_more one other part slot heap grants (NeedSpace words) held = (
+  held.0 ∙ sym (part.words (subst (λ n. 1 ≤ n) held.0 held.1)),
+  held.1,
+  held.2,
+)
+held_more one other part slot heap grants Memory held = part.fails heap.space.grows held
+
+-- of two the first is a part, if the other has no words where it has some; so is the second
+more_words : (m n : ℕ) → nat_lt 0 m ≡ true → nat_lt 0 (m + n) ≡ true
+more_words m n h = grind (arith, nat_tests)
+
+words_more : (m n : ℕ) → nat_lt 0 n ≡ true → nat_lt 0 (m + n) ≡ true
+words_more m n h = grind (arith, nat_tests)
+
+either : (few more grows one other : Bool) → (few ≡ true → more ≡ true)
+    → (one ≡ true → other ≡ true) → (few && grows) || one ≡ true → (more && grows) || other ≡ true
+either true more true one other some beside h =
+    or_first _ _ (ap (λ b. b && true) (some refl))
+either true more false one other some beside h = or_true (more && false) _ (beside h)
+either false more grows one other some beside h = or_true (more && grows) _ (beside h)
+
+pub first_part : (one other : Growth) → (1 ≤ one.words → other.words ≡ 0)
+    → IsPart one (growth_of_both one other)
+first_part one other none = record {
+  words = λ some. let no = none some in omega (arith, no);
+  fails = λ grows h.
+      either (nat_lt 0 one.words) _ grows one.beside _ (more_words one.words other.words)
+      (or_first one.beside other.beside) h;
+}
+
+pub second_part : (one other : Growth) → one.words ≡ 0 → IsPart other (growth_of_both one other)
+second_part one other none = record {
+  words = λ some. omega (arith, none);
+  fails = λ grows h.
+      either (nat_lt 0 other.words) _ grows other.beside _ (words_more one.words other.words)
+      (or_true one.beside other.beside) h;
+}
+
+-- what is asked for, where nothing but objects is
+first_alone : (a b : Bool) → b ≡ false → a || b ≡ true → a ≡ true
+first_alone true b none h = refl
+first_alone false b none h = absurd (true≢false (sym h ∙ none))
+
+both_first : (a b : Bool) → a && b ≡ true → a ≡ true
+both_first true b h = refl
+both_first false b h = h
+
+pub words_part : (needs : Needs) (wanted : Growth) → wants false needs ≡ false
+    → (1 ≤ needs.words → wanted.words ≡ needs.words) → IsPart (growth_for needs) wanted
+words_part needs wanted none same = record {
+  words = same;
+  fails = λ grows h.
+      let words : nat_lt 0 needs.words && grows ≡ true = first_alone _ _ none h in
+      let one : nat_lt 0 needs.words ≡ true = both_first _ grows words in
+      let some : 1 ≤ needs.words = grind (arith, nat_tests) in
+      or_first _ _ (ap (λ n. nat_lt 0 n && grows) (same some) ∙ words);
+}
 
 -- no step asks for fewer records than one that asks for one
-pub unlogged_held : (may : Bool) (slot : ℕ) (heap : Heap) (asked left : Grants)
+pub unlogged_held : (wanted : Growth) (slot : ℕ) (heap : Heap) (asked left : Grants)
     → left.closed ≡ asked.closed → (reason : Reason) → IsUnlogged 1 slot asked left reason
-    → IsHeldUpAs may slot heap left reason
-unlogged_held may slot heap asked left closed LogFull why =
+    → IsHeldUpAs wanted slot heap left reason
+unlogged_held wanted slot heap asked left closed LogFull why =
     let less = why.1 in
     (ap (λ (c : ℕ → Bool). c slot) closed ∙ why.0, omega (arith, less))
-unlogged_held may slot heap asked left closed LogClosed why =
+unlogged_held wanted slot heap asked left closed LogClosed why =
     ap (λ (c : ℕ → Bool). c slot) closed ∙ why
-unlogged_held may slot heap asked left closed (NeedSpace words) why = absurd why
-unlogged_held may slot heap asked left closed Memory why = absurd why
+unlogged_held wanted slot heap asked left closed (NeedSpace words) why = absurd why
+unlogged_held wanted slot heap asked left closed Memory why = absurd why
 
 -- ---- by what a turn asks for
 
@@ -123,7 +178,7 @@ no_first false b h = refl
 pub held_by : (needs : Needs) (slot : ℕ) (old new : Lent) (reason : Reason)
     → needs.records ≤ most_records → IsSame old new → new.grants.closed ≡ old.grants.closed
     → IsReason needs slot old new reason
-    → IsHeldUpAs (wants true needs) slot new.heap new.grants reason
+    → IsHeldUpAs (growth_for needs) slot new.heap new.grants reason
 unfolding has_room
 held_by needs slot old new LogFull few same closed why =
     let less = why.1 in
@@ -131,12 +186,13 @@ held_by needs slot old new LogFull few same closed why =
 held_by needs slot old new LogClosed few same closed why =
     ap (λ (c : ℕ → Bool). c slot) closed ∙ why.1
 held_by needs slot old new (NeedSpace words) few same closed why = (
-  some_words needs (subst (λ n. 1 ≤ n) why.0 why.1),
+  why.0,
   why.1,
   ap (λ (l : Lent). l.heap.space.grows) same ∙ no_first old.heap.space.grows _ why.2,
 )
 held_by needs slot old new Memory few same closed why =
-    wants_more old.heap.space.grows needs (wanted needs slot old new why)
+    ap (λ (l : Lent). may_fail l.heap.space.grows (growth_for needs)) same
+    ∙ failing old.heap.space.grows needs (wanted needs slot old new why)
 
 -- ---- by the status
 
@@ -147,7 +203,7 @@ module _ (asks : Status → Around → Scene → Asked) (identifier : ℕ) (refu
       ≡ wants_as asks context.status identifier refused w (machine_of w context)
   wants_there =
       ap (λ (one : Option Context). option_map_or (λ it.
-      wants_as asks it.status identifier refused w (machine_of w it)) one false) found
+      wants_as asks it.status identifier refused w (machine_of w it)) one no_growth) found
 
   own_as : (status : Status) → may_end status ≡ true → (machine : Machine)
       → wants_as asks status identifier refused w machine
@@ -165,6 +221,19 @@ module _ (asks : Status → Around → Scene → Asked) (identifier : ℕ) (refu
 
 -- ---- its own turn
 
+-- what asks for objects leaves no operator to the world
+left_none : (identifier : ℕ) (refused : Bool) (w : World) (machine : Machine) (asked : Asked)
+    (birth : ℕ) (before : Scene) (turn : Turn)
+    → 1 ≤ (turn_needs refused asked birth before turn).words
+    → (left_wants identifier refused w machine turn).words ≡ 0
+left_none identifier refused w machine asked birth before (goes scene output) some = refl
+left_none identifier refused w machine asked birth before (tries command kept scene output) some =
+    refl
+left_none identifier refused w machine asked birth before (breaks cause scene) some = refl
+left_none identifier refused w machine asked birth before (errs error command kept) some = refl
+left_none identifier refused w machine asked birth before (leaves_to calling kept) some =
+    absurd (omega (arith, some))
+
 module _ (asks : Status → Around → Scene → Asked) (unwinding : Option Cause) (d : Desk)
     (identifier : ℕ) (member : Member) (found : item_at d.members identifier ≡ Some member)
     (is : member.course ≡ course_in unwinding) (trial : Trial) (few : AreFew asks)
@@ -181,12 +250,19 @@ module _ (asks : Status → Around → Scene → Asked) (unwinding : Option Caus
   status_is =
       ap (status_of (birth_at d.heap)) is ∙ status_same (birth_at d.heap) unwinding
 
+  abbrev machine_asked : Asked
+  machine_asked = asks machine.context.status (around_of w.program machine) (scene_of machine)
+
+  abbrev machine_turn : Turn
+  machine_turn = turn_as (around_of w.program machine) machine.context.status
+      machine.context.frames (scene_of machine)
+
+  abbrev machine_needs : Needs
+  machine_needs = turn_needs trial.refused machine_asked machine.context.error_dictionary
+      (scene_of machine) machine_turn
+
   -- what the machine's turn asks for is what that of what is lent asks for
-  needs_same : turn_needs trial.refused
-      (asks machine.context.status (around_of w.program machine) (scene_of machine))
-      machine.context.error_dictionary (scene_of machine)
-      (turn_as (around_of w.program machine) machine.context.status machine.context.frames
-      (scene_of machine))
+  needs_same : machine_needs
       ≡ needs_in trial (asks_in asks unwinding) (own_turn unwinding) l w.store
   needs_same = λ i. turn_needs trial.refused
       (asks (status_is i) (record {
@@ -201,6 +277,22 @@ module _ (asks : Status → Around → Scene → Asked) (unwinding : Option Caus
       }) (status_is i) (lents.scene_of l w.store).frames
       (record (lents.scene_of l w.store) { names = at.names i }))
 
+  own_may : may_end machine.context.status ≡ true
+  own_may = ap may_end status_is ∙ may_in unwinding
+
+  -- that is a part of what the step may want
+  own_part : IsPart (growth_for (needs_in trial (asks_in asks unwinding) (own_turn unwinding) l
+      w.store)) (step_wants asks identifier trial.refused w)
+  own_part =
+      subst (λ (needs : Needs). IsPart (growth_for needs)
+      (step_wants asks identifier trial.refused w)) needs_same
+      (subst (IsPart (growth_for machine_needs)) (sym (wants_own asks identifier trial.refused w
+      (context_of d.heap d.names member) (context_there d w at identifier member found) own_may))
+      (first_part (growth_for machine_needs)
+      (left_wants identifier trial.refused w machine machine_turn)
+      (left_none identifier trial.refused w machine machine_asked
+      machine.context.error_dictionary (scene_of machine) machine_turn)))
+
   pub own_held : IsHeldUpAs (step_wants asks identifier trial.refused w) trial.slot new.heap
       new.grants reason
   own_held =
@@ -211,12 +303,8 @@ module _ (asks : Status → Around → Scene → Asked) (unwinding : Option Caus
       few_in trial.refused (asks_in asks unwinding l w.store)
       (birth_at l.heap l.error_dictionary) (lents.scene_of l w.store)
       (own_turn unwinding l w.store) (few (status_in unwinding) _ _) in
-      let may : may_end machine.context.status ≡ true =
-      ap may_end status_is ∙ may_in unwinding in
-      held_more (wants true needs) (step_wants asks identifier trial.refused w)
-      (λ lacks. wants_own asks identifier trial.refused w (context_of d.heap d.names member)
-      (context_there d w at identifier member found) may
-      ∙ or_first _ _ (ap (wants true) needs_same ∙ lacks)) trial.slot new.heap new.grants reason
+      held_more (growth_for needs) (step_wants asks identifier trial.refused w) own_part trial.slot
+      new.heap new.grants reason
       (held_by needs trial.slot l new reason fewer by.did.1 by.logs.closed by.did.0)
 
 -- ---- a call
@@ -237,23 +325,33 @@ module _ (asks : Status → Around → Scene → Asked) (calling : Calling) (tri
   is_left = left_by false caller_machine caller_turn (calling_of calling.operator) at.left
       (at.leaves false)
 
-  abbrev call_may : Bool
-  call_may = call_wants calling.operator calling.caller trial.refused
+  abbrev call_growth : Growth
+  call_growth = call_wants calling.operator calling.caller trial.refused
       (with_machine calling.caller w at.left) at.left.context
 
-  left_lacks : call_may ≡ true
-      → left_wants calling.caller trial.refused w caller_machine caller_turn ≡ true
-  left_lacks lacks =
+  -- of a turn that leaves the operator to the world
+  left_is : left_wants calling.caller trial.refused w caller_machine caller_turn ≡ call_growth
+  left_is =
       ap (left_wants calling.caller trial.refused w caller_machine) is_left.asks
-      ∙ (ap (λ (left : Machine). call_wants calling.operator calling.caller trial.refused
+      ∙ ap (λ (left : Machine). call_wants calling.operator calling.caller trial.refused
       (with_machine calling.caller w left) left.context) is_left.is
-      ∙ lacks)
+
+  abbrev caller_needs : Turn → Needs
+  caller_needs turn = turn_needs trial.refused
+      (asks at.context.status (around_of w.program caller_machine) (scene_of caller_machine))
+      caller_machine.context.error_dictionary (scene_of caller_machine) turn
+
+  call_part : IsPart call_growth (step_wants asks calling.caller trial.refused w)
+  call_part =
+      subst (IsPart call_growth) (sym (wants_own asks calling.caller trial.refused w at.context
+      at.found at.goes_on ∙ ap (growth_of_both (growth_for (caller_needs caller_turn))) left_is))
+      (second_part (growth_for (caller_needs caller_turn)) call_growth
+      (ap (λ (turn : Turn). (caller_needs turn).words) is_left.asks))
 
   pub call_held : IsHeldUpAs (step_wants asks calling.caller trial.refused w) trial.slot new.heap
       new.grants reason
   call_held =
-      held_more call_may (step_wants asks calling.caller trial.refused w)
-      (λ lacks. wants_own asks calling.caller trial.refused w at.context at.found at.goes_on
-      ∙ or_true _ _ (left_lacks lacks)) trial.slot new.heap new.grants reason
+      held_more call_growth (step_wants asks calling.caller trial.refused w) call_part trial.slot
+      new.heap new.grants reason
       (calls.held_up reason refl (with_machine calling.caller w at.left) at.left.context at.world
       (there calling trial shown old new w at))

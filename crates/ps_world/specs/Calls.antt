@@ -1,5 +1,5 @@
 -- When a call of an operator that is left to the world went as the definitions say (PLRM2, 7.1).
-use Rattle.std.specs.Prelude.{◌≡◌, ◌<◌, ◌≤◌, ℕ, ℤ, ◌||◌, nat_lt, Bool, false, IsTrue, Option, Some, None, OnOk, OnErr, Result, Ok, Err, List, length}
+use Rattle.std.specs.Prelude.{◌≡◌, ◌<◌, ◌≤◌, ℕ, ℤ, nat_lt, Bool, false, IsTrue, Option, Some, None, OnOk, OnErr, Result, Ok, Err, List, length}
 use Rattle.ps_language.specs.declared.operators.Operator.{Operator}
 use Rattle.ps_language.specs.Contexts.{context_at}
 use Rattle.ps_language.specs.Effect.{Scene, Call, Deed, does, waits}
@@ -23,6 +23,7 @@ use Rattle.ps_contexts.specs.declared.members.Member.{Member}
 use Rattle.ps_contexts.specs.Seats.{item_at, with_item}
 use Rattle.ps_contexts.specs.Desks.{Desk, desk, IsWorld, IsSteady, AreFramed}
 use Rattle.ps_world.specs.declared.notes.Note.{Note}
+use Rattle.ps_world.specs.Growth.{Growth, no_growth, growth_for, may_fail}
 use Rattle.ps_world.specs.Notes.{note_of}
 
 -- ---- the desk
@@ -57,33 +58,34 @@ abbrev pub call_by : (caller : ℕ) → (shown : Option (ℤ × ℤ)) → World 
 call_by caller shown world context =
     record { caller = caller; context = context; shown = shown; world = world }
 
--- whether the step of a deed may want a growth: for a new object, for a new context, or for the
--- line of its error
-abbrev pub deed_wants : Operator → World → Context → Outcome Deed → Bool
-deed_wants operator before context (leaves (does note next)) =
-    nat_lt 0 (made_between before.store next.store)
-    || nat_lt (length before.contexts) (length next.contexts)
-deed_wants operator before context (leaves waits) = false
+-- the growth that the step of a deed may want: for new objects, for a new context, or for the line
+-- of its error
+abbrev pub deed_wants : Operator → World → Context → Outcome Deed → Growth
+deed_wants operator before context (leaves (does note next)) = record {
+  words = made_between before.store next.store;
+  beside = nat_lt (length before.contexts) (length next.contexts);
+}
+deed_wants operator before context (leaves waits) = no_growth
 deed_wants operator before context (fails error) =
     let scene : Scene = scene_of (machine_of before context) in
-    nat_lt 0 (error_needs no_rooms context.error_dictionary scene error (command_of operator)
-    scene).bytes
+    growth_for (error_needs no_rooms context.error_dictionary scene error (command_of operator)
+    scene)
 
-abbrev pub call_wants : Operator → (caller : ℕ) → (refused : Bool) → World → Context → Bool
+abbrev pub call_wants : Operator → (caller : ℕ) → (refused : Bool) → World → Context → Growth
 call_wants operator caller refused before context =
     deed_wants operator before context (deed_given_room refused before
     ((calling_of operator).deed context.operands (call_by caller None before context)))
 
--- Why a step is not made, and wants says whether it may want a growth. LogFull: the log is open,
--- and takes fewer records than a step may put. LogClosed: it is closed. NeedSpace: of some words, in a
--- memory that doesn't grow, by a step that may want a growth. Memory: by such a step
-abbrev pub IsHeldUpAs : (wants : Bool) → (slot : ℕ) → Heap → Grants → Reason → Type 0
-IsHeldUpAs wants slot heap grants LogFull =
+-- Why a step is not made that may want this growth. LogFull: the log is open, and takes fewer
+-- records than a step may put. LogClosed: it is closed. NeedSpace: of the words of its objects, in
+-- a memory that doesn't grow. Memory: of a growth that may fail in this memory
+abbrev pub IsHeldUpAs : (wanted : Growth) → (slot : ℕ) → Heap → Grants → Reason → Type 0
+IsHeldUpAs wanted slot heap grants LogFull =
     (grants.closed slot ≡ false) × (grants.records slot < most_records)
-IsHeldUpAs wants slot heap grants LogClosed = IsTrue (grants.closed slot)
-IsHeldUpAs wants slot heap grants (NeedSpace words) =
-    IsTrue wants × (1 ≤ words) × (heap.space.grows ≡ false)
-IsHeldUpAs wants slot heap grants Memory = IsTrue wants
+IsHeldUpAs wanted slot heap grants LogClosed = IsTrue (grants.closed slot)
+IsHeldUpAs wanted slot heap grants (NeedSpace words) =
+    (words ≡ wanted.words) × (1 ≤ words) × (heap.space.grows ≡ false)
+IsHeldUpAs wanted slot heap grants Memory = IsTrue (may_fail heap.space.grows wanted)
 
 -- it comes to the step of the definitions, and the note is theirs; or it is not made, and the desk
 -- is still that of the world before

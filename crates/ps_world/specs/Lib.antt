@@ -1,4 +1,5 @@
 pub mod Notes
+pub mod Growth
 pub mod Calls
 pub mod Held
 pub mod Needs

@@ -1,6 +1,6 @@
 -- A run with a budget: its schedule has a text, and a plain one has its turns in order.
-use Rattle.std.proofs.Common.{◌≡◌, ℕ, List, ap, arith, sym, subst, ◌∙◌, true≢false}
-use Rattle.std.specs.Prelude.{vec_capacity, ◌≤◌}
+use Rattle.std.proofs.Common.{◌≡◌, ℕ, Bool, true, false, List, ap, arith, sym, subst, ◌∙◌, true≢false}
+use Rattle.std.specs.Prelude.{◌≤◌}
 use Rattle.std.proofs.lemmas.Result.{IfOk-weaker}
 use Rattle.ps_language.specs.Effect.{Around, Scene}
 use Rattle.ps_language.specs.Schedules.{moves}
@@ -18,10 +18,12 @@ use Rattle.ps_run.proofs.driver.make.Goals as goal
 
 -- the budget is one of 32 bits
 recordable : (asks : Status → Around → Scene → acts.Asked) (program : List ℕ)
-    (budget steps : ℕ) (report : Report) → budget ≤ 4294967295 → budget ≡ steps
-    → IsRunIn asks program budget report → IsRecordable asks program steps report
-recordable asks program budget steps report few same run = record {
-  run = subst (λ (n : ℕ). IsRunIn asks program n report) same run;
+    (grows plain : Bool) (budget steps : ℕ) (report : Report) → plain ≡ grows
+    → budget ≤ 4294967295 → budget ≡ steps → IsRunIn asks grows program budget report
+    → IsRecordable asks program plain steps report
+recordable asks program grows plain budget steps report told few same run = record {
+  run = subst (λ (b : Bool). IsRunIn asks b program steps report) (sym told)
+      (subst (λ (n : ℕ). IsRunIn asks grows program n report) same run);
   entries = are_entries program report.schedule.items (omega (arith, run.within, few))
       run.longest run.proper run.fits;
 }
@@ -32,9 +34,10 @@ returns-in-None-clause-made g c =
     let same : c.config_of-config.result.quantum ≡ c.args.options.now.quantum =
     ap (λ (it : Config). it.quantum) config in
     rw c.in-None.is (IfOk-weaker c.run_plain.result _ _ (λ report made. (
-      recordable g.S.Interpret.asks c.args.program.now c.config_of-config.result.steps
-          c.args.options.now.steps report (omega (arith, c.config_of-config.type_inv))
-          (ap (λ (it : Config). it.steps) config) made.0.run,
+      recordable g.S.Interpret.asks c.args.program.now true c.args.options.now.plain
+          c.config_of-config.result.steps c.args.options.now.steps report c.if-options.true
+          (omega (arith, c.config_of-config.type_inv)) (ap (λ (it : Config). it.steps) config)
+          made.0.run,
       λ _. record {
         ordinary = made.0.ordinary;
         order = subst (λ (n : ℕ). InOrder n (starting_world c.args.program.now)
@@ -48,8 +51,9 @@ returns-in-None-clause-made g c =
 pub returns-in-None-2-clause-made : goal.returns-in-None-2-clause-made
 returns-in-None-2-clause-made g c =
     rw c.in-None.is (IfOk-weaker c.run.result _ _ (λ report made. (
-      recordable g.S.Interpret.asks c.args.program.now c.config_of-config.result.steps
-          c.args.options.now.steps report (omega (arith, c.config_of-config.type_inv))
+      recordable g.S.Interpret.asks c.args.program.now false c.args.options.now.plain
+          c.config_of-config.result.steps c.args.options.now.steps report c.if-options.false
+          (omega (arith, c.config_of-config.type_inv))
           (ap (λ (it : Config). it.steps) c.config_of-config.ensures) made,
       λ plain. absurd (true≢false (sym plain ∙ c.if-options.false)),
     )) c.run.ensures.run)

@@ -68,11 +68,11 @@ returns-clause-starved g c = λ memory.
           (starting_world c.args.program.now) owed.0 (moves entries)) (sym same)
           (subst (λ (p : List ℕ). HasTurn c.args.config.quantum (starting_world p) owed.0
           (moves made.schedule)) c.in-Ok.ensures.program owed.1),
-      subst (λ (entries : List Entry). IsStarved g.S.Interpret.asks owed.0 false
+      subst (λ (entries : List Entry). IsStarved g.S.Interpret.asks true owed.0 false
           (world c.args.program.now entries) (vec_capacity c.into_run.result.schedule) entries)
-          (sym same) (subst (λ n. IsStarved g.S.Interpret.asks owed.0 false
+          (sym same) (subst (λ n. IsStarved g.S.Interpret.asks true owed.0 false
           (world c.args.program.now made.schedule) n made.schedule)
           (sym c.into_run.ensures.capacity)
-          (subst (λ (p : List ℕ). IsStarved g.S.Interpret.asks owed.0 false
+          (subst (λ (p : List ℕ). IsStarved g.S.Interpret.asks true owed.0 false
           (world p made.schedule) made.capacity made.schedule) program owed.2)),
     )

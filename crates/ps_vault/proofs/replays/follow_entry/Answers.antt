@@ -5,7 +5,9 @@ use Rattle.ps_language.specs.Schedules.{plain_move}
 use Rattle.ps_language.specs.Worlds.{after_moves}
 use Rattle.ps_vault.specs.Reports.{MayWant}
 use Rattle.ps_vault.specs.Stories.{Story, world_at}
-use Rattle.ps_vault.proofs.Following.{after_nothing, after_unready, after_idle_part, after_whole, all_made, part_refused}
+use Rattle.ps_vault.proofs.Beginning.{plain_grows}
+use Rattle.ps_vault.proofs.Following.{after_nothing, after_unready, after_idle_part, after_whole, all_made, last_refused, part_refused}
+use Rattle.ps_vault.proofs.Keeping.{may_want}
 use Rattle.ps_vault.proofs.replays.follow_entry.Given as givens
 use Rattle.ps_vault.proofs.replays.follow_entry.Goals as goal
 use Rattle.ps_vault.proofs.replays.follow_entry.Goals.{After-steps-before, then-entry-eq0-via-then-entry-eq0, then-entry-eq0-via-else-entry-eq0+then-not-is_ready}
@@ -61,6 +63,14 @@ returns-then-before-clause-starved g c = λ _.
     let made = c.steps-before.result.made in
     let fewer : made + 1 < c.args.entry.steps =
     omega (arith, c.steps-before.ensures.fewer c.if-before.true) in
-    subst (λ (refused : Bool). MayWant g.S.Interpret.asks c.args.entry.context refused
+    subst (λ (refused : Bool). MayWant g.S.Interpret.asks true c.args.entry.context refused
     (world_at c.steps-before.new.vault)) (part_refused c.args.entry made fewer)
     (c.steps-before.ensures.starved c.if-before.true)
+
+pub returns-in-Err-clause-starved : goal.returns-in-Err-clause-starved
+returns-in-Err-clause-starved g c = λ _.
+    subst (λ (refused : Bool). MayWant g.S.Interpret.asks true c.args.entry.context refused
+    (world_at c.step.new.self))
+    (last_refused c.args.entry (c.args.entry.steps - 1) (omega (arith, c.if-entry-eq0.false)))
+    (may_want _ _ g.S.Interpret.asks c.args.entry.context c.args.entry.refused
+    (world_at c.step.new.self) _ (λ m. plain_grows _ _ _ _) c.in-Err.ensures.held_up)

@@ -1,15 +1,14 @@
 -- Each entry followed is one entry more of the schedule; where memory runs out a part of one is.
-use Rattle.std.proofs.Common.{inl, ℕ, ◌≡◌, ◌<◌, ◌+◌, ◌++◌, List, take, length, get_or, Bool, true, false, None, refl, sym, ◌∙◌, ap, subst, arith}
+use Rattle.std.proofs.Common.{ℕ, ◌≡◌, ◌<◌, ◌+◌, ◌++◌, List, take, length, get_or, Bool, true, false, None, refl, sym, ◌∙◌, ap, subst, arith}
 use Rattle.std.specs.Prelude.{◌&&◌, ◌==◌, replicate}
 use Rattle.std.proofs.lemmas.List.{take_all}
-use Rattle.std.proofs.lemmas.Bool.{true≢false}
 use Rattle.ps_language.specs.declared.schedules.Entry.{Entry}
 use Rattle.ps_language.specs.Schedules.{plain_move, moves_of, moves}
 use Rattle.ps_language.specs.World.{World}
 use Rattle.ps_language.specs.Worlds.{after_moves, world, printed}
 use Rattle.ps_mem.specs.Objects.{heap_in}
 use Rattle.ps_vault.specs.Stories.{world_at}
-use Rattle.ps_vault.specs.Reports.{EndsAs, MayWant, is_memory, is_next_refused, next_identifier}
+use Rattle.ps_vault.specs.Reports.{EndsAs, MayWant, MayWantNext, is_next_refused, next_identifier}
 use Rattle.ps_vault.proofs.Beginning.{nothing_stands}
 use Rattle.ps_vault.proofs.Following.{after_next, after_part, begins_with_part, fewer_with_part, ready_not_over, ends_used}
 use Rattle.ps_vault.proofs.NextStep.{refused_behind, context_behind_part}
@@ -108,10 +107,8 @@ returns-then-made-entry-clause-refused g c = λ _.
 
 -- where memory ran out, the next step of the given schedule may want some
 stopped_wants : (g : givens.Over) (c : After-report_of g)
-    → MayWant g.S.Interpret.asks
-    (next_identifier c.args.schedule.now c.report_of.result.schedule.items)
-    (is_next_refused c.args.schedule.now c.report_of.result.schedule.items)
-    (world c.args.program.now c.report_of.result.schedule.items)
+    → MayWantNext g.S.Interpret.asks c.args.program.now c.args.schedule.now
+    c.report_of.result.schedule.items
 stopped_wants g c =
     let entry : Entry = get_or c.args.schedule.now c.loop-place.place none in
     let made = c.report_of.result.schedule.items in
@@ -123,9 +120,10 @@ stopped_wants g c =
     let how = refused_behind c.args.schedule.now made c.loop-place.place
     c.follow_entry-made.result none c.loop-place-test.true c.if-made-entry.true
     (stopped_moves g c) in
-    subst (λ (k : ℕ). MayWant g.S.Interpret.asks k (is_next_refused c.args.schedule.now made) after)
-    (sym whose) (subst (λ (b : Bool). MayWant g.S.Interpret.asks entry.context b after) (sym how)
-    (subst (MayWant g.S.Interpret.asks entry.context refused) (stopped_world g c)
+    subst (λ (k : ℕ).
+    MayWant g.S.Interpret.asks true k (is_next_refused c.args.schedule.now made) after) (sym whose)
+    (subst (λ (b : Bool). MayWant g.S.Interpret.asks true entry.context b after) (sym how)
+    (subst (MayWant g.S.Interpret.asks true entry.context refused) (stopped_world g c)
     (c.follow_entry-made.ensures.starved c.if-made-entry.true)))
 
 pub returns-then-made-entry-clause-ends : goal.returns-then-made-entry-clause-ends
@@ -135,17 +133,8 @@ returns-then-made-entry-clause-ends g c =
     rw c.report_of.ensures.outcome (
       refl,
       ready_not_over (world c.args.program.now c.report_of.result.schedule.items) next wants.ready,
-      (next, record { ready = wants.ready; wants = inl wants.wants }),
+      wants,
     )
-
-pub returns-then-made-entry-clause-starved : goal.returns-then-made-entry-clause-starved
-returns-then-made-entry-clause-starved g c = λ _.
-    stopped_wants g (goal.at.returns-then-made-entry-clause-starved g c).After-report_of
-
-pub returns-clause-starved : goal.returns-clause-starved
-returns-clause-starved g c = λ memory.
-    absurd (true≢false (sym memory
-    ∙ (ap is_memory c.report_of-2.ensures.outcome ∙ c.outcome-outcome.ensures.known)))
 
 pub returns-clause-prints : goal.returns-clause-prints
 unfolding printed
@@ -158,10 +147,7 @@ returns-clause-prints g c =
 pub returns-clause-ends : goal.returns-clause-ends
 returns-clause-ends g c =
     rw c.report_of-2.ensures.outcome
-    (ends_used g.S.Interpret.asks
-    (world c.args.program.now c.report_of-2.result.schedule.items) _ _ _ _ false _
-    c.outcome-outcome.result c.outcome-outcome.ensures.known
-    (subst (λ (w : World). EndsAs g.S.Interpret.asks w c.loop-place.vault.capacity
-    c.loop-place.vault.schedule true false c.outcome-outcome.result)
+    (ends_used (world c.args.program.now c.report_of-2.result.schedule.items) _
+    c.outcome-outcome.result (subst (λ (w : World). EndsAs w true ⊥ c.outcome-outcome.result)
     (finished_world g (goal.at.returns-clause-ends g c).After-report_of-2)
-    (c.outcome-outcome.ensures.ends false)))
+    c.outcome-outcome.ensures.ends))

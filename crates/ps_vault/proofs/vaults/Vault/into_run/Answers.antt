@@ -1,10 +1,11 @@
-use Rattle.std.proofs.Common.{◌==◌, ◌<◌, ◌≤◌, false, sym, ap, ◌∙◌, subst, arith}
+use Rattle.std.proofs.Common.{◌==◌, ◌<◌, ◌≤◌, List, ℕ, true, sym, ap, ◌∙◌, subst, arith}
 use Rattle.std.proofs.lemmas.Bool.Decides.{nat_tests}
+use Rattle.ps_language.specs.declared.schedules.Entry.{Entry}
 use Rattle.ps_language.specs.Schedules.{count_of, moves}
-use Rattle.ps_vault.specs.Reports.{all_fit, EndsAs}
+use Rattle.ps_vault.specs.Reports.{all_fit, are_ordinary, EndsAs, IsOneStarved, IsRunIn}
 use Rattle.ps_vault.specs.Stories.{Story, world_at}
 use Rattle.ps_vault.proofs.Advancing.{ordinary_fit}
-use Rattle.ps_vault.proofs.Following.{ready_not_over}
+use Rattle.ps_vault.proofs.Following.{ends_so, ready_not_over}
 use Rattle.ps_vault.proofs.vaults.Vault.into_run.Goals as goal
 
 pub into_report-requires-clause-few : goal.into_report-requires-clause-few
@@ -14,16 +15,6 @@ into_report-requires-clause-few g c =
 pub into_report-requires-clause-fits : goal.into_report-requires-clause-fits
 into_report-requires-clause-fits g c =
     ordinary_fit (moves c.args.self.schedule) c.requires.ordinary
-
-pub into_report-requires-clause-ends : goal.into_report-requires-clause-ends
-into_report-requires-clause-ends g c =
-    let less : count_of c.args.self.schedule < c.args.steps =
-    omega (arith, c.requires.counted, c.requires.fewer c.if-run.true) in
-    let starved = c.requires.starved c.if-run.true in (
-      grind (arith, nat_tests),
-      ready_not_over (world_at c.args.self) starved.0 starved.1.ready,
-      starved,
-    )
 
 pub into_report-requires-2-clause-few : goal.into_report-requires-2-clause-few
 into_report-requires-2-clause-few g c =
@@ -35,11 +26,37 @@ into_report-requires-2-clause-fits g c =
     ap (λ (s : Story). all_fit (moves s.schedule)) c.outcome-outcome.ensures.same
     ∙ ordinary_fit (moves c.args.self.schedule) c.requires.ordinary
 
-pub into_report-requires-2-clause-ends : goal.into_report-requires-2-clause-ends
-into_report-requires-2-clause-ends g c =
-    subst (λ (s : Story). EndsAs g.S.Interpret.asks (world_at s) s.capacity s.schedule
-    (count_of s.schedule == c.args.steps) false c.outcome-outcome.result)
-    (sym c.outcome-outcome.ensures.same)
-    (subst (λ n. EndsAs g.S.Interpret.asks (world_at c.args.self)
-    c.args.self.capacity c.args.self.schedule (n == c.args.steps) false
-    c.outcome-outcome.result) (sym c.requires.counted) (c.outcome-outcome.ensures.ends false))
+pub returns-then-run-clause-run : goal.returns-then-run-clause-run
+returns-then-run-clause-run g c =
+    let less : count_of c.args.self.schedule < c.args.steps =
+    omega (arith, c.requires.counted, c.requires.fewer c.if-run.true) in
+    let one = c.requires.starved c.if-run.true in
+    record {
+      run = c.into_report.ensures.run true (
+        grind (arith, nat_tests),
+        ready_not_over (world_at c.args.self) one.context one.starved.ready,
+        one,
+      );
+      ordinary = ap (λ (s : List Entry). are_ordinary (moves s)) c.into_report.ensures.schedule
+          ∙ c.requires.ordinary;
+    }
+
+pub returns-clause-run : goal.returns-clause-run
+returns-clause-run g c =
+    let same = c.outcome-outcome.ensures.same in
+    let ends : EndsAs (world_at c.args.self) (count_of c.args.self.schedule == c.args.steps)
+    (IsOneStarved g.S.Interpret.asks true (world_at c.args.self) c.args.self.capacity
+    c.args.self.schedule) c.outcome-outcome.result =
+    subst (λ n. EndsAs (world_at c.args.self) (n == c.args.steps) (IsOneStarved g.S.Interpret.asks
+    true (world_at c.args.self) c.args.self.capacity c.args.self.schedule)
+    c.outcome-outcome.result) (sym c.requires.counted)
+    (ends_so (world_at c.args.self) _ _ c.outcome-outcome.result c.outcome-outcome.ensures.ends) in
+    record {
+      run = subst (λ (p : List ℕ). IsRunIn g.S.Interpret.asks true p c.args.steps
+          c.into_report-2.result) (ap (λ (s : Story). s.program) same)
+          (c.into_report-2.ensures.run true (subst (λ (s : Story). EndsAs (world_at s)
+          (count_of s.schedule == c.args.steps) (IsOneStarved g.S.Interpret.asks true (world_at s)
+          s.capacity s.schedule) c.outcome-outcome.result) (sym same) ends));
+      ordinary = ap (λ (s : List Entry). are_ordinary (moves s)) (c.into_report-2.ensures.schedule
+          ∙ ap (λ (s : Story). s.schedule) same) ∙ c.requires.ordinary;
+    }

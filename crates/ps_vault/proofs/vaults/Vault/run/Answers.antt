@@ -1,5 +1,5 @@
 -- Each round is turns of the next context, or begins a pass.
-use Rattle.std.proofs.Common.{◌≡◌, ℕ, ◌+◌, ◌-◌, ◌<◌, List, [], false, refl, sym, ◌∙◌, ap, subst, arith}
+use Rattle.std.proofs.Common.{◌≡◌, ℕ, ◌+◌, ◌-◌, ◌<◌, List, [], false, true, refl, sym, ◌∙◌, ap, subst, arith}
 use Rattle.ps_language.specs.Schedules.{count_of, moves}
 use Rattle.ps_language.specs.World.{World}
 use Rattle.ps_language.specs.Worlds.{after_moves, starting_world}
@@ -7,6 +7,7 @@ use Rattle.ps_vault.specs.Order.{IsNoneAbove, IsLeastAbove, IsDue, AddsTurns, In
 use Rattle.ps_vault.specs.Reports.{are_ordinary}
 use Rattle.ps_vault.specs.Stories.{Story, world_at}
 use Rattle.ps_vault.proofs.Ordering.{Passing, passing_start, passing_anew, passing_order, due_of, turns_over, turns_order, turns_held, world_moves}
+use Rattle.ps_vault.proofs.Following.{ordinary_starved}
 use Rattle.ps_vault.proofs.vaults.Vault.run.Given as givens
 use Rattle.ps_vault.proofs.vaults.Vault.run.Goals as goal
 use Rattle.ps_vault.proofs.vaults.Vault.run.Goals.{After-next_ready, After-turns-turn}
@@ -124,7 +125,8 @@ passing_on g c none free less =
 
 pub returns-then-turn-clause-starved : goal.returns-then-turn-clause-starved
 returns-then-turn-clause-starved g c = λ grows held.
-    (c.in-Some.next, c.turns-turn.ensures.starved grows c.if-turn.true)
+    ordinary_starved g.S.Interpret.asks true c.in-Some.next _ _ _
+    (c.turns-turn.ensures.starved grows c.if-turn.true)
 
 pub returns-then-turn-clause-owed : goal.returns-then-turn-clause-owed
 returns-then-turn-clause-owed g c = λ grows held none.

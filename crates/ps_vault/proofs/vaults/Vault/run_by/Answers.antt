@@ -1,13 +1,15 @@
 -- Each round is the turn of the context that is chosen.
-use Rattle.std.proofs.Common.{◌≡◌, ◌∙◌, ap, arith}
+use Rattle.std.proofs.Common.{◌≡◌, ◌∙◌, true, ap, arith}
 use Rattle.ps_language.specs.Schedules.{count_of, moves}
 use Rattle.ps_vault.specs.Reports.{are_ordinary}
 use Rattle.ps_vault.specs.Stories.{Story}
+use Rattle.ps_vault.proofs.Following.{ordinary_starved}
 use Rattle.ps_vault.proofs.vaults.Vault.run_by.Goals as goal
 
 pub returns-then-turn-clause-starved : goal.returns-then-turn-clause-starved
 returns-then-turn-clause-starved g c = λ grows held.
-    (c.in-Some.next, c.turns-turn.ensures.starved grows c.if-turn.true)
+    ordinary_starved g.S.Interpret.asks true c.in-Some.next _ _ _
+    (c.turns-turn.ensures.starved grows c.if-turn.true)
 
 pub loop-made-preserved : goal.loop-made-preserved
 loop-made-preserved g c =

@@ -5,10 +5,9 @@ use Rattle.ps_language.specs.Schedules.{count_of, moves}
 use Rattle.ps_vault.specs.Reports.{all_fit}
 use Rattle.ps_language.proofs.ScheduleLaws.{count_of-added}
 use Rattle.ps_vault.specs.Stories.{move_of, world_at}
-use Rattle.std.specs.Prelude.{IsTrue}
-use Rattle.ps_world.specs.Needs.{step_wants}
+use Rattle.ps_vault.proofs.Keeping.{memory_wanted}
 use Rattle.ps_workers.specs.Batons.{Progress, MayGoOn, Keeps}
-use Rattle.ps_workers.proofs.Keeping.{progress, on_error, short_starved, keeps_made, waits_none, counts_on, keeps_ended_here}
+use Rattle.ps_workers.proofs.Keeping.{progress, on_error, short_starved, keeps_made, waits_none, counts_on, keeps_wanted, MakesObjects}
 use Rattle.ps_workers.proofs.batons.Baton.refuse_step.Goals as goal
 
 pub invariant_of-self : goal.invariant_of-self
@@ -60,11 +59,14 @@ invariant_of-self-in-Err-Memory g c =
     let may : MayGoOn (progress c.self.inside.vault c.self.inside.config
     c.self.inside.made c.self.inside.outcome) c.args.context =
     subst (λ (p : Progress). MayGoOn p c.args.context) (sym c.self.view_is) c.requires.may in
-    keeps_ended_here g.S.Interpret.asks (progress c.self.inside.vault c.self.inside.config
-    c.self.inside.made c.self.inside.outcome) c.step.new.self c.args.context
+    keeps_wanted g.S.Interpret.asks (progress c.self.inside.vault c.self.inside.config
+    c.self.inside.made c.self.inside.outcome) c.step.new.self c.args.context true
     c.self.invariant may (c.step.ensures.program ∙ c.reserve_entries.ensures.program)
     (c.in-Err-Memory.ensures.not_made ∙ c.reserve_entries.ensures.schedule)
     c.step.ensures.calling
     (omega (arith, c.reserve_entries.ensures.capacity, c.step.ensures.capacity))
-    (subst (λ (p : Progress). IsTrue (step_wants g.S.Interpret.asks c.args.context false
-    (world_at p.story))) (sym c.self.view_is) c.requires.wants)
+    (λ _. subst (λ (p : Progress). MakesObjects g.S.Interpret.asks c.args.context
+    (world_at p.story)) (sym c.self.view_is) c.requires.makes)
+    (memory_wanted g.M.Memory.heap g.M.Memory.grants g.S.Interpret.asks c.args.context true
+    (world_at c.step.new.self) false g.met.M.CollectedMemory.bounded
+    (rw c.in-Err-Memory.field-0-is at c.in-Err-Memory.ensures.held_up))
