@@ -1,10 +1,12 @@
 //! Memories whose objects a collector moves.
 
-ghost use Rattle.std.specs.Prelude.{◌≡◌, true, false};
+ghost use Rattle.std.specs.Prelude.{◌≡◌, ◌<◌, true, false};
 ghost use Rattle.ps_mem.specs.Shows.{AreValues};
+ghost use Rattle.ps_parts_memory.specs.Laws.{AfterClose};
 ghost use Rattle.ps_flips.specs.Collected.{IsAddressed, IsCollected, IsQuiet};
 
-use ps_mem::Memory;
+use ps_mem::{Memory, SLOTS};
+use ps_parts_memory::Closing;
 use ps_word::words::Word;
 
 /// How much a collector has done.
@@ -42,14 +44,31 @@ pub trait CollectedMemory: Memory {
         ensures heap { Self.heap self.new ≡ Self.heap self.old }
         ensures grants { Self.grants self.new ≡ Self.grants self.old };
 
+    /// In an open cycle: closes the log of a slot until the cycle ends. It gets a close, and no
+    /// object may be filled then; a closed log stays as it is. `LogFull`: no record has a free
+    /// place, and nothing has changed.
+    fn close_log(&mut self, slot: u32) -> Closing
+        requires slot { slot < SLOTS }
+        requires open { (Self.grants self.old).cycle_open ≡ true }
+        ensures heap { Self.heap self.new ≡ Self.heap self.old }
+        ensures already { (Self.grants self.old).closed slot ≡ true
+            → (result ≡ Closing.Closed) × (Self.grants self.new ≡ Self.grants self.old) }
+        ensures closed { (Self.grants self.old).closed slot ≡ false → result ≡ Closing.Closed
+            → AfterClose (Self.grants self.old) (Self.grants self.new) slot }
+        ensures full { result ≡ Closing.LogFull → ((Self.grants self.old).records slot ≡ 0)
+            × (Self.grants self.new ≡ Self.grants self.old) };
+
     /// Ends the open cycle: all logs are closed and drained, the roots are copied, and the spaces
-    /// are exchanged. False: no cycle is open, or it could not end; nothing has moved.
+    /// are exchanged. False: no cycle is open, or it could not end and is open still; nothing has
+    /// moved.
     fn end_cycle(&mut self, roots: &mut [Word]) -> bool
         requires values { AreValues (Self.heap self.old) roots.old }
         ensures moved { result ≡ true
             → IsCollected (Self.heap self.old) (Self.heap self.new) roots.old roots.new }
         ensures quiet { result ≡ true → IsQuiet (Self.grants self.new) }
         ensures heap { result ≡ false → Self.heap self.new ≡ Self.heap self.old }
+        ensures still { result ≡ false → (Self.grants self.new).cycle_open
+            ≡ (Self.grants self.old).cycle_open }
         ensures roots { result ≡ false → roots.new ≡ roots.old };
 
     /// How much the collector has done, as its words say in this call.

@@ -7,7 +7,7 @@ ghost use Rattle.ps_record.specs.Format.{slots};
 ghost use Rattle.ps_mem.specs.Heap.{empty_heap};
 ghost use Rattle.ps_mem.specs.Bounded.{bounded_space};
 ghost use Rattle.ps_mem.specs.Shows.{AreValues};
-ghost use Rattle.ps_core_parts.specs.Objects.{values_have_replicas};
+ghost use Rattle.ps_core_parts.specs.Objects.{all_filled, values_have_replicas};
 ghost use Rattle.ps_core_parts.specs.Steps.{is_open, knows_open};
 ghost use Rattle.ps_core_laws.specs.Runs.{IsSpace};
 ghost use Rattle.ps_parts_memory.specs.Laws.{AfterOpen};
@@ -21,7 +21,8 @@ use crate::flips::Flip;
 use ps_flips::collected::{CollectedMemory, Counts};
 use ps_language::kinds::Kind;
 use ps_mem::{Memory, NeedFault, Permit, SLOTS};
-use ps_table::{Closing, Shared, VmSeat};
+use ps_parts_memory::Closing;
+use ps_table::{Shared, VmSeat};
 use ps_word::headers::Header;
 use ps_word::words::Word;
 use std::alloc::{AllocError, Global};
@@ -108,7 +109,7 @@ impl CollectedSpace {
 
     /// Closes the log of a slot; where it is full, records are taken of it until it isn't. False:
     /// it isn't closed.
-    fn close_log(&mut self, slot: u32) -> bool
+    fn end_log(&mut self, slot: u32) -> bool
         requires slot { slot < SLOTS }
         requires open { is_open self.old.vm.seat.me.0.vm ≡ true }
         requires knows { knows_open self.old.collector.gc.seat.me.0.gc ≡ true }
@@ -151,7 +152,7 @@ impl CollectedSpace {
         ensures knows { knows_open self.new.collector.gc.seat.me.0.gc ≡ true }
     {
         for slot in 0..SLOTS {
-            if !self.close_log(slot) || !self.drain_log(slot) {
+            if !self.end_log(slot) || !self.drain_log(slot) {
                 return false;
             }
         }
@@ -256,8 +257,16 @@ impl CollectedMemory for CollectedSpace {
     }
 
     /// As the memory's. One action of eight looks at a log, the others scan; where no field is left
-    /// they look at logs too. False: each log was looked at in a row, and nothing was found.
-    fn work(&mut self, actions: u32) -> bool {
+    /// they look at logs too. False: each log was looked at in a row, nothing was found, and no
+    /// field is unfilled; or the collector knows of no open cycle.
+    fn work(&mut self, actions: u32) -> bool
+        ensures heap { heap_of self.new.vm.seat.me.0.vm ≡ heap_of self.old.vm.seat.me.0.vm }
+        ensures grants { grants_of self.new.vm.seat.me.0.vm
+            ≡ grants_of self.old.vm.seat.me.0.vm }
+        ensures filled { result ≡ false
+            → knows_open self.new.collector.gc.seat.me.0.gc ≡ true
+            → all_filled self.new.collector.gc.seat.me.0.gc.pairs ≡ true }
+    {
         if !self.collector.begin_cycle() {
             return false;
         }
@@ -270,6 +279,10 @@ impl CollectedMemory for CollectedSpace {
         // The scan that found no field was an action too, and so may be the one below.
         self.drain_some(left.saturating_sub(2));
         self.idle < SLOTS || self.collector.scan_one()
+    }
+
+    fn close_log(&mut self, slot: u32) -> Closing {
+        self.vm.close(slot)
     }
 
     /// As the memory's; where no cycle is open nothing changes, and where the cycle could not end

@@ -16,6 +16,9 @@ ghost use Rattle.ps_parts_memory.specs.Laws.{LoadsFields, LoadsHeaders, IsCounte
 ghost use Rattle.ps_parts_memory.specs.Laws.{Logs, Fills, Copies, GrantsLogs, Makes, MakesBodies};
 ghost use Rattle.ps_parts_memory.specs.Laws.{SeesHeads, Opens, ClosesLogs, StartsEmpty};
 
+mod closing;
+
+pub use closing::Closing;
 use ps_core_laws::law;
 
 /// The laws of a part as a memory.

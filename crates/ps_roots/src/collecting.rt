@@ -56,8 +56,8 @@ pub fn open_cycle<M: CollectedMemory>(
 }
 
 /// Ends the open cycle: the objects move, and the roots of all contexts are renamed. What contexts
-/// and memory stand for is the same. False: no cycle is open, or it could not end; nothing has
-/// moved.
+/// and memory stand for is the same. False: no cycle is open, or it could not end and is open
+/// still; nothing has moved.
 pub fn end_cycle<M: CollectedMemory>(
     memory: &mut M,
     contexts: &mut Contexts,
@@ -70,6 +70,8 @@ pub fn end_cycle<M: CollectedMemory>(
         (held (over (M.heap memory.new) (M.grants memory.new) contexts.new) calling) }
     ensures closed { (M.grants memory.old).cycle_open ≡ false → result ≡ false }
     ensures quiet { result ≡ true → IsQuiet (M.grants memory.new) }
+    ensures still { result ≡ false → (M.grants memory.new).cycle_open
+        ≡ (M.grants memory.old).cycle_open }
     ensures heap { result ≡ false → M.heap memory.new ≡ M.heap memory.old }
     ensures table { result ≡ false → contexts.new.table ≡ contexts.old.table }
     ensures shared { contexts.new.shared ≡ contexts.old.shared }

@@ -2,7 +2,9 @@
 use Rattle.std.proofs.Common.{◌≡◌, ◌≢◌, ℕ, ◌+◌, ◌<◌, Bool, true, false, List, [], ◌∷◌, length, Some, None, Option, refl, sym, ap, ◌∙◌, inl, inr, subst, arith, length-set}
 use Rattle.std.specs.Prelude.{slice_index, slice_index_or, slice_set, nat_le, replicate}
 use Rattle.std.specs.Option.{option_map}
+use Rattle.std.proofs.lemmas.Bool.{cases_eq}
 use Rattle.std.proofs.lemmas.List.{get_or-set_same, get_or-set_other, get_or-replicate}
+use Rattle.std.proofs.Math.Path.{fun_ext}
 use native.Mathlib.Decide.{ℕ_discrete}
 use Rattle.ps_word.specs.Headers.{fields_in}
 use Rattle.ps_record.specs.declared.Record.{Record}
@@ -17,7 +19,7 @@ use Rattle.ps_core_parts.specs.Steps.{start, space_base, vm_after, field_stored,
 use Rattle.ps_core_laws.proofs.HeapTests.{bool_cases, le_true, le_is, eq_true, number_not}
 use Rattle.ps_core_laws.proofs.Headed.{stored_objects}
 use Rattle.ps_core_laws.proofs.Lookups.{object_at-with_field}
-use Rattle.ps_parts_memory.specs.Memory.{grants_of}
+use Rattle.ps_parts_memory.specs.Memory.{grants_of, records_left}
 use Rattle.ps_parts_memory.specs.Shown.{VmRuns}
 use Rattle.ps_parts_memory.specs.Stores.{fields_stored, part_made}
 use Rattle.ps_parts_memory.specs.Laws.{OpensCycle, ClosesLog, SeesHead, AfterClose, seen}
@@ -312,6 +314,22 @@ close_seen v g slot n new s p = record {
   closed = p.closed;
   closed_others = p.closed_others;
 }
+
+-- where no record has a free place, all is granted that was before the load
+pub full_seen : (v : Vm) (g : Gc) (slot n : ℕ) → SeesHead v g slot n
+    → records_left (seen v g slot n) slot ≡ 0 → grants_of (seen v g slot n) ≡ grants_of v
+full_seen v g slot n s none =
+    s.grants
+    ∙ ap (λ (records : ℕ → ℕ). record (grants_of v) { records = records }) (fun_ext each)
+  where
+    each : (t : ℕ) → records_left (seen v g slot n) t ≡ records_left v t
+    each t =
+        elim (cases_eq t slot) [
+          | inl same ↦ subst
+              (λ (u : ℕ). records_left (seen v g slot n) u ≡ records_left v u) (sym same)
+              (let more = s.more in omega (arith, more, none))
+          | inr other ↦ s.others t other
+        ]
 
 -- ---- the start
 

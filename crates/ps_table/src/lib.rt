@@ -21,6 +21,6 @@ mod steps;
 mod writes;
 
 pub use collector::GcSeat;
-pub use mutator::{Closing, VmSeat};
+pub use mutator::VmSeat;
 pub use plays::{Heap, View};
 pub use shared::Shared;

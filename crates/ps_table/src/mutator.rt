@@ -27,6 +27,7 @@ use crate::steps::{Words, vm_epoch, vm_load, vm_record};
 use crate::writes::vm_object;
 use atomic_table::Seat;
 use ps_mem::SLOTS;
+use ps_parts_memory::Closing;
 use ps_record::{LOG_LIMIT, RING, Record, head_place};
 use ps_word::headers::{BIRTH_LIMIT, CYCLE_LIMIT};
 use ps_word::words::Word;
@@ -42,15 +43,6 @@ pub struct VmSeat {
     pub(crate) mirror: Mirror,
     ghost seated: { seat.table_id ≡ (arc_value table).shared.table_id },
     ghost sits: { Sits (arc_value table).shared.table_id.words seat.me mirror },
-}
-
-/// Whether the log of a slot is closed.
-#[derive(Clone, Copy, Debug, PartialEq, Eq)]
-pub enum Closing {
-    /// It is, until the cycle ends.
-    Closed,
-    /// No record has a free place, by the head just loaded.
-    LogFull,
 }
 
 impl VmSeat {
@@ -228,7 +220,7 @@ impl VmSeat {
 
     /// Closes the log of a slot until the open cycle ends: it gets a close, and no object may be
     /// filled then. A closed log stays as it is. `LogFull`: no record has a free place by the head
-    /// just loaded, and nothing that was granted is lost.
+    /// just loaded, and all that was granted is so still.
     pub fn close(&mut self, slot: u32) -> Closing
         requires slot { slot < SLOTS }
         requires open { is_open self.old.seat.me.0.vm ≡ true }
@@ -245,6 +237,8 @@ impl VmSeat {
             → AfterClose (grants_of self.old.seat.me.0.vm) (grants_of self.new.seat.me.0.vm) slot }
         ensures full { result ≡ Closing.LogFull
             → records_left self.new.seat.me.0.vm slot ≡ 0 }
+        ensures kept { result ≡ Closing.LogFull → grants_of self.new.seat.me.0.vm
+            ≡ grants_of self.old.seat.me.0.vm }
         ensures still_open { is_open self.new.seat.me.0.vm ≡ true }
         ensures table { self.new.seat.table_id ≡ self.old.seat.table_id }
     {

@@ -390,7 +390,8 @@ module _ (asks : Status → Around → Scene → Asked) (context slot made : ℕ
         (keeps_mid (Err reason) behind) (ready_mid (Err reason) behind) reason behind.steps
 
     pub held_behind : {M : Type 0} (heap : M → Heap) (grants : M → Grants) (memory : M)
-        → new.desk.heap ≡ heap memory → new.desk.grants ≡ grants memory → slot ≡ holds.slot
+        → new.desk.heap ≡ heap memory → new.desk.grants ≡ grants memory
+        → slot ≡ holds.slot_of context
         → IsHeldUp heap grants asks context false (world new.desk.program so_far) reason
     held_behind =
         held_step asks context (ordinary slot) shown behind.mid new so_far

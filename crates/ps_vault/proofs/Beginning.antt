@@ -13,4 +13,5 @@ nothing_stands h space is = is ∙ ap empty_heap (sym (ap (λ (heap : Heap). hea
 pub plain_grows : (words : List ℕ) (size used next : ℕ)
     → Grows (heap_in words used next plain_space) (plain_grants size used next)
 unfolding heap_in
-plain_grows words size used next = record { grows = refl; opened = refl; free = omega arith }
+plain_grows words size used next =
+    record { grows = refl; opened = λ slot below. refl; free = λ slot below. omega arith }

@@ -1,6 +1,6 @@
 -- What a vault keeps, over its steps.
 use Rattle.std.proofs.Common.{◌≡◌, ◌≢◌, ℕ, ℤ, zero, suc, ◌<◌, ◌≤◌, Bool, true, false, ◌&&◌, Option, Some, None, Ok, Err, List, [], ◌∷◌, refl, sym, ◌∙◌, ap, subst, arith}
-use Rattle.std.specs.Prelude.{slice_get, IsTrue, IsSome, IfSome, IfNone, ◌==◌, length, vec_capacity}
+use Rattle.std.specs.Prelude.{Result, slice_get, IsTrue, IsSome, IfSome, IfNone, ◌==◌, length, vec_capacity}
 use Rattle.std.specs.Option.{option_map, option_map_or}
 use Rattle.std.proofs.lemmas.Bool.{true≢false}
 use Rattle.ps_language.specs.declared.schedules.Entry.{Entry}
@@ -20,6 +20,7 @@ use Rattle.ps_ops.specs.declared.failure.NotMade.{NotMade as Reason}
 use Rattle.ps_ops.specs.declared.failure.NotMade.TheVariants.{LogFull, LogClosed, NeedSpace, Memory}
 use Rattle.ps_acts.specs.declared.lent.Trial.{Trial}
 use Rattle.ps_acts.specs.Acts.{Asked}
+use Rattle.ps_mem.specs.declared.TheConstants.{SLOTS}
 use Rattle.ps_mem.specs.Heap.{Heap, Grants}
 use Rattle.ps_contexts.specs.declared.members.Member.{Member}
 use Rattle.ps_contexts.specs.Seats.{item_at, IsNextLeft}
@@ -39,7 +40,7 @@ use Rattle.ps_world.specs.Notes.{note_of}
 use Rattle.ps_world.specs.Steps.{Steps}
 use Rattle.ps_vault.specs.declared.reports.Outcome.{Outcome}
 use Rattle.ps_vault.specs.declared.reports.Report.{Report}
-use Rattle.ps_vault.specs.Holds.{slot, Grows, IsHeldUp, OnlyGrows}
+use Rattle.ps_vault.specs.Holds.{slot_of, Grows, IsHeldUp, OnlyGrows}
 use Rattle.ps_vault.specs.Order.{IsOnlyLeft}
 use Rattle.ps_vault.specs.declared.reports.TheConstants.{FIRST_ENTRIES}
 use Rattle.ps_vault.specs.Reports.{all_fit, EndsAs, IsOneStarved, IsRunIn, MayWant}
@@ -134,6 +135,11 @@ module _ (asks : Status → Around → Scene → Asked) (context : ℕ) (trial :
         longest = longest-added schedule (move_of context trial.refused kept) keeps.longest;
       }
 
+  -- no cycle was opened or ended
+  pub same_cycle : (result : Result Note Reason) → Steps asks context trial shown result old new
+      → new.desk.grants.cycle_open ≡ old.desk.grants.cycle_open
+  same_cycle result steps = (steps.logs here keeps.at ready).cycle_open
+
   -- with what was shown
   pub keeps_step : (note : Note) → Steps asks context trial shown (Ok note) old new
       → Keeps new (added schedule move)
@@ -162,7 +168,8 @@ module _ (asks : Status → Around → Scene → Asked) (context : ℕ) (trial :
 
     -- there is a reason
     pub held_step : {M : Type 0} (heap : M → Heap) (grants : M → Grants) (memory : M)
-        → new.desk.heap ≡ heap memory → new.desk.grants ≡ grants memory → trial.slot ≡ slot
+        → new.desk.heap ≡ heap memory → new.desk.grants ≡ grants memory
+        → trial.slot ≡ slot_of context
         → IsHeldUp heap grants asks context trial.refused (world new.desk.program schedule) reason
     held_step heap grants memory same_heap same_grants logged =
         let wanted : Growth = step_wants asks context trial.refused here in
@@ -195,15 +202,16 @@ memory_wanted heap grants asks context refused w grows all held = record {
 
 -- ---- a memory that only grows
 
-no_other : (heap : Heap) (grants : Grants) (wanted : Growth) (reason : Reason)
-    → Grows heap grants → IsHeldUpAs wanted slot heap grants reason → reason ≡ Memory
-no_other heap grants wanted LogFull grows held =
-    let less = held.1 in let free = grows.free in absurd (omega (arith, less, free))
-no_other heap grants wanted LogClosed grows held =
-    absurd (true≢false (sym held ∙ grows.opened))
-no_other heap grants wanted (NeedSpace words) grows held =
+no_other : (heap : Heap) (grants : Grants) (wanted : Growth) (slot : ℕ) (reason : Reason)
+    → slot < SLOTS → Grows heap grants → IsHeldUpAs wanted slot heap grants reason
+    → reason ≡ Memory
+no_other heap grants wanted slot LogFull below grows held =
+    let less = held.1 in let free = grows.free slot below in absurd (omega (arith, less, free))
+no_other heap grants wanted slot LogClosed below grows held =
+    absurd (true≢false (sym held ∙ grows.opened slot below))
+no_other heap grants wanted slot (NeedSpace words) below grows held =
     absurd (true≢false (sym grows.grows ∙ held.2))
-no_other heap grants wanted Memory grows held = refl
+no_other heap grants wanted slot Memory below grows held = refl
 
 -- a step over it is held up for want of memory alone
 pub may_want : {M : Type 0} (heap : M → Heap) (grants : M → Grants)
@@ -213,8 +221,8 @@ pub may_want : {M : Type 0} (heap : M → Heap) (grants : M → Grants)
 may_want heap grants asks context refused w reason grows held =
     memory_wanted heap grants asks context refused w true (λ m. (grows m).grows)
     (subst (IsHeldUp heap grants asks context refused w)
-    (no_other (heap held.memory) (grants held.memory) (step_wants asks context refused w) reason
-    (grows held.memory) held.held_up) held)
+    (no_other (heap held.memory) (grants held.memory) (step_wants asks context refused w)
+    (slot_of context) reason (omega arith) (grows held.memory) held.held_up) held)
 
 -- ---- what is told of its world
 
@@ -305,6 +313,7 @@ pub run_at_end : (asks : Status → Around → Scene → Asked) (grows : Bool) (
       schedule = report.schedule.items;
       capacity = vec_capacity report.schedule;
       caller = caller;
+      cycle_open = h.desk.grants.cycle_open;
     } ≡ story
     → count_of story.schedule ≤ steps
     → all_fit (moves story.schedule) ≡ true → FIRST_ENTRIES ≤ story.capacity

@@ -1,8 +1,9 @@
 -- When a step is held up.
-use Rattle.std.specs.Prelude.{◌≡◌, ◌≤◌, ℕ, ℤ, Bool, true, false, Option, Some, None}
+use Rattle.std.specs.Prelude.{◌≡◌, ◌<◌, ◌≤◌, ◌%◌, ℕ, ℤ, Bool, true, false, Option, Some, None}
 use Rattle.ps_language.specs.Effect.{Around, Scene}
 use Rattle.ps_language.specs.Locks.{is_ready}
 use Rattle.ps_language.specs.World.{Status, World}
+use Rattle.ps_mem.specs.declared.TheConstants.{SLOTS}
 use Rattle.ps_mem.specs.Heap.{Heap, Grants}
 use Rattle.ps_ops.specs.declared.failure.NotMade.{NotMade}
 use Rattle.ps_ops.specs.Does.{most_records}
@@ -14,9 +15,9 @@ use Rattle.ps_world.specs.Needs.{step_wants}
 use Rattle.ps_vault.specs.declared.vaults.Told.{Told}
 use Rattle.ps_vault.specs.declared.vaults.Told.TheVariants.{HeldUp}
 
--- the slot of the log that all records go into
-abbrev pub slot : ℕ
-slot = 0
+-- the slot of the log that a context's records go into
+abbrev pub slot_of : (context : ℕ) → ℕ
+slot_of context = context % SLOTS
 
 -- the context is ready, and its step is not made for this reason in such a memory: the log is
 -- closed, or takes fewer records than a step may put, or what the step may want isn't to be had
@@ -25,8 +26,8 @@ pub record IsHeldUp {M : Type 0} (heap : M → Heap) (grants : M → Grants)
     (reason : NotMade) : Type 0 where
   pub ready : is_ready w context ≡ true
   pub memory : M
-  pub held_up : IsHeldUpAs (step_wants asks context refused w) slot (heap memory) (grants memory)
-      reason
+  pub held_up : IsHeldUpAs (step_wants asks context refused w) (slot_of context) (heap memory)
+      (grants memory) reason
 
 -- whether steps were held up, and why
 abbrev pub is_held_up : Told → Bool
@@ -42,11 +43,11 @@ abbrev pub wish_in : Note → Option ℤ
 wish_in (Wishes number) = Some number
 wish_in _ = None
 
--- a memory that grows, and a log that isn't closed and takes as many records as a step may put
+-- a memory that grows, and logs that aren't closed and take as many records as a step may put
 pub record Grows (heap : Heap) (grants : Grants) : Type 0 where
   pub grows : heap.space.grows ≡ true
-  pub opened : grants.closed slot ≡ false
-  pub free : most_records ≤ grants.records slot
+  pub opened : (slot : ℕ) → slot < SLOTS → grants.closed slot ≡ false
+  pub free : (slot : ℕ) → slot < SLOTS → most_records ≤ grants.records slot
 
 -- each memory of this kind is so
 abbrev pub OnlyGrows : {M : Type 0} → (M → Heap) → (M → Grants) → Type 0

@@ -7,12 +7,17 @@ use Rattle.ps_language.specs.Worlds.{world, IsProper}
 use Rattle.ps_world.specs.Held.{Held, IsAt, IsSteadyHeld}
 
 -- the program, the steps that were made, how many entries find room, and the context whose call
--- waits, since it could not be made
+-- waits, since it could not be made; and whether a cycle of the collector is open
 pub record Story : Type 0 where
   pub program : List ℕ
   pub schedule : List Entry
   pub capacity : ℕ
   pub caller : Option ℕ
+  pub cycle_open : Bool
+
+-- all is as it was, but that a cycle may be open or not
+abbrev pub SameRun : (old new : Story) → Type 0
+SameRun old new = new ≡ record old { cycle_open = new.cycle_open }
 
 -- no other context's call waits
 abbrev pub MayGo : Story → (context : ℕ) → Type 0

@@ -1,18 +1,22 @@
 //! A vault over a memory that is collected: what the collector does between steps leaves the world,
 //! and the schedule.
 
-ghost use Rattle.std.specs.Prelude.{◌≡◌, ◌↔◌, IsTrue};
+ghost use Rattle.std.specs.Prelude.{◌≡◌, ◌↔◌, ◌<◌, true, false, IsTrue};
+ghost use Rattle.ps_vault.specs.Stories.{SameRun};
 
 use crate::vaults::Vault;
 use ps_flips::collected::{CollectedMemory, Counts};
 use ps_interpreter::interprets::Interpret;
+use ps_mem::SLOTS;
+use ps_parts_memory::Closing;
 use ps_roots::{Roots, end_cycle, open_cycle};
 use ps_world::deeds::Deeds;
 
 impl<M: CollectedMemory + Drop, S: Interpret + Drop, D: Deeds + Drop> Vault<'_, M, S, D> {
     /// Whether a cycle of the collector is open.
     pub fn is_open(&mut self) -> bool
-        ensures { self.new ≡ self.old }
+        ensures same { self.new ≡ self.old }
+        ensures answer { result ≡ self.old.cycle_open }
     {
         self.memory.is_open()
     }
@@ -32,9 +36,12 @@ impl<M: CollectedMemory + Drop, S: Interpret + Drop, D: Deeds + Drop> Vault<'_, 
     }
 
     /// Opens a cycle where none is open and cycles are left: the collector is handed the roots of
-    /// all contexts.
+    /// all contexts. False: none was opened, and nothing has changed.
     pub fn open_cycle(&mut self, roots: &mut Roots) -> bool
-        ensures { self.new ≡ self.old }
+        ensures run { SameRun self.old self.new }
+        ensures opened { result ≡ true
+            → (self.old.cycle_open ≡ false) × (self.new.cycle_open ≡ true) }
+        ensures same { result ≡ false → self.new ≡ self.old }
     {
         open_cycle(&mut self.memory, &self.world.contexts, roots)
     }
@@ -46,17 +53,30 @@ impl<M: CollectedMemory + Drop, S: Interpret + Drop, D: Deeds + Drop> Vault<'_, 
         self.memory.work(actions)
     }
 
-    /// Ends the open cycle: the objects move, and the roots of all contexts are renamed. False: no
-    /// cycle is open, or it could not end.
-    pub fn end_cycle(&mut self, roots: &mut Roots) -> bool
+    /// In an open cycle: closes the log of a slot until the cycle ends; a closed one stays as it
+    /// is. `LogFull`: no record has a free place, and nothing has changed.
+    pub fn close_log(&mut self, slot: u32) -> Closing
+        requires slot { slot < SLOTS }
+        requires open { self.old.cycle_open ≡ true }
         ensures { self.new ≡ self.old }
+    {
+        self.memory.close_log(slot)
+    }
+
+    /// Ends the open cycle: the objects move, and the roots of all contexts are renamed. False: no
+    /// cycle is open, or it could not end and is open still.
+    pub fn end_cycle(&mut self, roots: &mut Roots) -> bool
+        ensures run { SameRun self.old self.new }
+        ensures ended { result ≡ true
+            → (self.old.cycle_open ≡ true) × (self.new.cycle_open ≡ false) }
+        ensures same { result ≡ false → self.new ≡ self.old }
     {
         end_cycle(&mut self.memory, &mut self.world.contexts, roots)
     }
 
-    /// Ends the open cycle, if there is one, and makes a whole one more.
+    /// Ends the open cycle, if there is one, and makes a whole one more, as far as they can end.
     pub fn stop_all(&mut self, roots: &mut Roots)
-        ensures { self.new ≡ self.old }
+        ensures { SameRun self.old self.new }
     {
         self.end_cycle(roots);
         if self.open_cycle(roots) {

@@ -16,6 +16,7 @@ pub use exploring::explore;
 pub use orders::{Choice, TurnOrder, run_in_order};
 pub use plain::run_plain;
 pub use ps_language::schedules::Entry;
+pub use ps_parts_memory::Closing;
 pub use ps_roots::Roots;
 pub use replays::replay;
 pub use reports::{Config, FIRST_ENTRIES, Outcome, Report, RunFault};

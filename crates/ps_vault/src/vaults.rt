@@ -9,6 +9,7 @@ ghost use Rattle.ps_language.specs.Worlds as worlds;
 ghost use Rattle.ps_language.specs.Worlds.{after_move, after_moves, starting_world};
 ghost use Rattle.ps_vault.specs.Order.{IsNoneAbove, IsOnlyLeft, AddsSteps, AllOfOne, NoneEnds, OnlyLastMayEnd, EndsTurn, WishesAs};
 ghost use Rattle.ps_start.specs.Starts.{IsEmptyHeap};
+ghost use Rattle.ps_vault.specs.Holds as holds;
 ghost use Rattle.ps_vault.specs.Holds.{IfHeldUp, IsHeldUp, is_held_up, wish_in};
 ghost use Rattle.ps_vault.specs.Reports.{all_fit, are_ordinary, are_words, is_memory, EndsAs, IsOneStarved, IsRunIn, IsShort};
 ghost use Rattle.ps_vault.specs.declared.reports.TheConstants.{FIRST_ENTRIES};
@@ -22,7 +23,7 @@ use ps_contexts::contexts::Contexts;
 use ps_flips::collected::Counts;
 use ps_interpreter::interprets::Interpret;
 use ps_language::schedules::Entry;
-use ps_mem::Memory;
+use ps_mem::{Memory, SLOTS};
 use ps_ops::failure::NotMade;
 use ps_world::deeds::Deeds;
 use ps_world::notes::Note;
@@ -33,11 +34,9 @@ use std::alloc::{AllocError, Global};
 use std::hash::RandomState;
 use std::marker::Model;
 
-/// The slot of the log that the records of all steps go into.
-const SLOT: u32 = 0;
-
 /// All contexts, who makes their steps, their memory, and the steps that they made: seen as the
-/// program, the schedule, how many entries find room, and whose call waits.
+/// program, the schedule, how many entries find room, whose call waits, and whether a cycle of the
+/// collector is open.
 #[derive(Drop)]
 pub struct Vault<'a, M: Memory + Drop, S: Interpret + Drop, D: Deeds + Drop> {
     interpret: S,
@@ -60,6 +59,7 @@ impl<'a, M: Memory + Drop, S: Interpret + Drop, D: Deeds + Drop> Model for Vault
       schedule = v.schedule.items;
       capacity = vec_capacity v.schedule;
       caller = option_map (λ calling. calling.caller) v.world.calling;
+      cycle_open = (M.grants v.memory).cycle_open;
     } };
 
     ghost invariant = { λ v. Keeps (held (over (M.heap v.memory) (M.grants v.memory)
@@ -97,6 +97,17 @@ pub struct Advanced {
     pub told: Told,
     /// The number of the `vmreclaim` that the last step was, if it was one.
     pub wish: Option<i32>,
+}
+
+/// The slot of the log that the records of a context's steps go into: its identifier modulo 32. At
+/// most 32 contexts are left at a time. Each has a slot of its own wherever their identifiers lie
+/// within 32. Elsewhere two may share one, which loses nothing: only one makes steps at a time.
+#[inline(always)]
+fn slot_of(context: u32) -> u32
+    ensures is { result ≡ holds.slot_of context }
+    ensures within { result < SLOTS }
+{
+    context % SLOTS
 }
 
 /// The number of the `vmreclaim` that was made, if it was one.
@@ -194,6 +205,7 @@ impl<M: Memory + Drop, S: Interpret + Drop, D: Deeds + Drop> Vault<'_, M, S, D> 
         ensures schedule { self.new.schedule ≡ self.old.schedule }
         ensures calling { self.new.caller ≡ self.old.caller }
         ensures capacity { self.old.capacity ≤ self.new.capacity }
+        ensures cycle { self.new.cycle_open ≡ self.old.cycle_open }
         ensures room { OnOk result (HasRoom self.new) }
         ensures short { OnErr result (IsShort self.new.capacity self.new.schedule) }
     {
@@ -201,8 +213,9 @@ impl<M: Memory + Drop, S: Interpret + Drop, D: Deeds + Drop> Vault<'_, M, S, D> 
     }
 
     /// Makes a step of a context that is ready, where no other's call waits; a refused one makes no
-    /// object, and a `vmstatus` shows the given pair. Not made, at the same world, for the reason
-    /// that is told: room for records, or for words, or a growth that the step may want.
+    /// object, and a `vmstatus` shows the given pair. No cycle is opened or ended. Not made, at the
+    /// same world, for the reason that is told: room for records, or for words, or a growth that
+    /// the step may want.
     pub fn step(
         &mut self,
         context: u32,
@@ -222,6 +235,7 @@ impl<M: Memory + Drop, S: Interpret + Drop, D: Deeds + Drop> Vault<'_, M, S, D> 
             → all_fit (moves self.new.schedule) ≡ true) }
         ensures longer { length self.new.schedule ≤ length self.old.schedule + 1 }
         ensures capacity { self.old.capacity ≤ self.new.capacity }
+        ensures cycle { self.new.cycle_open ≡ self.old.cycle_open }
         ensures calling { MayGo self.new context }
         ensures calling_on { OnOk result (self.new.caller ≡ None) }
         ensures not_made { OnErr result (self.new.schedule ≡ self.old.schedule) }
@@ -229,7 +243,7 @@ impl<M: Memory + Drop, S: Interpret + Drop, D: Deeds + Drop> Vault<'_, M, S, D> 
             (IsHeldUp M.heap M.grants S.asks context refused (world_at self.new)) }
     {
         let trial = Trial {
-            slot: SLOT,
+            slot: slot_of(context),
             refused,
         };
         let told = self.world.step(
@@ -295,7 +309,7 @@ impl<M: Memory + Drop, S: Interpret + Drop, D: Deeds + Drop> Vault<'_, M, S, D> 
             &mut self.deeds,
             &mut self.memory,
             context,
-            SLOT,
+            slot_of(context),
             most,
             shows,
         );

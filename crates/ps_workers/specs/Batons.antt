@@ -43,6 +43,11 @@ pub record Keeps (asks : Status → Around → Scene → Asked) (p : Progress) :
   pub judged : IfSome p.outcome
       (EndsAs (world_at p.story) (p.made == p.config.steps) (IsStarvedAt asks p.story))
 
+-- all is as it was, but that a cycle may be open or not
+abbrev pub SameProgress : (old new : Progress) → Type 0
+SameProgress old new =
+    new ≡ record old { story = record old.story { cycle_open = new.story.cycle_open } }
+
 -- only the world goes on
 pub record GoesOn (old new : Progress) : Type 0 where
   pub program : new.story.program ≡ old.story.program

@@ -5,6 +5,7 @@ ghost use Rattle.std.specs.Prelude.{◌≡◌};
 use ps_flips::collected::{CollectedMemory, Counts};
 use ps_language::kinds::Kind;
 use ps_mem::{Memory, NeedFault, Permit};
+use ps_parts_memory::Closing;
 use ps_word::headers::Header;
 use ps_word::words::Word;
 
@@ -100,6 +101,10 @@ impl<M: CollectedMemory + Drop, G: Gate> CollectedMemory for Gated<'_, M, G> {
 
     fn work(&mut self, actions: u32) -> bool {
         self.memory.work(actions)
+    }
+
+    fn close_log(&mut self, slot: u32) -> Closing {
+        self.memory.close_log(slot)
     }
 
     fn end_cycle(&mut self, roots: &mut [Word]) -> bool {

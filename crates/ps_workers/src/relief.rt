@@ -5,7 +5,7 @@ ghost use Rattle.std.specs.Prelude.{◌≡◌, ◌+◌, ◌≤◌, false, None, 
 ghost use Rattle.ps_vault.specs.Holds.{IsHeldUp};
 ghost use Rattle.ps_vault.specs.Stories.{world_at};
 ghost use Rattle.ps_world.specs.Needs.{step_wants};
-ghost use Rattle.ps_workers.specs.Batons.{GoesOn, MayGoOn};
+ghost use Rattle.ps_workers.specs.Batons.{GoesOn, SameProgress, MayGoOn};
 
 use crate::batons::Baton;
 use ps_flips::collected::CollectedMemory;
@@ -119,7 +119,7 @@ impl<M: CollectedMemory + Drop, S: Interpret + Drop, D: Deeds + Drop> Baton<'_, 
 
     /// The collector's work behind steps; wish: the number of the `vmreclaim` that was made.
     fn collect(&mut self, wish: Option<i32>)
-        ensures { self.new ≡ self.old }
+        ensures { SameProgress self.old self.new }
     {
         match wish {
             Some(1) | Some(2) => self.stop_all(),
@@ -137,7 +137,7 @@ impl<M: CollectedMemory + Drop, S: Interpret + Drop, D: Deeds + Drop> Baton<'_, 
 
     /// The open cycle is ended, if it can be.
     fn end_cycle(&mut self)
-        ensures { self.new ≡ self.old }
+        ensures { SameProgress self.old self.new }
     {
         if self.vault.end_cycle(&mut self.roots) {
             self.kept = self.vault.used();
@@ -146,7 +146,7 @@ impl<M: CollectedMemory + Drop, S: Interpret + Drop, D: Deeds + Drop> Baton<'_, 
 
     /// The open cycle is ended, and a whole one more is made.
     fn stop_all(&mut self)
-        ensures { self.new ≡ self.old }
+        ensures { SameProgress self.old self.new }
     {
         self.vault.stop_all(&mut self.roots);
         self.kept = self.vault.used();

@@ -1,8 +1,8 @@
-use Rattle.std.proofs.Common.{ap, subst}
+use Rattle.std.proofs.Common.{◌≡◌, ap, sym, subst, ◌∙◌}
 use Rattle.ps_core_parts.specs.declared.events.Vm.{Vm}
 use Rattle.ps_parts_memory.specs.Laws.{AfterClose}
-use Rattle.ps_parts_memory.specs.Memory.{grants_of}
-use Rattle.ps_table.proofs.Mirrored.{close_seen}
+use Rattle.ps_parts_memory.specs.Memory.{grants_of, records_left}
+use Rattle.ps_table.proofs.Mirrored.{close_seen, full_seen}
 use Rattle.ps_table.proofs.mutator.VmSeat.close.Goals as goal
 
 pub returns-clause-closed : goal.returns-clause-closed
@@ -14,3 +14,12 @@ returns-clause-closed c =
     c.see_head.ensures.sees
     (subst (λ (x : Vm). AfterClose (grants_of x) new c.args.slot)
     (ap (λ m. m.vm) c.see_head.ensures.did) c.put_close.ensures.grants)
+
+pub returns-then-left-eq0-clause-kept : goal.returns-then-left-eq0-clause-kept
+returns-then-left-eq0-clause-kept c =
+    let s = c.args.self.now in
+    let v = s.seat.me.0.vm in
+    λ _. subst (λ (x : Vm). records_left x c.args.slot ≡ 0 → grants_of x ≡ grants_of v)
+    (sym (ap (λ m. m.vm) c.see_head.ensures.did))
+    (full_seen v s.seat.me.0.gc c.args.slot c.see_head.result c.see_head.ensures.sees)
+    (sym c.left.ensures ∙ c.if-left-eq0.true)

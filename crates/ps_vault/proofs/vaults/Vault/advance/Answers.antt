@@ -157,7 +157,7 @@ returns-in_default-clause-alone g c = λ left.
 pub invariant_of-self-in-Err : goal.invariant_of-self-in-Err
 invariant_of-self-in-Err g c =
     rw c.note_turn.ensures.added
-    (keeps_held g.S.Interpret.asks c.args.context 0 c.go_on-made.result.made c.in-Some.next.shown
+    (keeps_held g.S.Interpret.asks c.args.context c.slot_of.result c.go_on-made.result.made c.in-Some.next.shown
     _ _ c.self.inside.schedule.items c.self.invariant
     (ready_before g (goal.at.invariant_of-self-in-Err g c).After-go_on-made)
     c.in-Err.reason (rw (c.in-Some.is, c.in-Err.is) at c.go_on-made.ensures.makes))
@@ -183,11 +183,11 @@ returns-in-Err-clause-takes g c =
 pub returns-in-Err-clause-held_up : goal.returns-in-Err-clause-held_up
 returns-in-Err-clause-held_up g c =
     rw c.note_turn.ensures.added
-    (held_behind g.S.Interpret.asks c.args.context 0 c.go_on-made.result.made
+    (held_behind g.S.Interpret.asks c.args.context c.slot_of.result c.go_on-made.result.made
     c.in-Some.next.shown _ _ c.self.inside.schedule.items c.self.invariant
     (ready_before g (goal.at.returns-in-Err-clause-held_up g c).After-go_on-made)
     c.in-Err.reason (rw (c.in-Some.is, c.in-Err.is) at c.go_on-made.ensures.makes)
-    g.M.Memory.heap g.M.Memory.grants _ refl refl refl)
+    g.M.Memory.heap g.M.Memory.grants _ refl refl c.slot_of.ensures.is)
 
 pub returns-in-Err-clause-keeps : goal.returns-in-Err-clause-keeps
 returns-in-Err-clause-keeps g c = λ _.
@@ -195,7 +195,7 @@ returns-in-Err-clause-keeps g c = λ _.
     (λ p entries. NoneEnds (starting_world p) (moves entries)
     (moves c.note_turn.new.schedule.items))
     (rw c.note_turn.ensures.added
-    (tell_mid g.S.Interpret.asks c.args.context 0 c.go_on-made.result.made
+    (tell_mid g.S.Interpret.asks c.args.context c.slot_of.result c.go_on-made.result.made
     c.in-Some.next.shown _ _ c.self.inside.schedule.items c.self.invariant
     (ready_before g (goal.at.returns-in-Err-clause-keeps g c).After-go_on-made) (Err c.in-Err.reason)
     (rw (c.in-Some.is, c.in-Err.is) at c.go_on-made.ensures.makes) IsNoEnd nothing_ends))
@@ -206,7 +206,7 @@ returns-in-Err-clause-wish g c =
     (λ p entries. AllTell IsNoWish (starting_world p) (moves entries)
     (moves c.note_turn.new.schedule.items))
     (rw c.note_turn.ensures.added
-    (tell_mid g.S.Interpret.asks c.args.context 0 c.go_on-made.result.made
+    (tell_mid g.S.Interpret.asks c.args.context c.slot_of.result c.go_on-made.result.made
     c.in-Some.next.shown _ _ c.self.inside.schedule.items c.self.invariant
     (ready_before g (goal.at.returns-in-Err-clause-wish g c).After-go_on-made) (Err c.in-Err.reason)
     (rw (c.in-Some.is, c.in-Err.is) at c.go_on-made.ensures.makes) IsNoWish nothing_wishes))
@@ -217,7 +217,7 @@ returns-in-Err-clause-alone g c = λ left.
     of_story g at (λ p entries. AllOfOne c.args.context (starting_world p) (moves entries)
     (moves c.note_turn.new.schedule.items))
     (rw c.note_turn.ensures.added
-    (alone_mid g.S.Interpret.asks c.args.context 0 c.go_on-made.result.made c.in-Some.next.shown
+    (alone_mid g.S.Interpret.asks c.args.context c.slot_of.result c.go_on-made.result.made c.in-Some.next.shown
     _ _ c.self.inside.schedule.items c.self.invariant
     (ready_before g (goal.at.returns-in-Err-clause-alone g c).After-go_on-made)
     (Err c.in-Err.reason)
@@ -227,7 +227,7 @@ pub returns-in-Err-clause-left : goal.returns-in-Err-clause-left
 returns-in-Err-clause-left g c = λ held left.
     let at = (goal.at.returns-in-Err-clause-left g c).After-note_turn in
     rw c.note_turn.ensures.added
-    (left_held g.S.Interpret.asks c.args.context 0 c.go_on-made.result.made c.in-Some.next.shown
+    (left_held g.S.Interpret.asks c.args.context c.slot_of.result c.go_on-made.result.made c.in-Some.next.shown
     _ _ c.self.inside.schedule.items c.self.invariant
     (ready_before g (goal.at.returns-in-Err-clause-left g c).After-go_on-made) c.in-Err.reason
     (rw (c.in-Some.is, c.in-Err.is) at c.go_on-made.ensures.makes) (only_inside g at left))
@@ -237,7 +237,7 @@ returns-in-Err-clause-left g c = λ held left.
 pub invariant_of-self-2 : goal.invariant_of-self-2
 invariant_of-self-2 g c =
     rw (c.note.ensures.added, c.note_turn.ensures.added)
-    (keeps_behind g.S.Interpret.asks c.args.context 0 c.go_on-made.result.made
+    (keeps_behind g.S.Interpret.asks c.args.context c.slot_of.result c.go_on-made.result.made
     c.in-Some.next.shown _ _ c.self.inside.schedule.items c.self.invariant
     (ready_before g (goal.at.invariant_of-self-2 g c).After-go_on-made)
     c.in-Ok.told (rw (c.in-Some.is, c.in-Ok.is) at c.go_on-made.ensures.makes)
@@ -297,7 +297,7 @@ returns-clause-ends g c = λ ends.
     let program : c.self.inside.world.contexts.shared.program.now ≡ c.args.self.now.program =
     ap (λ (s : Story). s.program) c.self.view_is in
     rw (c.note.ensures.added, c.note_turn.ensures.added, ← program)
-    (ends_behind g.S.Interpret.asks c.args.context 0 c.go_on-made.result.made
+    (ends_behind g.S.Interpret.asks c.args.context c.slot_of.result c.go_on-made.result.made
     c.in-Some.next.shown _ _ c.self.inside.schedule.items c.self.invariant
     (ready_before g (goal.at.returns-clause-ends g c).After-go_on-made)
     c.in-Ok.told (rw (c.in-Some.is, c.in-Ok.is) at c.go_on-made.ensures.makes)
@@ -308,7 +308,7 @@ returns-clause-keeps g c = λ goes.
     of_story g (goal.at.returns-clause-keeps g c).After-note_turn
     (λ p entries. NoneEnds (starting_world p) (moves entries) (moves c.note.new.schedule.items))
     (rw (c.note.ensures.added, c.note_turn.ensures.added)
-    (tell_behind g.S.Interpret.asks c.args.context 0 c.go_on-made.result.made
+    (tell_behind g.S.Interpret.asks c.args.context c.slot_of.result c.go_on-made.result.made
     c.in-Some.next.shown _ _ c.self.inside.schedule.items c.self.invariant
     (ready_before g (goal.at.returns-clause-keeps g c).After-go_on-made)
     c.in-Ok.told (rw (c.in-Some.is, c.in-Ok.is) at c.go_on-made.ensures.makes)
@@ -321,7 +321,7 @@ returns-clause-only_last g c = λ _.
     (λ p entries. OnlyLastMayEnd (starting_world p) (moves entries)
     (moves c.note.new.schedule.items))
     (rw (c.note.ensures.added, c.note_turn.ensures.added)
-    (others_behind g.S.Interpret.asks c.args.context 0 c.go_on-made.result.made
+    (others_behind g.S.Interpret.asks c.args.context c.slot_of.result c.go_on-made.result.made
     c.in-Some.next.shown _ _ c.self.inside.schedule.items c.self.invariant
     (ready_before g (goal.at.returns-clause-only_last g c).After-go_on-made)
     c.in-Ok.told (rw (c.in-Some.is, c.in-Ok.is) at c.go_on-made.ensures.makes)
@@ -341,7 +341,7 @@ module _ (g : givens.Over) (c : After-note g) where
       of_story g (goal.at.After-note g c).After-note_turn
       (λ p entries. AllTell IsNoWish (starting_world p) (moves entries) (moves entries_behind))
       (rw (c.note.ensures.added, c.note_turn.ensures.added)
-      (tell_behind g.S.Interpret.asks c.args.context 0 c.go_on-made.result.made
+      (tell_behind g.S.Interpret.asks c.args.context c.slot_of.result c.go_on-made.result.made
       c.in-Some.next.shown _ _ c.self.inside.schedule.items c.self.invariant
       (ready_before g (goal.at.After-note g c).After-go_on-made)
       c.in-Ok.told (rw (c.in-Some.is, c.in-Ok.is) at c.go_on-made.ensures.makes)
@@ -353,12 +353,12 @@ module _ (g : givens.Over) (c : After-note g) where
       (moves entries_behind))
       (rw (c.note.ensures.added, c.note_turn.ensures.added)
       (record {
-        others = others_behind g.S.Interpret.asks c.args.context 0 c.go_on-made.result.made
+        others = others_behind g.S.Interpret.asks c.args.context c.slot_of.result c.go_on-made.result.made
             c.in-Some.next.shown _ _ c.self.inside.schedule.items c.self.invariant
             (ready_before g (goal.at.After-note g c).After-go_on-made)
             c.in-Ok.told (rw (c.in-Some.is, c.in-Ok.is) at c.go_on-made.ensures.makes)
             IsNoWish nothing_wishes c.kept-kept.result;
-        last = ends_behind g.S.Interpret.asks c.args.context 0 c.go_on-made.result.made
+        last = ends_behind g.S.Interpret.asks c.args.context c.slot_of.result c.go_on-made.result.made
             c.in-Some.next.shown _ _ c.self.inside.schedule.items c.self.invariant
             (ready_before g (goal.at.After-note g c).After-go_on-made)
             c.in-Ok.told (rw (c.in-Some.is, c.in-Ok.is) at c.go_on-made.ensures.makes)
@@ -377,7 +377,7 @@ returns-clause-alone g c = λ left.
     of_story g at (λ p entries. AllOfOne c.args.context (starting_world p) (moves entries)
     (moves c.note.new.schedule.items))
     (rw (c.note.ensures.added, c.note_turn.ensures.added)
-    (alone_behind g.S.Interpret.asks c.args.context 0 c.go_on-made.result.made
+    (alone_behind g.S.Interpret.asks c.args.context c.slot_of.result c.go_on-made.result.made
     c.in-Some.next.shown _ _ c.self.inside.schedule.items c.self.invariant
     (ready_before g (goal.at.returns-clause-alone g c).After-go_on-made)
     c.in-Ok.told (rw (c.in-Some.is, c.in-Ok.is) at c.go_on-made.ensures.makes)

@@ -6,7 +6,7 @@ use Rattle.ps_language.specs.Schedules.{moves}
 use Rattle.ps_language.specs.Worlds.{after_move, world}
 use Rattle.ps_vault.specs.Reports.{all_fit, fits}
 use Rattle.ps_vault.specs.Stories.{Story, world_at, move_of}
-use Rattle.ps_vault.proofs.Keeping.{caller_there, keeps_step, held_step, may_step, world_added}
+use Rattle.ps_vault.proofs.Keeping.{caller_there, keeps_step, held_step, may_step, same_cycle, world_added}
 use Rattle.ps_vault.proofs.Advancing.{all_added, move_fits}
 use Rattle.ps_vault.proofs.vaults.Vault.step.Goals as goal
 
@@ -48,4 +48,20 @@ returns-in-Err-clause-held_up g c =
     c.self.inside.schedule.items c.self.invariant
     (ap (λ (s : Story). is_ready (world_at s) c.args.context) c.self.view_is ∙ c.requires.ready)
     c.in-Err.reason (rw c.in-Err.is at c.step-told.ensures)
-    g.M.Memory.heap g.M.Memory.grants _ refl refl refl
+    g.M.Memory.heap g.M.Memory.grants _ refl refl c.slot_of.ensures.is
+
+pub returns-in-Ok-clause-cycle : goal.returns-in-Ok-clause-cycle
+returns-in-Ok-clause-cycle g c =
+    same_cycle g.S.Interpret.asks c.args.context _ c.args.shown _ _
+    c.self.inside.schedule.items c.self.invariant
+    (ap (λ (s : Story). is_ready (world_at s) c.args.context) c.self.view_is ∙ c.requires.ready)
+    _ c.step-told.ensures
+    ∙ ap (λ (s : Story). s.cycle_open) c.self.view_is
+
+pub returns-in-Err-clause-cycle : goal.returns-in-Err-clause-cycle
+returns-in-Err-clause-cycle g c =
+    same_cycle g.S.Interpret.asks c.args.context _ c.args.shown _ _
+    c.self.inside.schedule.items c.self.invariant
+    (ap (λ (s : Story). is_ready (world_at s) c.args.context) c.self.view_is ∙ c.requires.ready)
+    _ c.step-told.ensures
+    ∙ ap (λ (s : Story). s.cycle_open) c.self.view_is

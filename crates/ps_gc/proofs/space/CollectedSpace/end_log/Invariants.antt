@@ -1,7 +1,7 @@
 use Rattle.std.proofs.Common.{◌≡◌, true}
 use Rattle.ps_core_parts.specs.Steps.{is_open, knows_open}
 use Rattle.ps_parts_memory.specs.Memory.{heap_of}
-use Rattle.ps_gc.proofs.space.CollectedSpace.close_log.Given as goal
+use Rattle.ps_gc.proofs.space.CollectedSpace.end_log.Given as goal
 
 -- the memory is as it was, and both seats know that a cycle is open
 abbrev pub invariant-loop : goal.invariant-loop
