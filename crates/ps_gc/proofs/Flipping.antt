@@ -7,16 +7,17 @@ use Rattle.ps_word.specs.Format.{address_in}
 use Rattle.ps_word.specs.Readers.{is_reference}
 use Rattle.ps_record.specs.declared.Record.{Record}
 use Rattle.ps_core_parts.specs.declared.events.Event.{Event}
-use Rattle.ps_core_parts.specs.declared.events.Event.TheVariants.{CycleStore}
+use Rattle.ps_core_parts.specs.declared.events.Event.TheVariants.{CycleStore, HandOver}
 use Rattle.ps_core_parts.specs.declared.events.Vm.{Vm}
 use Rattle.ps_core_parts.specs.declared.events.Gc.{Gc}
 use Rattle.ps_core_parts.specs.Objects.{among, addresses_named, log_of, closes}
 use Rattle.ps_core_parts.specs.Conditions.{AllClosed, VmMay, GcMay, Permitted}
-use Rattle.ps_core_parts.specs.Steps.{State, is_open, other_base, vm_after}
+use Rattle.ps_core_parts.specs.Steps.{State, is_open, knows_open, other_base, vm_after, gc_after}
 use Rattle.ps_core_laws.specs.Laws.{IsBeginningOf}
 use Rattle.ps_core_laws.specs.Runs.{run}
 use Rattle.ps_core_laws.proofs.HeapTests.{bool_cases, and_parts, and_both, or_left, or_right, eq_true, number_is, same_number}
 use Rattle.ps_core_laws.proofs.Kept.{good}
+use Rattle.ps_core_laws.proofs.Lookups.{among-append}
 use Rattle.ps_core_laws.proofs.KeptFacts.{kept}
 use Rattle.ps_core_laws.proofs.LawFacts.{pairs_hold, carries_so, flips_so}
 use Rattle.ps_parts_memory.specs.Memory.{heap_of, grants_of, is_shut}
@@ -92,6 +93,21 @@ roots_known g (w ∷ ws) all = (
     | inr f ↦ rw f is
   ])),
 )
+
+-- the collector's part after roots were handed over
+module _ (v : Vm) (g h : Gc) (word : ℕ) (ws : List ℕ) (r : BothRun v g)
+    (is : h ≡ gc_after g v (HandOver word ws)) where
+  pub handed_knows : knows_open h ≡ is_open v
+  handed_knows = ap (λ (x : Gc). nat_eq x.epoch (x.cycle + 1)) is
+      ∙ ap (λ (n : ℕ). nat_eq v.epoch (n + 1)) (sym (meets v g r).1)
+
+  pub handed_known : is_open v ≡ true → AreKnown h ws
+  handed_known opened =
+      let known : h.known ≡ addresses_named ws ++ g.known =
+      ap (λ (x : Gc). x.known) is ∙ rw opened refl in
+      roots_known h ws (λ a is. ap (λ (l : List ℕ). among l a) known
+      ∙ (among-append (addresses_named ws) g.known a
+      ∙ or_left (among (addresses_named ws) a) (among g.known a) is))
 
 -- ---- the flip
 

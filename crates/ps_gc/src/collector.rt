@@ -23,7 +23,7 @@ use crate::scans::{scan_on, scanned_pairing};
 use crate::taken::Taken;
 use crate::to_space::ToSpace;
 use ps_record::{PackedRecord, Record, SLOTS, SPACES_START};
-use ps_table::GcSeat;
+use ps_table::{GcSeat, SharedWords, Words};
 use ps_word::headers::fields_in;
 use ps_word::words::Word;
 
@@ -40,9 +40,9 @@ pub enum Drained {
 
 /// The collector: it copies what the program can reach, while the program runs.
 #[derive(Drop)]
-pub struct Collector {
+pub struct Collector<W: Words = SharedWords> {
     /// The collector's seat at the table.
-    pub gc: GcSeat,
+    pub gc: GcSeat<W>,
     pub(crate) to: ToSpace,
     pub(crate) taken: Taken,
     ghost copies: { Copies gc.seat.me.0.gc to },
@@ -51,9 +51,9 @@ pub struct Collector {
     ghost idle: { (gc.seat.me.0.gc.taking ≡ None) × (gc.seat.me.0.gc.copying ≡ None) },
 }
 
-impl Collector {
+impl<W: Words> Collector<W> {
     /// A collector at the seat of a new table, over spaces of so many words each.
-    pub fn new(gc: GcSeat, space: u32) -> Collector
+    pub fn new(gc: GcSeat<W>, space: u32) -> Collector<W>
         requires size { IsSpace space }
         requires start { gc.seat.me.0.gc ≡ (start space).gc }
         ensures { result.gc ≡ gc }
@@ -79,7 +79,7 @@ impl Collector {
         ensures did { (cycle epoch : ℕ) × (self.new.gc.seat.me.0 ≡ gc_did
             (gc_did self.old.gc.seat.me.0 (GcLoad 0 cycle)) (GcLoad 1 epoch)) }
         ensures answer { result ≡ knows_open self.new.gc.seat.me.0.gc }
-        ensures same { self.new.gc.seat.table_id ≡ self.old.gc.seat.table_id }
+        ensures same { W.id self.new.gc.table ≡ W.id self.old.gc.table }
     {
         self.gc.begin_cycle()
     }
@@ -110,7 +110,7 @@ impl Collector {
             ≡ gc_did_all self.old.gc.seat.me.0
             (word_replicated self.old.gc.seat.me.0.gc word.0 second header)) }
         ensures adds { Adds self.old.gc.seat.me.0.gc self.new.gc.seat.me.0.gc }
-        ensures same { self.new.gc.seat.table_id ≡ self.old.gc.seat.table_id }
+        ensures same { W.id self.new.gc.table ≡ W.id self.old.gc.table }
     {
         replicate(&mut self.gc, &mut self.to, word)
     }
@@ -124,7 +124,7 @@ impl Collector {
         ensures adds { Adds self.old.gc.seat.me.0.gc self.new.gc.seat.me.0.gc }
         ensures did { (es : List Event) × (self.new.gc.seat.me.0
             ≡ gc_did_all self.old.gc.seat.me.0 es) }
-        ensures same { self.new.gc.seat.table_id ≡ self.old.gc.seat.table_id }
+        ensures same { W.id self.new.gc.table ≡ W.id self.old.gc.table }
     {
         for root in roots {
             self.replicate(*root);
@@ -145,7 +145,7 @@ impl Collector {
             × (self.new.gc.seat.me.0.gc.epoch ≡ self.old.gc.seat.me.0.gc.epoch) }
         ensures did { (es : List Event) × (self.new.gc.seat.me.0
             ≡ gc_did_all self.old.gc.seat.me.0 es) }
-        ensures same { self.new.gc.seat.table_id ≡ self.old.gc.seat.table_id }
+        ensures same { W.id self.new.gc.table ≡ W.id self.old.gc.table }
     {
         if self.to.at == self.to.end {
             return false;
@@ -180,7 +180,7 @@ impl Collector {
             × (self.new.gc.seat.me.0.gc.epoch ≡ self.old.gc.seat.me.0.gc.epoch) }
         ensures did { (es : List Event) × (self.new.gc.seat.me.0
             ≡ gc_did_all self.old.gc.seat.me.0 es) }
-        ensures same { self.new.gc.seat.table_id ≡ self.old.gc.seat.table_id }
+        ensures same { W.id self.new.gc.table ≡ W.id self.old.gc.table }
     {
         if self.taken.closed[slot as usize] {
             return Drained::Closed;

@@ -1,5 +1,5 @@
 //! Fields of originals that are copied to their replicas.
-ghost use Rattle.std.specs.Prelude.{◌≡◌, ◌+◌, ◌<◌, ℕ, true, false, None, Some, List, length};
+ghost use Rattle.std.specs.Prelude.{◌≡◌, ◌+◌, ◌<◌, true, false, None, Some, List, length};
 ghost use Rattle.ps_core_parts.specs.declared.events.Event.{Event};
 ghost use Rattle.ps_core_parts.specs.declared.events.Pair.{Pair};
 ghost use Rattle.ps_core_parts.specs.Objects as objects;
@@ -11,7 +11,7 @@ ghost use Rattle.ps_gc.specs.Keeps.{Copies, IsAtField, Stays};
 
 use crate::replicas::replicate;
 use crate::to_space::ToSpace;
-use ps_table::GcSeat;
+use ps_table::{GcSeat, Words};
 use ps_word::headers::kind_in;
 use ps_word::words::Word;
 
@@ -32,7 +32,7 @@ fn holds_values(header: u64) -> bool
 
 /// The word as the replica of an object with this first header gets it; what it names gets a
 /// replica.
-fn lead(gc: &mut GcSeat, to: &mut ToSpace, header: u64, word: u64) -> u64
+fn lead<W: Words>(gc: &mut GcSeat<W>, to: &mut ToSpace, header: u64, word: u64) -> u64
     requires open { knows_open gc.old.seat.me.0.gc ≡ true }
     requires known { objects.holds_values header ≡ true → IsKnown gc.old.seat.me.0.gc word }
     requires copies { Copies gc.old.seat.me.0.gc to.old }
@@ -45,7 +45,7 @@ fn lead(gc: &mut GcSeat, to: &mut ToSpace, header: u64, word: u64) -> u64
     ensures copies { Copies gc.new.seat.me.0.gc to.new }
     ensures field { IsAtField gc.new.seat.me.0.gc to.new }
     ensures place { Stays to.old to.new }
-    ensures same { gc.new.seat.table_id ≡ gc.old.seat.table_id }
+    ensures same { W.id gc.new.table ≡ W.id gc.old.table }
 {
     if holds_values(header) {
         replicate(gc, to, Word(word)).0
@@ -56,8 +56,8 @@ fn lead(gc: &mut GcSeat, to: &mut ToSpace, header: u64, word: u64) -> u64
 
 /// Copies a field of an original to its replica; what it names gets a replica. The scan's copy
 /// fills the field at the scan's place, which moves on by it.
-pub(crate) fn copy_field(
-    gc: &mut GcSeat,
+pub(crate) fn copy_field<W: Words>(
+    gc: &mut GcSeat<W>,
     to: &mut ToSpace,
     pairing: Pairing,
     field: u64,
@@ -79,7 +79,7 @@ pub(crate) fn copy_field(
     ensures copies { Copies gc.new.seat.me.0.gc to.new }
     ensures at { scans ≡ true → (to.new.at ≡ to.old.at) × (to.new.field ≡ field + 1) }
     ensures field { scans ≡ false → IsAtField gc.new.seat.me.0.gc to.new }
-    ensures same { gc.new.seat.table_id ≡ gc.old.seat.table_id }
+    ensures same { W.id gc.new.table ≡ W.id gc.old.table }
 {
     let word = gc.copy_field(pairing.original, field);
     let copy = lead(gc, to, pairing.header, word);

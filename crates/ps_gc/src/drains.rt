@@ -17,10 +17,16 @@ use crate::replicas::forward_of;
 use crate::taken::Taken;
 use crate::to_space::ToSpace;
 use ps_record::{Record, SLOTS};
-use ps_table::GcSeat;
+use ps_table::{GcSeat, Words};
 
 /// Copies the fields of an original that the record being taken names.
-fn copy_fields(gc: &mut GcSeat, to: &mut ToSpace, pairing: Pairing, first: u16, count: u16)
+fn copy_fields<W: Words>(
+    gc: &mut GcSeat<W>,
+    to: &mut ToSpace,
+    pairing: Pairing,
+    first: u16,
+    count: u16,
+)
     requires open { knows_open gc.old.seat.me.0.gc ≡ true }
     requires idle { gc.old.seat.me.0.gc.copying ≡ None }
     requires taking { (h : Half) × (gc.old.seat.me.0.gc.taking ≡ Some h)
@@ -38,7 +44,7 @@ fn copy_fields(gc: &mut GcSeat, to: &mut ToSpace, pairing: Pairing, first: u16, 
         × (gc.new.seat.me.0 ≡ gc_did_all gc.old.seat.me.0 es) }
     ensures copies { Copies gc.new.seat.me.0.gc to.new }
     ensures field { IsAtField gc.new.seat.me.0.gc to.new }
-    ensures same { gc.new.seat.table_id ≡ gc.old.seat.table_id }
+    ensures same { W.id gc.new.table ≡ W.id gc.old.table }
 {
     for k in 0..count {
         copy_field(gc, to, pairing, first as u64 + k as u64, false);
@@ -47,7 +53,13 @@ fn copy_fields(gc: &mut GcSeat, to: &mut ToSpace, pairing: Pairing, first: u16, 
 
 /// Copies the fields that the record being taken names, where their object has a replica, so that
 /// the record may be taken.
-pub(crate) fn apply(gc: &mut GcSeat, to: &mut ToSpace, address: u32, first: u16, count: u16)
+pub(crate) fn apply<W: Words>(
+    gc: &mut GcSeat<W>,
+    to: &mut ToSpace,
+    address: u32,
+    first: u16,
+    count: u16,
+)
     requires open { knows_open gc.old.seat.me.0.gc ≡ true }
     requires idle { gc.old.seat.me.0.gc.copying ≡ None }
     requires taking { (h : Half) × (gc.old.seat.me.0.gc.taking ≡ Some h)
@@ -63,7 +75,7 @@ pub(crate) fn apply(gc: &mut GcSeat, to: &mut ToSpace, address: u32, first: u16,
         × (gc.new.seat.me.0 ≡ gc_did_all gc.old.seat.me.0 es) }
     ensures copies { Copies gc.new.seat.me.0.gc to.new }
     ensures field { IsAtField gc.new.seat.me.0.gc to.new }
-    ensures same { gc.new.seat.table_id ≡ gc.old.seat.table_id }
+    ensures same { W.id gc.new.table ≡ W.id gc.old.table }
 {
     let second = gc.load(address as u64 + 1);
     match forward_of(second, to.cycle + 1) {
@@ -80,7 +92,7 @@ pub(crate) fn apply(gc: &mut GcSeat, to: &mut ToSpace, address: u32, first: u16,
 }
 
 /// The record being taken, of which nothing is left to copy, is taken.
-fn advance(gc: &mut GcSeat, taken: &mut Taken, slot: u64, closes: bool)
+fn advance<W: Words>(gc: &mut GcSeat<W>, taken: &mut Taken, slot: u64, closes: bool)
     requires slot { slot < SLOTS }
     requires taking { (h : Half) × (gc.old.seat.me.0.gc.taking ≡ Some h) × (h.slot ≡ slot)
         × (is_close h.what ≡ closes) }
@@ -91,7 +103,7 @@ fn advance(gc: &mut GcSeat, taken: &mut Taken, slot: u64, closes: bool)
     ensures did { gc.new.seat.me.0 ≡ gc_did gc.old.seat.me.0 HeadStore }
     ensures takes { Takes gc.new.seat.me.0.gc taken.new }
     ensures shut { slice_index_or taken.new.closed slot false ≡ closes }
-    ensures same { gc.new.seat.table_id ≡ gc.old.seat.table_id }
+    ensures same { W.id gc.new.table ≡ W.id gc.old.table }
 {
     let number = taken.numbers[slot as usize];
     gc.advance_head(slot, number);
@@ -100,8 +112,8 @@ fn advance(gc: &mut GcSeat, taken: &mut Taken, slot: u64, closes: bool)
 }
 
 /// Takes the record that is being taken; the fields that it names are copied first.
-pub(crate) fn take_record(
-    gc: &mut GcSeat,
+pub(crate) fn take_record<W: Words>(
+    gc: &mut GcSeat<W>,
     to: &mut ToSpace,
     taken: &mut Taken,
     slot: u64,
@@ -123,7 +135,7 @@ pub(crate) fn take_record(
     ensures field { IsAtField gc.new.seat.me.0.gc to.new }
     ensures takes { Takes gc.new.seat.me.0.gc taken.new }
     ensures shut { slice_index_or taken.new.closed slot false ≡ is_close what }
-    ensures same { gc.new.seat.table_id ≡ gc.old.seat.table_id }
+    ensures same { W.id gc.new.table ≡ W.id gc.old.table }
 {
     match what {
         Record::Place {

@@ -10,14 +10,16 @@ ghost use Rattle.ps_parts_memory.specs.Stores.{numbers};
 ghost use Rattle.ps_flips.specs.Collected.{IsCollected};
 ghost use Rattle.ps_flips.specs.Flips.{AfterFlip};
 ghost use Rattle.ps_table.specs.Events.{gc_did_all, root_looks};
-ghost use Rattle.ps_table.specs.Shown.{AreJoined, BothRun};
+ghost use Rattle.ps_table.specs.Mirrored.{Mirrors, Sits};
+ghost use Rattle.ps_table.specs.Shown.{AreJoined, BothDo, BothRun, both_did};
 ghost use Rattle.ps_gc.specs.Events.{AreKnown};
 ghost use Rattle.ps_gc.specs.Flipping.{Answers, MayFlip};
 
 use crate::collector::Collector;
 use crate::taken::Taken;
+use atomic_table::Seat;
 use ps_record::{SLOTS, SPACES_START};
-use ps_table::{GcSeat, VmSeat};
+use ps_table::{GcSeat, Mirror, View, VmSeat, Words, join, part};
 use ps_word::words::Word;
 
 /// What a try to flip came to.
@@ -43,12 +45,13 @@ pub enum Unready {
 }
 
 /// Whether all logs are closed in the open cycle.
-fn all_closed(vm: &VmSeat) -> bool
-    requires open { is_open vm.now.seat.me.0.vm ≡ true }
-    ensures { IsTrue result ↔ AllClosed vm.now.seat.me.0.vm }
+fn all_closed(mirror: &Mirror, seat: &Seat<(), View>) -> bool
+    requires mirrors { Mirrors seat.now.me.0.vm mirror.now }
+    requires open { is_open seat.now.me.0.vm ≡ true }
+    ensures { IsTrue result ↔ AllClosed seat.now.me.0.vm }
 {
     for slot in 0..SLOTS as u32 {
-        if !vm.is_closed(slot) {
+        if !mirror.is_closed(seat, slot) {
             return false;
         }
     }
@@ -56,13 +59,14 @@ fn all_closed(vm: &VmSeat) -> bool
 }
 
 /// Whether as many records were taken of each log as were logged there.
-fn all_taken(taken: &Taken, vm: &VmSeat) -> bool
+fn all_taken(taken: &Taken, mirror: &Mirror, seat: &Seat<(), View>) -> bool
+    requires mirrors { Mirrors seat.now.me.0.vm mirror.now }
     requires wide { length taken.now.numbers ≡ slots }
     ensures { IsTrue result ↔ ((slot : ℕ) → slot < slots → slice_index taken.now.numbers slot
-        ≡ length (log_of vm.now.seat.me.0.vm.logs slot)) }
+        ≡ length (log_of seat.now.me.0.vm.logs slot)) }
 {
     for slot in 0..SLOTS as u32 {
-        if taken.numbers[slot as usize] != vm.logged(slot) {
+        if taken.numbers[slot as usize] != mirror.logged(seat, slot) {
             return false;
         }
     }
@@ -70,24 +74,128 @@ fn all_taken(taken: &Taken, vm: &VmSeat) -> bool
 }
 
 /// Whether what each root refers to has a replica. It stands.
-fn have_replicas(gc: &mut GcSeat, vm: &mut VmSeat, roots: &[Word]) -> bool
-    requires same { vm.old.seat.table_id ≡ gc.old.seat.table_id }
-    requires stand { values_stand vm.old.seat.me.0.vm.objects (numbers roots.now) ≡ true }
+fn have_replicas<W: Words>(gc: &mut GcSeat<W>, mirror: &Mirror, roots: &[Word]) -> bool
+    requires sits { Sits (W.id gc.old.table).words gc.old.seat.me mirror.now }
+    requires stand { values_stand gc.old.seat.me.0.vm.objects (numbers roots.now) ≡ true }
+    ensures sits { Sits (W.id gc.new.table).words gc.new.seat.me mirror.now }
+    ensures same { W.id gc.new.table ≡ W.id gc.old.table }
     ensures answer { result ≡ values_have_replicas gc.old.seat.me.0.gc.pairs (numbers roots.now) }
-    ensures parts { (vm.new.seat.me.0.vm ≡ vm.old.seat.me.0.vm)
+    ensures parts { (gc.new.seat.me.0.vm ≡ gc.old.seat.me.0.vm)
         × (gc.new.seat.me.0.gc ≡ gc.old.seat.me.0.gc) }
-    ensures steps { (length vm.new.seat.me.0.vm_events
-        ≤ length vm.old.seat.me.0.vm_events + length roots.now)
+    ensures steps { (length gc.new.seat.me.0.vm_events
+        ≤ length gc.old.seat.me.0.vm_events + length roots.now)
         × (gc.new.seat.me.0.gc_events ≡ gc.old.seat.me.0.gc_events) }
-    ensures same { (gc.new.seat.table_id ≡ gc.old.seat.table_id)
-        × (vm.new.seat.table_id ≡ vm.old.seat.table_id) }
 {
     for root in roots {
-        if !gc.has_replica(vm, *root) {
+        if !gc.has_replica(mirror, *root) {
             return false;
         }
     }
     true
+}
+
+impl<W: Words> Collector<W> {
+    /// Hands roots over from the mutator's side of this seat, which has both: from then on the
+    /// collector knows whether a cycle is open, and in a cycle what they name. No object may be
+    /// filled then. What they name stands.
+    pub fn joined_hand_over(&mut self, mirror: &mut Mirror, roots: &[Word])
+        requires sits { Sits (W.id self.old.gc.table).words self.old.gc.seat.me mirror.old }
+        requires stand { values_stand self.old.gc.seat.me.0.vm.objects (numbers roots.now)
+            ≡ true }
+        ensures sits { Sits (W.id self.new.gc.table).words self.new.gc.seat.me mirror.new }
+        ensures same { W.id self.new.gc.table ≡ W.id self.old.gc.table }
+        ensures does { (word : ℕ) × BothDo self.old.gc.seat.me
+            (HandOver word (numbers roots.now)) self.new.gc.seat.me }
+        ensures heap { heap_of self.new.gc.seat.me.0.vm ≡ heap_of self.old.gc.seat.me.0.vm }
+        ensures grants { grants_of self.new.gc.seat.me.0.vm
+            ≡ record (grants_of self.old.gc.seat.me.0.vm) { fresh = λ a. false } }
+        ensures knows { knows_open self.new.gc.seat.me.0.gc ≡ is_open self.old.gc.seat.me.0.vm }
+        ensures known { is_open self.old.gc.seat.me.0.vm ≡ true
+            → AreKnown self.new.gc.seat.me.0.gc (numbers roots.now) }
+    {
+        self.gc.hand_over(mirror, roots);
+    }
+
+    /// The flip, for which all is ready.
+    fn flip(&mut self, mirror: &mut Mirror, roots: &mut [Word])
+        requires sits { Sits (W.id self.old.gc.table).words self.old.gc.seat.me mirror.old }
+        requires open { is_open self.old.gc.seat.me.0.vm ≡ true }
+        requires ready { MayFlip self.old.gc.seat.me.0.vm self.old.gc.seat.me.0.gc
+            (numbers roots.old) }
+        requires runs { BothRun self.old.gc.seat.me.0.vm self.old.gc.seat.me.0.gc }
+        ensures sits { Sits (W.id self.new.gc.table).words self.new.gc.seat.me mirror.new }
+        ensures same { W.id self.new.gc.table ≡ W.id self.old.gc.table }
+        ensures did { self.new.gc.seat.me.0 ≡ both_did (gc_did_all self.old.gc.seat.me.0
+            (root_looks self.old.gc.seat.me.0.gc (numbers roots.old)))
+            (CycleStore (numbers roots.old)) }
+        ensures parts { (self.new.gc.seat.me.0.vm ≡ vm_after self.old.gc.seat.me.0.vm
+            self.old.gc.seat.me.0.gc (CycleStore (numbers roots.old)))
+            × (self.new.gc.seat.me.0.gc ≡ gc_after self.old.gc.seat.me.0.gc
+            self.old.gc.seat.me.0.vm (CycleStore (numbers roots.old))) }
+        ensures moved { IsCollected (heap_of self.old.gc.seat.me.0.vm)
+            (heap_of self.new.gc.seat.me.0.vm) roots.old roots.new }
+        ensures grants { AfterFlip (grants_of self.old.gc.seat.me.0.vm)
+            (grants_of self.new.gc.seat.me.0.vm) (heap_of self.new.gc.seat.me.0.vm) }
+        ensures steps { (length self.new.gc.seat.me.0.vm_events
+            ≡ length self.old.gc.seat.me.0.vm_events + 1)
+            × (length self.new.gc.seat.me.0.gc_events
+            ≤ length self.old.gc.seat.me.0.gc_events + length roots.old + 1) }
+    {
+        self.gc.store_cycle(mirror, roots, self.to.end);
+        let low = SPACES_START + (self.to.cycle as u64 % 2) * self.to.space;
+        self.to.cycle += 1;
+        self.to.end = low;
+        self.to.at = low;
+        self.to.field = 0;
+        self.taken.closed = [false; SLOTS as usize];
+    }
+
+    /// Ends the open cycle by the flip, by a seat that has both sides, where all logs are closed
+    /// and drained, all fields filled and what the roots refer to has replicas; else answers the
+    /// first of these that doesn't hold.
+    pub fn joined_try_flip(&mut self, mirror: &mut Mirror, roots: &mut [Word]) -> Flip
+        requires sits { Sits (W.id self.old.gc.table).words self.old.gc.seat.me mirror.old }
+        requires open { is_open self.old.gc.seat.me.0.vm ≡ true }
+        requires stand { values_stand self.old.gc.seat.me.0.vm.objects (numbers roots.old)
+            ≡ true }
+        ensures sits { Sits (W.id self.new.gc.table).words self.new.gc.seat.me mirror.new }
+        ensures same { W.id self.new.gc.table ≡ W.id self.old.gc.table }
+        ensures answer { Answers self.old.gc.seat.me.0.vm self.old.gc.seat.me.0.gc
+            (numbers roots.old) result }
+        ensures parts { result ≡ Flip.Done → (self.new.gc.seat.me.0.vm ≡ vm_after
+            self.old.gc.seat.me.0.vm self.old.gc.seat.me.0.gc (CycleStore (numbers roots.old)))
+            × (self.new.gc.seat.me.0.gc ≡ gc_after self.old.gc.seat.me.0.gc
+            self.old.gc.seat.me.0.vm (CycleStore (numbers roots.old))) }
+        ensures moved { result ≡ Flip.Done → IsCollected (heap_of self.old.gc.seat.me.0.vm)
+            (heap_of self.new.gc.seat.me.0.vm) roots.old roots.new }
+        ensures grants { result ≡ Flip.Done → AfterFlip (grants_of self.old.gc.seat.me.0.vm)
+            (grants_of self.new.gc.seat.me.0.vm) (heap_of self.new.gc.seat.me.0.vm) }
+        ensures kept { (why : Unready) → result ≡ Flip.NotReady why → (roots.new ≡ roots.old)
+            × (self.new.gc.seat.me.0.vm ≡ self.old.gc.seat.me.0.vm)
+            × (self.new.gc.seat.me.0.gc ≡ self.old.gc.seat.me.0.gc) }
+        // A look at the cycle word, one for each root, one more for each where it flips, and the
+        // flip, which both sides make.
+        ensures steps { (length self.new.gc.seat.me.0.vm_events
+            ≤ length self.old.gc.seat.me.0.vm_events + length roots.old + 2)
+            × (length self.new.gc.seat.me.0.gc_events
+            ≤ length self.old.gc.seat.me.0.gc_events + length roots.old + 1) }
+    {
+        if !all_closed(mirror, &self.gc.seat) {
+            return Flip::NotReady(Unready::LogOpen);
+        }
+        if !all_taken(&self.taken, mirror, &self.gc.seat) {
+            return Flip::NotReady(Unready::Undrained);
+        }
+        self.gc.meet(mirror);
+        if self.to.at != self.to.end {
+            return Flip::NotReady(Unready::Unscanned);
+        }
+        if !have_replicas(&mut self.gc, mirror, roots) {
+            return Flip::NotReady(Unready::RootNotCopied);
+        }
+        self.flip(mirror, roots);
+        Flip::Done
+    }
 }
 
 impl Collector {
@@ -108,40 +216,6 @@ impl Collector {
             × (vm.new.seat.table_id ≡ vm.old.seat.table_id) }
     {
         vm.hand_over(&mut self.gc, roots);
-    }
-
-    /// The flip, for which all is ready.
-    fn flip(&mut self, vm: &mut VmSeat, roots: &mut [Word])
-        requires same { vm.old.seat.table_id ≡ self.old.gc.seat.table_id }
-        requires open { is_open vm.old.seat.me.0.vm ≡ true }
-        requires ready { MayFlip vm.old.seat.me.0.vm self.old.gc.seat.me.0.gc
-            (numbers roots.old) }
-        requires runs { BothRun vm.old.seat.me.0.vm self.old.gc.seat.me.0.gc }
-        ensures did { AreJoined vm.old.seat.me.0 (gc_did_all self.old.gc.seat.me.0
-            (root_looks self.old.gc.seat.me.0.gc (numbers roots.old))) vm.new.seat.me.0
-            self.new.gc.seat.me.0 (CycleStore (numbers roots.old)) }
-        ensures parts { (vm.new.seat.me.0.vm ≡ vm_after vm.old.seat.me.0.vm
-            self.old.gc.seat.me.0.gc (CycleStore (numbers roots.old)))
-            × (self.new.gc.seat.me.0.gc ≡ gc_after self.old.gc.seat.me.0.gc
-            vm.old.seat.me.0.vm (CycleStore (numbers roots.old))) }
-        ensures moved { IsCollected (heap_of vm.old.seat.me.0.vm) (heap_of vm.new.seat.me.0.vm)
-            roots.old roots.new }
-        ensures grants { AfterFlip (grants_of vm.old.seat.me.0.vm)
-            (grants_of vm.new.seat.me.0.vm) (heap_of vm.new.seat.me.0.vm) }
-        ensures steps { (length vm.new.seat.me.0.vm_events
-            ≡ length vm.old.seat.me.0.vm_events + 1)
-            × (length self.new.gc.seat.me.0.gc_events
-            ≤ length self.old.gc.seat.me.0.gc_events + length roots.old + 1) }
-        ensures same { (self.new.gc.seat.table_id ≡ self.old.gc.seat.table_id)
-            × (vm.new.seat.table_id ≡ vm.old.seat.table_id) }
-    {
-        self.gc.store_cycle(vm, roots, self.to.end);
-        let low = SPACES_START + (self.to.cycle as u64 % 2) * self.to.space;
-        self.to.cycle += 1;
-        self.to.end = low;
-        self.to.at = low;
-        self.to.field = 0;
-        self.taken.closed = [false; SLOTS as usize];
     }
 
     /// Ends the open cycle by the flip, where all logs are closed and drained, all fields filled
@@ -172,20 +246,9 @@ impl Collector {
         ensures same { (self.new.gc.seat.table_id ≡ self.old.gc.seat.table_id)
             × (vm.new.seat.table_id ≡ vm.old.seat.table_id) }
     {
-        if !all_closed(vm) {
-            return Flip::NotReady(Unready::LogOpen);
-        }
-        if !all_taken(&self.taken, vm) {
-            return Flip::NotReady(Unready::Undrained);
-        }
-        self.gc.meet(vm);
-        if self.to.at != self.to.end {
-            return Flip::NotReady(Unready::Unscanned);
-        }
-        if !have_replicas(&mut self.gc, vm, roots) {
-            return Flip::NotReady(Unready::RootNotCopied);
-        }
-        self.flip(vm, roots);
-        Flip::Done
+        join(&vm.table, &mut vm.seat, &mut self.gc.seat);
+        let flip = self.joined_try_flip(&mut vm.mirror, roots);
+        part(&vm.table, &mut vm.seat, &mut self.gc.seat);
+        flip
     }
 }

@@ -1,5 +1,5 @@
 //! The collector: it copies what the program can reach into the other space, while the program
-//! runs, by the steps of its seat at the shared table. No call waits or takes memory.
+//! runs, by the steps of its seat at words of any kind. No call waits or takes memory.
 #![tactic(auto)]
 
 mod collector;
@@ -14,6 +14,6 @@ mod to_space;
 
 pub use collector::{Collector, Drained};
 pub use flips::{Flip, Unready};
-pub use space::CollectedSpace;
+pub use space::{CollectedSpace, SerialSpaces, SharedSpaces};
 pub use taken::Taken;
 pub use to_space::ToSpace;

@@ -1,7 +1,6 @@
 //! Replicas: an original is led to its replica, which is made where there is none.
 ghost use Rattle.std.specs.Prelude.{◌≡◌, ◌==◌, ◌+◌, ◌<◌, ◌^◌, ℕ, true, None, Some, if◌then◌else◌};
 ghost use Rattle.ps_word.specs.Headers.{cycle_in, forward_address_in};
-ghost use Rattle.ps_word.specs.Format.{address_in};
 ghost use Rattle.ps_core_parts.specs.declared.events.Pair.{Pair};
 ghost use Rattle.ps_core_parts.specs.Objects.{among, pair_of, renamed_value, value_has_replica};
 ghost use Rattle.ps_core_parts.specs.Steps.{knows_open};
@@ -10,7 +9,7 @@ ghost use Rattle.ps_gc.specs.Events.{replica_made, object_replicated, word_repli
 ghost use Rattle.ps_gc.specs.Keeps.{Copies, IsAtField, GoesOn, Stays};
 
 use crate::to_space::ToSpace;
-use ps_table::GcSeat;
+use ps_table::{GcSeat, Words};
 use ps_word::headers::{Forward, fields_in};
 use ps_word::words::Word;
 
@@ -44,7 +43,7 @@ fn add_replica(to: &mut ToSpace, count: u64)
 }
 
 /// Makes the replica of an object that has none, behind the others, and answers its address.
-fn make_replica(gc: &mut GcSeat, to: &mut ToSpace, original: u64) -> u64
+fn make_replica<W: Words>(gc: &mut GcSeat<W>, to: &mut ToSpace, original: u64) -> u64
     requires open { knows_open gc.old.seat.me.0.gc ≡ true }
     requires known { among gc.old.seat.me.0.gc.known original ≡ true }
     requires single { pair_of gc.old.seat.me.0.gc.pairs original ≡ None }
@@ -57,7 +56,7 @@ fn make_replica(gc: &mut GcSeat, to: &mut ToSpace, original: u64) -> u64
     ensures copies { Copies gc.new.seat.me.0.gc to.new }
     ensures field { IsAtField gc.new.seat.me.0.gc to.new }
     ensures place { Stays to.old to.new }
-    ensures same { gc.new.seat.table_id ≡ gc.old.seat.table_id }
+    ensures same { W.id gc.new.table ≡ W.id gc.old.table }
 {
     let header = gc.load(original);
     let replica = to.end;
@@ -74,7 +73,7 @@ fn make_replica(gc: &mut GcSeat, to: &mut ToSpace, original: u64) -> u64
 }
 
 /// The address of the replica of an object that was named in this cycle.
-fn find_replica(gc: &mut GcSeat, to: &mut ToSpace, original: u64) -> u64
+fn find_replica<W: Words>(gc: &mut GcSeat<W>, to: &mut ToSpace, original: u64) -> u64
     requires open { knows_open gc.old.seat.me.0.gc ≡ true }
     requires known { among gc.old.seat.me.0.gc.known original ≡ true }
     requires copies { Copies gc.old.seat.me.0.gc to.old }
@@ -87,7 +86,7 @@ fn find_replica(gc: &mut GcSeat, to: &mut ToSpace, original: u64) -> u64
     ensures copies { Copies gc.new.seat.me.0.gc to.new }
     ensures field { IsAtField gc.new.seat.me.0.gc to.new }
     ensures place { Stays to.old to.new }
-    ensures same { gc.new.seat.table_id ≡ gc.old.seat.table_id }
+    ensures same { W.id gc.new.table ≡ W.id gc.old.table }
 {
     let second = gc.load(original + 1);
     match forward_of(second, to.cycle + 1) {
@@ -97,7 +96,7 @@ fn find_replica(gc: &mut GcSeat, to: &mut ToSpace, original: u64) -> u64
 }
 
 /// The word, naming the replica of what it names; a word that is no reference stays.
-pub(crate) fn replicate(gc: &mut GcSeat, to: &mut ToSpace, word: Word) -> Word
+pub(crate) fn replicate<W: Words>(gc: &mut GcSeat<W>, to: &mut ToSpace, word: Word) -> Word
     requires open { knows_open gc.old.seat.me.0.gc ≡ true }
     requires known { IsKnown gc.old.seat.me.0.gc word.0 }
     requires copies { Copies gc.old.seat.me.0.gc to.old }
@@ -110,7 +109,7 @@ pub(crate) fn replicate(gc: &mut GcSeat, to: &mut ToSpace, word: Word) -> Word
     ensures copies { Copies gc.new.seat.me.0.gc to.new }
     ensures field { IsAtField gc.new.seat.me.0.gc to.new }
     ensures place { Stays to.old to.new }
-    ensures same { gc.new.seat.table_id ≡ gc.old.seat.table_id }
+    ensures same { W.id gc.new.table ≡ W.id gc.old.table }
 {
     if !word.is_reference() {
         return word;

@@ -1,5 +1,5 @@
 //! The scan: it fills the fields of the replicas, one after another.
-ghost use Rattle.std.specs.Prelude.{◌≡◌, ◌≢◌, ◌+◌, ◌<◌, ◌≤◌, ℕ, true, false, None, Some, List, length};
+ghost use Rattle.std.specs.Prelude.{◌≡◌, ◌≢◌, ◌+◌, ◌<◌, ℕ, Some, List, length};
 ghost use Rattle.ps_core_parts.specs.declared.events.Event.{Event};
 ghost use Rattle.ps_core_parts.specs.declared.events.Pair.{Pair};
 ghost use Rattle.ps_core_parts.specs.Objects.{pair_of};
@@ -9,11 +9,11 @@ ghost use Rattle.ps_gc.specs.Keeps.{Copies, IsAtField};
 use crate::copies::Pairing;
 use crate::replicas::forward_of;
 use crate::to_space::ToSpace;
-use ps_table::GcSeat;
+use ps_table::{GcSeat, Words};
 use ps_word::headers::fields_in;
 
 /// The replica at the scan's place, with its original, as its headers tell.
-pub(crate) fn scanned_pairing(gc: &mut GcSeat, to: &ToSpace) -> Pairing
+pub(crate) fn scanned_pairing<W: Words>(gc: &mut GcSeat<W>, to: &ToSpace) -> Pairing
     requires copies { Copies gc.old.seat.me.0.gc to.now }
     requires ahead { to.now.at ≢ to.now.end }
     ensures is { (p : Pair)
@@ -23,7 +23,7 @@ pub(crate) fn scanned_pairing(gc: &mut GcSeat, to: &ToSpace) -> Pairing
     ensures did { (es : List Event)
         × (gc.new.seat.me.0 ≡ gc_did_all gc.old.seat.me.0 es) }
     ensures part { gc.new.seat.me.0.gc ≡ gc.old.seat.me.0.gc }
-    ensures same { gc.new.seat.table_id ≡ gc.old.seat.table_id }
+    ensures same { W.id gc.new.table ≡ W.id gc.old.table }
 {
     let header = gc.load(to.at);
     let back = gc.load(to.at + 1);
@@ -37,7 +37,7 @@ pub(crate) fn scanned_pairing(gc: &mut GcSeat, to: &ToSpace) -> Pairing
 
 /// Where all fields of the replica at the scan's place, which has so many, are filled, the place
 /// moves on to the next field that isn't.
-pub(crate) fn scan_on(gc: &mut GcSeat, to: &mut ToSpace, count: u64)
+pub(crate) fn scan_on<W: Words>(gc: &mut GcSeat<W>, to: &mut ToSpace, count: u64)
     requires copies { Copies gc.old.seat.me.0.gc to.old }
     requires is { (a : ℕ) (p : Pair) → pair_of gc.old.seat.me.0.gc.pairs a ≡ Some p
         → p.replica ≡ to.old.at → length p.fields ≡ count }
@@ -46,7 +46,7 @@ pub(crate) fn scan_on(gc: &mut GcSeat, to: &mut ToSpace, count: u64)
     ensures did { (es : List Event)
         × (gc.new.seat.me.0 ≡ gc_did_all gc.old.seat.me.0 es) }
     ensures part { gc.new.seat.me.0.gc ≡ gc.old.seat.me.0.gc }
-    ensures same { gc.new.seat.table_id ≡ gc.old.seat.table_id }
+    ensures same { W.id gc.new.table ≡ W.id gc.old.table }
 {
     let mut count = count;
     'passed: while to.at < to.end && to.field == count {

@@ -1,6 +1,7 @@
-//! Both seats in one value: a memory that its collector copies while it is used.
+//! Both sides in one value: a memory that its collector copies while it is used.
 //!
-//! The two seats are at one table, and the slot that is drained next is one.
+//! One seat has both, at words of any kind. The numbers of the mutator's side are its part's
+//! (`Sits`), and the slot that is drained next is one.
 ghost use Rattle.std.specs.Prelude.{◌≡◌, ◌<◌, ◌+◌, ◌-◌, ◌^◌, ◌&&◌, not, nat_lt, min, true, false, IfOk, refl};
 ghost use Rattle.ps_word.specs.Headers.{cycle_limit};
 ghost use Rattle.ps_record.specs.Format.{slots};
@@ -14,6 +15,7 @@ ghost use Rattle.ps_parts_memory.specs.Laws.{AfterOpen};
 ghost use Rattle.ps_parts_memory.specs.Memory.{heap_of, grants_of};
 ghost use Rattle.ps_parts_memory.specs.Stores.{numbers};
 ghost use Rattle.ps_flips.specs.Collected.{IsCollected, IsQuiet};
+ghost use Rattle.ps_table.specs.Mirrored.{KeepsVm, Sits};
 ghost use Rattle.ps_gc.specs.Keeps.{taken_in_all};
 
 use crate::collector::{Collector, Drained};
@@ -22,7 +24,7 @@ use ps_flips::collected::{CollectedMemory, Counts};
 use ps_language::kinds::Kind;
 use ps_mem::{Memory, NeedFault, Permit, SLOTS};
 use ps_parts_memory::Closing;
-use ps_table::{Shared, VmSeat};
+use ps_table::{GcSeat, Mirror, PlainWords, SharedWords, Words};
 use ps_word::headers::Header;
 use ps_word::words::Word;
 use std::alloc::{AllocError, Global};
@@ -30,33 +32,41 @@ use std::alloc::{AllocError, Global};
 /// Of so many actions of the collector one looks at a log.
 const ACTIONS_A_LOOK: u32 = 8;
 
-/// A memory of one table, with its collector.
+/// A memory with its collector, at words of any kind.
 #[derive(Drop)]
-pub struct CollectedSpace {
-    vm: VmSeat,
-    collector: Collector,
+pub struct CollectedSpace<W: Words> {
+    /// Its seat has both sides.
+    pub(crate) collector: Collector<W>,
+    /// The numbers of the mutator's side.
+    pub(crate) mirror: Mirror,
     /// The slot whose log is looked at next.
     slot: u32,
     /// How many looks in a row found nothing.
     idle: u32,
-    ghost seated: { vm.seat.table_id ≡ collector.gc.seat.table_id },
+    ghost sits: { Sits (W.id collector.gc.table).words collector.gc.seat.me mirror },
     ghost is_slot: { slot < slots },
 }
 
-impl CollectedSpace {
+/// Over shared words, each step an atomic one.
+pub type SharedSpaces = CollectedSpace<SharedWords>;
+
+/// Over words of its own, each step a plain one.
+pub type SerialSpaces = CollectedSpace<PlainWords>;
+
+impl<W: Words> CollectedSpace<W> {
     /// Two spaces of so many words each, 4096 to 1048576, in which nothing stands; no cycle is
     /// open. `AllocError`: the allocator refused. No other call takes memory.
-    pub fn new(alloc: Global, space: u32) -> Result<CollectedSpace, AllocError>
+    pub fn new(alloc: Global, space: u32) -> Result<CollectedSpace<W>, AllocError>
         requires size { IsSpace space }
-        ensures heap { IfOk result (λ s. ⟦<CollectedSpace as Memory>⟧.heap s
+        ensures heap { IfOk result (λ s. heap_of s.collector.gc.seat.me.0.vm
             ≡ empty_heap (bounded_space space)) }
         ensures closed { IfOk result
-            (λ s. (⟦<CollectedSpace as Memory>⟧.grants s).cycle_open ≡ false) }
+            (λ s. (grants_of s.collector.gc.seat.me.0.vm).cycle_open ≡ false) }
     {
-        let (vm, gc) = Shared::new(alloc, space)?;
+        let (gc, mirror) = GcSeat::<W>::both_sides(alloc, space)?;
         Ok(CollectedSpace {
-            vm,
             collector: Collector::new(gc, space),
+            mirror,
             slot: 0,
             idle: 0,
         })
@@ -64,32 +74,42 @@ impl CollectedSpace {
 
     /// Hands roots over, and gives what they refer to replicas.
     fn hand(&mut self, roots: &[Word])
-        requires open { is_open self.old.vm.seat.me.0.vm ≡ true }
-        requires values { AreValues (heap_of self.old.vm.seat.me.0.vm) roots.now }
-        ensures heap { heap_of self.new.vm.seat.me.0.vm ≡ heap_of self.old.vm.seat.me.0.vm }
-        ensures grants { grants_of self.new.vm.seat.me.0.vm
-            ≡ record (grants_of self.old.vm.seat.me.0.vm) { fresh = λ a. false } }
+        requires open { is_open self.old.collector.gc.seat.me.0.vm ≡ true }
+        requires values { AreValues (heap_of self.old.collector.gc.seat.me.0.vm) roots.now }
+        ensures heap { heap_of self.new.collector.gc.seat.me.0.vm
+            ≡ heap_of self.old.collector.gc.seat.me.0.vm }
+        ensures grants { grants_of self.new.collector.gc.seat.me.0.vm
+            ≡ record (grants_of self.old.collector.gc.seat.me.0.vm) { fresh = λ a. false } }
         ensures knows { knows_open self.new.collector.gc.seat.me.0.gc ≡ true }
         ensures copied { values_have_replicas self.new.collector.gc.seat.me.0.gc.pairs
             (numbers roots.now) ≡ true }
     {
-        self.collector.hand_over(&mut self.vm, roots);
+        self.collector.joined_hand_over(&mut self.mirror, roots);
         self.collector.add_roots(roots);
     }
 
-    /// So many looks at logs, slot by slot; a log is looked at again where a record was taken.
+    /// A look at the log of the next slot, which stays the next where a record was taken.
+    fn look(&mut self)
+        requires open { knows_open self.old.collector.gc.seat.me.0.gc ≡ true }
+        ensures knows { knows_open self.new.collector.gc.seat.me.0.gc ≡ true }
+        ensures vm { KeepsVm self.old.collector.gc.seat.me.0 self.new.collector.gc.seat.me.0 }
+    {
+        if let Drained::Took(_) = self.collector.drain_one(self.slot) {
+            self.idle = 0;
+            return;
+        }
+        self.idle = self.idle.saturating_add(1);
+        self.slot = (self.slot + 1) % SLOTS;
+    }
+
+    /// So many looks at logs.
     fn drain_some(&mut self, looks: u32)
         requires open { knows_open self.old.collector.gc.seat.me.0.gc ≡ true }
         ensures open { knows_open self.new.collector.gc.seat.me.0.gc ≡ true }
-        ensures vm { self.new.vm ≡ self.old.vm }
+        ensures vm { KeepsVm self.old.collector.gc.seat.me.0 self.new.collector.gc.seat.me.0 }
     {
         for _ in 0..looks {
-            if let Drained::Took(_) = self.collector.drain_one(self.slot) {
-                self.idle = 0;
-            } else {
-                self.idle = self.idle.saturating_add(1);
-                self.slot = (self.slot + 1) % SLOTS;
-            }
+            self.look();
         }
     }
 
@@ -97,7 +117,7 @@ impl CollectedSpace {
     fn scan_some(&mut self, fields: u32) -> bool
         requires open { knows_open self.old.collector.gc.seat.me.0.gc ≡ true }
         ensures open { knows_open self.new.collector.gc.seat.me.0.gc ≡ true }
-        ensures vm { self.new.vm ≡ self.old.vm }
+        ensures vm { KeepsVm self.old.collector.gc.seat.me.0 self.new.collector.gc.seat.me.0 }
     {
         for scanned in 0..fields {
             if !self.collector.scan_one() {
@@ -111,14 +131,16 @@ impl CollectedSpace {
     /// it isn't closed.
     fn end_log(&mut self, slot: u32) -> bool
         requires slot { slot < SLOTS }
-        requires open { is_open self.old.vm.seat.me.0.vm ≡ true }
+        requires open { is_open self.old.collector.gc.seat.me.0.vm ≡ true }
         requires knows { knows_open self.old.collector.gc.seat.me.0.gc ≡ true }
-        ensures heap { heap_of self.new.vm.seat.me.0.vm ≡ heap_of self.old.vm.seat.me.0.vm }
-        ensures open { is_open self.new.vm.seat.me.0.vm ≡ true }
+        ensures heap { heap_of self.new.collector.gc.seat.me.0.vm
+            ≡ heap_of self.old.collector.gc.seat.me.0.vm }
+        ensures open { is_open self.new.collector.gc.seat.me.0.vm ≡ true }
         ensures knows { knows_open self.new.collector.gc.seat.me.0.gc ≡ true }
     {
         for _ in 0..u64::MAX {
-            match self.vm.close(slot) {
+            let gc = &mut self.collector.gc;
+            match self.mirror.close(&mut gc.table, &mut gc.seat, slot) {
                 Closing::Closed => return true,
                 Closing::LogFull => {
                     self.collector.drain_one(slot);
@@ -132,7 +154,7 @@ impl CollectedSpace {
     fn drain_log(&mut self, slot: u32) -> bool
         requires slot { slot < SLOTS }
         requires knows { knows_open self.old.collector.gc.seat.me.0.gc ≡ true }
-        ensures vm { self.new.vm ≡ self.old.vm }
+        ensures vm { KeepsVm self.old.collector.gc.seat.me.0 self.new.collector.gc.seat.me.0 }
         ensures knows { knows_open self.new.collector.gc.seat.me.0.gc ≡ true }
     {
         for _ in 0..u64::MAX {
@@ -145,10 +167,11 @@ impl CollectedSpace {
 
     /// Closes and drains all logs. False: not all of them.
     fn end_logs(&mut self) -> bool
-        requires open { is_open self.old.vm.seat.me.0.vm ≡ true }
+        requires open { is_open self.old.collector.gc.seat.me.0.vm ≡ true }
         requires knows { knows_open self.old.collector.gc.seat.me.0.gc ≡ true }
-        ensures heap { heap_of self.new.vm.seat.me.0.vm ≡ heap_of self.old.vm.seat.me.0.vm }
-        ensures open { is_open self.new.vm.seat.me.0.vm ≡ true }
+        ensures heap { heap_of self.new.collector.gc.seat.me.0.vm
+            ≡ heap_of self.old.collector.gc.seat.me.0.vm }
+        ensures open { is_open self.new.collector.gc.seat.me.0.vm ≡ true }
         ensures knows { knows_open self.new.collector.gc.seat.me.0.gc ≡ true }
     {
         for slot in 0..SLOTS {
@@ -162,7 +185,7 @@ impl CollectedSpace {
     /// Fills all fields of all replicas. False: not all of them.
     fn scan_all(&mut self) -> bool
         requires knows { knows_open self.old.collector.gc.seat.me.0.gc ≡ true }
-        ensures vm { self.new.vm ≡ self.old.vm }
+        ensures vm { KeepsVm self.old.collector.gc.seat.me.0 self.new.collector.gc.seat.me.0 }
     {
         for _ in 0..u64::MAX {
             if !self.collector.scan_one() {
@@ -173,83 +196,106 @@ impl CollectedSpace {
     }
 }
 
-impl Memory for CollectedSpace {
-    ghost heap = { λ s. heap_of s.vm.seat.me.0.vm };
+impl<W: Words> Memory for CollectedSpace<W> {
+    ghost heap = { λ s. heap_of s.collector.gc.seat.me.0.vm };
 
-    ghost grants = { λ s. grants_of s.vm.seat.me.0.vm };
+    ghost grants = { λ s. grants_of s.collector.gc.seat.me.0.vm };
 
     fn used(&mut self) -> u32 {
-        self.vm.used()
+        self.mirror.used(&self.collector.gc.seat)
     }
 
     fn size(&mut self) -> u32 {
-        self.vm.size()
+        self.mirror.size(&self.collector.gc.seat)
     }
 
     fn room(&mut self, words: u32, births: u32) -> bool {
-        self.vm.room(words, births)
+        self.mirror.room(&self.collector.gc.seat, words, births)
     }
 
     fn need(&mut self, words: u32, births: u32) -> Result<(), NeedFault> {
-        self.vm.need(words, births)
+        self.mirror.need(&self.collector.gc.seat, words, births)
     }
 
     fn alloc(&mut self, kind: Kind, fields: u32) -> u32 {
-        self.vm.alloc(kind, fields)
+        let gc = &mut self.collector.gc;
+        self.mirror.alloc(&mut gc.table, &mut gc.seat, kind, fields)
     }
 
     fn alloc_body(&mut self, dictionary: u32, fields: u32) -> u32 {
-        self.vm.alloc_body(dictionary, fields)
+        let gc = &mut self.collector.gc;
+        self.mirror
+            .alloc_body(&mut gc.table, &mut gc.seat, dictionary, fields)
     }
 
     fn header(&mut self, address: u32) -> Header {
-        self.vm.header(address)
+        let gc = &mut self.collector.gc;
+        self.mirror.header(&mut gc.table, &mut gc.seat, address)
     }
 
     fn load(&mut self, address: u32, place: u32) -> Word {
-        self.vm.load(address, place)
+        let gc = &mut self.collector.gc;
+        self.mirror
+            .load(&mut gc.table, &mut gc.seat, address, place)
     }
 
     fn fill(&mut self, address: u32, place: u32, word: Word) {
-        self.vm.fill(address, place, word);
+        let gc = &mut self.collector.gc;
+        self.mirror
+            .fill(&mut gc.table, &mut gc.seat, address, place, word);
     }
 
     fn store(&mut self, slot: u32, address: u32, place: u32, items: &[Word]) {
-        self.vm.store(slot, address, place, items);
+        let gc = &mut self.collector.gc;
+        self.mirror
+            .store(&mut gc.table, &mut gc.seat, slot, address, place, items);
     }
 
     fn copy(&mut self, slot: u32, from: u32, from_place: u32, to: u32, to_place: u32, count: u32) {
-        self.vm.copy(slot, from, from_place, to, to_place, count);
+        let gc = &mut self.collector.gc;
+        self.mirror.copy(
+            &mut gc.table,
+            &mut gc.seat,
+            slot,
+            from,
+            from_place,
+            to,
+            to_place,
+            count,
+        );
     }
 
     fn permit(&mut self, slot: u32, count: u32) -> Permit {
-        self.vm.permit(slot, count)
+        let gc = &mut self.collector.gc;
+        self.mirror.permit(&mut gc.table, &mut gc.seat, slot, count)
     }
 }
 
-impl CollectedMemory for CollectedSpace {
+impl<W: Words> CollectedMemory for CollectedSpace<W> {
     fn is_open(&mut self) -> bool {
-        self.vm.is_open()
+        self.mirror.is_open(&self.collector.gc.seat)
     }
 
     /// As the memory's; it opens a cycle exactly where none is open and cycles are left, and what
     /// the roots refer to has replicas then.
     fn open_cycle(&mut self, roots: &[Word]) -> bool
-        requires values { AreValues (heap_of self.old.vm.seat.me.0.vm) roots.now }
-        ensures answer { result ≡ (not (is_open self.old.vm.seat.me.0.vm)
-            && nat_lt (self.old.vm.seat.me.0.vm.epoch + 1) cycle_limit) }
-        ensures heap { heap_of self.new.vm.seat.me.0.vm ≡ heap_of self.old.vm.seat.me.0.vm }
+        requires values { AreValues (heap_of self.old.collector.gc.seat.me.0.vm) roots.now }
+        ensures answer { result ≡ (not (is_open self.old.collector.gc.seat.me.0.vm)
+            && nat_lt (self.old.collector.gc.seat.me.0.vm.epoch + 1) cycle_limit) }
+        ensures heap { heap_of self.new.collector.gc.seat.me.0.vm
+            ≡ heap_of self.old.collector.gc.seat.me.0.vm }
         ensures opened { result ≡ true
-            → ((grants_of self.old.vm.seat.me.0.vm).cycle_open ≡ false)
-            × ((grants_of self.new.vm.seat.me.0.vm).cycle_open ≡ true) }
-        ensures grants { result ≡ true → AfterOpen (grants_of self.old.vm.seat.me.0.vm)
-            (grants_of self.new.vm.seat.me.0.vm) }
+            → ((grants_of self.old.collector.gc.seat.me.0.vm).cycle_open ≡ false)
+            × ((grants_of self.new.collector.gc.seat.me.0.vm).cycle_open ≡ true) }
+        ensures grants { result ≡ true → AfterOpen (grants_of self.old.collector.gc.seat.me.0.vm)
+            (grants_of self.new.collector.gc.seat.me.0.vm) }
         ensures copied { result ≡ true → values_have_replicas
             self.new.collector.gc.seat.me.0.gc.pairs (numbers roots.now) ≡ true }
-        ensures same { result ≡ false → grants_of self.new.vm.seat.me.0.vm
-            ≡ grants_of self.old.vm.seat.me.0.vm }
+        ensures same { result ≡ false → grants_of self.new.collector.gc.seat.me.0.vm
+            ≡ grants_of self.old.collector.gc.seat.me.0.vm }
     {
-        if !self.vm.open_cycle() {
+        let gc = &mut self.collector.gc;
+        if !self.mirror.open_cycle(&mut gc.table, &mut gc.seat) {
             return false;
         }
         self.hand(roots);
@@ -260,9 +306,10 @@ impl CollectedMemory for CollectedSpace {
     /// they look at logs too. False: each log was looked at in a row, nothing was found, and no
     /// field is unfilled; or the collector knows of no open cycle.
     fn work(&mut self, actions: u32) -> bool
-        ensures heap { heap_of self.new.vm.seat.me.0.vm ≡ heap_of self.old.vm.seat.me.0.vm }
-        ensures grants { grants_of self.new.vm.seat.me.0.vm
-            ≡ grants_of self.old.vm.seat.me.0.vm }
+        ensures heap { heap_of self.new.collector.gc.seat.me.0.vm
+            ≡ heap_of self.old.collector.gc.seat.me.0.vm }
+        ensures grants { grants_of self.new.collector.gc.seat.me.0.vm
+            ≡ grants_of self.old.collector.gc.seat.me.0.vm }
         ensures filled { result ≡ false
             → knows_open self.new.collector.gc.seat.me.0.gc ≡ true
             → all_filled self.new.collector.gc.seat.me.0.gc.pairs ≡ true }
@@ -282,35 +329,36 @@ impl CollectedMemory for CollectedSpace {
     }
 
     fn close_log(&mut self, slot: u32) -> Closing {
-        self.vm.close(slot)
+        let gc = &mut self.collector.gc;
+        self.mirror.close(&mut gc.table, &mut gc.seat, slot)
     }
 
     /// As the memory's; where no cycle is open nothing changes, and where the cycle could not end
     /// it is still open.
     fn end_cycle(&mut self, roots: &mut [Word]) -> bool
-        requires values { AreValues (heap_of self.old.vm.seat.me.0.vm) roots.old }
-        ensures none { is_open self.old.vm.seat.me.0.vm ≡ false
+        requires values { AreValues (heap_of self.old.collector.gc.seat.me.0.vm) roots.old }
+        ensures none { is_open self.old.collector.gc.seat.me.0.vm ≡ false
             → (result ≡ false) × (self.new ≡ self.old) }
-        ensures moved { result ≡ true → IsCollected (heap_of self.old.vm.seat.me.0.vm)
-            (heap_of self.new.vm.seat.me.0.vm) roots.old roots.new }
-        ensures quiet { result ≡ true → IsQuiet (grants_of self.new.vm.seat.me.0.vm) }
-        ensures room { result ≡ true → (grants_of self.new.vm.seat.me.0.vm).words
-            + (heap_of self.new.vm.seat.me.0.vm).used
-            ≡ (heap_of self.new.vm.seat.me.0.vm).space.size }
-        ensures heap { result ≡ false → heap_of self.new.vm.seat.me.0.vm
-            ≡ heap_of self.old.vm.seat.me.0.vm }
-        ensures still { result ≡ false → is_open self.new.vm.seat.me.0.vm
-            ≡ is_open self.old.vm.seat.me.0.vm }
+        ensures moved { result ≡ true → IsCollected (heap_of self.old.collector.gc.seat.me.0.vm)
+            (heap_of self.new.collector.gc.seat.me.0.vm) roots.old roots.new }
+        ensures quiet { result ≡ true → IsQuiet (grants_of self.new.collector.gc.seat.me.0.vm) }
+        ensures room { result ≡ true → (grants_of self.new.collector.gc.seat.me.0.vm).words
+            + (heap_of self.new.collector.gc.seat.me.0.vm).used
+            ≡ (heap_of self.new.collector.gc.seat.me.0.vm).space.size }
+        ensures heap { result ≡ false → heap_of self.new.collector.gc.seat.me.0.vm
+            ≡ heap_of self.old.collector.gc.seat.me.0.vm }
+        ensures still { result ≡ false → is_open self.new.collector.gc.seat.me.0.vm
+            ≡ is_open self.old.collector.gc.seat.me.0.vm }
         ensures roots { result ≡ false → roots.new ≡ roots.old }
     {
-        if !self.vm.is_open() {
+        if !self.mirror.cycle_open {
             return false;
         }
         self.hand(roots);
         if !self.end_logs() || !self.scan_all() {
             return false;
         }
-        match self.collector.try_flip(&mut self.vm, roots) {
+        match self.collector.joined_try_flip(&mut self.mirror, roots) {
             Flip::Done => true,
             Flip::NotReady(_) => false,
         }
@@ -321,9 +369,10 @@ impl CollectedMemory for CollectedSpace {
         ensures flips { result.flips ≡ self.old.collector.gc.seat.me.0.gc.cycle }
         ensures taken { result.taken
             ≡ min (taken_in_all self.old.collector.gc.seat.me.0.gc) (2 ^ 64 - 1) }
-        ensures heap { heap_of self.new.vm.seat.me.0.vm ≡ heap_of self.old.vm.seat.me.0.vm }
-        ensures grants { grants_of self.new.vm.seat.me.0.vm
-            ≡ grants_of self.old.vm.seat.me.0.vm }
+        ensures heap { heap_of self.new.collector.gc.seat.me.0.vm
+            ≡ heap_of self.old.collector.gc.seat.me.0.vm }
+        ensures grants { grants_of self.new.collector.gc.seat.me.0.vm
+            ≡ grants_of self.old.collector.gc.seat.me.0.vm }
     {
         let mut taken: u64 = 0;
         for slot in 0..SLOTS {

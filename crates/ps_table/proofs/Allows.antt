@@ -1,6 +1,6 @@
 -- Each step of a seat is the next event of a run.
 use Rattle.std.proofs.Common.{◌≡◌, ◌≢◌, ℕ, Bool, true, false, List, ◌∷◌, set, refl, sym, ap, ◌∙◌, ⊎_elim, subst}
-use Rattle.std.specs.Prelude.{slice_index, slice_set}
+use Rattle.std.specs.Prelude.{Option, Some, None, is_some, slice_index, slice_set}
 use Rattle.std.specs.List.{filter}
 use mathlib.Core.Option.{some}
 use lib.ListN.{get_elem?}
@@ -16,7 +16,7 @@ use Rattle.ps_core_laws.specs.Runs.{run, IsRun, IsSpace}
 use Rattle.ps_core_laws.proofs.Kept.{good}
 use Rattle.ps_parts_memory.specs.Shown.{VmRuns, VmFinds}
 use Rattle.ps_table.specs.declared.plays.View.{View}
-use Rattle.ps_table.specs.Shown.{by_vm, by_gc, Fits, Shows, GcRuns, GcFinds, BothFind, BothRun, BothLook, VmDoes, VmStores, GcDoes, GcStores, BothDo, vm_did, gc_did, both_did, SeatState}
+use Rattle.ps_table.specs.Shown.{by_vm, by_gc, Fits, Shows, GcRuns, GcFinds, BothFind, BothRun, BothLook, VmDoes, VmStores, GcDoes, GcStores, BothDo, longer, vm_did, gc_did, both_did, SeatState}
 
 -- ---- the parts of a run
 
@@ -117,6 +117,40 @@ part_out : (test : Event → Bool) (e : Event) (es : List Event) → test e ≡ 
     → filter test (e ∷ es) ≡ filter test es
 part_out test e es h = rw h refl
 
+-- a run that is known after an event was known before it
+was_known : (e : Event) (whole : Option (List Event)) (es : List Event) → longer e whole ≡ Some es
+    → (before : List Event) × (whole ≡ Some before) × (es ≡ e ∷ before)
+was_known e None es h = absurd (cc)
+was_known e (Some before) es h = (before, refl, cc)
+
+-- so what is known of the run before an event is known of the run after it
+known_on : (events : List Event) (v : View) (e : Event)
+    → ((es : List Event) → v.whole ≡ Some es
+    → (events ≡ es) × (v.acts_vm ≡ true) × (v.acts_gc ≡ true)) → (es : List Event)
+    → longer e v.whole ≡ Some es → (e ∷ events ≡ es) × (v.acts_vm ≡ true) × (v.acts_gc ≡ true)
+known_on events v e known es h =
+    let was = was_known e v.whole es h in
+    let k = known was.0 was.1 in (
+      ap (λ (l : List Event). e ∷ l) k.0 ∙ sym was.2,
+      k.1,
+      k.2,
+    )
+
+-- and where it was known it is known
+still_known : (e : Event) (whole : Option (List Event)) → is_some (longer e whole) ≡ is_some whole
+still_known e None = refl
+still_known e (Some es) = refl
+
+module _ (e : Event) (m m' : SeatState) where
+  pub vm_known : m' ≡ (vm_did m.0 e, m.1) → is_some m'.0.whole ≡ is_some m.0.whole
+  vm_known did = ap (λ (x : SeatState). is_some x.0.whole) did ∙ still_known e m.0.whole
+
+  pub gc_known : m' ≡ (gc_did m.0 e, m.1) → is_some m'.0.whole ≡ is_some m.0.whole
+  gc_known did = ap (λ (x : SeatState). is_some x.0.whole) did ∙ still_known e m.0.whole
+
+  pub both_known : m' ≡ (both_did m.0 e, m.1) → is_some m'.0.whole ≡ is_some m.0.whole
+  both_known did = ap (λ (x : SeatState). is_some x.0.whole) did ∙ still_known e m.0.whole
+
 -- the view of the seat that moved, and those of the others
 vm_moved : (space : ℕ) (events : List Event) (a b at : ℕ) (v : View) (e : Event) → VmAlone e
     → v.acts_vm ≡ true → Fits space events a b at v → Fits space (e ∷ events) a b at (vm_did v e)
@@ -129,6 +163,7 @@ vm_moved space events a b at v e alone acts f = record {
   gc_here = f.gc_here;
   gc_list = λ h. part_out by_gc e events alone.gc_not ∙ f.gc_list h;
   gc_is = λ h. alone.gc_same (run space events).gc (run space events).vm ∙ f.gc_is h;
+  whole_is = known_on events v e f.whole_is;
 }
 
 vm_beside : (space : ℕ) (events : List Event) (a b at : ℕ) (v : View) (e : Event) → VmAlone e
@@ -140,6 +175,7 @@ vm_beside space events a b at v e alone off f = record {
   gc_here = f.gc_here;
   gc_list = λ h. part_out by_gc e events alone.gc_not ∙ f.gc_list h;
   gc_is = λ h. alone.gc_same (run space events).gc (run space events).vm ∙ f.gc_is h;
+  whole_is = λ es h. absurd (off (f.vm_here (f.whole_is es h).1));
 }
 
 gc_moved : (space : ℕ) (events : List Event) (a b at : ℕ) (v : View) (e : Event) → GcAlone e
@@ -153,6 +189,7 @@ gc_moved space events a b at v e alone acts f = record {
       (f.gc_list h);
   gc_is = λ h. alone.gc_own (run space events).gc (run space events).vm v.vm
       ∙ ap (λ (w : Gc). gc_after w v.vm e) (f.gc_is h);
+  whole_is = known_on events v e f.whole_is;
 }
 
 gc_beside : (space : ℕ) (events : List Event) (a b at : ℕ) (v : View) (e : Event) → GcAlone e
@@ -164,6 +201,7 @@ gc_beside space events a b at v e alone off f = record {
   gc_here = f.gc_here;
   gc_list = λ h. absurd (off (f.gc_here h));
   gc_is = λ h. absurd (off (f.gc_here h));
+  whole_is = λ es h. absurd (off (f.gc_here (f.whole_is es h).2));
 }
 
 both_moved : (space : ℕ) (events : List Event) (a b at : ℕ) (v : View) (e : Event) → Both e
@@ -180,6 +218,7 @@ both_moved space events a b at v e both vm gc f = record {
       (f.gc_list h);
   gc_is = λ h. ap (λ (w : Gc). gc_after w (run space events).vm e) (f.gc_is h)
       ∙ ap (λ (w : Vm). gc_after v.gc w e) (f.vm_is vm);
+  whole_is = known_on events v e f.whole_is;
 }
 
 both_beside : (space : ℕ) (events : List Event) (a b at : ℕ) (v : View) (e : Event) → at ≢ a
@@ -191,6 +230,7 @@ both_beside space events a b at v e off_a off_b f = record {
   gc_here = f.gc_here;
   gc_list = λ h. absurd (off_b (f.gc_here h));
   gc_is = λ h. absurd (off_b (f.gc_here h));
+  whole_is = λ es h. absurd (off_a (f.vm_here (f.whole_is es h).1));
 }
 
 -- the views after one seat moved

@@ -5,10 +5,12 @@ pub mod Facts
 pub mod Flipping
 pub mod GcFacts
 pub mod GcMoves
+pub mod Kept
 pub mod Made
 pub mod Mirrored
 pub mod Moves
 pub mod Originals
+pub mod Plain
 pub mod Seats
 pub mod Seconds
 pub mod Storing

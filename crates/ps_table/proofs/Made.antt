@@ -1,6 +1,5 @@
 -- A new object: what the events of its making leave of a view.
-use Rattle.std.proofs.Common.{◌≡◌, ◌+◌, ℕ, zero, suc, [], ◌∷◌, ◌++◌, replicate, refl, ap, ◌∙◌, arith}
-use Rattle.std.proofs.Common.{◌≢◌, false, true, nat_eq, Some, None, Option, rules}
+use Rattle.std.proofs.Common.{◌≡◌, ◌≢◌, ◌+◌, ◌<◌, ◌≤◌, ◌^◌, ℕ, zero, suc, false, true, nat_eq, [], ◌∷◌, ◌++◌, replicate, Some, None, Option, refl, ap, ◌∙◌, arith, rules}
 use Rattle.std.specs.Prelude.{IsSome, IfSome}
 use Rattle.ps_language.specs.declared.kinds.Kind.{Kind}
 use Rattle.ps_language.specs.declared.kinds.Kind.TheVariants.{Body, Dictionary}
@@ -8,16 +7,21 @@ use Rattle.ps_word.specs.Headers.{kind_in, fields_in, birth_in, kind_number, hea
 use Rattle.ps_word.proofs.HeaderPlaces.{kind_in-packed, fields_in-packed, birth_in-packed}
 use Rattle.ps_mem.specs.Heap.{Heap, Standing, IsKind, birth_of, birth_at}
 use Rattle.ps_mem.specs.Heap as memory
-use Rattle.ps_core_parts.specs.Steps.{next_birth_after}
-use Rattle.ps_parts_memory.specs.Laws.{header_of, header_told}
-use Rattle.ps_parts_memory.proofs.Made.{not_body}
 use Rattle.ps_core_parts.specs.declared.events.Event.TheVariants.{ClearStore, HeaderStore}
-use Rattle.ps_core_parts.specs.Steps.{vm_after}
-use Rattle.ps_parts_memory.specs.Laws.{MayMake}
+use Rattle.ps_core_parts.specs.declared.events.Vm.{Vm}
+use Rattle.ps_core_parts.specs.Steps.{next_birth_after, vm_after}
+use Rattle.ps_parts_memory.specs.Laws.{MayMake, MakesObject, MakesBody, header_of, header_told}
+use Rattle.ps_parts_memory.specs.Memory.{heap_of, grants_of}
+use Rattle.ps_parts_memory.specs.Shown.{VmRuns, VmFinds}
 use Rattle.ps_parts_memory.specs.Stores.{part_made}
+use Rattle.ps_parts_memory.proofs.Bodies.{makes_bodies}
+use Rattle.ps_parts_memory.proofs.Loads.{header_loads}
+use Rattle.ps_parts_memory.proofs.Made.{not_body}
+use Rattle.ps_parts_memory.proofs.Stored.{makes}
 use Rattle.ps_table.specs.declared.plays.View.{View}
 use Rattle.ps_table.specs.Events.{did_all, object_stores}
 use Rattle.ps_table.specs.Shown.{vm_did}
+use Rattle.ps_table.proofs.Facts.{vm_facts, words}
 
 -- so many words are cleared, and then the header is stored
 cleared : (m : View) (header n : ℕ)
@@ -80,3 +84,67 @@ pub birth_found : (h : Heap) (d n : ℕ) → IsKind Dictionary (memory.object_at
 unfolding birth_at
 birth_found h d n is e = told (memory.object_at h d) n
     (kind_stands Dictionary (memory.object_at h d) is) e
+
+-- ---- what a seat makes, with a header packed by its numbers
+
+pub record NewObject (v : Vm) (header birth : ℕ) (kind : Kind) (fields : ℕ) : Type 0 where
+  pub makes : MakesObject v header kind fields
+  pub count : fields_in header ≡ fields
+  pub next : birth + 1 ≡ next_birth_after v.next_birth header
+
+pub new_object : (v : Vm) (header birth : ℕ) (kind : Kind) (fields : ℕ) → ∥ VmRuns v ∥₁
+    → birth ≡ v.next_birth
+    → header ≡ header_packed (record { kind = kind; fields = fields; birth = birth })
+    → kind ≢ Body → fields < 2 ^ 16 → 2 + fields ≤ (grants_of v).words
+    → 1 ≤ (grants_of v).births → NewObject v header birth kind fields
+new_object v header birth kind fields runs at is no_body few granted births =
+    let fits : IsHeader (record { kind = kind; fields = fields; birth = birth }) =
+    record { fields = omega arith; birth = omega arith } in
+    let kind_so = kind_is kind fields birth header is fits in
+    let count = fields_is kind fields birth header is fits in
+    record {
+      makes = makes v (vm_facts v runs) header kind fields (record {
+        new = record {
+          kind_is = kind_so;
+          fields_is = count;
+          birth_is = birth_is kind fields birth header is fits ∙ at;
+          no_body = no_body;
+        };
+        few = few;
+        granted = granted;
+      });
+      count = count;
+      next = ap (λ (n : ℕ). n + 1) at ∙ next_new v.next_birth header kind kind_so no_body;
+    }
+
+pub record NewBody (v : Vm) (header dictionary fields : ℕ) : Type 0 where
+  pub makes : MakesBody v header dictionary fields
+  pub count : fields_in header ≡ fields
+  pub next : v.next_birth ≡ next_birth_after v.next_birth header
+
+-- a body, where a word was found that is the dictionary's header
+pub new_body : (v : Vm) (header birth dictionary fields found : ℕ) → ∥ VmRuns v ∥₁
+    → IsKind Dictionary (memory.object_at (heap_of v) dictionary) → VmFinds v dictionary found
+    → birth ≡ birth_in found → birth < 2 ^ 40
+    → header ≡ header_packed (record { kind = Body; fields = fields; birth = birth })
+    → fields < 2 ^ 16 → 2 + fields ≤ (grants_of v).words → NewBody v header dictionary fields
+new_body v header birth dictionary fields found runs stands finds at low is few granted =
+    let fits : IsHeader (record { kind = Body; fields = fields; birth = birth }) =
+    record { fields = omega arith; birth = low } in
+    let load = header_loads words v (vm_facts v runs) dictionary
+    (kind_stands Dictionary (memory.object_at (heap_of v) dictionary) stands) in
+    let kind_so = kind_is Body fields birth header is fits in
+    let count = fields_is Body fields birth header is fits in
+    record {
+      makes = makes_bodies v (vm_facts v runs) header dictionary fields (record {
+        kind_is = kind_so;
+        fields_is = count;
+        stands = stands;
+        birth_is = birth_is Body fields birth header is fits
+            ∙ (at ∙ birth_found (heap_of v) dictionary found stands (load.word found finds));
+        few = few;
+        granted = granted;
+      });
+      count = count;
+      next = next_body v.next_birth header kind_so;
+    }

@@ -10,6 +10,7 @@ use Rattle.ps_word.specs.Headers.{fields_in}
 use Rattle.ps_record.specs.declared.Record.{Record}
 use Rattle.ps_record.specs.declared.Record.TheVariants.{Place, Close}
 use Rattle.ps_mem.specs.Heap.{AfterStore, Grants}
+use Rattle.ps_core_parts.specs.declared.events.Event.{Event}
 use Rattle.ps_core_parts.specs.declared.events.Event.TheVariants.{RecordStore, EpochStore}
 use Rattle.ps_core_parts.specs.declared.events.Object.{Object}
 use Rattle.ps_core_parts.specs.declared.events.Vm.{Vm}
@@ -28,19 +29,28 @@ use Rattle.ps_parts_memory.proofs.Logged.{part_logged, after_record, length_here
 use Rattle.ps_parts_memory.proofs.Written.{only}
 use Rattle.ps_table.specs.declared.mirror.Mirror.{Mirror}
 use Rattle.ps_table.specs.Mirrored.{Mirrors, Sits}
-use Rattle.ps_table.specs.Shown.{SeatState}
+use Rattle.ps_table.specs.Shown.{SeatState, vm_did}
 
--- the seat sits as before, with another part of the same space
-pub goes : (words : ℕ) (m : SeatState) (n : Mirror) (m' : SeatState) (n' : Mirror) → Sits words m n
-    → m'.0.acts_vm ≡ true → m'.1 ≡ m.1 → m'.0.vm.space ≡ m.0.vm.space → ∥ VmRuns m'.0.vm ∥₁
-    → Mirrors m'.0.vm n' → Sits words m' n'
-goes words m n m' n' s acts empty space runs mirrors = record {
-  wide = s.wide ∙ ap table_size (sym space);
+-- the seat sits as before at as many words, with another part of the same space
+pub goes : (words words' : ℕ) (m : SeatState) (n : Mirror) (m' : SeatState) (n' : Mirror) (v : Vm)
+    → words' ≡ words → Sits words m n → m'.0.acts_vm ≡ true → m'.1 ≡ m.1 → m'.0.vm ≡ v
+    → v.space ≡ m.0.vm.space → ∥ VmRuns m'.0.vm ∥₁ → Mirrors v n' → Sits words' m' n'
+goes words words' m n m' n' v same s acts empty part space runs mirrors = record {
+  wide = same ∙ (s.wide ∙ ap table_size (sym (ap (λ (x : Vm). x.space) part ∙ space)));
   acts = acts;
   empty = empty ∙ s.empty;
   runs = runs;
-  mirrors = mirrors;
+  mirrors = subst (λ (x : Vm). Mirrors x n') (sym part) mirrors;
 }
+
+-- it made one event
+pub goes_by : (words words' : ℕ) (m : SeatState) (n : Mirror) (m' : SeatState) (n' : Mirror)
+    (e : Event) (v : Vm) → words' ≡ words → Sits words m n → m' ≡ (vm_did m.0 e, m.1)
+    → VmRuns m'.0.vm → vm_after m.0.vm m.0.gc e ≡ v → v.space ≡ m.0.vm.space → Mirrors v n'
+    → Sits words' m' n'
+goes_by words words' m n m' n' e v same s did runs part space mirrors =
+    goes words words' m n m' n' v same s (ap (λ x. x.0.acts_vm) did ∙ s.acts)
+    (ap (λ x. x.1) did) (ap (λ x. x.0.vm) did ∙ part) space ∣ runs ∣₁ mirrors
 
 some_before : (x : Option Object) (f : Object → Object) (o : Object) → option_map f x ≡ Some o
     → (p : Object) × (x ≡ Some p)

@@ -1,9 +1,11 @@
 -- The table at the start, a seat that is cut in two, and two that are joined.
+use Rattle.std.specs.Prelude.{Some, None}
 use Rattle.std.proofs.Common.{◌≡◌, ◌≢◌, ◌⊎◌, ℕ, zero, suc, true, false, true≢false, List, [], ◌∷◌, ◌++◌, length, set, refl, sym, ap, ◌∙◌, inl, inr, subst}
 use mathlib.Core.Option.{some, some-injective, some-ne-none}
 use lib.ListN.{get_elem?}
 use Rattle.atomic_table.specs.Table as table
 use Rattle.atomic_table.proofs.Lists.{at_set, set_again}
+use Rattle.ps_core_parts.specs.declared.events.Event.{Event}
 use Rattle.ps_core_parts.specs.Steps.{start}
 use Rattle.ps_core_laws.specs.Runs.{IsSpace}
 use Rattle.ps_table.specs.declared.plays.View.{View}
@@ -31,9 +33,9 @@ opens space size words is = record {
       vm_list = λ h. refl;
       vm_is = λ h. refl;
       gc_here = λ h. refl;
-      gc_list
-          = λ h. refl;
+      gc_list = λ h. refl;
       gc_is = λ h. refl;
+      whole_is = λ es h. (cc, refl, refl);
     }
     one (suc at) v e = absurd (some-ne-none v (sym e))
 
@@ -51,6 +53,10 @@ at_end (x ∷ xs) a b (suc j) e = elim (at_end xs a b j e) [
 off : false ≡ true → ⊥
 off e = true≢false (sym e)
 
+-- no run is known
+unknown : (es : List Event) → None ≡ Some es → ⊥
+unknown es h = absurd (cc)
+
 pub splits : (space id : ℕ) (v : View) → v.acts_vm ≡ true → v.acts_gc ≡ true
     → table.Splits {S = Unit {0}} (Shows space) id v (vm_side v) (gc_side v)
 splits space id v vm gc s h at =
@@ -64,10 +70,10 @@ splits space id v vm gc s h at =
       vm_here = mine.vm_here;
       vm_list = mine.vm_list;
       vm_is = mine.vm_is;
-      gc_here = λ e.
-          absurd (off e);
+      gc_here = λ e. absurd (off e);
       gc_list = λ e. absurd (off e);
       gc_is = λ e. absurd (off e);
+      whole_is = λ es h. absurd (unknown es h);
     }
     (λ j u apart fits. record {
       vm_here = fits.vm_here;
@@ -76,6 +82,7 @@ splits space id v vm gc s h at =
       gc_here = λ e. absurd (apart (fits.gc_here e ∙ sym (mine.gc_here gc)));
       gc_list = fits.gc_list;
       gc_is = fits.gc_is;
+      whole_is = fits.whole_is;
     })
     h.each_view in
     record {
@@ -92,11 +99,11 @@ splits space id v vm gc s h at =
             record {
               vm_here = λ e. absurd (off e);
               vm_list = λ e. absurd (off e);
-              vm_is = λ e.
-                  absurd (off e);
+              vm_is = λ e. absurd (off e);
               gc_here = λ e. refl;
               gc_list = mine.gc_list;
               gc_is = mine.gc_is;
+              whole_is = λ es h. absurd (unknown es h);
             }
       ];
     }
@@ -130,12 +137,11 @@ joins space id other v w vm gc s h at apart at_other =
             record {
               vm_here = λ e. absurd (off e);
               vm_list = λ e. absurd (off e);
-              vm_is = λ e.
-                  absurd (off e);
+              vm_is = λ e. absurd (off e);
               gc_here = λ e. absurd (off e);
               gc_list = λ e. absurd (off e);
-              gc_is
-                  = λ e. absurd (off e);
+              gc_is = λ e. absurd (off e);
+              whole_is = λ es h. absurd (unknown es h);
             }
         | inr stays ↦ elim (one j u stays.1) [
           | inl here ↦ subst (λ (x : View). Fits space h.events id id j x) (sym here.1)
@@ -143,10 +149,10 @@ joins space id other v w vm gc s h at apart at_other =
                 vm_here = λ e. here.0;
                 vm_list = mine.vm_list;
                 vm_is = mine.vm_is;
-                gc_here =
-                    λ e. here.0;
+                gc_here = λ e. here.0;
                 gc_list = theirs.gc_list;
                 gc_is = theirs.gc_is;
+                whole_is = λ es h. absurd (unknown es h);
               }
           | inr else ↦ record {
             vm_here = λ e. else.1.vm_here e ∙ sym (mine.vm_here vm);
@@ -155,6 +161,7 @@ joins space id other v w vm gc s h at apart at_other =
             gc_here = λ e. absurd (stays.0 (else.1.gc_here e ∙ sym (theirs.gc_here gc)));
             gc_list = else.1.gc_list;
             gc_is = else.1.gc_is;
+            whole_is = else.1.whole_is;
           }
         ]
       ];
@@ -177,12 +184,11 @@ spares space id v s h at = record {
         record {
           vm_here = λ e. absurd (off e);
           vm_list = λ e. absurd (off e);
-          vm_is = λ e. absurd
-              (off e);
+          vm_is = λ e. absurd (off e);
           gc_here = λ e. absurd (off e);
           gc_list = λ e. absurd (off e);
-          gc_is = λ e.
-              absurd (off e);
+          gc_is = λ e. absurd (off e);
+          whole_is = λ es h. absurd (unknown es h);
         }
   ];
 }

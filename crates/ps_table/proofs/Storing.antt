@@ -40,6 +40,15 @@ pub did_acts : (m : View) (es : List Event) → (did_all m es).acts_vm ≡ m.act
 did_acts m [] = refl
 did_acts m (e ∷ es) = did_acts (vm_did m e) es
 
+-- words stored to fields, one after another
+module _ (m m' : SeatState) (a i : ℕ) (ws : List ℕ)
+    (did : m' ≡ (did_all m.0 (field_stores a i ws), m.1)) where
+  pub wrote_part : m'.0.vm ≡ fields_stored m.0.vm a i ws
+  wrote_part = ap (λ x. x.0.vm) did ∙ did_part m.0 a i ws
+
+  pub wrote_acts : m'.0.acts_vm ≡ m.0.acts_vm
+  wrote_acts = ap (λ x. x.0.acts_vm) did ∙ did_acts m.0 (field_stores a i ws)
+
 pub space_stored : (v : Vm) (a i : ℕ) (ws : List ℕ) → (fields_stored v a i ws).space ≡ v.space
 space_stored v a i ws = ap (λ (x : Vm). x.space) (only v a i ws)
 
@@ -109,18 +118,18 @@ module _ (words : ℕ) (m : SeatState) (n : Mirror) (s : Sits words m n) (slot a
           ∙ sym (s.mirrors.logged_is slot (grant t).in_range)),
     )
 
-    settled : (m1 m2 : SeatState) (n' : Mirror) → m1.0.vm ≡ fields_stored m.0.vm a i (numbers items)
-        → m1.0.acts_vm ≡ true → m1.1 ≡ m.1 → ∥ VmRuns m2.0.vm ∥₁ → m2 ≡ m1
-        → records_put (grants_of m.0.vm) a ≡ 0
+    settled : (words' : ℕ) (m1 m2 : SeatState) (n' : Mirror) → words' ≡ words
+        → m1.0.vm ≡ fields_stored m.0.vm a i (numbers items) → m1.0.acts_vm ≡ true → m1.1 ≡ m.1
+        → ∥ VmRuns m2.0.vm ∥₁ → m2 ≡ m1 → records_put (grants_of m.0.vm) a ≡ 0
         → Mirrors (fields_stored m.0.vm a i (numbers items)) n'
-        → StoredSo words m.0.vm m2 n' slot a i items
-    settled m1 m2 n' part acts empty runs same none mirrors =
+        → StoredSo words' m.0.vm m2 n' slot a i items
+    settled words' m1 m2 n' wide part acts empty runs same none mirrors =
         let part' : m2.0.vm ≡ fields_stored m.0.vm a i (numbers items) =
         ap (λ (x : SeatState). x.0.vm) same ∙ part in record {
-          sits = goes words m n m2 n' s (ap (λ (x : SeatState). x.0.acts_vm) same ∙ acts)
-              (ap (λ (x : SeatState). x.1) same ∙ empty)
-              (ap (λ (x : Vm). x.space) part' ∙ space_stored m.0.vm a i (numbers items)) runs
-              (subst (λ (x : Vm). Mirrors x n') (sym part') mirrors);
+          sits = goes words words' m n m2 n' (fields_stored m.0.vm a i (numbers items)) wide s
+              (ap (λ (x : SeatState). x.0.acts_vm) same ∙ acts)
+              (ap (λ (x : SeatState). x.1) same ∙ empty) part'
+              (space_stored m.0.vm a i (numbers items)) runs mirrors;
           heap = ap heap_of part' ∙ so.heap;
           grants = subst (λ (x : Vm). AfterStore (grants_of m.0.vm) (grants_of x) slot) (sym part')
               (so.grants slot);
@@ -164,16 +173,18 @@ module _ (words : ℕ) (m : SeatState) (n : Mirror) (s : Sits words m n) (slot a
         ap (λ (c : Bool). if c then (if n.cycle_open then counts else ends) else n) t
         ∙ ap (λ (c : Bool). if c then counts else ends) is
 
-    pub stored_so : (m1 m2 : SeatState) → m1.0.vm ≡ fields_stored m.0.vm a i (numbers items)
+    pub stored_so : (words' : ℕ) (m1 m2 : SeatState) (n' : Mirror) → words' ≡ words
+        → n' ≡ mirror_stored n slot a → m1.0.vm ≡ fields_stored m.0.vm a i (numbers items)
         → m1.0.acts_vm ≡ true → m1.1 ≡ m.1 → ∥ VmRuns m2.0.vm ∥₁
         → m2 ≡ (if owes n a
         then (vm_did m1.0 (RecordStore slot (Place a i (length items))), m1.1) else m1)
-        → StoredSo words m.0.vm m2 (mirror_stored n slot a) slot a i items
-    stored_so m1 m2 part acts empty runs same =
+        → StoredSo words' m.0.vm m2 n' slot a i items
+    stored_so words' m1 m2 n' wide counted part acts empty runs same =
         let numbered : (x : Mirror) → mirror_stored n slot a ≡ x
-        → StoredSo words m.0.vm m2 x slot a i items
-        → StoredSo words m.0.vm m2 (mirror_stored n slot a) slot a i items =
-        (λ x is so. subst (λ (y : Mirror). StoredSo words m.0.vm m2 y slot a i items) (sym is) so)
+        → StoredSo words' m.0.vm m2 x slot a i items
+        → StoredSo words' m.0.vm m2 n' slot a i items =
+        (λ x is so. subst (λ (y : Mirror). StoredSo words' m.0.vm m2 y slot a i items)
+        (sym (counted ∙ is)) so)
         in
         elim (bool_cases (nat_lt a n.fresh_from)) [
           | inr new ↦ (
@@ -182,7 +193,8 @@ module _ (words : ℕ) (m : SeatState) (n : Mirror) (s : Sits words m n) (slot a
               let none : records_put (grants_of m.0.vm) a ≡ 0 =
               elim (bool_cases (is_open m.0.vm)) [ inl t ↦ rw (t, fresh) refl | inr f ↦ rw f refl ]
               in
-              numbered n (numbers_new new) (settled m1 m2 n part acts empty runs same' none
+              numbered n (numbers_new new) (settled words' m1 m2 n wide part acts empty runs same'
+              none
               (mirrors_new m.0.vm n s.mirrors facts a i (numbers items)
               (new_same m.0.vm a i (numbers items) fresh).0 (so.settled none))))
           | inl old ↦ elim (bool_cases n.cycle_open) [
@@ -190,9 +202,8 @@ module _ (words : ℕ) (m : SeatState) (n : Mirror) (s : Sits words m n) (slot a
                 let same' = rw (old, out) at same in
                 let shut : is_open m.0.vm ≡ false = sym s.mirrors.open_is ∙ out in
                 let none : records_put (grants_of m.0.vm) a ≡ 0 = rw shut refl in
-                numbered ends (numbers_old false old out) (settled m1 m2 ends part acts empty runs
-                same'
-                none (mirrors_old m.0.vm n s.mirrors facts a i (numbers items) (nothing_new old)
+                numbered ends (numbers_old false old out) (settled words' m1 m2 ends wide part acts
+                empty runs same' none (mirrors_old m.0.vm n s.mirrors facts a i (numbers items) (nothing_new old)
                 (so.settled none))))
             | inl is_on ↦ (
                 let same' = rw (old, is_on) at same in
@@ -205,15 +216,12 @@ module _ (words : ℕ) (m : SeatState) (n : Mirror) (s : Sits words m n) (slot a
                 ∙ ap (λ (x : Vm). vm_after x g (RecordStore slot (Place a i (length items)))) part
                 in
                 numbered counts (numbers_old true old is_on) (record {
-                  sits = goes words m n m2 counts s (ap (λ (x : SeatState). x.0.acts_vm) same'
-                      ∙ acts)
-                      (ap (λ (x : SeatState). x.1) same' ∙ empty)
-                      (ap (λ (x : Vm). x.space) part' ∙ space_stored m.0.vm a i (numbers items))
-                      runs
-                      (subst (λ (x : Vm). Mirrors x counts) (sym part')
+                  sits = goes words words' m n m2 counts (logged m.0.vm g slot a i items) wide s
+                      (ap (λ (x : SeatState). x.0.acts_vm) same' ∙ acts)
+                      (ap (λ (x : SeatState). x.1) same' ∙ empty) part'
+                      (space_stored m.0.vm a i (numbers items)) runs
                       (mirrors_logged m.0.vm n s.mirrors facts a i (numbers items) g slot
-                      (length items) lt
-                      rec.grants));
+                      (length items) lt rec.grants);
                   heap = ap heap_of part' ∙ rec.heap;
                   grants = subst (λ (x : Vm). AfterStore (grants_of m.0.vm) (grants_of x) slot)
                       (sym part') rec.grants;

@@ -1,3 +1,4 @@
 pub mod Events
 pub mod Mirrored
+pub mod Plain
 pub mod Shown

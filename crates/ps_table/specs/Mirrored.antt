@@ -8,6 +8,7 @@ use Rattle.ps_core_parts.specs.Steps.{is_open, space_base, table_size}
 use Rattle.ps_parts_memory.specs.Memory.{is_shut}
 use Rattle.ps_parts_memory.specs.Shown.{VmRuns}
 use Rattle.ps_table.specs.declared.mirror.Mirror.{Mirror}
+use Rattle.ps_table.specs.declared.plays.View.{View}
 use Rattle.ps_table.specs.Shown.{SeatState}
 
 -- each number is what the part says; of what stands, all from an address on is new; no object is
@@ -39,6 +40,18 @@ pub record Sits (words : ℕ) (m : SeatState) (n : Mirror) : Type 0 where
   pub empty : m.1 ≡ []
   pub runs : ∥ VmRuns m.0.vm ∥₁
   pub mirrors : Mirrors m.0.vm n
+
+-- the collector's side is as before
+pub record KeepsGc (old new : View) : Type 0 where
+  pub acts : new.acts_gc ≡ old.acts_gc
+  pub events : new.gc_events ≡ old.gc_events
+  pub part : new.gc ≡ old.gc
+
+-- the mutator's side is
+pub record KeepsVm (old new : View) : Type 0 where
+  pub acts : new.acts_vm ≡ old.acts_vm
+  pub events : new.vm_events ≡ old.vm_events
+  pub part : new.vm ≡ old.vm
 
 -- ---- a store
 

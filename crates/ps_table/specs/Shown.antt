@@ -1,7 +1,8 @@
 -- The rule of the table: some interleaving of the seats' own events is a run, its state has the
 -- words, and the parts that the seats know are that state's.
-use Rattle.std.specs.Prelude.{◌≡◌, ℕ, ◌-◌, ◌/◌, Bool, true, false, List, [], ◌∷◌, slice_index}
+use Rattle.std.specs.Prelude.{◌≡◌, ℕ, ◌-◌, ◌/◌, Bool, true, false, List, [], ◌∷◌, Option, Some, None, is_some, slice_index}
 use Rattle.std.specs.List.{filter}
+use Rattle.std.specs.Option.{option_map}
 use mathlib.Core.Option.{some}
 use lib.ListN.{get_elem?}
 use Rattle.atomic_table.specs.Table as table
@@ -62,6 +63,8 @@ pub record Fits (space : ℕ) (events : List Event) (vm_at gc_at at : ℕ) (v : 
   pub gc_here : v.acts_gc ≡ true → at ≡ gc_at
   pub gc_list : v.acts_gc ≡ true → filter by_gc events ≡ v.gc_events
   pub gc_is : v.acts_gc ≡ true → (run space events).gc ≡ v.gc
+  pub whole_is : (es : List Event) → v.whole ≡ Some es
+      → (events ≡ es) × (v.acts_vm ≡ true) × (v.acts_gc ≡ true)
 
 pub record Shows (space : ℕ) (s : table.State (Unit {0}) View) : Type 0 where
   pub size : IsSpace space
@@ -83,19 +86,21 @@ first_view space = record {
   gc_events = [];
   vm = (start space).vm;
   gc = (start space).gc;
+  whole = Some [];
 }
 
 abbrev pub spent_view : View
-spent_view = record (first_view 0) { acts_vm = false; acts_gc = false }
+spent_view = record (first_view 0) { acts_vm = false; acts_gc = false; whole = None }
 
 abbrev pub vm_side : View → View
-vm_side v = record v { acts_gc = false; gc_events = []; gc = (start 0).gc }
+vm_side v = record v { acts_gc = false; gc_events = []; gc = (start 0).gc; whole = None }
 
 abbrev pub gc_side : View → View
-gc_side v = record v { acts_vm = false; vm_events = []; vm = (start 0).vm }
+gc_side v = record v { acts_vm = false; vm_events = []; vm = (start 0).vm; whole = None }
 
 abbrev pub both_sides : View → View → View
-both_sides v w = record v { acts_gc = w.acts_gc; gc_events = w.gc_events; gc = w.gc }
+both_sides v w =
+    record v { acts_gc = w.acts_gc; gc_events = w.gc_events; gc = w.gc; whole = None }
 
 abbrev pub same_view : View → View
 same_view v = v
@@ -103,12 +108,24 @@ same_view v = v
 abbrev pub no_view : View → View
 no_view v = spent_view
 
+-- a run that is known is one event longer
+abbrev pub longer : Event → Option (List Event) → Option (List Event)
+longer e whole = option_map (λ es. e ∷ es) whole
+
 -- the view after an event of the mutator's, of the collector's, and of both
 abbrev pub vm_did : View → Event → View
-vm_did v e = record v { vm_events = e ∷ v.vm_events; vm = vm_after v.vm v.gc e }
+vm_did v e = record v {
+  vm_events = e ∷ v.vm_events;
+  vm = vm_after v.vm v.gc e;
+  whole = longer e v.whole;
+}
 
 abbrev pub gc_did : View → Event → View
-gc_did v e = record v { gc_events = e ∷ v.gc_events; gc = gc_after v.gc v.vm e }
+gc_did v e = record v {
+  gc_events = e ∷ v.gc_events;
+  gc = gc_after v.gc v.vm e;
+  whole = longer e v.whole;
+}
 
 abbrev pub both_did : View → Event → View
 both_did v e = record v {
@@ -116,6 +133,7 @@ both_did v e = record v {
   gc_events = e ∷ v.gc_events;
   vm = vm_after v.vm v.gc e;
   gc = gc_after v.gc v.vm e;
+  whole = longer e v.whole;
 }
 
 -- both seats joined, then an event of both, then apart again
@@ -196,6 +214,10 @@ pub record BothDo (m : SeatState) (e : Event) (m' : SeatState) : Type 0 where
 pub record BothLook (m : SeatState) (place found : ℕ) (m' : SeatState) : Type 0 where
   pub did : m' ≡ (vm_did m.0 (VmLoad place found), m.1)
   pub finds : BothFind m.0.vm m.0.gc place found
+
+-- where the whole run is known before a step that tells this, it is known after it
+abbrev pub GoesOnKnown : SeatState → (SeatState → Type 0) → Type 0
+GoesOnKnown m tells = (m' : SeatState) → tells m' → is_some m'.0.whole ≡ is_some m.0.whole
 
 abbrev pub slot_at : ℕ → ℕ
 slot_at place = (place - control_words) / ring_length

@@ -1,17 +1,19 @@
 //! Words copied from the fields of one object to those of another or of the same, one by one.
-ghost use Rattle.std.specs.Prelude.{◌≡◌, ◌+◌, ◌≤◌, ℕ, true};
+ghost use Rattle.std.specs.Prelude.{◌≡◌, ◌+◌, ◌≤◌, true};
 ghost use Rattle.ps_core_parts.specs.Steps.{table_size};
 ghost use Rattle.ps_parts_memory.specs.Shown.{VmRuns};
 ghost use Rattle.ps_parts_memory.specs.Stores.{numbers, fields_stored};
 ghost use Rattle.ps_parts_memory.specs.Laws.{CanCopy, words_copied};
+ghost use Rattle.ps_table.specs.Mirrored.{KeepsGc};
 
 use crate::plays::View;
-use crate::steps::{Words, vm_field, vm_load};
+use crate::steps::{vm_field, vm_load};
+use crate::words::Words;
 use atomic_table::Seat;
 
 /// In rising order, where the target isn't behind the source in one object.
-fn vm_copy_rising(
-    words: &Words,
+fn vm_copy_rising<W: Words>(
+    words: &mut W,
     seat: &mut Seat<(), View>,
     from: u64,
     from_place: u64,
@@ -19,14 +21,16 @@ fn vm_copy_rising(
     to_place: u64,
     count: u64,
 )
-    requires same { (seat.old.table_id ≡ words.now.shared.table_id)
-        × (words.now.shared.table_id.words ≡ table_size seat.old.me.0.vm.space) }
+    requires same { W.seats words.old seat.old
+        × ((W.id words.old).words ≡ table_size seat.old.me.0.vm.space) }
     requires acts { seat.old.me.0.acts_vm ≡ true }
     requires runs { ∥ VmRuns seat.old.me.0.vm ∥₁ }
     requires can { CanCopy seat.old.me.0.vm from from_place to to_place count }
     requires order { from ≡ to → to_place ≤ from_place }
-    ensures same { (seat.new.table_id ≡ seat.old.table_id) × (seat.new.me.1 ≡ seat.old.me.1) }
+    ensures same { W.seats words.new seat.new × (W.id words.new ≡ W.id words.old)
+        × (seat.new.me.1 ≡ seat.old.me.1) }
     ensures acts { seat.new.me.0.acts_vm ≡ true }
+    ensures gc { KeepsGc seat.old.me.0 seat.new.me.0 }
     ensures runs { ∥ VmRuns seat.new.me.0.vm ∥₁ }
     ensures part { seat.new.me.0.vm ≡ fields_stored seat.old.me.0.vm to to_place
         (numbers (words_copied seat.old.me.0.vm from from_place count)) }
@@ -40,8 +44,8 @@ fn vm_copy_rising(
 }
 
 /// In falling order, where the target isn't before the source in one object.
-fn vm_copy_falling(
-    words: &Words,
+fn vm_copy_falling<W: Words>(
+    words: &mut W,
     seat: &mut Seat<(), View>,
     from: u64,
     from_place: u64,
@@ -49,14 +53,16 @@ fn vm_copy_falling(
     to_place: u64,
     count: u64,
 )
-    requires same { (seat.old.table_id ≡ words.now.shared.table_id)
-        × (words.now.shared.table_id.words ≡ table_size seat.old.me.0.vm.space) }
+    requires same { W.seats words.old seat.old
+        × ((W.id words.old).words ≡ table_size seat.old.me.0.vm.space) }
     requires acts { seat.old.me.0.acts_vm ≡ true }
     requires runs { ∥ VmRuns seat.old.me.0.vm ∥₁ }
     requires can { CanCopy seat.old.me.0.vm from from_place to to_place count }
     requires order { from ≡ to → from_place ≤ to_place }
-    ensures same { (seat.new.table_id ≡ seat.old.table_id) × (seat.new.me.1 ≡ seat.old.me.1) }
+    ensures same { W.seats words.new seat.new × (W.id words.new ≡ W.id words.old)
+        × (seat.new.me.1 ≡ seat.old.me.1) }
     ensures acts { seat.new.me.0.acts_vm ≡ true }
+    ensures gc { KeepsGc seat.old.me.0 seat.new.me.0 }
     ensures runs { ∥ VmRuns seat.new.me.0.vm ∥₁ }
     ensures part { seat.new.me.0.vm ≡ fields_stored seat.old.me.0.vm to to_place
         (numbers (words_copied seat.old.me.0.vm from from_place count)) }
@@ -70,8 +76,8 @@ fn vm_copy_falling(
 }
 
 /// Copies so many words, as if all were read before any was written.
-pub(crate) fn vm_copy(
-    words: &Words,
+pub(crate) fn vm_copy<W: Words>(
+    words: &mut W,
     seat: &mut Seat<(), View>,
     from: u64,
     from_place: u64,
@@ -79,13 +85,15 @@ pub(crate) fn vm_copy(
     to_place: u64,
     count: u64,
 )
-    requires same { (seat.old.table_id ≡ words.now.shared.table_id)
-        × (words.now.shared.table_id.words ≡ table_size seat.old.me.0.vm.space) }
+    requires same { W.seats words.old seat.old
+        × ((W.id words.old).words ≡ table_size seat.old.me.0.vm.space) }
     requires acts { seat.old.me.0.acts_vm ≡ true }
     requires runs { ∥ VmRuns seat.old.me.0.vm ∥₁ }
     requires can { CanCopy seat.old.me.0.vm from from_place to to_place count }
-    ensures same { (seat.new.table_id ≡ seat.old.table_id) × (seat.new.me.1 ≡ seat.old.me.1) }
+    ensures same { W.seats words.new seat.new × (W.id words.new ≡ W.id words.old)
+        × (seat.new.me.1 ≡ seat.old.me.1) }
     ensures acts { seat.new.me.0.acts_vm ≡ true }
+    ensures gc { KeepsGc seat.old.me.0 seat.new.me.0 }
     ensures runs { ∥ VmRuns seat.new.me.0.vm ∥₁ }
     ensures part { seat.new.me.0.vm ≡ fields_stored seat.old.me.0.vm to to_place
         (numbers (words_copied seat.old.me.0.vm from from_place count)) }

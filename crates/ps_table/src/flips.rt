@@ -1,4 +1,5 @@
-//! The flip, by both seats joined: the replicas become the standing objects, and roots are renamed.
+//! The flip, by a seat that has both sides: the replicas become the standing objects, and roots are
+//! renamed.
 ghost use Rattle.std.specs.Prelude.{◌≡◌, ◌+◌, true, map};
 ghost use Rattle.ps_core_parts.specs.declared.events.Event.TheVariants.{CycleStore};
 ghost use Rattle.ps_core_parts.specs.Conditions.{VmMay, GcMay};
@@ -6,18 +7,20 @@ ghost use Rattle.ps_core_parts.specs.Objects.{end_of_replicas, renamed_value, va
 ghost use Rattle.ps_core_parts.specs.Steps.{other_base, vm_after, gc_after};
 ghost use Rattle.ps_parts_memory.specs.Stores.{numbers};
 ghost use Rattle.ps_table.specs.Events.{gc_did_all, root_look, root_looks};
-ghost use Rattle.ps_table.specs.Shown.{AreJoined};
+ghost use Rattle.ps_table.specs.Mirrored.{Sits};
+ghost use Rattle.ps_table.specs.Shown.{both_did};
 
 use crate::collector::GcSeat;
-use crate::joins::{flip, join, part};
-use crate::mutator::VmSeat;
+use crate::joins::flip;
+use crate::mirror::Mirror;
 use crate::plays::Naming;
+use crate::words::Words;
 use ps_record::{SLOTS, SPACES_START};
 use ps_word::headers::Forward;
 use ps_word::words::Word;
 use std::marker::Brand;
 
-impl GcSeat {
+impl<W: Words> GcSeat<W> {
     /// The root, naming the replica of what it names; a root that is no reference stays.
     fn renamed(&mut self, root: Word) -> Word
         requires has { value_has_replica self.old.seat.me.0.gc.pairs root.0 ≡ true }
@@ -25,7 +28,7 @@ impl GcSeat {
             ≡ gc_did_all self.old.seat.me.0 (root_look self.old.seat.me.0.gc root.0) }
         ensures part { self.new.seat.me.0.gc ≡ self.old.seat.me.0.gc }
         ensures renamed { result.0 ≡ renamed_value self.old.seat.me.0.gc.pairs root.0 }
-        ensures same { self.new.seat.table_id ≡ self.old.seat.table_id }
+        ensures same { W.id self.new.table ≡ W.id self.old.table }
     {
         if !root.is_reference() {
             return root;
@@ -46,69 +49,67 @@ impl GcSeat {
         ensures part { self.new.seat.me.0.gc ≡ self.old.seat.me.0.gc }
         ensures renamed { numbers roots.new
             ≡ map (renamed_value self.old.seat.me.0.gc.pairs) (numbers roots.old) }
-        ensures same { self.new.seat.table_id ≡ self.old.seat.table_id }
+        ensures same { W.id self.new.table ≡ W.id self.old.table }
     {
         for root in roots.iter_mut() {
             *root = self.renamed(*root);
         }
     }
 
-    fn store_cycle_named<N: Naming>(&mut self, vm: &mut VmSeat, roots: &mut [Word], end: u64)
+    fn store_cycle_named<N: Naming>(&mut self, mirror: &mut Mirror, roots: &mut [Word], end: u64)
         requires named { N.roots ≡ numbers roots.old }
-        requires same { vm.old.seat.table_id ≡ self.old.seat.table_id }
+        requires sits { Sits (W.id self.old.table).words self.old.seat.me mirror.old }
         requires is { end ≡ end_of_replicas (other_base self.old.seat.me.0.gc.space
             self.old.seat.me.0.gc.cycle) self.old.seat.me.0.gc.pairs }
-        requires vm { VmMay vm.old.seat.me.0.vm (CycleStore (numbers roots.old)) }
+        requires vm { VmMay self.old.seat.me.0.vm (CycleStore (numbers roots.old)) }
         requires gc { GcMay self.old.seat.me.0.gc (CycleStore (numbers roots.old)) }
-        requires drained { self.old.seat.me.0.gc.taken ≡ vm.old.seat.me.0.vm.logs }
-        requires meet { (vm.old.seat.me.0.vm.space ≡ self.old.seat.me.0.gc.space)
-            × (vm.old.seat.me.0.vm.cycle ≡ self.old.seat.me.0.gc.cycle) }
-        ensures did { AreJoined vm.old.seat.me.0 (gc_did_all self.old.seat.me.0
-            (root_looks self.old.seat.me.0.gc (numbers roots.old))) vm.new.seat.me.0
-            self.new.seat.me.0 (CycleStore (numbers roots.old)) }
-        ensures parts { (vm.new.seat.me.0.vm ≡ vm_after vm.old.seat.me.0.vm
+        requires drained { self.old.seat.me.0.gc.taken ≡ self.old.seat.me.0.vm.logs }
+        requires meet { (self.old.seat.me.0.vm.space ≡ self.old.seat.me.0.gc.space)
+            × (self.old.seat.me.0.vm.cycle ≡ self.old.seat.me.0.gc.cycle) }
+        ensures sits { Sits (W.id self.new.table).words self.new.seat.me mirror.new }
+        ensures same { W.id self.new.table ≡ W.id self.old.table }
+        ensures did { self.new.seat.me.0 ≡ both_did (gc_did_all self.old.seat.me.0
+            (root_looks self.old.seat.me.0.gc (numbers roots.old)))
+            (CycleStore (numbers roots.old)) }
+        ensures parts { (self.new.seat.me.0.vm ≡ vm_after self.old.seat.me.0.vm
             self.old.seat.me.0.gc (CycleStore (numbers roots.old)))
             × (self.new.seat.me.0.gc ≡ gc_after self.old.seat.me.0.gc
-            vm.old.seat.me.0.vm (CycleStore (numbers roots.old))) }
+            self.old.seat.me.0.vm (CycleStore (numbers roots.old))) }
         ensures renamed { numbers roots.new
             ≡ map (renamed_value self.old.seat.me.0.gc.pairs) (numbers roots.old) }
-        ensures same { (self.new.seat.table_id ≡ self.old.seat.table_id)
-            × (vm.new.seat.table_id ≡ vm.old.seat.table_id) }
     {
         self.rename(roots);
-        join(&self.table, &mut vm.seat, &mut self.seat);
-        flip::<N>(&self.table, &mut vm.seat, vm.mirror.epoch);
-        part(&self.table, &mut vm.seat, &mut self.seat);
-        vm.mirror.base = 2 * SPACES_START + vm.mirror.space - vm.mirror.base;
-        vm.mirror.end = end;
-        vm.mirror.fresh_from = end;
-        vm.mirror.cycle_open = false;
-        vm.mirror.shut = [false; SLOTS as usize];
+        flip::<W, N>(&mut self.table, &mut self.seat, mirror.epoch);
+        mirror.base = 2 * SPACES_START + mirror.space - mirror.base;
+        mirror.end = end;
+        mirror.fresh_from = end;
+        mirror.cycle_open = false;
+        mirror.shut = [false; SLOTS as usize];
     }
 
-    /// The flip: the replicas, whose last one ends there, become the standing objects, and the
-    /// roots are renamed.
-    pub fn store_cycle(&mut self, vm: &mut VmSeat, roots: &mut [Word], end: u64)
-        requires same { vm.old.seat.table_id ≡ self.old.seat.table_id }
+    /// The flip, by a seat that has both sides: the replicas, whose last one ends there, become the
+    /// standing objects, and the roots are renamed.
+    pub fn store_cycle(&mut self, mirror: &mut Mirror, roots: &mut [Word], end: u64)
+        requires sits { Sits (W.id self.old.table).words self.old.seat.me mirror.old }
         requires is { end ≡ end_of_replicas (other_base self.old.seat.me.0.gc.space
             self.old.seat.me.0.gc.cycle) self.old.seat.me.0.gc.pairs }
-        requires vm { VmMay vm.old.seat.me.0.vm (CycleStore (numbers roots.old)) }
+        requires vm { VmMay self.old.seat.me.0.vm (CycleStore (numbers roots.old)) }
         requires gc { GcMay self.old.seat.me.0.gc (CycleStore (numbers roots.old)) }
-        requires drained { self.old.seat.me.0.gc.taken ≡ vm.old.seat.me.0.vm.logs }
-        requires meet { (vm.old.seat.me.0.vm.space ≡ self.old.seat.me.0.gc.space)
-            × (vm.old.seat.me.0.vm.cycle ≡ self.old.seat.me.0.gc.cycle) }
-        ensures did { AreJoined vm.old.seat.me.0 (gc_did_all self.old.seat.me.0
-            (root_looks self.old.seat.me.0.gc (numbers roots.old))) vm.new.seat.me.0
-            self.new.seat.me.0 (CycleStore (numbers roots.old)) }
-        ensures parts { (vm.new.seat.me.0.vm ≡ vm_after vm.old.seat.me.0.vm
+        requires drained { self.old.seat.me.0.gc.taken ≡ self.old.seat.me.0.vm.logs }
+        requires meet { (self.old.seat.me.0.vm.space ≡ self.old.seat.me.0.gc.space)
+            × (self.old.seat.me.0.vm.cycle ≡ self.old.seat.me.0.gc.cycle) }
+        ensures sits { Sits (W.id self.new.table).words self.new.seat.me mirror.new }
+        ensures same { W.id self.new.table ≡ W.id self.old.table }
+        ensures did { self.new.seat.me.0 ≡ both_did (gc_did_all self.old.seat.me.0
+            (root_looks self.old.seat.me.0.gc (numbers roots.old)))
+            (CycleStore (numbers roots.old)) }
+        ensures parts { (self.new.seat.me.0.vm ≡ vm_after self.old.seat.me.0.vm
             self.old.seat.me.0.gc (CycleStore (numbers roots.old)))
             × (self.new.seat.me.0.gc ≡ gc_after self.old.seat.me.0.gc
-            vm.old.seat.me.0.vm (CycleStore (numbers roots.old))) }
+            self.old.seat.me.0.vm (CycleStore (numbers roots.old))) }
         ensures renamed { numbers roots.new
             ≡ map (renamed_value self.old.seat.me.0.gc.pairs) (numbers roots.old) }
-        ensures same { (self.new.seat.table_id ≡ self.old.seat.table_id)
-            × (vm.new.seat.table_id ≡ vm.old.seat.table_id) }
     {
-        self.store_cycle_named::<Brand>(vm, roots, end);
+        self.store_cycle_named::<Brand>(mirror, roots, end);
     }
 }

@@ -1,55 +1,58 @@
-//! The atomic steps of the collector's seat whose events its operands don't name.
-ghost use Rattle.std.specs.Prelude.{◌≡◌, ◌<◌, ◌+◌, true, None, Some, length};
+//! The steps of the collector's seat whose events its operands don't name.
+ghost use Rattle.std.specs.Prelude.{◌≡◌, ◌<◌, ◌+◌, true, Some};
 ghost use Rattle.ps_core_parts.specs.declared.events.Carried.{Carried};
 ghost use Rattle.ps_core_parts.specs.declared.events.Event.TheVariants.{CopyLoad, ReplicaFieldStore};
-ghost use Rattle.ps_core_parts.specs.Conditions.{GcMay, IsPairField};
+ghost use Rattle.ps_core_parts.specs.Conditions.{GcMay};
 ghost use Rattle.ps_core_parts.specs.Objects.{pair_of};
 ghost use Rattle.ps_core_parts.specs.Steps.{table_size, replica_of, word_stored};
 ghost use Rattle.ps_table.specs.Shown.{GcRuns, GcDoes, GcStores};
 
 use crate::plays::{CopiesField, Naming, StoresCopy, View};
-use crate::steps::Words;
+use crate::words::Words;
 use atomic_table::Seat;
 use std::marker::Brand;
 
-fn gc_copy_named<N: Naming>(
-    words: &Words,
+fn gc_copy_named<W: Words, N: Naming>(
+    words: &mut W,
     seat: &mut Seat<(), View>,
     original: u64,
     field: u64,
 ) -> u64
     requires named { (N.address ≡ original) × (N.field ≡ field) }
-    requires same { (seat.old.table_id ≡ words.now.shared.table_id)
-        × (words.now.shared.table_id.words ≡ table_size seat.old.me.0.gc.space) }
+    requires same { W.seats words.old seat.old
+        × ((W.id words.old).words ≡ table_size seat.old.me.0.gc.space) }
     requires acts { seat.old.me.0.acts_gc ≡ true }
     requires runs { ∥ GcRuns seat.old.me.0.gc ∥₁ }
     requires may { GcMay seat.old.me.0.gc (CopyLoad original field 0) }
-    ensures same { seat.new.table_id ≡ seat.old.table_id }
+    ensures same { W.seats words.new seat.new × (W.id words.new ≡ W.id words.old) }
     ensures does { GcDoes seat.old.me (original + 2 + field) result
         (CopyLoad original field result) seat.new.me }
 {
-    words
-        .shared
-        .load::<CopiesField<N>>(seat, (original + 2 + field) as usize)
+    words.load::<CopiesField<N>>(seat, original + 2 + field)
 }
 
 /// Loads a field of an original, to copy it.
 #[inline]
-pub(crate) fn gc_copy(words: &Words, seat: &mut Seat<(), View>, original: u64, field: u64) -> u64
-    requires same { (seat.old.table_id ≡ words.now.shared.table_id)
-        × (words.now.shared.table_id.words ≡ table_size seat.old.me.0.gc.space) }
+pub(crate) fn gc_copy<W: Words>(
+    words: &mut W,
+    seat: &mut Seat<(), View>,
+    original: u64,
+    field: u64,
+) -> u64
+    requires same { W.seats words.old seat.old
+        × ((W.id words.old).words ≡ table_size seat.old.me.0.gc.space) }
     requires acts { seat.old.me.0.acts_gc ≡ true }
     requires runs { ∥ GcRuns seat.old.me.0.gc ∥₁ }
     requires may { GcMay seat.old.me.0.gc (CopyLoad original field 0) }
-    ensures same { seat.new.table_id ≡ seat.old.table_id }
+    ensures same { W.seats words.new seat.new × (W.id words.new ≡ W.id words.old) }
     ensures does { GcDoes seat.old.me (original + 2 + field) result
         (CopyLoad original field result) seat.new.me }
 {
-    gc_copy_named::<Brand>(words, seat, original, field)
+    gc_copy_named::<W, Brand>(words, seat, original, field)
 }
 
-fn gc_fill_named<N: Naming>(
-    words: &Words,
+fn gc_fill_named<W: Words, N: Naming>(
+    words: &mut W,
     seat: &mut Seat<(), View>,
     replica: u64,
     field: u64,
@@ -57,42 +60,40 @@ fn gc_fill_named<N: Naming>(
     scans: bool,
 )
     requires named { N.scans ≡ scans }
-    requires same { (seat.old.table_id ≡ words.now.shared.table_id)
-        × (words.now.shared.table_id.words ≡ table_size seat.old.me.0.gc.space) }
+    requires same { W.seats words.old seat.old
+        × ((W.id words.old).words ≡ table_size seat.old.me.0.gc.space) }
     requires acts { seat.old.me.0.acts_gc ≡ true }
     requires runs { ∥ GcRuns seat.old.me.0.gc ∥₁ }
     requires is { (k : Carried) × (seat.old.me.0.gc.copying ≡ Some k)
         × (replica ≡ replica_of (pair_of seat.old.me.0.gc.pairs k.address))
         × (field ≡ k.field) × (word ≡ word_stored seat.old.me.0.gc k) }
     requires may { GcMay seat.old.me.0.gc (ReplicaFieldStore scans) }
-    ensures same { seat.new.table_id ≡ seat.old.table_id }
+    ensures same { W.seats words.new seat.new × (W.id words.new ≡ W.id words.old) }
     ensures does { GcStores seat.old.me (ReplicaFieldStore scans) seat.new.me }
 {
-    words
-        .shared
-        .store::<StoresCopy<N>>(seat, (replica + 2 + field) as usize, word);
+    words.store::<StoresCopy<N>>(seat, replica + 2 + field, word);
 }
 
 /// Stores the word being copied, renamed, to its field of the replica.
 #[inline]
-pub(crate) fn gc_fill(
-    words: &Words,
+pub(crate) fn gc_fill<W: Words>(
+    words: &mut W,
     seat: &mut Seat<(), View>,
     replica: u64,
     field: u64,
     word: u64,
     scans: bool,
 )
-    requires same { (seat.old.table_id ≡ words.now.shared.table_id)
-        × (words.now.shared.table_id.words ≡ table_size seat.old.me.0.gc.space) }
+    requires same { W.seats words.old seat.old
+        × ((W.id words.old).words ≡ table_size seat.old.me.0.gc.space) }
     requires acts { seat.old.me.0.acts_gc ≡ true }
     requires runs { ∥ GcRuns seat.old.me.0.gc ∥₁ }
     requires is { (k : Carried) × (seat.old.me.0.gc.copying ≡ Some k)
         × (replica ≡ replica_of (pair_of seat.old.me.0.gc.pairs k.address))
         × (field ≡ k.field) × (word ≡ word_stored seat.old.me.0.gc k) }
     requires may { GcMay seat.old.me.0.gc (ReplicaFieldStore scans) }
-    ensures same { seat.new.table_id ≡ seat.old.table_id }
+    ensures same { W.seats words.new seat.new × (W.id words.new ≡ W.id words.old) }
     ensures does { GcStores seat.old.me (ReplicaFieldStore scans) seat.new.me }
 {
-    gc_fill_named::<Brand>(words, seat, replica, field, word, scans);
+    gc_fill_named::<W, Brand>(words, seat, replica, field, word, scans);
 }

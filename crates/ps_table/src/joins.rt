@@ -8,86 +8,88 @@ ghost use Rattle.ps_parts_memory.specs.Stores.{numbers};
 ghost use Rattle.ps_table.specs.Shown.{BothDo, BothLook, both_sides, vm_side, gc_side};
 
 use crate::plays::{Flips, HandsOver, Looks, Naming, Parts, Spares, View};
-use crate::steps::Words;
+use crate::words::{SharedTable, Words};
 use atomic_table::Seat;
 use ps_word::words::Word;
 use std::marker::Brand;
 use std::mem;
 
-/// The second seat's part goes to the first, and an empty seat stands in its place.
-pub(crate) fn join(words: &Words, vm: &mut Seat<(), View>, gc: &mut Seat<(), View>)
+/// The mutator's part goes to the collector's seat, and an empty seat stands in its place.
+pub fn join(words: &SharedTable, vm: &mut Seat<(), View>, gc: &mut Seat<(), View>)
     requires same { (vm.old.table_id ≡ words.now.shared.table_id)
         × (gc.old.table_id ≡ words.now.shared.table_id)
         × (words.now.shared.table_id.words ≡ table_size vm.old.me.0.vm.space) }
     requires acts { (vm.old.me.0.acts_vm ≡ true) × (gc.old.me.0.acts_gc ≡ true)
         × (gc.old.me.1 ≡ []) }
-    ensures same { (vm.new.table_id ≡ vm.old.table_id) × (gc.new.table_id ≡ gc.old.table_id) }
-    ensures joined { vm.new.me ≡ (both_sides vm.old.me.0 gc.old.me.0, vm.old.me.1) }
+    ensures same { (vm.new.table_id ≡ vm.old.table_id) × (gc.new.table_id ≡ vm.old.table_id) }
+    ensures joined { gc.new.me ≡ (both_sides vm.old.me.0 gc.old.me.0, vm.old.me.1) }
 {
     let spare = words.shared.split_seat::<Spares>(vm);
     let other = mem::replace(gc, spare);
     words.shared.join_seat::<Parts>(vm, other);
+    mem::swap(vm, gc);
 }
 
-/// The collector's part goes back.
-pub(crate) fn part(words: &Words, vm: &mut Seat<(), View>, gc: &mut Seat<(), View>)
-    requires same { (vm.old.table_id ≡ words.now.shared.table_id)
-        × (words.now.shared.table_id.words ≡ table_size vm.old.me.0.vm.space) }
-    requires acts { (vm.old.me.0.acts_vm ≡ true) × (vm.old.me.0.acts_gc ≡ true) }
-    ensures same { (vm.new.table_id ≡ vm.old.table_id) × (gc.new.table_id ≡ vm.old.table_id) }
-    ensures vm { vm.new.me ≡ (vm_side vm.old.me.0, vm.old.me.1) }
-    ensures gc { gc.new.me ≡ (gc_side vm.old.me.0, []) }
+/// The mutator's part goes back.
+pub fn part(words: &SharedTable, vm: &mut Seat<(), View>, gc: &mut Seat<(), View>)
+    requires same { (gc.old.table_id ≡ words.now.shared.table_id)
+        × (words.now.shared.table_id.words ≡ table_size gc.old.me.0.vm.space) }
+    requires acts { (gc.old.me.0.acts_vm ≡ true) × (gc.old.me.0.acts_gc ≡ true) }
+    ensures same { (vm.new.table_id ≡ gc.old.table_id) × (gc.new.table_id ≡ gc.old.table_id) }
+    ensures vm { vm.new.me ≡ (vm_side gc.old.me.0, gc.old.me.1) }
+    ensures gc { gc.new.me ≡ (gc_side gc.old.me.0, []) }
 {
+    mem::swap(vm, gc);
     *gc = words.shared.split_seat::<Parts>(vm);
 }
 
-fn hand_named<N: Naming>(words: &Words, seat: &mut Seat<(), View>, roots: &[Word]) -> u64
+fn hand_named<W: Words, N: Naming>(words: &mut W, seat: &mut Seat<(), View>, roots: &[Word]) -> u64
     requires named { N.roots ≡ numbers roots.now }
-    requires same { (seat.old.table_id ≡ words.now.shared.table_id)
-        × (words.now.shared.table_id.words ≡ table_size seat.old.me.0.vm.space) }
+    requires same { W.seats words.old seat.old
+        × ((W.id words.old).words ≡ table_size seat.old.me.0.vm.space) }
     requires acts { (seat.old.me.0.acts_vm ≡ true) × (seat.old.me.0.acts_gc ≡ true) }
     requires may { values_stand seat.old.me.0.vm.objects (numbers roots.now) ≡ true }
-    ensures same { seat.new.table_id ≡ seat.old.table_id }
+    ensures same { W.seats words.new seat.new × (W.id words.new ≡ W.id words.old) }
     ensures does { BothDo seat.old.me (HandOver result (numbers roots.now)) seat.new.me }
 {
-    words.shared.load::<HandsOver<N>>(seat, 0)
+    words.load::<HandsOver<N>>(seat, 0)
 }
 
 /// Loads the cycle word with the roots, by both seats joined.
-pub(crate) fn hand(words: &Words, seat: &mut Seat<(), View>, roots: &[Word]) -> u64
-    requires same { (seat.old.table_id ≡ words.now.shared.table_id)
-        × (words.now.shared.table_id.words ≡ table_size seat.old.me.0.vm.space) }
+pub(crate) fn hand<W: Words>(words: &mut W, seat: &mut Seat<(), View>, roots: &[Word]) -> u64
+    requires same { W.seats words.old seat.old
+        × ((W.id words.old).words ≡ table_size seat.old.me.0.vm.space) }
     requires acts { (seat.old.me.0.acts_vm ≡ true) × (seat.old.me.0.acts_gc ≡ true) }
     requires may { values_stand seat.old.me.0.vm.objects (numbers roots.now) ≡ true }
-    ensures same { seat.new.table_id ≡ seat.old.table_id }
+    ensures same { W.seats words.new seat.new × (W.id words.new ≡ W.id words.old) }
     ensures does { BothDo seat.old.me (HandOver result (numbers roots.now)) seat.new.me }
 {
-    hand_named::<Brand>(words, seat, roots)
+    hand_named::<W, Brand>(words, seat, roots)
 }
 
 /// Loads a word that is no head, by both seats joined, as an event of the mutator's.
-pub(crate) fn look(words: &Words, seat: &mut Seat<(), View>, place: u64) -> u64
-    requires same { (seat.old.table_id ≡ words.now.shared.table_id)
-        × (words.now.shared.table_id.words ≡ table_size seat.old.me.0.vm.space) }
+pub(crate) fn look<W: Words>(words: &mut W, seat: &mut Seat<(), View>, place: u64) -> u64
+    requires same { W.seats words.old seat.old
+        × ((W.id words.old).words ≡ table_size seat.old.me.0.vm.space) }
     requires acts { (seat.old.me.0.acts_vm ≡ true) × (seat.old.me.0.acts_gc ≡ true) }
     requires inside { place < table_size seat.old.me.0.vm.space }
-    ensures same { seat.new.table_id ≡ seat.old.table_id }
+    ensures same { W.seats words.new seat.new × (W.id words.new ≡ W.id words.old) }
     ensures does { BothLook seat.old.me place result seat.new.me }
 {
-    words.shared.load::<Looks>(seat, place as usize)
+    words.load::<Looks>(seat, place)
 }
 
 /// Stores the cycle word, by both seats joined: the flip.
-pub(crate) fn flip<N: Naming>(words: &Words, seat: &mut Seat<(), View>, cycle: u64)
-    requires same { (seat.old.table_id ≡ words.now.shared.table_id)
-        × (words.now.shared.table_id.words ≡ table_size seat.old.me.0.vm.space) }
+pub(crate) fn flip<W: Words, N: Naming>(words: &mut W, seat: &mut Seat<(), View>, cycle: u64)
+    requires same { W.seats words.old seat.old
+        × ((W.id words.old).words ≡ table_size seat.old.me.0.vm.space) }
     requires acts { (seat.old.me.0.acts_vm ≡ true) × (seat.old.me.0.acts_gc ≡ true) }
     requires is { cycle ≡ seat.old.me.0.gc.cycle + 1 }
     requires vm { VmMay seat.old.me.0.vm (CycleStore N.roots) }
     requires gc { GcMay seat.old.me.0.gc (CycleStore N.roots) }
     requires drained { seat.old.me.0.gc.taken ≡ seat.old.me.0.vm.logs }
-    ensures same { seat.new.table_id ≡ seat.old.table_id }
+    ensures same { W.seats words.new seat.new × (W.id words.new ≡ W.id words.old) }
     ensures does { BothDo seat.old.me (CycleStore N.roots) seat.new.me }
 {
-    words.shared.store::<Flips<N>>(seat, 0, cycle);
+    words.store::<Flips<N>>(seat, 0, cycle);
 }

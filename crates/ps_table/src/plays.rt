@@ -12,6 +12,8 @@ pub struct View {
     pub gc_events: [Event; 0],
     pub vm: Vm,
     pub gc: Gc,
+    /// The whole run, where one seat has had both parts from the start.
+    pub whole: Option<[Event; 0]>,
 }
 
 /// The rule of the table. Its key is how many words each of the two spaces has.

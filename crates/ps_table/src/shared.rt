@@ -9,7 +9,7 @@ ghost use Rattle.ps_table.specs.Shown.{vm_side, gc_side, first_view};
 use crate::collector::GcSeat;
 use crate::mutator::VmSeat;
 use crate::plays::{Parts, View};
-use crate::steps::Words;
+use crate::words::SharedTable;
 use atomic_table::{Seat, Table};
 use std::alloc::{AllocError, Global};
 use std::sync::Arc;
@@ -30,7 +30,7 @@ impl Shared {
     {
         let size = space as u64;
         let words = Vec::from_elem(alloc, 0u64, (ps_record::SPACES_START + 2 * size) as usize)?;
-        let (table, mut seat): (Words, Seat<(), View>) = Table::of_words(
+        let (table, mut seat): (SharedTable, Seat<(), View>) = Table::of_words(
             alloc,
             words.as_slice(),
             &size,

@@ -1,33 +1,33 @@
 //! Words stored into the fields of an object, and new objects: several events in a row.
-ghost use Rattle.std.specs.Prelude.{◌≡◌, ◌+◌, ◌≤◌, ◌<◌, ℕ, true, length};
-ghost use Rattle.ps_word.specs.Headers.{fields_in};
+ghost use Rattle.std.specs.Prelude.{◌≡◌, ◌+◌, ◌≤◌, ◌<◌, true, length};
 ghost use Rattle.ps_core_parts.specs.Steps.{table_size};
 ghost use Rattle.ps_parts_memory.specs.Shown.{VmRuns};
-ghost use Rattle.ps_parts_memory.specs.Stores.{numbers, MayStoreFields, part_made};
+ghost use Rattle.ps_parts_memory.specs.Stores.{numbers, MayStoreFields};
 ghost use Rattle.ps_parts_memory.specs.Laws.{MayMake};
 ghost use Rattle.ps_table.specs.Events.{did_all, field_stores, object_stores};
 
 use crate::plays::View;
-use crate::steps::{Words, vm_clear, vm_field, vm_make};
+use crate::steps::{vm_clear, vm_field, vm_make};
+use crate::words::Words;
 use atomic_table::Seat;
 use ps_word::words::Word;
 
 /// Stores words into the fields from a place on.
-pub(crate) fn vm_fields(
-    words: &Words,
+pub(crate) fn vm_fields<W: Words>(
+    words: &mut W,
     seat: &mut Seat<(), View>,
     address: u64,
     place: u64,
     items: &[Word],
 )
-    requires same { (seat.old.table_id ≡ words.now.shared.table_id)
-        × (words.now.shared.table_id.words ≡ table_size seat.old.me.0.vm.space) }
+    requires same { W.seats words.old seat.old
+        × ((W.id words.old).words ≡ table_size seat.old.me.0.vm.space) }
     requires acts { seat.old.me.0.acts_vm ≡ true }
     requires runs { ∥ VmRuns seat.old.me.0.vm ∥₁ }
     requires may { MayStoreFields seat.old.me.0.vm address place (numbers items.now) }
     requires inside { address + 2 + place + length items.now
         ≤ table_size seat.old.me.0.vm.space }
-    ensures same { seat.new.table_id ≡ seat.old.table_id }
+    ensures same { W.seats words.new seat.new × (W.id words.new ≡ W.id words.old) }
     ensures did { seat.new.me ≡
         (did_all seat.old.me.0 (field_stores address place (numbers items.now)), seat.old.me.1) }
     ensures runs { ∥ VmRuns seat.new.me.0.vm ∥₁ }
@@ -41,21 +41,21 @@ pub(crate) fn vm_fields(
 
 /// Clears the words of a new object behind the end of what is in use, its second header and its
 /// fields, and then stores its first header.
-pub(crate) fn vm_object(
-    words: &Words,
+pub(crate) fn vm_object<W: Words>(
+    words: &mut W,
     seat: &mut Seat<(), View>,
     end: u64,
     fields: u64,
     header: u64,
 )
-    requires same { (seat.old.table_id ≡ words.now.shared.table_id)
-        × (words.now.shared.table_id.words ≡ table_size seat.old.me.0.vm.space) }
+    requires same { W.seats words.old seat.old
+        × ((W.id words.old).words ≡ table_size seat.old.me.0.vm.space) }
     requires acts { seat.old.me.0.acts_vm ≡ true }
     requires runs { ∥ VmRuns seat.old.me.0.vm ∥₁ }
     requires is { (end ≡ seat.old.me.0.vm.end) × (seat.old.me.0.vm.making ≡ 0) }
     requires inside { end + 2 + fields ≤ table_size seat.old.me.0.vm.space }
     requires may { MayMake seat.old.me.0.vm header fields }
-    ensures same { seat.new.table_id ≡ seat.old.table_id }
+    ensures same { W.seats words.new seat.new × (W.id words.new ≡ W.id words.old) }
     ensures did { seat.new.me ≡
         (did_all seat.old.me.0 (object_stores header fields), seat.old.me.1) }
     ensures runs { ∥ VmRuns seat.new.me.0.vm ∥₁ }

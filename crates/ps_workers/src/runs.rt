@@ -10,6 +10,7 @@ use ps_flips::collected::CollectedMemory;
 use ps_gc::CollectedSpace;
 use ps_interpreter::interprets::Interpret;
 use ps_mem::Memory;
+use ps_table::{PlainWords, SharedWords, Words};
 use ps_vault::{Config, Report, RunFault};
 use ps_world::deeds::Deeds;
 use std::alloc::{AllocError, Global};
@@ -86,15 +87,15 @@ pub fn run_in<
 }
 
 /// A space of the configuration's size, in which nothing stands. `AllocError`: it can't be had.
-fn space_of(alloc: Global, config: Config) -> Result<CollectedSpace, AllocError>
+fn space_of<W: Words>(alloc: Global, config: Config) -> Result<CollectedSpace<W>, AllocError>
     requires { IsWithin config }
-    ensures { IfOk result (λ space. IsEmptyHeap (⟦<CollectedSpace as Memory>⟧.heap space)) }
+    ensures { IfOk result (λ space. IsEmptyHeap (⟦<CollectedSpace<W> as Memory>⟧.heap space)) }
 {
     CollectedSpace::new(alloc, config.space)
 }
 
 /// Runs a program with so many workers in a space of the configuration's size, which is collected;
-/// else as `run_in`.
+/// else as `run_in`. The words are the run's own, not atomic ones: the collector has no thread.
 pub fn run<S: Interpret + Drop + Send, D: Deeds + Drop + Send, R: Threads + Wait + Sync>(
     rt: &R,
     alloc: Global,
@@ -110,13 +111,14 @@ pub fn run<S: Interpret + Drop + Send, D: Deeds + Drop + Send, R: Threads + Wait
     if !config.is_within() {
         return Err(RunFault::Config);
     }
-    let Ok(memory) = space_of(alloc, config) else {
+    let Ok(memory) = space_of::<PlainWords>(alloc, config) else {
         return Err(RunFault::Memory);
     };
     run_in(rt, alloc, memory, interpret, deeds, program, config, keys)
 }
 
-/// As `run`; each store and copy of a worker is told to a gate before it is made.
+/// As `run`, over shared atomic words; each store and copy of a worker is told to a gate before it
+/// is made.
 pub fn run_gated<
     S: Interpret + Drop + Send,
     D: Deeds + Drop + Send,
@@ -138,7 +140,7 @@ pub fn run_gated<
     if !config.is_within() {
         return Err(RunFault::Config);
     }
-    let Ok(memory) = space_of(alloc, config) else {
+    let Ok(memory) = space_of::<SharedWords>(alloc, config) else {
         return Err(RunFault::Memory);
     };
     let gated = Gated::new(memory, gate);

@@ -15,7 +15,7 @@ use Rattle.ps_gc.proofs.Replicating.{ends_before}
 use Rattle.ps_gc.proofs.copies.copy_field.Goals as goal
 
 pub store_field-requires-clause-is : goal.store_field-requires-clause-is
-store_field-requires-clause-is c =
+store_field-requires-clause-is g c =
     let m = c.args.gc.now.seat.me.0 in
     let g = m.gc in
     let a = c.args.pairing.original in
@@ -39,7 +39,7 @@ store_field-requires-clause-is c =
     )
 
 pub store_field-requires-clause-may : goal.store_field-requires-clause-may
-store_field-requires-clause-may c =
+store_field-requires-clause-may g c =
     let m = c.args.gc.now.seat.me.0 in
     let g = m.gc in
     let a = c.args.pairing.original in
@@ -56,7 +56,7 @@ store_field-requires-clause-may c =
     may_store g c.copy_field-word.new.self.seat.me.0.gc h a i w copy pr.0 m.vm pr.1 first adds led
 
 pub overflow_add-to : goal.overflow_add-to
-overflow_add-to c =
+overflow_add-to g c =
     let gc = c.args.gc.now in
     let pr = c.requires.is in
     let k = gc_knows gc.seat.me.0.gc gc.runs in
@@ -69,7 +69,7 @@ overflow_add-to c =
     omega arith
 
 pub returns-then-scans-clause-did : goal.returns-then-scans-clause-did
-returns-then-scans-clause-did c =
+returns-then-scans-clause-did g c =
     let a = c.args.pairing.original in
     let i = c.args.field in
     let w = c.copy_field-word.result in (
@@ -82,7 +82,7 @@ returns-then-scans-clause-did c =
     )
 
 pub returns-else-scans-clause-did : goal.returns-else-scans-clause-did
-returns-else-scans-clause-did c =
+returns-else-scans-clause-did g c =
     let a = c.args.pairing.original in
     let i = c.args.field in
     let w = c.copy_field-word.result in (
@@ -95,7 +95,7 @@ returns-else-scans-clause-did c =
     )
 
 pub returns-then-scans-clause-copied : goal.returns-then-scans-clause-copied
-returns-then-scans-clause-copied c =
+returns-then-scans-clause-copied g c =
     let m = c.args.gc.now.seat.me.0 in
     let g = m.gc in
     let a = c.args.pairing.original in
@@ -144,7 +144,7 @@ returns-then-scans-clause-copied c =
     ((λ j. pair_of (with_copy h.pairs a (field j) word (sym z j)) a) ∙ e)))
 
 pub returns-then-scans-clause-copies : goal.returns-then-scans-clause-copies
-returns-then-scans-clause-copies c =
+returns-then-scans-clause-copies g c =
     let m = c.args.gc.now.seat.me.0 in
     let g = m.gc in
     let a = c.args.pairing.original in
@@ -191,7 +191,7 @@ returns-then-scans-clause-copies c =
     refl refl refl ahead))
 
 pub returns-then-scans-clause-at : goal.returns-then-scans-clause-at
-returns-then-scans-clause-at c =
+returns-then-scans-clause-at g c =
     let m = c.args.gc.now.seat.me.0 in
     let g = m.gc in
     let a = c.args.pairing.original in
@@ -233,7 +233,7 @@ returns-then-scans-clause-at c =
     (λ z. (at, ap (λ (n : ℕ). n + 1) field))
 
 pub returns-else-scans-clause-copied : goal.returns-else-scans-clause-copied
-returns-else-scans-clause-copied c =
+returns-else-scans-clause-copied g c =
     let m = c.args.gc.now.seat.me.0 in
     let g = m.gc in
     let a = c.args.pairing.original in
@@ -262,7 +262,7 @@ returns-else-scans-clause-copied c =
     (λ q e z. absurd (true≢false (sym z ∙ c.if-scans.false)))
 
 pub returns-else-scans-clause-copies : goal.returns-else-scans-clause-copies
-returns-else-scans-clause-copies c =
+returns-else-scans-clause-copies g c =
     let m = c.args.gc.now.seat.me.0 in
     let g = m.gc in
     let a = c.args.pairing.original in
@@ -290,7 +290,7 @@ returns-else-scans-clause-copies c =
     (sym c.if-scans.false) (copies_stored a i word h t c.lead-copy.ensures.copies))
 
 pub returns-else-scans-clause-field : goal.returns-else-scans-clause-field
-returns-else-scans-clause-field c =
+returns-else-scans-clause-field g c =
     let m = c.args.gc.now.seat.me.0 in
     let g = m.gc in
     let a = c.args.pairing.original in

@@ -8,21 +8,21 @@ use Rattle.ps_gc.proofs.Draining.{taken_short, takes_more}
 use Rattle.ps_gc.proofs.drains.advance.Goals as goal
 
 pub advance_head-requires-clause-few : goal.advance_head-requires-clause-few
-advance_head-requires-clause-few c =
+advance_head-requires-clause-few g c =
     let gc = c.args.gc.now in
     let short = (taken_short gc.seat.me.0.gc gc.runs c.args.slot c.requires.slot).0 in
     let is = c.requires.takes.numbers_are c.args.slot c.requires.slot in
     (c.requires.slot, omega arith)
 
 pub overflow_add-taken : goal.overflow_add-taken
-overflow_add-taken c =
+overflow_add-taken g c =
     let gc = c.args.gc.now in
     let short = (taken_short gc.seat.me.0.gc gc.runs c.args.slot c.requires.slot).0 in
     let is = c.requires.takes.numbers_are c.args.slot c.requires.slot in
     omega arith
 
 pub returns-clause-takes : goal.returns-clause-takes
-returns-clause-takes c =
+returns-clause-takes g c =
     let gc = c.args.gc.now in
     let g = gc.seat.me.0.gc in
     let t = c.requires.taking in

@@ -15,7 +15,7 @@ use Rattle.ps_gc.proofs.Scanning.{replica_words, first_stays, header_found}
 use Rattle.ps_gc.proofs.drains.apply.Goals as goal
 
 pub load-second-requires : goal.load-second-requires
-load-second-requires c =
+load-second-requires g c =
     let gc = c.args.gc.now in
     let t = c.requires.taking in
     let x = (record_tells gc.seat.me.0.gc gc.runs t.0 c.args.address c.args.first c.args.count t.1
@@ -23,7 +23,7 @@ load-second-requires c =
     record { inside = omega arith }
 
 pub overflow_add-to : goal.overflow_add-to
-overflow_add-to c =
+overflow_add-to g c =
     let gc = c.args.gc.now in
     let g = gc.seat.me.0.gc in
     let small = (gc_knows g gc.runs).epoch_small in
@@ -32,7 +32,7 @@ overflow_add-to c =
     omega arith
 
 pub load-requires : goal.load-requires
-load-requires c =
+load-requires g c =
     let gc = c.args.gc.now in
     let m = gc.seat.me.0 in
     let g = m.gc in
@@ -52,7 +52,7 @@ load-requires c =
     record { inside = omega arith }
 
 pub copy_fields-requires-clause-open : goal.copy_fields-requires-clause-open
-copy_fields-requires-clause-open c =
+copy_fields-requires-clause-open g c =
     let gc = c.args.gc.now in
     let m = gc.seat.me.0 in
     let g = m.gc in
@@ -74,7 +74,7 @@ copy_fields-requires-clause-open c =
     ap knows_open two ∙ c.requires.open
 
 pub copy_fields-requires-clause-is : goal.copy_fields-requires-clause-is
-copy_fields-requires-clause-is c =
+copy_fields-requires-clause-is g c =
     let gc = c.args.gc.now in
     let m = gc.seat.me.0 in
     let g = m.gc in
@@ -106,7 +106,7 @@ copy_fields-requires-clause-is c =
     )
 
 pub returns-in-Some-clause-applied : goal.returns-in-Some-clause-applied
-returns-in-Some-clause-applied c =
+returns-in-Some-clause-applied g c =
     let gc = c.args.gc.now in
     let m = gc.seat.me.0 in
     let g = m.gc in
@@ -129,7 +129,7 @@ returns-in-Some-clause-applied c =
     c.copy_fields.ensures.applied
 
 pub returns-in-Some-clause-did : goal.returns-in-Some-clause-did
-returns-in-Some-clause-did c =
+returns-in-Some-clause-did g c =
     let es = c.copy_fields.ensures.did.0 in (
       GcLoad (c.args.address + 1) c.load-second.result
           ∷ GcLoad c.in-Some.replica c.load.result ∷ es,
@@ -140,7 +140,7 @@ returns-in-Some-clause-did c =
     )
 
 pub returns-in-None-clause-applied : goal.returns-in-None-clause-applied
-returns-in-None-clause-applied c =
+returns-in-None-clause-applied g c =
     let gc = c.args.gc.now in
     let m = gc.seat.me.0 in
     let g = m.gc in
@@ -154,7 +154,7 @@ returns-in-None-clause-applied c =
     subst (Applied g) (sym one) (applied_same g c.requires.idle)
 
 pub returns-in-None-clause-done : goal.returns-in-None-clause-done
-returns-in-None-clause-done c =
+returns-in-None-clause-done g c =
     let gc = c.args.gc.now in
     let m = gc.seat.me.0 in
     let g = m.gc in
@@ -171,5 +171,5 @@ returns-in-None-clause-done c =
     (done_bare g t.0 a c.args.first c.args.count c.requires.idle t.1 t.2 t.3 bare)
 
 pub returns-in-None-clause-did : goal.returns-in-None-clause-did
-returns-in-None-clause-did c =
+returns-in-None-clause-did g c =
     (GcLoad (c.args.address + 1) c.load-second.result ∷ [], c.load-second.ensures.did)

@@ -7,7 +7,7 @@ use Rattle.ps_gc.proofs.Draining.{loads_next, applied_on}
 use Rattle.ps_gc.proofs.drains.copy_fields.Goals as goal
 
 pub loop-k-preserved : goal.loop-k-preserved
-loop-k-preserved c =
+loop-k-preserved g c =
     let m = c.args.gc.now.seat.me.0 in
     let g = c.loop-k.gc.seat.me.0.gc in
     let h = c.copy_field.new.gc.seat.me.0.gc in

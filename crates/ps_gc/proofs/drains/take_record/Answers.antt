@@ -7,14 +7,14 @@ use Rattle.ps_table.proofs.Flipping.{gc_all-append}
 use Rattle.ps_gc.proofs.drains.take_record.Goals as goal
 
 pub returns-in-Place-clause-did : goal.returns-in-Place-clause-did
-returns-in-Place-clause-did c = (
+returns-in-Place-clause-did g c = (
   c.apply.ensures.did.0 ++ HeadStore ∷ [],
   c.advance.ensures.did ∙ (ap (λ x. gc_did x HeadStore) c.apply.ensures.did.1
       ∙ sym (gc_all-append c.args.gc.now.seat.me.0 c.apply.ensures.did.0 (HeadStore ∷ []))),
 )
 
 pub returns-in-Close-clause-drained : goal.returns-in-Close-clause-drained
-returns-in-Close-clause-drained c =
+returns-in-Close-clause-drained g c =
     let g = c.args.gc.now.seat.me.0.gc in
     let did = c.advance-in-Close.ensures.did in
     record {
@@ -33,4 +33,4 @@ returns-in-Close-clause-drained c =
     }
 
 pub returns-in-Close-clause-did : goal.returns-in-Close-clause-did
-returns-in-Close-clause-did c = (HeadStore ∷ [], c.advance-in-Close.ensures.did)
+returns-in-Close-clause-did g c = (HeadStore ∷ [], c.advance-in-Close.ensures.did)

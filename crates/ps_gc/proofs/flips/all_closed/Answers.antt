@@ -6,12 +6,12 @@ use Rattle.ps_gc.proofs.flips.all_closed.Goals as goal
 
 pub loop-slot-preserved : goal.loop-slot-preserved
 loop-slot-preserved c = below_more _ _ c.loop-slot.invariant
-    (shut_closes c.args.vm.now.seat.me.0.vm c.loop-slot.slot
+    (shut_closes c.args.seat.now.me.0.vm c.loop-slot.slot
     (sym c.is_closed.ensures ∙ c.if-not-is_closed.false))
 
 pub returns-then-not-is_closed : goal.returns-then-not-is_closed
 returns-then-not-is_closed c =
-    let v = c.args.vm.now.seat.me.0.vm in
+    let v = c.args.seat.now.me.0.vm in
     let slot = c.loop-slot.slot in (
       λ bad. absurd (let b : false ≡ true = bad in cc),
       λ all. clash (is_shut v slot)

@@ -5,4 +5,4 @@ use Rattle.ps_gc.proofs.flips.all_closed.Given as goal
 -- the logs of the slots before this one are closed
 abbrev pub invariant-loop-slot : goal.invariant-loop-slot
 invariant-loop-slot l =
-    (k : ℕ) → k < l.slot → closes (log_of l.vm.seat.me.0.vm.logs k) ≡ l.vm.seat.me.0.vm.epoch
+    (k : ℕ) → k < l.slot → closes (log_of l.seat.me.0.vm.logs k) ≡ l.seat.me.0.vm.epoch

@@ -6,4 +6,4 @@ use Rattle.ps_gc.proofs.flips.all_taken.Given as goal
 -- so it is of the slots before this one
 abbrev pub invariant-loop-slot : goal.invariant-loop-slot
 invariant-loop-slot l = (k : ℕ) → k < l.slot
-    → slice_index l.taken.numbers k ≡ length (log_of l.vm.seat.me.0.vm.logs k)
+    → slice_index l.taken.numbers k ≡ length (log_of l.seat.me.0.vm.logs k)

@@ -15,7 +15,7 @@ use Rattle.ps_gc.proofs.Scanning.{replica_words}
 use Rattle.ps_gc.proofs.replicas.find_replica.Goals as goal
 
 pub overflow_add-original : goal.overflow_add-original
-overflow_add-original c =
+overflow_add-original g c =
     let gc = c.args.gc.now in
     let k = gc_knows gc.seat.me.0.gc gc.runs in
     let x = k.known c.args.original c.requires.known in
@@ -23,13 +23,13 @@ overflow_add-original c =
     omega arith
 
 pub load-second-requires : goal.load-second-requires
-load-second-requires c =
+load-second-requires g c =
     let gc = c.args.gc.now in
     let x = (gc_knows gc.seat.me.0.gc gc.runs).known c.args.original c.requires.known in
     record { inside = omega arith }
 
 pub overflow_add-to : goal.overflow_add-to
-overflow_add-to c =
+overflow_add-to g c =
     let gc = c.args.gc.now in
     let g = gc.seat.me.0.gc in
     let small = (gc_knows g gc.runs).epoch_small in
@@ -38,7 +38,7 @@ overflow_add-to c =
     omega arith
 
 pub make_replica-requires-clause-open : goal.make_replica-requires-clause-open
-make_replica-requires-clause-open c =
+make_replica-requires-clause-open g c =
     let m = c.args.gc.now.seat.me.0 in
     let k = known_second m.gc c.args.original c.load-second.result c.requires.known
     c.load-second.ensures.finds in
@@ -47,7 +47,7 @@ make_replica-requires-clause-open c =
     ap knows_open part ∙ c.requires.open
 
 pub make_replica-requires-clause-single : goal.make_replica-requires-clause-single
-make_replica-requires-clause-single c =
+make_replica-requires-clause-single g c =
     let m = c.args.gc.now.seat.me.0 in
     let a = c.args.original in
     let n = c.load-second.result in
@@ -60,7 +60,7 @@ make_replica-requires-clause-single c =
     (λ e. told_none n (c.args.to.now.cycle + 1) c.in-None.ensures (e ∙ sym cycle))
 
 pub returns-in-Some-clause-at : goal.returns-in-Some-clause-at
-returns-in-Some-clause-at c =
+returns-in-Some-clause-at g c =
     let m = c.args.gc.now.seat.me.0 in
     let a = c.args.original in
     let n = c.load-second.result in
@@ -75,7 +75,7 @@ returns-in-Some-clause-at c =
     (l.0, ap (λ (x : Gc). pair_of x.pairs a) part ∙ l.1, is, omega arith)
 
 pub returns-in-Some-clause-did : goal.returns-in-Some-clause-did
-returns-in-Some-clause-did c =
+returns-in-Some-clause-did g c =
     let m = c.args.gc.now.seat.me.0 in
     let a = c.args.original in
     let n = c.load-second.result in
@@ -90,7 +90,7 @@ returns-in-Some-clause-did c =
     )
 
 pub returns-in-Some-clause-adds : goal.returns-in-Some-clause-adds
-returns-in-Some-clause-adds c =
+returns-in-Some-clause-adds g c =
     let m = c.args.gc.now.seat.me.0 in
     let k = known_second m.gc c.args.original c.load-second.result c.requires.known
     c.load-second.ensures.finds in
@@ -99,7 +99,7 @@ returns-in-Some-clause-adds c =
     subst (Adds m.gc) (sym part) (adds_same m.gc)
 
 pub returns-in-None-clause-at : goal.returns-in-None-clause-at
-returns-in-None-clause-at c =
+returns-in-None-clause-at g c =
     let m = c.args.gc.now.seat.me.0 in
     let a = c.args.original in
     let n = c.load-second.result in
@@ -119,7 +119,7 @@ returns-in-None-clause-at c =
     (p, at, is, omega arith)
 
 pub returns-in-None-clause-did : goal.returns-in-None-clause-did
-returns-in-None-clause-did c =
+returns-in-None-clause-did g c =
     let m = c.args.gc.now.seat.me.0 in
     let a = c.args.original in
     let n = c.load-second.result in
@@ -140,7 +140,7 @@ returns-in-None-clause-did c =
     )
 
 pub returns-in-None-clause-adds : goal.returns-in-None-clause-adds
-returns-in-None-clause-adds c =
+returns-in-None-clause-adds g c =
     let m = c.args.gc.now.seat.me.0 in
     let a = c.args.original in
     let n = c.load-second.result in

@@ -13,13 +13,13 @@ use Rattle.ps_gc.proofs.Replicating.{can_make, after_load, after_first, after_se
 use Rattle.ps_gc.proofs.replicas.make_replica.Goals as goal
 
 pub load-header-requires : goal.load-header-requires
-load-header-requires c =
+load-header-requires g c =
     let gc = c.args.gc.now in
     let x = (gc_knows gc.seat.me.0.gc gc.runs).known c.args.original c.requires.known in
     record { inside = omega arith }
 
 pub overflow_add-cycle : goal.overflow_add-cycle
-overflow_add-cycle c =
+overflow_add-cycle g c =
     let gc = c.args.gc.now in
     let g = gc.seat.me.0.gc in
     let small = (gc_knows g gc.runs).epoch_small in
@@ -28,7 +28,7 @@ overflow_add-cycle c =
     omega arith
 
 pub overflow_cast-back : goal.overflow_cast-back
-overflow_cast-back c =
+overflow_cast-back g c =
     let g = c.args.gc.now.seat.me.0.gc in
     let can = can_make g c.args.original c.load-header.result c.requires.known c.requires.single
     c.load-header.ensures.finds in
@@ -36,7 +36,7 @@ overflow_cast-back c =
     omega arith
 
 pub store_to-requires : goal.store_to-requires
-store_to-requires c =
+store_to-requires g c =
     let m = c.args.gc.now.seat.me.0 in
     let g = m.gc in
     let a = c.args.original in
@@ -55,7 +55,7 @@ store_to-requires c =
     }
 
 pub overflow_add-replica : goal.overflow_add-replica
-overflow_add-replica c =
+overflow_add-replica g c =
     let g = c.args.gc.now.seat.me.0.gc in
     let can = can_make g c.args.original c.load-header.result c.requires.known c.requires.single
     c.load-header.ensures.finds in
@@ -64,7 +64,7 @@ overflow_add-replica c =
     omega arith
 
 pub pack-requires : goal.pack-requires
-pack-requires c =
+pack-requires g c =
     let gc = c.args.gc.now in
     let g = gc.seat.me.0.gc in
     let can = can_make g c.args.original c.load-header.result c.requires.known c.requires.single
@@ -75,7 +75,7 @@ pack-requires c =
     record { cycle = omega arith; address = can.high }
 
 pub store_to-requires-2 : goal.store_to-requires-2
-store_to-requires-2 c =
+store_to-requires-2 g c =
     let m = c.args.gc.now.seat.me.0 in
     let g = m.gc in
     let a = c.args.original in
@@ -98,7 +98,7 @@ store_to-requires-2 c =
     }
 
 pub forward-requires-clause-is : goal.forward-requires-clause-is
-forward-requires-clause-is c =
+forward-requires-clause-is g c =
     let m = c.args.gc.now.seat.me.0 in
     let g = m.gc in
     let a = c.args.original in
@@ -115,7 +115,7 @@ forward-requires-clause-is c =
     ∙ (ap (λ m. m.gc.epoch) c.store_to.ensures.did ∙ ap (λ (x : Gc). x.epoch) one)))
 
 pub forward-requires-clause-may : goal.forward-requires-clause-may
-forward-requires-clause-may c =
+forward-requires-clause-may g c =
     let m = c.args.gc.now.seat.me.0 in
     let g = m.gc in
     let a = c.args.original in
@@ -142,7 +142,7 @@ forward-requires-clause-may c =
     (may_forward g a n can c.requires.known c.requires.single c.requires.open))
 
 pub add_replica-requires : goal.add_replica-requires
-add_replica-requires c =
+add_replica-requires g c =
     let g = c.args.gc.now.seat.me.0.gc in
     let can = can_make g c.args.original c.load-header.result c.requires.known c.requires.single
     c.load-header.ensures.finds in
@@ -152,7 +152,7 @@ add_replica-requires c =
     omega arith
 
 pub returns-clause-did : goal.returns-clause-did
-returns-clause-did c =
+returns-clause-did g c =
     let m = c.args.gc.now.seat.me.0 in
     let g = m.gc in
     let a = c.args.original in
@@ -193,7 +193,7 @@ returns-clause-did c =
     )
 
 pub returns-clause-copies : goal.returns-clause-copies
-returns-clause-copies c =
+returns-clause-copies g c =
     let m = c.args.gc.now.seat.me.0 in
     let g = m.gc in
     let a = c.args.original in
@@ -226,7 +226,7 @@ returns-clause-copies c =
     (copies_made g a n c.args.to.now c.add_replica.new.to k goes)
 
 pub returns-clause-field : goal.returns-clause-field
-returns-clause-field c =
+returns-clause-field g c =
     let m = c.args.gc.now.seat.me.0 in
     let g = m.gc in
     let a = c.args.original in

@@ -13,7 +13,7 @@ use Rattle.ps_gc.proofs.Scanning.{replica_at, replica_words, first_stays, header
 use Rattle.ps_gc.proofs.scans.scan_on.Goals as goal
 
 pub overflow_add-to : goal.overflow_add-to
-overflow_add-to c =
+overflow_add-to g c =
     let gc = c.passed.gc in
     let lt = c.passed-test.true in
     let p = passes gc.seat.me.0.gc gc.runs c.passed.to c.passed.invariant.copies c.passed.count
@@ -22,7 +22,7 @@ overflow_add-to c =
     omega arith
 
 pub overflow_add-to-in-passed : goal.overflow_add-to-in-passed
-overflow_add-to-in-passed c =
+overflow_add-to-in-passed g c =
     let gc = c.passed.gc in
     let lt = c.passed-test.true in
     let p = passes gc.seat.me.0.gc gc.runs c.passed.to c.passed.invariant.copies c.passed.count
@@ -31,7 +31,7 @@ overflow_add-to-in-passed c =
     omega arith
 
 pub load-requires : goal.load-requires
-load-requires c =
+load-requires g c =
     let gc = c.passed.gc in
     let t = c.passed.to in
     let u : ToSpace = record t { at = t.at + (2 + c.passed.count); field = 0 } in
@@ -44,7 +44,7 @@ load-requires c =
     record { inside = omega arith }
 
 pub passed-preserved-then-to : goal.passed-preserved-then-to
-passed-preserved-then-to c =
+passed-preserved-then-to g c =
     let gc = c.passed.gc in
     let m = gc.seat.me.0 in
     let g = m.gc in
@@ -80,7 +80,7 @@ passed-preserved-then-to c =
     }
 
 pub passed-preserved : goal.passed-preserved
-passed-preserved c =
+passed-preserved g c =
     let gc = c.passed.gc in
     let g = gc.seat.me.0.gc in
     let t = c.passed.to in
@@ -102,7 +102,7 @@ passed-preserved c =
     }
 
 pub returns-after-passed-clause-field : goal.returns-after-passed-clause-field
-returns-after-passed-clause-field c = λ a p e here.
+returns-after-passed-clause-field g c = λ a p e here.
     let g = c.passed.gc.seat.me.0.gc in
     let le = ends_before g.pairs (other_base g.space g.cycle) a p e in
     let past = c.passed-test.false in

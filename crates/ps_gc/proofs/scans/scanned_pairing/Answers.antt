@@ -13,14 +13,14 @@ use Rattle.ps_gc.proofs.Scanning.{replica_at, replica_words, first_stays, second
 use Rattle.ps_gc.proofs.scans.scanned_pairing.Goals as goal
 
 pub load-header-requires : goal.load-header-requires
-load-header-requires c =
+load-header-requires g c =
     let gc = c.args.gc.now in
     let some = c.requires.copies.at_is c.requires.ahead in
     let x = place_inside gc.seat.me.0.gc gc.runs c.args.to.now.at some in
     record { inside = omega arith }
 
 pub overflow_add-to : goal.overflow_add-to
-overflow_add-to c =
+overflow_add-to g c =
     let gc = c.args.gc.now in
     let some = c.requires.copies.at_is c.requires.ahead in
     let x = place_inside gc.seat.me.0.gc gc.runs c.args.to.now.at some in
@@ -28,7 +28,7 @@ overflow_add-to c =
     omega arith
 
 pub load-back-requires : goal.load-back-requires
-load-back-requires c =
+load-back-requires g c =
     let gc = c.args.gc.now in
     let some = c.requires.copies.at_is c.requires.ahead in
     let x = place_inside gc.seat.me.0.gc gc.runs c.args.to.now.at some in
@@ -36,7 +36,7 @@ load-back-requires c =
     record { inside = omega arith }
 
 pub overflow_add-to-2 : goal.overflow_add-to-2
-overflow_add-to-2 c =
+overflow_add-to-2 g c =
     let gc = c.args.gc.now in
     let g = gc.seat.me.0.gc in
     let some = c.requires.copies.at_is c.requires.ahead in
@@ -47,7 +47,7 @@ overflow_add-to-2 c =
     omega arith
 
 pub returns-clause-is : goal.returns-clause-is
-returns-clause-is c =
+returns-clause-is g c =
     let gc = c.args.gc.now in
     let m = gc.seat.me.0 in
     let g = m.gc in
@@ -84,7 +84,7 @@ returns-clause-is c =
     )
 
 pub returns-clause-did : goal.returns-clause-did
-returns-clause-did c =
+returns-clause-did g c =
     let place = c.args.to.now.at in (
       GcLoad place c.load-header.result ∷ GcLoad (place + 1) c.load-back.result ∷ [],
       c.load-back.ensures.did
@@ -92,7 +92,7 @@ returns-clause-did c =
     )
 
 pub returns-clause-part : goal.returns-clause-part
-returns-clause-part c =
+returns-clause-part g c =
     let gc = c.args.gc.now in
     let m = gc.seat.me.0 in
     let g = m.gc in

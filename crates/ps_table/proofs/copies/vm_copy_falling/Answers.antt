@@ -1,5 +1,5 @@
 use Rattle.std.proofs.Common.{arith, refl, drop, ◌≡◌, ◌+◌, ◌-◌, ℕ, [], ◌∷◌, sym, ap, ◌∙◌, subst}
-use Rattle.ps_core_parts.specs.declared.events.Event.TheVariants.{FieldStore}
+use Rattle.ps_core_parts.specs.declared.events.Event.TheVariants.{FieldStore, VmLoad}
 use Rattle.ps_core_parts.specs.declared.events.Vm.{Vm}
 use Rattle.ps_core_parts.specs.Conditions.{VmMay}
 use Rattle.ps_core_parts.specs.Steps.{table_size, field_stored}
@@ -7,11 +7,12 @@ use Rattle.ps_parts_memory.specs.Stores.{numbers, fields_stored_down}
 use Rattle.ps_parts_memory.specs.Laws.{words_copied}
 use Rattle.ps_table.proofs.CopySteps.{falls_from, falling_all, falling_none}
 use Rattle.ps_table.proofs.Facts.{field_place, vm_facts}
+use Rattle.ps_table.proofs.Kept.{keeps_on, keeps_by, keeps_same}
 use Rattle.ps_table.proofs.Storing.{space_stored}
 use Rattle.ps_table.proofs.copies.vm_copy_falling.Goals as goal
 
 pub overflow_add-from : goal.overflow_add-from
-overflow_add-from c =
+overflow_add-from g c =
     let cur = c.loop-left.seat.me.0.vm in
     let i = c.loop-left.invariant in
     let one = falls_from c.args.seat.now.me.0.vm c.requires.runs c.args.from c.args.from_place
@@ -22,7 +23,7 @@ overflow_add-from c =
     omega arith
 
 pub overflow_add-from_place : goal.overflow_add-from_place
-overflow_add-from_place c =
+overflow_add-from_place g c =
     let cur = c.loop-left.seat.me.0.vm in
     let i = c.loop-left.invariant in
     let one = falls_from c.args.seat.now.me.0.vm c.requires.runs c.args.from c.args.from_place
@@ -33,7 +34,7 @@ overflow_add-from_place c =
     omega arith
 
 pub overflow_add-from-in-loop-left : goal.overflow_add-from-in-loop-left
-overflow_add-from-in-loop-left c =
+overflow_add-from-in-loop-left g c =
     let cur = c.loop-left.seat.me.0.vm in
     let i = c.loop-left.invariant in
     let one = falls_from c.args.seat.now.me.0.vm c.requires.runs c.args.from c.args.from_place
@@ -44,7 +45,7 @@ overflow_add-from-in-loop-left c =
     omega arith
 
 pub vm_load-word-requires-clause-may : goal.vm_load-word-requires-clause-may
-vm_load-word-requires-clause-may c =
+vm_load-word-requires-clause-may g c =
     let cur = c.loop-left.seat.me.0.vm in
     let i = c.loop-left.invariant in
     (falls_from c.args.seat.now.me.0.vm c.requires.runs c.args.from c.args.from_place c.args.to
@@ -52,7 +53,7 @@ vm_load-word-requires-clause-may c =
     c.loop-left-test.true i.0 i.5 i.6).inside
 
 pub overflow_add-to_place : goal.overflow_add-to_place
-overflow_add-to_place c =
+overflow_add-to_place g c =
     let cur = c.loop-left.seat.me.0.vm in
     let i = c.loop-left.invariant in
     let n = c.vm_load-word.result in
@@ -65,7 +66,7 @@ overflow_add-to_place c =
     omega arith
 
 pub vm_field-requires-clause-may : goal.vm_field-requires-clause-may
-vm_field-requires-clause-may c =
+vm_field-requires-clause-may g c =
     let cur = c.loop-left.seat.me.0.vm in
     let i = c.loop-left.invariant in
     let n = c.vm_load-word.result in
@@ -79,7 +80,7 @@ vm_field-requires-clause-may c =
     (sym same) (one.may n c.vm_load-word.ensures.does.finds)
 
 pub loop-left-preserved : goal.loop-left-preserved
-loop-left-preserved c =
+loop-left-preserved g c =
     let cur = c.loop-left.seat.me.0.vm in
     let i = c.loop-left.invariant in
     let n = c.vm_load-word.result in
@@ -96,29 +97,38 @@ loop-left-preserved c =
     let part : c.vm_field.new.seat.me.0.vm ≡ field_stored cur c.args.to at n =
     ap (λ m. m.0.vm) did ∙ ap (λ (x : Vm). field_stored x c.args.to at n) same in (
       omega arith,
-      c.vm_field.ensures.same ∙ (c.vm_load-word.ensures.same ∙ i.1),
-      i.2 ∙ ap table_size (sym (ap (λ (x : Vm). x.space) part ∙ space_stored cur c.args.to at
+      (
+        c.vm_field.ensures.same.0,
+        c.vm_field.ensures.same.1 ∙ (c.vm_load-word.ensures.same.1 ∙ i.1.1),
+      ),
+      ap (λ t. t.words) (c.vm_field.ensures.same.1 ∙ c.vm_load-word.ensures.same.1)
+          ∙ i.2 ∙ ap table_size (sym (ap (λ (x : Vm). x.space) part ∙ space_stored cur c.args.to at
           (n ∷ []))),
       ap (λ m. m.0.acts_vm) did ∙ (ap (λ m. m.0.acts_vm) load ∙ i.3),
       ap (λ m. m.1) did ∙ (ap (λ m. m.1) load ∙ i.4),
       ∣ c.vm_field.ensures.does.runs ∣₁,
       part ∙ one.next_is n c.vm_load-word.ensures.does.finds,
+      keeps_on _ _ _ i.7 (keeps_on _ c.vm_load-word.new.seat.me.0 _
+          (keeps_by _ _ (VmLoad (c.args.from + 2 + (c.args.from_place + (c.loop-left.left - 1))) n)
+          (ap (λ m. m.0) load))
+          (keeps_by _ _ (FieldStore c.args.to at n) (ap (λ m. m.0) did))),
     )
 
 pub loop-left-init : goal.loop-left-init
-loop-left-init c = (
+loop-left-init g c = (
   omega arith,
-  refl,
+  (c.requires.same.0, refl),
   c.requires.same.1,
   c.requires.acts,
   refl,
   c.requires.runs,
   sym (falling_none c.args.seat.now.me.0.vm c.requires.runs c.args.from c.args.from_place c.args.to
       c.args.to_place c.args.count c.requires.can),
+  keeps_same _ _ refl,
 )
 
 pub returns-clause-part : goal.returns-clause-part
-returns-clause-part c =
+returns-clause-part g c =
     let i = c.loop-left.invariant in
     let past = c.loop-left-test.false in
     let v = c.args.seat.now.me.0.vm in
@@ -127,3 +137,6 @@ returns-clause-part c =
     (numbers (drop x items))) (let z : c.loop-left.left ≡ 0 = omega arith in z)
     ∙ falling_all v c.requires.runs c.args.from c.args.from_place c.args.to c.args.to_place
     c.args.count c.requires.can)
+
+pub returns-clause-gc : goal.returns-clause-gc
+returns-clause-gc g c = c.loop-left.invariant.7

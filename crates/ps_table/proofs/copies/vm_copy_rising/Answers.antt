@@ -1,15 +1,16 @@
 use Rattle.std.proofs.Common.{arith, ◌≡◌, ◌+◌, ℕ, [], ◌∷◌, sym, ap, ◌∙◌, subst}
-use Rattle.ps_core_parts.specs.declared.events.Event.TheVariants.{FieldStore}
+use Rattle.ps_core_parts.specs.declared.events.Event.TheVariants.{FieldStore, VmLoad}
 use Rattle.ps_core_parts.specs.declared.events.Vm.{Vm}
 use Rattle.ps_core_parts.specs.Conditions.{VmMay}
 use Rattle.ps_core_parts.specs.Steps.{table_size, field_stored}
 use Rattle.ps_table.proofs.CopySteps.{rises}
 use Rattle.ps_table.proofs.Facts.{field_place, vm_facts}
+use Rattle.ps_table.proofs.Kept.{keeps_on, keeps_by}
 use Rattle.ps_table.proofs.Storing.{space_stored}
 use Rattle.ps_table.proofs.copies.vm_copy_rising.Goals as goal
 
 pub overflow_add-from : goal.overflow_add-from
-overflow_add-from c =
+overflow_add-from g c =
     let cur = c.loop-done.seat.me.0.vm in
     let i = c.loop-done.invariant in
     let one = rises c.args.seat.now.me.0.vm c.requires.runs c.args.from c.args.from_place c.args.to
@@ -19,7 +20,7 @@ overflow_add-from c =
     omega arith
 
 pub overflow_add-from_place : goal.overflow_add-from_place
-overflow_add-from_place c =
+overflow_add-from_place g c =
     let cur = c.loop-done.seat.me.0.vm in
     let i = c.loop-done.invariant in
     let one = rises c.args.seat.now.me.0.vm c.requires.runs c.args.from c.args.from_place c.args.to
@@ -29,7 +30,7 @@ overflow_add-from_place c =
     omega arith
 
 pub overflow_add-from-in-loop-done : goal.overflow_add-from-in-loop-done
-overflow_add-from-in-loop-done c =
+overflow_add-from-in-loop-done g c =
     let cur = c.loop-done.seat.me.0.vm in
     let i = c.loop-done.invariant in
     let one = rises c.args.seat.now.me.0.vm c.requires.runs c.args.from c.args.from_place c.args.to
@@ -39,7 +40,7 @@ overflow_add-from-in-loop-done c =
     omega arith
 
 pub vm_load-word-requires-clause-may : goal.vm_load-word-requires-clause-may
-vm_load-word-requires-clause-may c =
+vm_load-word-requires-clause-may g c =
     let cur = c.loop-done.seat.me.0.vm in
     let i = c.loop-done.invariant in
     (rises c.args.seat.now.me.0.vm c.requires.runs c.args.from c.args.from_place c.args.to
@@ -47,7 +48,7 @@ vm_load-word-requires-clause-may c =
     c.loop-done-test.true i.5 i.6).inside
 
 pub overflow_add-to_place : goal.overflow_add-to_place
-overflow_add-to_place c =
+overflow_add-to_place g c =
     let cur = c.loop-done.seat.me.0.vm in
     let i = c.loop-done.invariant in
     let n = c.vm_load-word.result in
@@ -59,7 +60,7 @@ overflow_add-to_place c =
     omega arith
 
 pub vm_field-requires-clause-may : goal.vm_field-requires-clause-may
-vm_field-requires-clause-may c =
+vm_field-requires-clause-may g c =
     let cur = c.loop-done.seat.me.0.vm in
     let i = c.loop-done.invariant in
     let n = c.vm_load-word.result in
@@ -72,7 +73,7 @@ vm_field-requires-clause-may c =
     (sym same) (one.may n c.vm_load-word.ensures.does.finds)
 
 pub loop-done-preserved : goal.loop-done-preserved
-loop-done-preserved c =
+loop-done-preserved g c =
     let cur = c.loop-done.seat.me.0.vm in
     let i = c.loop-done.invariant in
     let n = c.vm_load-word.result in
@@ -88,11 +89,22 @@ loop-done-preserved c =
     let part : c.vm_field.new.seat.me.0.vm ≡ field_stored cur c.args.to at n =
     ap (λ m. m.0.vm) did ∙ ap (λ (x : Vm). field_stored x c.args.to at n) same in (
       omega arith,
-      c.vm_field.ensures.same ∙ (c.vm_load-word.ensures.same ∙ i.1),
-      i.2 ∙ ap table_size (sym (ap (λ (x : Vm). x.space) part ∙ space_stored cur c.args.to at
+      (
+        c.vm_field.ensures.same.0,
+        c.vm_field.ensures.same.1 ∙ (c.vm_load-word.ensures.same.1 ∙ i.1.1),
+      ),
+      ap (λ t. t.words) (c.vm_field.ensures.same.1 ∙ c.vm_load-word.ensures.same.1)
+          ∙ i.2 ∙ ap table_size (sym (ap (λ (x : Vm). x.space) part ∙ space_stored cur c.args.to at
           (n ∷ []))),
       ap (λ m. m.0.acts_vm) did ∙ (ap (λ m. m.0.acts_vm) load ∙ i.3),
       ap (λ m. m.1) did ∙ (ap (λ m. m.1) load ∙ i.4),
       ∣ c.vm_field.ensures.does.runs ∣₁,
       part ∙ one.next_is n c.vm_load-word.ensures.does.finds,
+      keeps_on _ _ _ i.7 (keeps_on _ c.vm_load-word.new.seat.me.0 _
+          (keeps_by _ _ (VmLoad (c.args.from + 2 + (c.args.from_place + c.loop-done.done)) n)
+          (ap (λ m. m.0) load))
+          (keeps_by _ _ (FieldStore c.args.to at n) (ap (λ m. m.0) did))),
     )
+
+pub returns-clause-gc : goal.returns-clause-gc
+returns-clause-gc g c = c.loop-done.invariant.7

@@ -2,7 +2,7 @@ use Rattle.std.proofs.Common.{rules, arith, ◌≡◌, ◌+◌, Bool, ℕ, sym, 
 use Rattle.ps_core_parts.specs.declared.events.Event.TheVariants.{ReplicaFieldStore}
 use Rattle.ps_core_parts.specs.Objects.{pair_of}
 use Rattle.ps_core_parts.specs.Steps.{replica_of}
-use Rattle.ps_table.proofs.Allows.{gc_store_allows, GcStep}
+use Rattle.ps_table.proofs.Allows.{gc_store_allows, GcStep, gc_known}
 use Rattle.ps_table.proofs.GcFacts.{gc_knows, copy_place}
 use Rattle.ps_table.proofs.GcMoves.{gc_fill_step}
 use Rattle.ps_table.proofs.gc_steps.gc_fill_named.Goals as goal
@@ -39,7 +39,8 @@ store-requires g c =
     gc_fill_step part k c.args.scans place c.args.word is.1 c.requires.may there is.4 in (
       search rules,
       omega arith,
-      gc_store_allows _ _ _ _ place c.args.word _ c.requires.acts
+      λ space slots id. gc_store_allows space slots id _ place c.args.word _ c.requires.acts
           (subst (λ (b : Bool). GcStep part place (λ _. c.args.word) (λ _. ReplicaFieldStore b))
           (sym c.requires.named) step),
+      λ m t. gc_known _ c.args.seat.now.me _ t.did,
     )

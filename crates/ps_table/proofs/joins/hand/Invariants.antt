@@ -3,7 +3,7 @@ use Rattle.ps_parts_memory.specs.Stores.{numbers}
 use Rattle.ps_table.proofs.joins.hand.Given as goal
 
 abbrev pub ghosts-hand_named : goal.ghosts-hand_named
-ghosts-hand_named a = record {
+ghosts-hand_named g a = record {
   address = 0;
   field = 0;
   roots = numbers a.roots.now;

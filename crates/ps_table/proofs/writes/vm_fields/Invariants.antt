@@ -7,10 +7,10 @@ use Rattle.ps_table.proofs.writes.vm_fields.Given as goal
 
 -- what is still to be done from here ends where all of it does
 abbrev pub invariant-loop-word : goal.invariant-loop-word
-invariant-loop-word l =
+invariant-loop-word g l =
     (l.at ≡ l.place + l.word-index)
-    × (l.seat.table_id ≡ l.initial.seat.table_id)
-    × (l.words.shared.table_id.words ≡ table_size l.seat.me.0.vm.space)
+    × (g.W.Words.seats l.words l.seat × (g.W.Words.id l.words ≡ g.W.Words.id l.initial.words))
+    × ((g.W.Words.id l.words).words ≡ table_size l.seat.me.0.vm.space)
     × (l.seat.me.0.acts_vm ≡ true)
     × (l.seat.me.1 ≡ l.initial.seat.me.1)
     × ∥ VmRuns l.seat.me.0.vm ∥₁

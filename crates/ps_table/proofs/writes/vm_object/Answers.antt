@@ -6,7 +6,7 @@ use Rattle.ps_table.specs.Events.{did_all}
 use Rattle.ps_table.proofs.writes.vm_object.Goals as goal
 
 pub loop-making-preserved : goal.loop-making-preserved
-loop-making-preserved c =
+loop-making-preserved g c =
     let i = c.loop-making.invariant in
     let le = c.loop-making-test.true in
     let did = c.vm_clear.ensures.does.did in
@@ -14,7 +14,7 @@ loop-making-preserved c =
     ≡ suc (c.args.fields + 1 - (c.loop-making.making + 1)) = omega arith in
     let rest : ℕ → List Event = λ n. replicate n ClearStore ++ HeaderStore c.args.header ∷ [] in (
       omega arith,
-      c.vm_clear.ensures.same ∙ i.1,
+      (c.vm_clear.ensures.same.0, c.vm_clear.ensures.same.1 ∙ i.1.1),
       ap (λ m. m.0.acts_vm) did ∙ i.2,
       ap (λ m. m.1) did ∙ i.3,
       ∣ c.vm_clear.ensures.does.runs ∣₁,

@@ -6,9 +6,9 @@ use Rattle.ps_table.proofs.writes.vm_object.Given as goal
 
 -- so many words are cleared, and what is still to be done ends where all of it does
 abbrev pub invariant-loop-making : goal.invariant-loop-making
-invariant-loop-making l =
+invariant-loop-making g l =
     (l.making ≤ l.fields + 1)
-    × (l.seat.table_id ≡ l.initial.seat.table_id)
+    × (g.W.Words.seats l.words l.seat × (g.W.Words.id l.words ≡ g.W.Words.id l.initial.words))
     × (l.seat.me.0.acts_vm ≡ true)
     × (l.seat.me.1 ≡ l.initial.seat.me.1)
     × ∥ VmRuns l.seat.me.0.vm ∥₁
@@ -18,4 +18,4 @@ invariant-loop-making l =
     ≡ did_all l.initial.seat.me.0 (object_stores l.header l.fields))
 
 abbrev pub decreases-loop-making : goal.decreases-loop-making
-decreases-loop-making l = l.fields + 1 - l.making
+decreases-loop-making g l = l.fields + 1 - l.making

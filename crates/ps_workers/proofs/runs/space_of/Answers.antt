@@ -6,6 +6,6 @@ use Rattle.ps_workers.proofs.runs.space_of.Goals as goal
 
 pub returns : goal.returns
 unfolding empty_heap
-returns c =
+returns g c =
     IfOk-weaker c.new.result _ _ (λ space is.
     is ∙ ap empty_heap (sym (ap (λ (h : Heap). h.space) is))) c.new.ensures.heap

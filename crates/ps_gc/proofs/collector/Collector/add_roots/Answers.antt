@@ -11,7 +11,7 @@ use Rattle.ps_gc.proofs.Roots.{adds_on, opened_on, known_on, have_on, have_more,
 use Rattle.ps_gc.proofs.collector.Collector.add_roots.Goals as goal
 
 pub loop-root-init : goal.loop-root-init
-loop-root-init c = record {
+loop-root-init g c = record {
   known = c.requires.known;
   stand = refl;
   adds = adds_same c.args.self.now.gc.seat.me.0.gc;
@@ -20,7 +20,7 @@ loop-root-init c = record {
 }
 
 pub replicate-requires : goal.replicate-requires
-replicate-requires c =
+replicate-requires g c =
     let g = c.args.self.now.gc.seat.me.0.gc in
     let h = c.loop-root.self.gc.seat.me.0.gc in
     let i = c.loop-root.invariant in
@@ -33,7 +33,7 @@ replicate-requires c =
     }
 
 pub loop-root-preserved : goal.loop-root-preserved
-loop-root-preserved c =
+loop-root-preserved g c =
     let m = c.args.self.now.gc.seat.me.0 in
     let g = m.gc in
     let h = c.loop-root.self.gc.seat.me.0.gc in
@@ -60,7 +60,7 @@ loop-root-preserved c =
     }
 
 pub returns-clause-stand : goal.returns-clause-stand
-returns-clause-stand c =
+returns-clause-stand g c =
     let past = c.loop-root-test.false in
     let h = c.loop-root.self.gc.seat.me.0.gc in
     ap (λ l. values_have_replicas h.pairs (numbers l))

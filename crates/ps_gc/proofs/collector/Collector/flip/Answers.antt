@@ -1,4 +1,4 @@
-use Rattle.std.proofs.Common.{arith, ◌≡◌, ◌+◌, ◌*◌, ◌%◌, ◌<◌, ℕ, List, [], false, length, Some, sym, ap, ◌∙◌, subst, replicate}
+use Rattle.std.proofs.Common.{arith, ◌≡◌, ◌+◌, ◌*◌, ◌%◌, ◌<◌, ℕ, List, [], false, length, suc, refl, Some, sym, ap, ◌∙◌, subst, replicate}
 use Rattle.ps_word.specs.declared.words.Word.{Word}
 use Rattle.ps_core_parts.specs.declared.events.Event.TheVariants.{CycleStore}
 use Rattle.ps_core_parts.specs.declared.events.Gc.{Gc}
@@ -12,28 +12,30 @@ use Rattle.ps_parts_memory.specs.Stores.{numbers}
 use Rattle.ps_flips.specs.Flips.{AfterFlip, replica_at, as_words}
 use Rattle.ps_flips.specs.Moves.{IsMovedTo, HaveReplicas, moved_words}
 use Rattle.ps_flips.proofs.Moved.{renamed-words, have-replicas}
+use Rattle.ps_table.specs.Events.{root_looks}
 use Rattle.ps_table.proofs.Facts.{knows}
+use Rattle.ps_table.proofs.Kept.{keeps_vm}
 use Rattle.ps_gc.specs.Keeps.{Copies, CopiesAre, Takes}
 use Rattle.ps_gc.proofs.Flipping.{meets, flip_moves, flip_grants, turned, as_they_are, flip_steps, copies_none, takes_turned}
 use Rattle.ps_gc.proofs.collector.Collector.flip.Goals as goal
 
 pub store_cycle-requires-clause-meet : goal.store_cycle-requires-clause-meet
-store_cycle-requires-clause-meet c = meets _ _ c.requires.runs
+store_cycle-requires-clause-meet g c = meets _ _ c.requires.runs
 
 pub overflow_add-self : goal.overflow_add-self
-overflow_add-self c =
-    let v = c.args.vm.now.seat.me.0.vm in
-    let small = (knows v c.args.vm.now.sits.runs).cycles.small in
+overflow_add-self g c =
+    let v = c.args.self.now.gc.seat.me.0.vm in
+    let small = (knows v c.requires.sits.runs).cycles.small in
     let epoch = number_is v.epoch (v.cycle + 1) c.requires.open in
     let same = (meets v c.args.self.now.gc.seat.me.0.gc c.requires.runs).1 in
     let is = c.args.self.now.copies.cycle_is in
     omega arith
 
 pub invariant_of-self : goal.invariant_of-self
-invariant_of-self c =
+invariant_of-self g c =
     let s = c.args.self.now in
     let g = s.gc.seat.me.0.gc in
-    let v = c.args.vm.now.seat.me.0.vm in
+    let v = c.args.self.now.gc.seat.me.0.vm in
     let part = c.store_cycle.ensures.parts.1 in
     let low : ℕ = 8256 + (s.to.cycle % 2) * s.to.space in
     let epoch = number_is v.epoch (v.cycle + 1) c.requires.open in
@@ -67,13 +69,13 @@ invariant_of-self c =
     }
 
 pub returns-clause-moved : goal.returns-clause-moved
-returns-clause-moved c =
-    let v = c.args.vm.now.seat.me.0.vm in
+returns-clause-moved g c =
+    let v = c.args.self.now.gc.seat.me.0.vm in
     let g = c.args.self.now.gc.seat.me.0.gc in
     let roots = c.args.roots.now in
     let ready = c.requires.ready in
     let may : VmMay v (CycleStore (numbers roots)) =
-    (c.requires.open, ready.0.0.0, c.args.vm.now.sits.mirrors.settled) in
+    (c.requires.open, ready.0.0.0, c.requires.sits.mirrors.settled) in
     let gc_may : GcMay g (CycleStore (numbers roots)) =
     (c.args.self.now.idle.0, c.args.self.now.idle.1, ready.0.1, ready.1) in
     record {
@@ -90,13 +92,13 @@ returns-clause-moved c =
     }
 
 pub returns-clause-grants : goal.returns-clause-grants
-returns-clause-grants c =
-    let v = c.args.vm.now.seat.me.0.vm in
+returns-clause-grants g c =
+    let v = c.args.self.now.gc.seat.me.0.vm in
     let g = c.args.self.now.gc.seat.me.0.gc in
     let roots = c.args.roots.now in
     let ready = c.requires.ready in
     let may : VmMay v (CycleStore (numbers roots)) =
-    (c.requires.open, ready.0.0.0, c.args.vm.now.sits.mirrors.settled) in
+    (c.requires.open, ready.0.0.0, c.requires.sits.mirrors.settled) in
     let gc_may : GcMay g (CycleStore (numbers roots)) =
     (c.args.self.now.idle.0, c.args.self.now.idle.1, ready.0.1, ready.1) in
     subst (λ (x : Vm). AfterFlip (grants_of v) (grants_of x) (heap_of x))
@@ -104,10 +106,12 @@ returns-clause-grants c =
     (flip_grants v g (numbers roots) c.requires.runs may gc_may ready.0.0.1)
 
 pub returns-clause-steps : goal.returns-clause-steps
-returns-clause-steps c =
+returns-clause-steps g c =
     let did = c.store_cycle.ensures.did in
     let looks = flip_steps c.args.self.now.gc.seat.me.0 c.args.self.now.gc.seat.me.0.gc
     c.args.roots.now in
-    let vm = ap (λ m. length m.vm_events) did.vm_is in
-    let gc = ap (λ m. length m.gc_events) did.gc_is in
+    let m = c.args.self.now.gc.seat.me.0 in
+    let kept = keeps_vm m _ (root_looks m.gc (numbers c.args.roots.now)) refl in
+    let vm = ap (λ x. length x.vm_events) did ∙ ap (λ es. suc (length es)) kept.events in
+    let gc = ap (λ x. length x.gc_events) did in
     (omega arith, omega arith)

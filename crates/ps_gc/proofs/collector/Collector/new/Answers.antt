@@ -8,7 +8,7 @@ use Rattle.ps_gc.specs.Keeps.{Copies, Takes}
 use Rattle.ps_gc.proofs.collector.Collector.new.Goals as goal
 
 pub invariant_of-result : goal.invariant_of-result
-invariant_of-result c =
+invariant_of-result g c =
     let start = c.requires.start in
     let at : ℕ = 8256 + c.args.space in
     record {

@@ -11,12 +11,12 @@ use Rattle.ps_gc.proofs.Scanning.{all_at_end, not_all, field_unfilled, fields_to
 use Rattle.ps_gc.proofs.collector.Collector.scan_one.Goals as goal
 
 pub returns-then-self-clause-answer : goal.returns-then-self-clause-answer
-returns-then-self-clause-answer c =
+returns-then-self-clause-answer g c =
     let s = c.args.self.now in
     ap not (sym (all_at_end s.gc.seat.me.0.gc s.gc.runs s.to s.copies c.if-self.true))
 
 pub scan_on-requires-clause-is : goal.scan_on-requires-clause-is
-scan_on-requires-clause-is c = λ a p e here.
+scan_on-requires-clause-is g c = λ a p e here.
     let s = c.args.self.now in
     let pairing = c.scanned_pairing-pairing.ensures in
     let h : Gc = c.copy_field.new.gc.seat.me.0.gc in
@@ -35,12 +35,12 @@ scan_on-requires-clause-is c = λ a p e here.
     ∙ (q.2.count ∙ (sym told ∙ (ap fields_in pairing.is.3 ∙ sym c.fields_in.ensures)))
 
 pub returns-clause-answer : goal.returns-clause-answer
-returns-clause-answer c =
+returns-clause-answer g c =
     let s = c.args.self.now in
     ap not (sym (not_all s.gc.seat.me.0.gc s.gc.runs s.to s.copies s.field c.if-self.false))
 
 pub returns-clause-filled : goal.returns-clause-filled
-returns-clause-filled c = λ z.
+returns-clause-filled g c = λ z.
     let s = c.args.self.now in
     let g = s.gc.seat.me.0.gc in
     let pairing = c.scanned_pairing-pairing.ensures in
@@ -58,7 +58,7 @@ returns-clause-filled c = λ z.
     )
 
 pub returns-clause-did : goal.returns-clause-did
-returns-clause-did c =
+returns-clause-did g c =
     let m = c.args.self.now.gc.seat.me.0 in
     let one = c.scanned_pairing-pairing.ensures.did in
     let two = c.copy_field.ensures.did in

@@ -3,6 +3,6 @@ use Rattle.ps_mem.specs.Heap.{Grants}
 use Rattle.ps_gc.proofs.space.CollectedSpaceCollectedMemory.close_log.Goals as goal
 
 pub returns-clause-full : goal.returns-clause-full
-returns-clause-full c = λ full.
+returns-clause-full g c = λ full.
     let kept = c.close.ensures.kept full in
     (ap (λ (g : Grants). g.records c.args.slot) (sym kept) ∙ c.close.ensures.full full, kept)

@@ -7,7 +7,7 @@ use Rattle.ps_gc.proofs.Spaces.{taken_wide}
 use Rattle.ps_gc.proofs.space.CollectedSpaceCollectedMemory.counts.Goals as goal
 
 pub returns-clause-taken : goal.returns-clause-taken
-returns-clause-taken c =
+returns-clause-taken g c =
     let gc = c.args.self.now.collector.gc in
     let wide = taken_wide gc.seat.me.0.gc gc.runs in
     let past = c.loop-slot-test.false in

@@ -5,5 +5,5 @@ use Rattle.ps_gc.proofs.space.CollectedSpaceCollectedMemory.counts.Given as goal
 
 -- the sum of the slots before this one
 abbrev pub invariant-loop-slot : goal.invariant-loop-slot
-invariant-loop-slot l = l.taken
+invariant-loop-slot g l = l.taken
     ≡ min (sum_by length (take l.slot l.self.collector.gc.seat.me.0.gc.taken)) (2 ^ 64 - 1)

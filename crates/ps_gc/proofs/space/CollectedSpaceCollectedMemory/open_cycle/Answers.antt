@@ -5,8 +5,8 @@ use Rattle.ps_parts_memory.specs.Memory.{grants_of}
 use Rattle.ps_gc.proofs.space.CollectedSpaceCollectedMemory.open_cycle.Goals as goal
 
 pub returns-clause-grants : goal.returns-clause-grants
-returns-clause-grants c = λ yes.
-    let v = c.args.self.now.vm.seat.me.0.vm in
+returns-clause-grants g c = λ yes.
+    let v = c.args.self.now.collector.gc.seat.me.0.vm in
     let opened = c.open_cycle.ensures.grants c.if-not-open_cycle.false in
     subst (λ (g : Grants). AfterOpen (grants_of v) g) (sym c.hand.ensures.grants) (record {
       fresh = λ a. refl;

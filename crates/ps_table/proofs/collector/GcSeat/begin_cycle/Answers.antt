@@ -3,7 +3,7 @@ use Rattle.ps_table.proofs.GcFacts.{cycle_found, epoch_found, open_told}
 use Rattle.ps_table.proofs.collector.GcSeat.begin_cycle.Goals as goal
 
 pub returns-clause-answer : goal.returns-clause-answer
-returns-clause-answer c =
+returns-clause-answer g c =
     let g = c.args.self.now.seat.me.0.gc in
     let h = c.load-cycle.new.self.seat.me.0.gc in
     let cycle = cycle_found g c.load-cycle.result c.load-cycle.ensures.finds in

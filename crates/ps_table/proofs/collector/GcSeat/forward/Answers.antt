@@ -1,7 +1,7 @@
-use Rattle.std.proofs.Common.{rules, arith, ◌≡◌, ◌+◌, ◌*◌, ◌-◌, ℕ, sym, ap, ◌∙◌, subst}
+use Rattle.std.proofs.Common.{arith, ◌≡◌, ◌+◌, ◌*◌, ◌-◌, ℕ, sym, ap, ◌∙◌, subst}
 use Rattle.ps_core_parts.specs.declared.events.Event.TheVariants.{ForwardStore}
-use Rattle.ps_core_parts.specs.Steps.{table_size, forwarding}
-use Rattle.ps_table.proofs.Allows.{gc_store_allows, GcStep}
+use Rattle.ps_core_parts.specs.Steps.{forwarding}
+use Rattle.ps_table.proofs.Allows.{gc_store_allows, GcStep, gc_known}
 use Rattle.ps_table.proofs.GcMoves.{gc_forward_step}
 use Rattle.ps_table.proofs.GcFacts.{gc_knows, forward_inside, forward_small, address_back, packed_is}
 use Rattle.ps_word.specs.Headers.{forward_address_in}
@@ -9,7 +9,7 @@ use Rattle.ps_table.specs.Shown.{gc_did}
 use Rattle.ps_table.proofs.collector.GcSeat.forward.Goals as goal
 
 pub overflow_add-original : goal.overflow_add-original
-overflow_add-original c =
+overflow_add-original g c =
     let g = c.args.self.now.seat.me.0.gc in
     let a = c.args.original in
     let r = c.args.replica in
@@ -21,7 +21,7 @@ overflow_add-original c =
     omega arith
 
 pub overflow_mul-epoch : goal.overflow_mul-epoch
-overflow_mul-epoch c =
+overflow_mul-epoch g c =
     let g = c.args.self.now.seat.me.0.gc in
     let a = c.args.original in
     let r = c.args.replica in
@@ -33,7 +33,7 @@ overflow_mul-epoch c =
     omega arith
 
 pub overflow_add-epoch : goal.overflow_add-epoch
-overflow_add-epoch c =
+overflow_add-epoch g c =
     let g = c.args.self.now.seat.me.0.gc in
     let a = c.args.original in
     let r = c.args.replica in
@@ -45,10 +45,8 @@ overflow_add-epoch c =
     omega arith
 
 pub store-requires : goal.store-requires
-store-requires c =
-    let wide : c.deref.result.now.shared.table_id.words
-    ≡ table_size c.args.self.now.seat.me.0.gc.space = ap (λ t. t.shared.table_id.words)
-    c.deref.ensures ∙ c.args.self.now.wide in
+store-requires g c =
+    let wide = c.args.self.now.wide in
     let g = c.args.self.now.seat.me.0.gc in
     let a = c.args.original in
     let r = c.args.replica in
@@ -64,15 +62,17 @@ store-requires c =
     let there : a + 1 - 1 ≡ a = omega arith in
     let step : GcStep g (a + 1) (λ _. c.args.epoch * 16777216 + r) (λ _. ForwardStore a r) =
     gc_forward_step g a r _ c.requires.may word in (
-      search rules,
+      c.args.self.now.seated,
       omega arith,
-      gc_store_allows _ _ _ _ (a + 1) (c.args.epoch * 16777216 + r) _ c.args.self.now.acts
+      λ space slots id. gc_store_allows space slots id _ (a + 1) (c.args.epoch * 16777216 + r) _
+          c.args.self.now.acts
           (subst (λ (x : ℕ × ℕ). GcStep g (a + 1) (λ _. c.args.epoch * 16777216 + r)
           (λ _. ForwardStore x.0 x.1)) (λ k. (sym there k, sym back k)) step),
+      λ m t. gc_known _ c.args.self.now.seat.me _ t.did,
     )
 
 pub returns : goal.returns
-returns c =
+returns g c =
     let g = c.args.self.now.seat.me.0.gc in
     let a = c.args.original in
     let r = c.args.replica in
@@ -87,7 +87,7 @@ returns c =
     ∙ address_back g.epoch r e low in
     let there : a + 1 - 1 ≡ a = omega arith in
     record {
-      same = c.store.ensures.0;
-      did = ap (λ m. m.0) c.store.ensures.2.did
+      same = c.store.ensures.same.1;
+      did = ap (λ m. m.0) c.store.ensures.did.1.did
           ∙ (λ k. gc_did c.args.self.now.seat.me.0 (ForwardStore (there k) (back k)));
     }

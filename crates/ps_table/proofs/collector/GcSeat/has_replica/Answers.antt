@@ -1,4 +1,4 @@
-use Rattle.std.proofs.Common.{arith, ◌≡◌, ◌+◌, ℕ, true, false, sym, ap, ◌∙◌, subst}
+use Rattle.std.proofs.Common.{arith, ◌≡◌, ◌+◌, ℕ, true, false, sym, ◌∙◌, subst}
 use Rattle.ps_word.specs.Format.{address_in}
 use Rattle.ps_word.specs.Readers.{is_reference}
 use Rattle.ps_core_parts.specs.declared.events.Vm.{Vm}
@@ -19,71 +19,67 @@ told v g w n low at ref stands f = both_tell v g (address_in w) n
     (reference_stands v w ref stands) (subst (λ (z : ℕ). BothFind v g (z + 1) n) at f)
 
 pub look-second-requires-clause-inside : goal.look-second-requires-clause-inside
-look-second-requires-clause-inside c =
-    let s = c.args.vm.now in
-    let v = s.seat.me.0.vm in
+look-second-requires-clause-inside g c =
+    let v = c.args.self.now.seat.me.0.vm in
     let at = c.low_address.ensures in
     let ref : is_reference c.args.root.0 ≡ true =
     sym c.is_reference.ensures.number ∙ c.if-not-is_reference.false in
     let o = object_of v c.args.root.0 ref c.requires.stands in
-    let k = vm_facts v s.sits.runs in
+    let k = vm_facts v c.requires.sits.runs in
     let top = k.end_high in let wide = k.base_high in
     let inside = (k.within _ o.0 o.1).1 in
     omega arith
 
 pub look-second-requires-clause-stays : goal.look-second-requires-clause-stays
-look-second-requires-clause-stays c =
-    let s = c.args.vm.now in
-    let v = s.seat.me.0.vm in
+look-second-requires-clause-stays g c =
+    let v = c.args.self.now.seat.me.0.vm in
     let at = c.low_address.ensures in
     let ref : is_reference c.args.root.0 ≡ true =
     sym c.is_reference.ensures.number ∙ c.if-not-is_reference.false in
     let o = object_of v c.args.root.0 ref c.requires.stands in
-    let k = vm_facts v s.sits.runs in
+    let k = vm_facts v c.requires.sits.runs in
     let low = k.base_low in
     let inside = (k.within _ o.0 o.1).0 in
     stays v (c.low_address.result + 1) (behind_heads (c.low_address.result + 1) (omega arith))
 
-pub returns-then-vm-clause-answer : goal.returns-then-vm-clause-answer
-returns-then-vm-clause-answer c =
-    let v = c.args.vm.now.seat.me.0.vm in
-    let g = c.args.self.now.seat.me.0.gc in
+pub returns-then-mirror-clause-answer : goal.returns-then-mirror-clause-answer
+returns-then-mirror-clause-answer g c =
+    let v = c.args.self.now.seat.me.0.vm in
+    let part = c.args.self.now.seat.me.0.gc in
     let w = c.args.root.0 in
     let n = c.look-second.result in
     let ref : is_reference w ≡ true =
     sym c.is_reference.ensures.number ∙ c.if-not-is_reference.false in
-    let t = told v g w n c.low_address.result c.low_address.ensures ref c.requires.stands
-    c.look-second.ensures.finds in
-    let same = c.look-second.ensures.parts.0 in
-    let m = c.look-second.new.vm.sits.mirrors in
-    let opened : is_open v ≡ true = ap is_open (sym same) ∙ (sym m.open_is ∙ c.if-vm.true) in
+    let t = told v part w n c.low_address.result c.low_address.ensures ref c.requires.stands
+    c.look-second.ensures.looks.finds in
+    let m = c.requires.sits.mirrors in
+    let opened : is_open v ≡ true = sym m.open_is ∙ c.if-mirror.true in
     let read = read_some n c.in-Some.forward c.in-Some.ensures in
-    has_as_told v g w n ref t opened c.in-Some.forward.cycle c.look-second.new.vm.mirror.epoch
-    read.0 (m.epoch_is ∙ ap (λ (x : Vm). x.epoch) same)
+    has_as_told v part w n ref t opened c.in-Some.forward.cycle c.args.mirror.now.epoch
+    read.0 m.epoch_is
 
-pub returns-else-vm-clause-answer : goal.returns-else-vm-clause-answer
-returns-else-vm-clause-answer c =
-    let v = c.args.vm.now.seat.me.0.vm in
-    let g = c.args.self.now.seat.me.0.gc in
+pub returns-else-mirror-clause-answer : goal.returns-else-mirror-clause-answer
+returns-else-mirror-clause-answer g c =
+    let v = c.args.self.now.seat.me.0.vm in
+    let part = c.args.self.now.seat.me.0.gc in
     let w = c.args.root.0 in
     let n = c.look-second.result in
     let ref : is_reference w ≡ true =
     sym c.is_reference.ensures.number ∙ c.if-not-is_reference.false in
-    let t = told v g w n c.low_address.result c.low_address.ensures ref c.requires.stands
-    c.look-second.ensures.finds in
-    let same = c.look-second.ensures.parts.0 in
-    let m = c.look-second.new.vm.sits.mirrors in
-    let shut : is_open v ≡ false = ap is_open (sym same) ∙ (sym m.open_is ∙ c.if-vm.false) in
-    c.if-vm.false ∙ has_none v g w n ref t (t.shut shut)
+    let t = told v part w n c.low_address.result c.low_address.ensures ref c.requires.stands
+    c.look-second.ensures.looks.finds in
+    let m = c.requires.sits.mirrors in
+    let shut : is_open v ≡ false = sym m.open_is ∙ c.if-mirror.false in
+    c.if-mirror.false ∙ has_none v part w n ref t (t.shut shut)
 
 pub returns-in-None-clause-answer : goal.returns-in-None-clause-answer
-returns-in-None-clause-answer c =
-    let v = c.args.vm.now.seat.me.0.vm in
-    let g = c.args.self.now.seat.me.0.gc in
+returns-in-None-clause-answer g c =
+    let v = c.args.self.now.seat.me.0.vm in
+    let part = c.args.self.now.seat.me.0.gc in
     let w = c.args.root.0 in
     let n = c.look-second.result in
     let ref : is_reference w ≡ true =
     sym c.is_reference.ensures.number ∙ c.if-not-is_reference.false in
-    let t = told v g w n c.low_address.result c.low_address.ensures ref c.requires.stands
-    c.look-second.ensures.finds in
-    has_unread v g w n ref t (read_none n v.epoch t.small c.in-None.ensures)
+    let t = told v part w n c.low_address.result c.low_address.ensures ref c.requires.stands
+    c.look-second.ensures.looks.finds in
+    has_unread v part w n ref t (read_none n v.epoch t.small c.in-None.ensures)

@@ -4,8 +4,8 @@ use Rattle.ps_table.proofs.Facts.{words}
 use Rattle.ps_table.proofs.collector.GcSeat.meet.Goals as goal
 
 pub returns-clause-cycle : goal.returns-clause-cycle
-returns-clause-cycle c =
-    let v = c.args.vm.now.seat.me.0.vm in
-    let f = c.look.ensures.finds in
+returns-clause-cycle g c =
+    let v = c.args.self.now.seat.me.0.vm in
+    let f = c.look.ensures.looks.finds in
     sym f.found ∙ ((words v.space f.size f.events f.is_run).cycle
     ∙ ap (λ (x : Vm). x.cycle) f.vm_is)

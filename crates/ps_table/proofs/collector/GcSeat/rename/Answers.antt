@@ -28,7 +28,7 @@ one_more f xs ys i x new d lt below at is before =
     left ∙ ((λ j. before j ++ is j ∷ []) ∙ sym right)
 
 pub loop-root-preserved : goal.loop-root-preserved
-loop-root-preserved c =
+loop-root-preserved g c =
     let g = c.args.self.now.seat.me.0.gc in
     let m = c.args.self.now.seat.me.0 in
     let i = c.loop-root.root-index in

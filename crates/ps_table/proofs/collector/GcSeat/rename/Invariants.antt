@@ -6,9 +6,9 @@ use Rattle.ps_table.proofs.collector.GcSeat.rename.Given as goal
 
 -- the roots before this one are renamed, and what is still to be done ends where all of it does
 abbrev pub invariant-loop-root : goal.invariant-loop-root
-invariant-loop-root l =
+invariant-loop-root g l =
     (l.self.seat.me.0.gc ≡ l.fn.self.seat.me.0.gc)
-    × (l.self.seat.table_id ≡ l.fn.self.seat.table_id)
+    × (g.W.Words.id l.self.table ≡ g.W.Words.id l.fn.self.table)
     × (values_have_replicas l.fn.self.seat.me.0.gc.pairs (numbers (drop l.root-index l.roots))
     ≡ true)
     × (gc_did_all l.self.seat.me.0

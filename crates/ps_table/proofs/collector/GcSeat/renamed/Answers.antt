@@ -24,7 +24,7 @@ looked_root g w n low at ref has f =
     )
 
 pub load-second-requires : goal.load-second-requires
-load-second-requires c =
+load-second-requires g c =
     let s = c.args.self.now in
     let g = s.seat.me.0.gc in
     let at = c.low_address.ensures in
@@ -35,7 +35,7 @@ load-second-requires c =
     record { inside = omega arith }
 
 pub readdressed-requires : goal.readdressed-requires
-readdressed-requires c =
+readdressed-requires g c =
     let g = c.args.self.now.seat.me.0.gc in
     let ref : is_reference c.args.root.0 ≡ true =
     sym c.is_reference.ensures.number ∙ c.if-not-is_reference.false in
@@ -49,7 +49,7 @@ readdressed-requires c =
     omega arith
 
 pub returns-in-Some-clause-did : goal.returns-in-Some-clause-did
-returns-in-Some-clause-did c =
+returns-in-Some-clause-did g c =
     let g = c.args.self.now.seat.me.0.gc in
     let ref : is_reference c.args.root.0 ≡ true =
     sym c.is_reference.ensures.number ∙ c.if-not-is_reference.false in
@@ -62,7 +62,7 @@ returns-in-Some-clause-did c =
     ∙ ap (gc_did_all c.args.self.now.seat.me.0) (sym events))
 
 pub returns-in-Some-clause-part : goal.returns-in-Some-clause-part
-returns-in-Some-clause-part c =
+returns-in-Some-clause-part g c =
     let g = c.args.self.now.seat.me.0.gc in
     let ref : is_reference c.args.root.0 ≡ true =
     sym c.is_reference.ensures.number ∙ c.if-not-is_reference.false in
@@ -74,7 +74,7 @@ returns-in-Some-clause-part c =
     ∙ r.2.stays v)
 
 pub returns-in-Some-clause-renamed : goal.returns-in-Some-clause-renamed
-returns-in-Some-clause-renamed c =
+returns-in-Some-clause-renamed g c =
     let g = c.args.self.now.seat.me.0.gc in
     let w = c.args.root.0 in
     let ref : is_reference w ≡ true =
@@ -88,7 +88,7 @@ returns-in-Some-clause-renamed c =
     ∙ sym (renamed_to g w r.0 ref r.1))
 
 pub returns-in-None-clause-did : goal.returns-in-None-clause-did
-returns-in-None-clause-did c =
+returns-in-None-clause-did g c =
     let g = c.args.self.now.seat.me.0.gc in
     let ref : is_reference c.args.root.0 ≡ true =
     sym c.is_reference.ensures.number ∙ c.if-not-is_reference.false in
@@ -99,7 +99,7 @@ returns-in-None-clause-did c =
     c.in-None.ensures)
 
 pub returns-in-None-clause-part : goal.returns-in-None-clause-part
-returns-in-None-clause-part c =
+returns-in-None-clause-part g c =
     let g = c.args.self.now.seat.me.0.gc in
     let ref : is_reference c.args.root.0 ≡ true =
     sym c.is_reference.ensures.number ∙ c.if-not-is_reference.false in
@@ -110,7 +110,7 @@ returns-in-None-clause-part c =
     c.in-None.ensures)
 
 pub returns-in-None-clause-renamed : goal.returns-in-None-clause-renamed
-returns-in-None-clause-renamed c =
+returns-in-None-clause-renamed g c =
     let g = c.args.self.now.seat.me.0.gc in
     let ref : is_reference c.args.root.0 ≡ true =
     sym c.is_reference.ensures.number ∙ c.if-not-is_reference.false in

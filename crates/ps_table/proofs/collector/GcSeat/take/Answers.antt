@@ -1,19 +1,16 @@
-use Rattle.std.proofs.Common.{rules, arith, ◌≡◌, ℕ, sym, ap, ◌∙◌, subst}
+use Rattle.std.proofs.Common.{arith, ◌≡◌, ℕ, sym, ap, ◌∙◌, subst}
 use Rattle.ps_record.specs.Format.{ring_place}
 use Rattle.ps_core_parts.specs.declared.events.Event.TheVariants.{TakeLoad}
-use Rattle.ps_core_parts.specs.Steps.{table_size}
 use Rattle.ps_core_laws.proofs.Rings.{ring_in}
 use Rattle.ps_table.specs.Shown.{slot_at, gc_did, GcFinds}
-use Rattle.ps_table.proofs.Allows.{gc_allows, GcStep}
+use Rattle.ps_table.proofs.Allows.{gc_allows, GcStep, gc_known}
 use Rattle.ps_table.proofs.GcMoves.{gc_take_step}
 use Rattle.ps_table.proofs.Moves.{slot_of_place}
 use Rattle.ps_table.proofs.collector.GcSeat.take.Goals as goal
 
 pub load-requires : goal.load-requires
-load-requires c =
-    let wide : c.deref.result.now.shared.table_id.words
-    ≡ table_size c.args.self.now.seat.me.0.gc.space = ap (λ t. t.shared.table_id.words)
-    c.deref.ensures ∙ c.args.self.now.wide in
+load-requires g c =
+    let wide = c.args.self.now.wide in
     let g = c.args.self.now.seat.me.0.gc in
     let at = c.ring_place.ensures in
     let low = ring_in c.args.slot c.args.number c.requires.may.0 in
@@ -22,22 +19,24 @@ load-requires c =
     let step : GcStep g c.ring_place.result (λ n. n) (λ n. TakeLoad c.args.slot n) =
     gc_take_step g c.args.slot c.ring_place.result c.requires.may.0 c.requires.may.1
     (at ∙ ap (λ (k : ℕ). ring_place c.args.slot k) c.requires.next) in (
-      search rules,
+      c.args.self.now.seated,
       omega arith,
-      gc_allows _ _ _ _ c.ring_place.result (λ n. n) _ c.args.self.now.acts
+      λ space slots id. gc_allows space slots id _ c.ring_place.result (λ n. n) _
+          c.args.self.now.acts
           (subst (λ (t : ℕ). GcStep g c.ring_place.result (λ n. n) (λ n. TakeLoad t n))
           (sym slot) step),
+      λ n m t. gc_known _ c.args.self.now.seat.me _ t.did,
     )
 
 pub returns : goal.returns
-returns c =
+returns g c =
     let at = c.ring_place.ensures in
     let slot : slot_at c.ring_place.result ≡ c.args.slot =
     ap slot_at at ∙ slot_of_place c.args.slot c.args.number in
     record {
-      same = c.load.ensures.0;
-      did = ap (λ m. m.0) c.load.ensures.2.did
+      same = c.load.ensures.same.1;
+      did = ap (λ m. m.0) c.load.ensures.did.1.did
           ∙ ap (λ (t : ℕ). gc_did c.args.self.now.seat.me.0 (TakeLoad t c.load.result)) slot;
       finds = subst (λ (k : ℕ). GcFinds c.args.self.now.seat.me.0.gc k c.load.result) at
-          c.load.ensures.2.finds;
+          c.load.ensures.did.1.finds;
     }

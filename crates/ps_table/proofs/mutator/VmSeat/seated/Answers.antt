@@ -1,9 +1,8 @@
-use Rattle.std.proofs.Common.{sym, ap, ◌∙◌, subst, [], false, replicate}
+use Rattle.std.proofs.Common.{sym, ap, ◌∙◌, subst, []}
 use Rattle.ps_core_parts.specs.declared.events.Vm.{Vm}
 use Rattle.ps_core_parts.specs.Steps.{table_size}
 use Rattle.ps_table.specs.Mirrored.{Mirrors}
 use Rattle.ps_table.proofs.Allows.{vm_runs}
-use Rattle.ps_table.proofs.Mirrored.{mirrors_start}
 use Rattle.ps_table.proofs.mutator.VmSeat.seated.Goals as goal
 
 pub invariant_of-result : goal.invariant_of-result
@@ -14,17 +13,6 @@ invariant_of-result c = record {
     acts = c.requires.acts;
     empty = c.requires.empty;
     runs = ∣ vm_runs c.args.space [] _ c.requires.size tt (sym c.requires.part) ∣₁;
-    mirrors = subst (λ (v : Vm). Mirrors v (record {
-      space = c.args.space;
-      base = 8256;
-      end = 8256;
-      next_birth = 0;
-      fresh_from = 8256;
-      epoch = 0;
-      cycle_open = false;
-      logged = replicate 32 0;
-      heads = replicate 32 0;
-      shut = replicate 32 false;
-    })) (sym c.requires.part) (mirrors_start c.args.space);
+    mirrors = subst (λ (v : Vm). Mirrors v c.new.result) (sym c.requires.part) c.new.ensures;
   };
 }
