@@ -95,9 +95,9 @@ fn have_replicas<W: Words>(gc: &mut GcSeat<W>, mirror: &Mirror, roots: &[Word]) 
 }
 
 impl<W: Words> Collector<W> {
-    /// Hands roots over from the mutator's side of this seat, which has both: from then on the
-    /// collector knows whether a cycle is open, and in a cycle what they name. No object may be
-    /// filled then. What they name stands.
+    /// Hands roots over, by a seat that has both sides. From then on the collector knows whether a
+    /// cycle is open, and in a cycle what they name. No object may be filled then. What they name
+    /// stands.
     pub fn joined_hand_over(&mut self, mirror: &mut Mirror, roots: &[Word])
         requires sits { Sits (W.id self.old.gc.table).words self.old.gc.seat.me mirror.old }
         requires stand { values_stand self.old.gc.seat.me.0.vm.objects (numbers roots.now)
@@ -150,9 +150,9 @@ impl<W: Words> Collector<W> {
         self.taken.closed = [false; SLOTS as usize];
     }
 
-    /// Ends the open cycle by the flip, by a seat that has both sides, where all logs are closed
-    /// and drained, all fields filled and what the roots refer to has replicas; else answers the
-    /// first of these that doesn't hold.
+    /// Ends the open cycle by the flip, by a seat that has both sides. All logs must be closed and
+    /// drained, all fields filled, and what the roots refer to must have replicas. Else it answers
+    /// the first of these that doesn't hold.
     pub fn joined_try_flip(&mut self, mirror: &mut Mirror, roots: &mut [Word]) -> Flip
         requires sits { Sits (W.id self.old.gc.table).words self.old.gc.seat.me mirror.old }
         requires open { is_open self.old.gc.seat.me.0.vm ≡ true }

@@ -304,7 +304,7 @@ impl<W: Words> CollectedMemory for CollectedSpace<W> {
 
     /// As the memory's. One action of eight looks at a log, the others scan; where no field is left
     /// they look at logs too. False: each log was looked at in a row, nothing was found, and no
-    /// field is unfilled; or the collector knows of no open cycle.
+    /// field is unfilled. It is false too where the collector knows of no open cycle.
     fn work(&mut self, actions: u32) -> bool
         ensures heap { heap_of self.new.collector.gc.seat.me.0.vm
             ≡ heap_of self.old.collector.gc.seat.me.0.vm }

@@ -47,7 +47,7 @@ pub record KeepsGc (old new : View) : Type 0 where
   pub events : new.gc_events ≡ old.gc_events
   pub part : new.gc ≡ old.gc
 
--- the mutator's side is
+-- the mutator's side is as before
 pub record KeepsVm (old new : View) : Type 0 where
   pub acts : new.acts_vm ≡ old.acts_vm
   pub events : new.vm_events ≡ old.vm_events

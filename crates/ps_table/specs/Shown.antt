@@ -141,11 +141,6 @@ pub record AreJoined (vm gc vm_new gc_new : View) (e : Event) : Type 0 where
   pub vm_is : vm_new ≡ vm_side (both_did (both_sides vm gc) e)
   pub gc_is : gc_new ≡ gc_side (both_did (both_sides vm gc) e)
 
--- both seats joined, then a load by the mutator's, then apart again
-pub record HaveLooked (vm gc vm_new gc_new : View) (place word : ℕ) : Type 0 where
-  pub vm_is : vm_new ≡ vm_did (vm_side vm) (VmLoad place word)
-  pub gc_is : gc_new ≡ gc_side gc
-
 -- ---- what the collector's seat knows of its part: it is that of some run; and of a word that it
 -- found: it stood at that place in some run with that part
 

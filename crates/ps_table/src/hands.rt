@@ -14,9 +14,8 @@ use crate::words::Words;
 use ps_word::words::Word;
 
 impl<W: Words> GcSeat<W> {
-    /// Hands words over from the mutator's side to the collector's, which knows from then on what
-    /// they name, if a cycle is open, and knows the epoch. No object may be filled then. What they
-    /// name stands.
+    /// Hands words over to the collector's side, which knows the epoch from then on, and in an open
+    /// cycle what they name. No object may be filled then. What they name stands.
     pub fn hand_over(&mut self, mirror: &mut Mirror, roots: &[Word])
         requires sits { Sits (W.id self.old.table).words self.old.seat.me mirror.old }
         requires stand { values_stand self.old.seat.me.0.vm.objects (numbers roots.now) ≡ true }

@@ -91,7 +91,7 @@ impl Mirror {
     }
 
     /// How many cycles were flipped, by the cycle word; and by slot how many records of its log
-    /// were taken, by the heads: each as it is loaded in this call, in this order.
+    /// were taken, by the heads. Each is loaded in this call, in this order.
     pub fn counts<W: Words>(
         &mut self,
         words: &mut W,

@@ -1,6 +1,6 @@
-//! Tests that cross crates: the rows of the command line, runs under a schedule, files of
-//! schedules, and each write failing in turn; and the files and outputs in memory that they are run
-//! on.
+//! Tests that cross crates: the rows of the command line, runs under a schedule, a log that is
+//! closed between two steps, files of schedules, and each write failing in turn; and the files and
+//! outputs in memory that they are run on.
 #![tactic(auto)]
 
 #[cfg(test)]
@@ -10,6 +10,8 @@ mod driven;
 #[cfg(test)]
 mod explorations;
 pub mod fakes;
+#[cfg(test)]
+mod logs;
 #[cfg(test)]
 mod schedule_files;
 #[cfg(test)]

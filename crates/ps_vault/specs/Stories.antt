@@ -6,8 +6,8 @@ use Rattle.ps_language.specs.World.{World}
 use Rattle.ps_language.specs.Worlds.{world, IsProper}
 use Rattle.ps_world.specs.Held.{Held, IsAt, IsSteadyHeld}
 
--- the program, the steps that were made, how many entries find room, and the context whose call
--- waits, since it could not be made; and whether a cycle of the collector is open
+-- The program, the steps that were made, how many entries find room, and the context whose call
+-- waits, since it could not be made. Last, whether a cycle of the collector is open
 pub record Story : Type 0 where
   pub program : List ℕ
   pub schedule : List Entry
