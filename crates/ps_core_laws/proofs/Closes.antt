@@ -12,6 +12,7 @@ use Rattle.ps_core_parts.specs.declared.events.Vm.{Vm}
 use Rattle.ps_core_parts.specs.Objects.{among, log_of, with_field, closes, is_close}
 use Rattle.ps_core_parts.specs.Steps.{State, happens, field_stored}
 use Rattle.ps_core_parts.specs.Conditions.{Permitted, CanLog}
+use Rattle.ps_core_laws.specs.Kept.{ends_closed}
 use Rattle.ps_core_laws.specs.Runs.{run, IsRun, IsSpace}
 use Rattle.ps_core_laws.proofs.HeapTests.{bool_cases, at_number, eq_true, number_is}
 use Rattle.ps_core_laws.proofs.Rings.{log_of-same, log_of-other}
@@ -32,7 +33,10 @@ stored_only v a i w = elim (bool_cases (among v.fresh a)) [ inl t ↦ rw t refl 
 pub record Closes (logs : List (List Record)) (cycle epoch gc_cycle gc_epoch : ℕ) : Type 0 where
   pub low : (slot : ℕ) → slot < 32 → cycle ≤ closes (log_of logs slot)
   pub high : (slot : ℕ) → slot < 32 → closes (log_of logs slot) ≤ epoch
-  pub short : (slot : ℕ) → slot < 32 → length (log_of logs slot) ≤ 2 ^ 63
+  pub short : (slot : ℕ) → slot < 32
+      → length (log_of logs slot) ≤ 2 ^ 63 + closes (log_of logs slot)
+  pub shut : (slot : ℕ) → slot < 32 → cycle < epoch → closes (log_of logs slot) ≡ epoch
+      → ends_closed (log_of logs slot) ≡ true
   pub seen : gc_cycle ≤ gc_epoch
 
 abbrev pub ClosesOf : State → Type 0
@@ -48,6 +52,25 @@ below : (v : Vm) (slot : ℕ) (r : Record) → CanLog v slot r → closes (log_o
 below v slot (Place a first count) p h = omega arith
 below v slot Close p h = elim (ℕ_discrete (closes (log_of v.logs slot)) v.epoch)
     [ yes e ↦ absurd (p.not_closed e) | no ne ↦ omega arith ]
+
+-- a place is logged where there are fewer than may be, and a close always
+still_short : (v : Vm) (slot : ℕ) (r : Record) → CanLog v slot r
+    → length (log_of v.logs slot) ≤ 2 ^ 63 + closes (log_of v.logs slot)
+    → length (log_of v.logs slot) + 1
+    ≤ 2 ^ 63 + (closes (log_of v.logs slot) + cond (is_close r) 1 0)
+still_short v slot (Place a first count) p h = let few = p.short in omega arith
+still_short v slot Close p h = omega arith
+
+ends_push : (log : List Record) (r : Record) → ends_closed (log ++ r ∷ []) ≡ is_close r
+ends_push [] r = refl
+ends_push (x ∷ []) r = refl
+ends_push (x ∷ y ∷ rest) r = ends_push (y ∷ rest) r
+
+-- what closes a log is a close
+shut_by : (v : Vm) (slot : ℕ) (r : Record) → CanLog v slot r
+    → closes (log_of v.logs slot) + cond (is_close r) 1 0 ≡ v.epoch → is_close r ≡ true
+shut_by v slot (Place a first count) p h = absurd (p.not_closed (omega arith))
+shut_by v slot Close p h = refl
 
 module _ (space : ℕ) (s : State) (h : Good space s) (k : ClosesOf s) where
   logs_record : (slot : ℕ) (r : Record) → Permitted s (RecordStore slot r)
@@ -65,7 +88,7 @@ module _ (space : ℕ) (s : State) (h : Good space s) (k : ClosesOf s) where
       let longer = length-append log (r ∷ []) in
       let low = k.low slot in_range in
       let high = below s.vm slot r p.vm (k.high slot in_range) in
-      let short = p.vm.short in
+      let short = still_short s.vm slot r p.vm (k.short slot in_range) in
       record {
         low = λ t lt. elim (ℕ_discrete t slot) [
           | yes is ↦ subst (λ (z : ℕ). s.vm.cycle ≤ closes
@@ -83,9 +106,19 @@ module _ (space : ℕ) (s : State) (h : Good space s) (k : ClosesOf s) where
         ];
         short = λ t lt. elim (ℕ_discrete t slot) [
           | yes is ↦ subst (λ (z : ℕ). length (log_of (slice_set s.vm.logs slot (log ++ r ∷ [])) z)
-              ≤ 2 ^ 63) (sym is) (subst (λ (l : List Record). length l ≤ 2 ^ 63) (sym same)
-              (omega arith))
-          | no ne ↦ subst (λ (l : List Record). length l ≤ 2 ^ 63) (sym (other t ne)) (k.short t lt)
+              ≤ 2 ^ 63 + closes (log_of (slice_set s.vm.logs slot (log ++ r ∷ [])) z)) (sym is)
+              (subst (λ (l : List Record). length l ≤ 2 ^ 63 + closes l) (sym same) (omega arith))
+          | no ne ↦ subst (λ (l : List Record). length l ≤ 2 ^ 63 + closes l) (sym (other t ne))
+              (k.short t lt)
+        ];
+        shut = λ t lt opened. elim (ℕ_discrete t slot) [
+          | yes is ↦ subst (λ (z : ℕ).
+              closes (log_of (slice_set s.vm.logs slot (log ++ r ∷ [])) z) ≡ s.vm.epoch
+              → ends_closed (log_of (slice_set s.vm.logs slot (log ++ r ∷ [])) z) ≡ true) (sym is)
+              (subst (λ (l : List Record). closes l ≡ s.vm.epoch → ends_closed l ≡ true) (sym same)
+              (λ full. ends_push log r ∙ shut_by s.vm slot r p.vm (sym more ∙ full)))
+          | no ne ↦ subst (λ (l : List Record). closes l ≡ s.vm.epoch → ends_closed l ≡ true)
+              (sym (other t ne)) (k.shut t lt opened)
         ];
         seen = k.seen;
       }
@@ -96,6 +129,7 @@ module _ (space : ℕ) (s : State) (h : Good space s) (k : ClosesOf s) where
     low = k.low;
     high = k.high;
     short = k.short;
+    shut = k.shut;
     seen = elim (at_number 1 place) [
       | inl is ↦
           let t : nat_eq place 1 ≡ true = eq_true place 1 is in
@@ -119,6 +153,7 @@ module _ (space : ℕ) (s : State) (h : Good space s) (k : ClosesOf s) where
     low = k.low;
     high = k.high;
     short = k.short;
+    shut = k.shut;
     seen = let c = h.counted.cycles in
         elim h.counted.epochs as (λ _. s.gc.cycle ≤ s.vm.epoch)
         [ inl e ↦ omega arith | inr e ↦ omega arith ];
@@ -134,6 +169,7 @@ module _ (space : ℕ) (s : State) (h : Good space s) (k : ClosesOf s) where
     high = λ slot lt. let x = k.high slot lt in omega arith;
     short =
         k.short;
+    shut = λ slot lt opened full. let x = k.high slot lt in absurd (omega arith);
     seen = k.seen;
   }
   keeps (ReplicaHeaderStore place w) p = k
@@ -148,6 +184,7 @@ module _ (space : ℕ) (s : State) (h : Good space s) (k : ClosesOf s) where
         high = k.high;
         short =
             k.short;
+        shut = λ slot lt still full. absurd (omega arith);
         seen = omega arith;
       }
 
@@ -160,7 +197,8 @@ closes_kept space size [] h = record {
       subst (λ (l : List Record). closes l ≤ 0) (sym e) (omega arith);
   short = λ slot lt. let e : log_of (replicate 32 []) slot ≡ [] =
       get_or-replicate 32 slot [] [] lt in
-      subst (λ (l : List Record). length l ≤ 2 ^ 63) (sym e) (omega arith);
+      subst (λ (l : List Record). length l ≤ 2 ^ 63 + closes l) (sym e) (omega arith);
+  shut = λ slot lt opened. absurd (omega arith);
   seen = omega arith;
 }
 closes_kept space size (e ∷ es) h =

@@ -185,7 +185,7 @@ module _ (space : ℕ) (s : State) (h : Good space s) where
   take_loads_at slot word None lt idle is e = subst (λ (t : Option Half). HeapGood (view (record s { gc = record s.gc { taking = t } }))) idle h.heap
   take_loads_at slot word (Some r) lt idle is e =
       let k : ℕ = length (log_of s.gc.taken slot) in
-      let next : slice_get (log_of s.vm.logs slot) k ≡ Some r = found s.words s.vm.heads s.vm.logs s.gc.taken s.gc.taking slot word r h.rings h.logs lt is e in
+      let next : slice_get (log_of s.vm.logs slot) k ≡ Some r = found s.words s.vm.heads s.vm.logs s.gc.taken s.gc.taking slot word h.rings h.logs lt is r e in
       let none : (t : ℕ) → half_of s.gc.taking t ≡ 0 = λ t. ap (λ (x : Option Half). half_of x t) idle in
       let begins : ahead_of s slot ≡ r ∷ drop (suc k) (log_of s.vm.logs slot) =
       ap (λ (n : ℕ). drop n (log_of s.vm.logs slot)) (let z = none slot in let e : k + half_of s.gc.taking slot ≡ k = omega arith in e) ∙ drop_get (log_of s.vm.logs slot) k r next in
@@ -206,7 +206,7 @@ module _ (space : ℕ) (s : State) (h : Good space s) where
     control = h.control;
     rings = h.rings;
     logs = logs_taking s.vm.heads s.vm.logs s.gc.taken s.gc.taking slot (read_record (length (log_of s.gc.taken slot)) word) h.logs p.gc.0
-        (λ r e. found s.words s.vm.heads s.vm.logs s.gc.taken s.gc.taking slot word r h.rings h.logs p.gc.0 p.both e);
+        (found s.words s.vm.heads s.vm.logs s.gc.taken s.gc.taking slot word h.rings h.logs p.gc.0 p.both);
     current = h.current;
     other = h.other;
     births = h.births;

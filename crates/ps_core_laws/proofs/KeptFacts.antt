@@ -92,7 +92,8 @@ module _ (space : ℕ) (size : IsSpace space) (s : State) (h : Good space s) whe
           ap length begins.1 in let l = length-append (log_of s.gc.taken slot) begins.0 in
           omega arith;
       room = h.logs.room slot lt;
-      short = k.short slot lt;
+      short = let short = k.short slot lt in let high = k.high slot lt in omega arith;
+      shut = k.shut slot lt;
       flipped = k.low slot lt;
       opened = k.high slot lt;
       records = λ n r e. h.logs.fits slot n r lt e;

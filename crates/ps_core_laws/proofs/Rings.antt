@@ -64,7 +64,7 @@ next_lap s k = omega arith
 laps_differ : (k : ℕ) → lap_of k ≢ lap_of (k + 256)
 laps_differ k e = omega arith
 
-lap_of-packed : (k : ℕ) (r : Record) → IsRecord r → lap_in (packed k r) ≡ lap_of k
+pub lap_of-packed : (k : ℕ) (r : Record) → IsRecord r → lap_in (packed k r) ≡ lap_of k
 lap_of-packed k (Place a f c) h = let x = h.0 in let y = h.1 in let z = h.2 in omega arith
 lap_of-packed k Close h = omega arith
 

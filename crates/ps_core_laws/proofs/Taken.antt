@@ -2,6 +2,7 @@
 use Rattle.std.proofs.Common.{◌≡◌, ◌≢◌, ℕ, ◌+◌, ◌-◌, ◌<◌, ◌≤◌, List, [], ◌∷◌, ◌++◌, length, Some, None, Option, refl, sym, ap, ◌∙◌, inl, inr, subst, arith, length-set, length-append, true, false, nat_eq}
 use Rattle.std.proofs.lemmas.List.{get_or-set_same, get_or-set_other}
 use Rattle.std.proofs.lemmas.Bool.Decides.{nat_tests}
+use Rattle.std.proofs.lemmas.Option.{slice_get_past}
 use Rattle.std.specs.Prelude.{slice_get, slice_index, slice_set, nat_le, nat_lt, ◌&&◌}
 use native.Mathlib.Decide.{ℕ_discrete, dec_lt}
 use Rattle.ps_record.specs.declared.Record.{Record}
@@ -12,7 +13,7 @@ use Rattle.ps_core_laws.specs.Laws.{IsBeginningOf}
 use Rattle.ps_core_parts.specs.Steps.{heads_after, taken_up}
 use Rattle.ps_core_laws.proofs.Lists.{next, get_some}
 use Rattle.ps_core_laws.proofs.HeapTests.{bool_cases, and_parts, le_is, lt_is}
-use Rattle.ps_core_laws.proofs.Rings.{ControlIs, IsTaking, LogsAre, RingsAre, log_of-other, log_of-same, off_word, record_in-packed}
+use Rattle.ps_core_laws.proofs.Rings.{ControlIs, IsTaking, LogsAre, RingsAre, lap_of-packed, log_of-other, log_of-same, off_word, record_in-packed}
 
 -- ---- a head is loaded
 
@@ -61,41 +62,41 @@ logs_seen ws space cycle epoch place word heads logs taken taking control h foun
 
 -- ---- a record is being taken
 
-read_some : (k n : ℕ) (r : Record) → read_record k n ≡ Some r → (lap_in n ≡ lap_of k)
-    × (record_in n ≡ r)
-read_some k n r e = elim (ℕ_discrete (lap_in n) (lap_of k)) [
-  | yes is ↦ (
-    is,
-    let t : nat_eq (lap_in n) (lap_of k) ≡ true = grind (arith, nat_tests) in let e' =
-        rw t at e in cc,
-  )
-  | no not ↦ let t : nat_eq (lap_in n) (lap_of k) ≡ false = grind (arith, nat_tests) in let e' =
-      rw t at e in absurd (cc)
-]
-
 begins_length : (xs ys : List Record) → IsBeginningOf xs ys → length xs ≤ length ys
 begins_length xs ys p = omega (arith, ap length p.1, length-append xs p.0)
 
--- where the lap bit of the word at the next record's ring place fits, that word is the next record
-pub found : (ws : List ℕ) (heads : List ℕ) (logs taken : List (List Record)) (taking : Option Half)
-    (slot n : ℕ) (r : Record) → RingsAre ws logs → LogsAre heads logs taken taking → slot < 32
-    → slice_index ws (ring_place slot (length (log_of taken slot))) ≡ n
-    → read_record (length (log_of taken slot)) n ≡ Some r
-    → slice_get (log_of logs slot) (length (log_of taken slot)) ≡ Some r
-found ws heads logs taken taking slot n r rings h lt at e =
-    let k : ℕ = length (log_of taken slot) in
-    let is = read_some k n r e in
-    let within = begins_length (log_of taken slot) (log_of logs slot) (h.begins slot lt) in
-    let near = h.room slot lt in
-    let seen = h.seen slot lt in
-    elim (dec_lt k (length (log_of logs slot))) [
-      | yes lt' ↦ let there = get_some (log_of logs slot) k lt' in
-          let word = rings.written slot k there.0 lt there.1 (omega arith) in
-          let same : record_in n ≡ there.0 = ap record_in (sym at ∙ word)
-          ∙ record_in-packed k there.0 (h.fits slot k there.0 lt there.1) in
-          there.1 ∙ ap Some (sym same ∙ is.1)
-      | no ge ↦ absurd (rings.unwritten slot k lt (omega arith) (omega arith) (ap lap_in at ∙ is.0))
-    ]
+module _ (ws heads : List ℕ) (logs taken : List (List Record)) (taking : Option Half)
+    (slot n : ℕ) (rings : RingsAre ws logs) (h : LogsAre heads logs taken taking) (lt : slot < 32)
+    (at : slice_index ws (ring_place slot (length (log_of taken slot))) ≡ n) where
+  -- the word at the next record's ring place reads as that record, and as none where there is none
+  pub next_read : read_record (length (log_of taken slot)) n
+      ≡ slice_get (log_of logs slot) (length (log_of taken slot))
+  next_read =
+      let k : ℕ = length (log_of taken slot) in
+      let within = begins_length (log_of taken slot) (log_of logs slot) (h.begins slot lt) in
+      let near = h.room slot lt in
+      let seen = h.seen slot lt in
+      elim (dec_lt k (length (log_of logs slot))) [
+        | yes lt' ↦ let there = get_some (log_of logs slot) k lt' in
+            let word = rings.written slot k there.0 lt there.1 (omega arith) in
+            let fits = h.fits slot k there.0 lt there.1 in
+            let lap : lap_in n ≡ lap_of k = ap lap_in (sym at ∙ word)
+            ∙ lap_of-packed k there.0 fits in
+            let same : record_in n ≡ there.0 = ap record_in (sym at ∙ word)
+            ∙ record_in-packed k there.0 fits in
+            let t : nat_eq (lap_in n) (lap_of k) ≡ true = grind (arith, nat_tests) in
+            rw t (ap Some same ∙ sym there.1)
+        | no ge ↦
+            let off : lap_in n ≢ lap_of k =
+            λ is. rings.unwritten slot k lt (omega arith) (omega arith) (ap lap_in at ∙ is) in
+            let f : nat_eq (lap_in n) (lap_of k) ≡ false = grind (arith, nat_tests) in
+            rw f (sym (slice_get_past (log_of logs slot) k (omega arith)))
+      ]
+
+  -- where the lap bit fits, that word is the next record
+  pub found : (r : Record) → read_record (length (log_of taken slot)) n ≡ Some r
+      → slice_get (log_of logs slot) (length (log_of taken slot)) ≡ Some r
+  found r e = sym next_read ∙ e
 
 pub logs_taking : (heads : List ℕ) (logs taken : List (List Record)) (taking : Option Half)
     (slot : ℕ) (o : Option Record) → LogsAre heads logs taken taking → slot < 32

@@ -1,5 +1,5 @@
 -- What each seat knows of its own part, whatever the other did meanwhile, and what ties the parts.
-use Rattle.std.specs.Prelude.{◌≡◌, ◌≢◌, ℕ, ◌+◌, ◌<◌, ◌≤◌, ◌==◌, true, false, List, length, Some, None, MatchBool, MatchOption, slice_get, slice_index}
+use Rattle.std.specs.Prelude.{◌≡◌, ◌≢◌, ℕ, ◌+◌, ◌<◌, ◌≤◌, ◌==◌, Bool, true, false, List, [], ◌∷◌, length, Some, None, MatchBool, MatchOption, slice_get, slice_index}
 use Rattle.ps_word.specs.Headers.{kind_in, birth_in, birth_limit, cycle_limit}
 use Rattle.ps_record.specs.declared.Record.{Record}
 use Rattle.ps_record.specs.Format.{slots, ring_length, ring_place, lap_in, lap_of, IsRecord, log_limit}
@@ -8,7 +8,7 @@ use Rattle.ps_core_parts.specs.declared.events.Carried.{Carried}
 use Rattle.ps_core_parts.specs.declared.events.Half.{Half}
 use Rattle.ps_core_parts.specs.declared.events.Vm.{Vm}
 use Rattle.ps_core_parts.specs.declared.events.Gc.{Gc}
-use Rattle.ps_core_parts.specs.Objects.{among, object_at, seen_at, log_of, closes}
+use Rattle.ps_core_parts.specs.Objects.{among, object_at, seen_at, log_of, closes, is_close}
 use Rattle.ps_core_parts.specs.Steps.{State, is_open, space_base}
 use Rattle.ps_core_parts.specs.Conditions.{IsPairField}
 use Rattle.ps_core_laws.specs.Runs.{IsSpace}
@@ -41,14 +41,23 @@ abbrev pub IsNumbered : State → ℕ → Type 0
 IsNumbered s header = MatchBool (kind_in header == 11)
     (HasDictionary s.vm.objects (birth_in header)) (birth_in header ≡ s.vm.next_birth)
 
+-- the last record is a close
+abbrev pub ends_closed : List Record → Bool
+ends_closed [] = false
+ends_closed (r ∷ []) = is_close r
+ends_closed (r ∷ s ∷ rest) = ends_closed (s ∷ rest)
+
 -- the slot's log: the head last loaded is within it and at most a ring behind; it was closed
--- in each cycle that was flipped, at most once in the open one; its records are of the format
+-- in each cycle that was flipped, at most once in the open one, and ends then with that close; of
+-- places it has at most as many as may be; its records are of the format
 pub record LogKept (v : Vm) (slot : ℕ) : Type 0 where
   pub seen : slice_index v.heads slot ≤ length (log_of v.logs slot)
   pub room : length (log_of v.logs slot) ≤ slice_index v.heads slot + ring_length
-  pub short : length (log_of v.logs slot) ≤ log_limit
+  pub short : length (log_of v.logs slot) ≤ log_limit + v.epoch
   pub flipped : v.cycle ≤ closes (log_of v.logs slot)
   pub opened : closes (log_of v.logs slot) ≤ v.epoch
+  pub shut : v.cycle < v.epoch → closes (log_of v.logs slot) ≡ v.epoch
+      → ends_closed (log_of v.logs slot) ≡ true
   pub records : (k : ℕ) (r : Record) → slice_get (log_of v.logs slot) k ≡ Some r → IsRecord r
 
 pub record LogsKept (v : Vm) : Type 0 where

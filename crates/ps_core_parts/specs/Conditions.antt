@@ -57,9 +57,11 @@ IsNamed written Close = Unit {0}
 abbrev pub HasRoom : Vm → ℕ → Type 0
 HasRoom v slot = length (log_of v.logs slot) < slice_index v.heads slot + ring_length
 
--- the slot's log may get one record more
-abbrev pub HasNumber : Vm → ℕ → Type 0
-HasNumber v slot = length (log_of v.logs slot) < log_limit
+-- the slot's log may get the record: no further place where there are as many as may be. A close is
+-- never too many, since a log gets one a cycle
+abbrev pub HasNumber : Vm → ℕ → Record → Type 0
+HasNumber v slot (Place a first count) = length (log_of v.logs slot) < log_limit
+HasNumber v slot Close = Unit {0}
 
 -- in an open cycle a log that isn't closed gets a record
 pub record CanLog (v : Vm) (slot : ℕ) (r : Record) : Type 0 where
@@ -67,7 +69,7 @@ pub record CanLog (v : Vm) (slot : ℕ) (r : Record) : Type 0 where
   pub opened : is_open v ≡ true
   pub not_closed : closes (log_of v.logs slot) ≢ v.epoch
   pub room : HasRoom v slot
-  pub short : HasNumber v slot
+  pub short : HasNumber v slot r
   pub fits : IsRecord r
   pub written : IsNamed v.written r
 

@@ -132,11 +132,11 @@ impl Mutator {
         length < RING || length - RING < load(self.heads.as_slice(), slot)
     }
 
-    /// Whether the slot's log may get one record more.
-    fn has_number(&self, slot: u64) -> bool
-        ensures { Decides result (HasNumber self.now slot) }
+    /// Whether the slot's log may get the record, by how many it has; a close it always may.
+    fn has_number(&self, slot: u64, logged: Record) -> bool
+        ensures { Decides result (HasNumber self.now slot logged) }
     {
-        self.log_length(slot) < LOG_LIMIT
+        logged == Record::Close || self.log_length(slot) < LOG_LIMIT
     }
 
     fn all_closed(&self) -> bool
@@ -202,7 +202,7 @@ impl Mutator {
             && self.is_open()
             && !self.is_closed(slot)
             && self.has_room(slot)
-            && self.has_number(slot)
+            && self.has_number(slot, logged)
             && fits(logged)
             && names_written(self.written, logged)
     }

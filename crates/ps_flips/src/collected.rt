@@ -45,7 +45,7 @@ pub trait CollectedMemory: Memory {
         ensures grants { Self.grants self.new ≡ Self.grants self.old };
 
     /// In an open cycle: closes the log of a slot until the cycle ends. It gets a close, and no
-    /// object may be filled then; a closed log stays as it is. `LogFull`: no record has a free
+    /// object may be filled then; a closed log stays as it is. `LogFull`: its ring has no free
     /// place, and nothing has changed.
     fn close_log(&mut self, slot: u32) -> Closing
         requires slot { slot < SLOTS }
@@ -59,10 +59,10 @@ pub trait CollectedMemory: Memory {
             × (Self.grants self.new ≡ Self.grants self.old) };
 
     /// Ends the open cycle: all logs are closed and drained, the roots are copied, and the spaces
-    /// are exchanged. False: no cycle is open, or it could not end and is open still; nothing has
-    /// moved.
+    /// are exchanged. False: no cycle is open, and nothing has moved.
     fn end_cycle(&mut self, roots: &mut [Word]) -> bool
         requires values { AreValues (Self.heap self.old) roots.old }
+        ensures ended { result ≡ (Self.grants self.old).cycle_open }
         ensures moved { result ≡ true
             → IsCollected (Self.heap self.old) (Self.heap self.new) roots.old roots.new }
         ensures quiet { result ≡ true → IsQuiet (Self.grants self.new) }

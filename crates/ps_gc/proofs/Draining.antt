@@ -149,18 +149,19 @@ done_bare g h a f n none taking what zero bare =
 -- ---- one record more is taken
 
 short_in : (s : State) → Lawful s → (slot : ℕ) → slot < 32
-    → length (log_of s.gc.taken slot) ≤ 2 ^ 63
+    → length (log_of s.gc.taken slot) < 2 ^ 63 + 2 ^ 32
 short_in s k slot lt =
     let begins = k.taken slot lt in
     let e = ap length begins.1 in
     let l = length-append (log_of s.gc.taken slot) begins.0 in
     let short = (k.kept.mutator.logs.each slot lt).short in
+    let small = k.kept.mutator.cycles.small in
     omega arith
 
 pub taken_short : (g : Gc) → ∥ GcRuns g ∥₁ → (slot : ℕ) → slot < 32
-    → (length (log_of g.taken slot) ≤ 2 ^ 63) × (length g.taken ≡ 32)
+    → (length (log_of g.taken slot) < 2 ^ 63 + 2 ^ 32) × (length g.taken ≡ 32)
 taken_short g t slot lt = ∥∥₁_elim t (hlevel props) (λ r.
-    subst (λ (x : Gc). (length (log_of x.taken slot) ≤ 2 ^ 63) × (length x.taken ≡ 32)) r.is
+    subst (λ (x : Gc). (length (log_of x.taken slot) < 2 ^ 63 + 2 ^ 32) × (length x.taken ≡ 32)) r.is
     (let k = lawful g.space r.size r.events r.is_run in
     (short_in (run g.space r.events) k slot lt, k.kept.collector.taken)))
 

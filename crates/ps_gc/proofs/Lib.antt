@@ -1,5 +1,6 @@
 pub mod Copying
 pub mod Draining
+pub mod Ending
 pub mod Fits
 pub mod Flipping
 pub mod Named

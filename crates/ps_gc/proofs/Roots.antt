@@ -10,6 +10,7 @@ use Rattle.ps_core_parts.specs.Objects.{among, pair_of, value_has_replica, value
 use Rattle.ps_core_parts.specs.Steps.{knows_open}
 use Rattle.ps_core_laws.proofs.HeapTests.{bool_cases, and_parts, and_both}
 use Rattle.ps_parts_memory.specs.Stores.{number_of, numbers}
+use Rattle.ps_gc.specs.Ending.{KeepsReplicas}
 use Rattle.ps_gc.specs.Events.{Adds, IsKnown, AreKnown}
 
 pub adds_on : (f g h : Gc) → Adds f g → Adds g h → Adds f h
@@ -27,28 +28,37 @@ adds_on f g h x y = record {
 pub opened_on : (g h : Gc) → Adds g h → knows_open g ≡ true → knows_open h ≡ true
 opened_on g h x e = (λ j. knows_open (record g { epoch = x.epoch j; cycle = x.cycle j })) ∙ e
 
+-- what had a replica still has one
+still_has : (ps qs : List Pair) → KeepsReplicas ps qs → (w : ℕ)
+    → value_has_replica ps w ≡ true → value_has_replica qs w ≡ true
+still_has ps qs keeps w has = elim (bool_cases (is_reference w)) [
+  | inr f ↦ rw f refl
+  | inl t ↦ (let some = rw t at has in rw t (keeps (address_in w) some))
+]
+
+pub still_have : (ps qs : List Pair) → KeepsReplicas ps qs → (ws : List ℕ)
+    → values_have_replicas ps ws ≡ true → values_have_replicas qs ws ≡ true
+still_have ps qs keeps [] all = refl
+still_have ps qs keeps (w ∷ ws) all =
+    let p = and_parts (value_has_replica ps w) (values_have_replicas ps ws) all in
+    and_both (value_has_replica qs w) (values_have_replicas qs ws) (still_has ps qs keeps w p.0)
+    (still_have ps qs keeps ws p.1)
+
 module _ (g h : Gc) (x : Adds g h) where
   pub known_on : (w : ℕ) → IsKnown g w → IsKnown h w
   known_on w k ref = ap (λ (l : List ℕ). among l (address_in w)) x.known ∙ k ref
 
-  has_on : (w : ℕ) → value_has_replica g.pairs w ≡ true → value_has_replica h.pairs w ≡ true
-  has_on w has = elim (bool_cases (is_reference w)) [
-    | inr f ↦ rw f refl
-    | inl t ↦ (let some = rw t at has in rw t (go (pair_of g.pairs (address_in w)) refl some))
-  ]
+  adds_keep : KeepsReplicas g.pairs h.pairs
+  adds_keep a some = go (pair_of g.pairs a) refl some
     where
-      go : (o : Option Pair) → pair_of g.pairs (address_in w) ≡ o → is_some o ≡ true
-          → is_some (pair_of h.pairs (address_in w)) ≡ true
+      go : (o : Option Pair) → pair_of g.pairs a ≡ o → is_some o ≡ true
+          → is_some (pair_of h.pairs a) ≡ true
       go None e bad = absurd (let b : false ≡ true = bad in cc)
-      go (Some p) e found = ap is_some (x.pairs (address_in w) p e)
+      go (Some p) e found = ap is_some (x.pairs a p e)
 
   pub have_on : (ws : List ℕ) → values_have_replicas g.pairs ws ≡ true
       → values_have_replicas h.pairs ws ≡ true
-  have_on [] all = refl
-  have_on (w ∷ ws) all =
-      let p = and_parts (value_has_replica g.pairs w) (values_have_replicas g.pairs ws) all in
-      and_both (value_has_replica h.pairs w) (values_have_replicas h.pairs ws) (has_on w p.0)
-      (have_on ws p.1)
+  have_on = still_have g.pairs h.pairs adds_keep
 
 have_push : (ps : List Pair) (ws : List ℕ) (w : ℕ) → values_have_replicas ps ws ≡ true
     → value_has_replica ps w ≡ true → values_have_replicas ps (ws ++ w ∷ []) ≡ true

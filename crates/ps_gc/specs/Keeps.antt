@@ -1,5 +1,5 @@
 -- What the collector keeps of its part in numbers.
-use Rattle.std.specs.Prelude.{◌≡◌, ◌≢◌, ℕ, ◌+◌, ◌-◌, ◌<◌, ◌≤◌, ◌++◌, Bool, true, false, nat_lt, nat_eq, List, length, replicate, Some, is_some, slice_index, slice_index_or, if◌then◌else◌}
+use Rattle.std.specs.Prelude.{◌≡◌, ◌≢◌, ℕ, ◌+◌, ◌-◌, ◌^◌, ◌<◌, ◌≤◌, ◌++◌, Bool, true, false, nat_lt, nat_eq, List, length, replicate, Some, is_some, slice_index, slice_index_or, if◌then◌else◌}
 use Rattle.std.specs.List.{sum_by}
 use Rattle.ps_record.specs.declared.Record.{Record}
 use Rattle.ps_record.specs.Format.{slots}
@@ -44,6 +44,11 @@ pub record Stays (t u : ToSpace) : Type 0 where
   pub at : t.at ≢ t.end → u.at ≡ t.at
   pub field : u.field ≡ t.field
   pub end : t.end ≤ u.end
+
+-- the scan's place moves on, and was within the table, so that scanning comes to an end
+pub record GoesOnward (t u : ToSpace) : Type 0 where
+  pub on : t.at + t.field < u.at + u.field
+  pub inside : t.at + t.field < 2 ^ 24
 
 -- the scan goes past a replica without fields that is made at its place
 pub record GoesOn (t u : ToSpace) (count : ℕ) : Type 0 where

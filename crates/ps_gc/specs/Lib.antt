@@ -1,3 +1,4 @@
+pub mod Ending
 pub mod Events
 pub mod Flipping
 pub mod Keeps

@@ -14,7 +14,8 @@ ghost use Rattle.ps_table.specs.Events.{gc_did_all};
 ghost use Rattle.ps_table.specs.Shown.{gc_did};
 ghost use Rattle.ps_gc.specs.Events.{word_replicated, Adds, IsKnown, AreKnown, Copied, DrainedOf, is_drained, FindsNothing};
 ghost use Rattle.ps_record.specs.declared.Record.{Record};
-ghost use Rattle.ps_gc.specs.Keeps.{Copies, IsAtField, Takes};
+ghost use Rattle.ps_gc.specs.Ending.{FindsNext, Scans};
+ghost use Rattle.ps_gc.specs.Keeps.{Copies, GoesOnward, IsAtField, Takes};
 
 use crate::copies::copy_field;
 use crate::drains::take_record;
@@ -141,6 +142,7 @@ impl<W: Words> Collector<W> {
             × (slice_index_or p.filled i false ≡ false)
             × Copied self.old.gc.seat.me.0.gc self.new.gc.seat.me.0.gc a i true }
         ensures none { result ≡ false → self.new ≡ self.old }
+        ensures onward { result ≡ true → GoesOnward self.old.to self.new.to }
         ensures cycle { (self.new.gc.seat.me.0.gc.cycle ≡ self.old.gc.seat.me.0.gc.cycle)
             × (self.new.gc.seat.me.0.gc.epoch ≡ self.old.gc.seat.me.0.gc.epoch) }
         ensures did { (es : List Event) × (self.new.gc.seat.me.0
@@ -157,9 +159,21 @@ impl<W: Words> Collector<W> {
         true
     }
 
+    /// Fills all fields of all replicas.
+    pub fn scan_all(&mut self)
+        requires open { knows_open self.old.gc.seat.me.0.gc ≡ true }
+        ensures filled { all_filled self.new.gc.seat.me.0.gc.pairs ≡ true }
+        ensures scans { Scans self.old.gc.seat.me.0.gc self.new.gc.seat.me.0.gc }
+        ensures did { (es : List Event) × (self.new.gc.seat.me.0
+            ≡ gc_did_all self.old.gc.seat.me.0 es) }
+        ensures same { W.id self.new.gc.table ≡ W.id self.old.gc.table }
+    {
+        'scan: while self.scan_one() {}
+    }
+
     /// Looks for the next record of a slot's log, and takes it; the fields that it names are copied
     /// before, where their object has a replica. A log whose close was taken in the open cycle is
-    /// left as it is.
+    /// left as it is. A seat that has both sides finds the record wherever the log has one.
     pub fn drain_one(&mut self, slot: u32) -> Drained
         requires slot { slot < SLOTS }
         requires open { knows_open self.old.gc.seat.me.0.gc ≡ true }
@@ -176,6 +190,9 @@ impl<W: Words> Collector<W> {
         ensures close { is_drained self.old.gc.seat.me.0.gc slot ≡ false
             → result ≡ Drained.Closed
             → DrainedOf self.old.gc.seat.me.0.gc self.new.gc.seat.me.0.gc slot Record.Close }
+        ensures next { self.old.gc.seat.me.0.acts_vm ≡ true
+            → is_drained self.old.gc.seat.me.0.gc slot ≡ false → FindsNext result
+            self.old.gc.seat.me.0.vm self.old.gc.seat.me.0.gc slot }
         ensures cycle { (self.new.gc.seat.me.0.gc.cycle ≡ self.old.gc.seat.me.0.gc.cycle)
             × (self.new.gc.seat.me.0.gc.epoch ≡ self.old.gc.seat.me.0.gc.epoch) }
         ensures did { (es : List Event) × (self.new.gc.seat.me.0

@@ -1,5 +1,5 @@
 //! The scan: it fills the fields of the replicas, one after another.
-ghost use Rattle.std.specs.Prelude.{◌≡◌, ◌≢◌, ◌+◌, ◌<◌, ℕ, Some, List, length};
+ghost use Rattle.std.specs.Prelude.{◌≡◌, ◌≢◌, ◌+◌, ◌<◌, ◌≤◌, ℕ, Some, List, length};
 ghost use Rattle.ps_core_parts.specs.declared.events.Event.{Event};
 ghost use Rattle.ps_core_parts.specs.declared.events.Pair.{Pair};
 ghost use Rattle.ps_core_parts.specs.Objects.{pair_of};
@@ -46,6 +46,7 @@ pub(crate) fn scan_on<W: Words>(gc: &mut GcSeat<W>, to: &mut ToSpace, count: u64
     ensures did { (es : List Event)
         × (gc.new.seat.me.0 ≡ gc_did_all gc.old.seat.me.0 es) }
     ensures part { gc.new.seat.me.0.gc ≡ gc.old.seat.me.0.gc }
+    ensures onward { to.old.at + to.old.field ≤ to.new.at + to.new.field }
     ensures same { W.id gc.new.table ≡ W.id gc.old.table }
 {
     let mut count = count;

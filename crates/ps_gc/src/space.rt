@@ -2,7 +2,7 @@
 //!
 //! One seat has both, at words of any kind. The numbers of the mutator's side are its part's
 //! (`Sits`), and the slot that is drained next is one.
-ghost use Rattle.std.specs.Prelude.{◌≡◌, ◌<◌, ◌+◌, ◌-◌, ◌^◌, ◌&&◌, not, nat_lt, min, true, false, IfOk, refl};
+ghost use Rattle.std.specs.Prelude.{◌≡◌, ◌<◌, ◌+◌, ◌-◌, ◌^◌, ◌&&◌, ℕ, not, nat_lt, min, true, false, IfOk, refl};
 ghost use Rattle.ps_word.specs.Headers.{cycle_limit};
 ghost use Rattle.ps_record.specs.Format.{slots};
 ghost use Rattle.ps_mem.specs.Heap.{empty_heap};
@@ -12,10 +12,12 @@ ghost use Rattle.ps_core_parts.specs.Objects.{all_filled, values_have_replicas};
 ghost use Rattle.ps_core_parts.specs.Steps.{is_open, knows_open};
 ghost use Rattle.ps_core_laws.specs.Runs.{IsSpace};
 ghost use Rattle.ps_parts_memory.specs.Laws.{AfterOpen};
-ghost use Rattle.ps_parts_memory.specs.Memory.{heap_of, grants_of};
+ghost use Rattle.ps_parts_memory.specs.Memory.{heap_of, grants_of, is_shut};
 ghost use Rattle.ps_parts_memory.specs.Stores.{numbers};
 ghost use Rattle.ps_flips.specs.Collected.{IsCollected, IsQuiet};
 ghost use Rattle.ps_table.specs.Mirrored.{KeepsVm, Sits};
+ghost use Rattle.ps_gc.specs.Ending.{IsEnded, KeepsReplicas, StaysBut};
+ghost use Rattle.ps_gc.specs.Events.{is_drained};
 ghost use Rattle.ps_gc.specs.Keeps.{taken_in_all};
 
 use crate::collector::{Collector, Drained};
@@ -127,72 +129,64 @@ impl<W: Words> CollectedSpace<W> {
         fields > 0
     }
 
-    /// Closes the log of a slot; where it is full, records are taken of it until it isn't. False:
-    /// it isn't closed.
-    fn end_log(&mut self, slot: u32) -> bool
+    /// Closes the log of a slot; where its ring is full, a record is taken of it first.
+    fn close_one(&mut self, slot: u32)
         requires slot { slot < SLOTS }
         requires open { is_open self.old.collector.gc.seat.me.0.vm ≡ true }
         requires knows { knows_open self.old.collector.gc.seat.me.0.gc ≡ true }
         ensures heap { heap_of self.new.collector.gc.seat.me.0.vm
             ≡ heap_of self.old.collector.gc.seat.me.0.vm }
-        ensures open { is_open self.new.collector.gc.seat.me.0.vm ≡ true }
-        ensures knows { knows_open self.new.collector.gc.seat.me.0.gc ≡ true }
+        ensures stays { StaysBut slot self.old.collector.gc.seat.me.0
+            self.new.collector.gc.seat.me.0 }
+        ensures shut { is_shut self.new.collector.gc.seat.me.0.vm slot ≡ true }
     {
-        for _ in 0..u64::MAX {
-            let gc = &mut self.collector.gc;
-            match self.mirror.close(&mut gc.table, &mut gc.seat, slot) {
-                Closing::Closed => return true,
-                Closing::LogFull => {
-                    self.collector.drain_one(slot);
-                }
+        let gc = &mut self.collector.gc;
+        match self.mirror.close(&mut gc.table, &mut gc.seat, slot) {
+            Closing::Closed => {}
+            Closing::LogFull => {
+                self.collector.drain_one(slot);
+                let gc = &mut self.collector.gc;
+                self.mirror.close(&mut gc.table, &mut gc.seat, slot);
             }
         }
-        false
     }
 
-    /// Takes the records of a slot's log up to its close. False: its close wasn't taken.
-    fn drain_log(&mut self, slot: u32) -> bool
+    /// Takes the records of a slot's log, which is closed, up to its close.
+    fn drain_closed(&mut self, slot: u32)
         requires slot { slot < SLOTS }
+        requires shut { is_shut self.old.collector.gc.seat.me.0.vm slot ≡ true }
         requires knows { knows_open self.old.collector.gc.seat.me.0.gc ≡ true }
         ensures vm { KeepsVm self.old.collector.gc.seat.me.0 self.new.collector.gc.seat.me.0 }
-        ensures knows { knows_open self.new.collector.gc.seat.me.0.gc ≡ true }
+        ensures stays { StaysBut slot self.old.collector.gc.seat.me.0
+            self.new.collector.gc.seat.me.0 }
+        ensures drained { is_drained self.new.collector.gc.seat.me.0.gc slot ≡ true }
     {
-        for _ in 0..u64::MAX {
-            if self.collector.drain_one(slot) == Drained::Closed {
-                return true;
+        'drain: loop {
+            match self.collector.drain_one(slot) {
+                Drained::Closed => return,
+                Drained::Took(_) => {}
+                Drained::Nothing => unreachable!(),
             }
         }
-        false
     }
 
-    /// Closes and drains all logs. False: not all of them.
-    fn end_logs(&mut self) -> bool
+    /// Closes and drains all logs.
+    fn end_logs(&mut self)
         requires open { is_open self.old.collector.gc.seat.me.0.vm ≡ true }
         requires knows { knows_open self.old.collector.gc.seat.me.0.gc ≡ true }
         ensures heap { heap_of self.new.collector.gc.seat.me.0.vm
             ≡ heap_of self.old.collector.gc.seat.me.0.vm }
         ensures open { is_open self.new.collector.gc.seat.me.0.vm ≡ true }
         ensures knows { knows_open self.new.collector.gc.seat.me.0.gc ≡ true }
+        ensures ended { (slot : ℕ) → slot < slots
+            → IsEnded self.new.collector.gc.seat.me.0 slot }
+        ensures pairs { KeepsReplicas self.old.collector.gc.seat.me.0.gc.pairs
+            self.new.collector.gc.seat.me.0.gc.pairs }
     {
         for slot in 0..SLOTS {
-            if !self.end_log(slot) || !self.drain_log(slot) {
-                return false;
-            }
+            self.close_one(slot);
+            self.drain_closed(slot);
         }
-        true
-    }
-
-    /// Fills all fields of all replicas. False: not all of them.
-    fn scan_all(&mut self) -> bool
-        requires knows { knows_open self.old.collector.gc.seat.me.0.gc ≡ true }
-        ensures vm { KeepsVm self.old.collector.gc.seat.me.0 self.new.collector.gc.seat.me.0 }
-    {
-        for _ in 0..u64::MAX {
-            if !self.collector.scan_one() {
-                return true;
-            }
-        }
-        false
     }
 }
 
@@ -333,14 +327,14 @@ impl<W: Words> CollectedMemory for CollectedSpace<W> {
         self.mirror.close(&mut gc.table, &mut gc.seat, slot)
     }
 
-    /// As the memory's; where no cycle is open nothing changes, and where the cycle could not end
-    /// it is still open.
+    /// As the memory's; where no cycle is open nothing changes.
     fn end_cycle(&mut self, roots: &mut [Word]) -> bool
         requires values { AreValues (heap_of self.old.collector.gc.seat.me.0.vm) roots.old }
         ensures none { is_open self.old.collector.gc.seat.me.0.vm ≡ false
             → (result ≡ false) × (self.new ≡ self.old) }
         ensures moved { result ≡ true → IsCollected (heap_of self.old.collector.gc.seat.me.0.vm)
             (heap_of self.new.collector.gc.seat.me.0.vm) roots.old roots.new }
+        ensures ended { result ≡ is_open self.old.collector.gc.seat.me.0.vm }
         ensures quiet { result ≡ true → IsQuiet (grants_of self.new.collector.gc.seat.me.0.vm) }
         ensures room { result ≡ true → (grants_of self.new.collector.gc.seat.me.0.vm).words
             + (heap_of self.new.collector.gc.seat.me.0.vm).used
@@ -355,12 +349,13 @@ impl<W: Words> CollectedMemory for CollectedSpace<W> {
             return false;
         }
         self.hand(roots);
-        if !self.end_logs() || !self.scan_all() {
-            return false;
-        }
+        self.end_logs();
+        self.collector.scan_all();
+        // So both sides are known to be those of one run, in which all is taken then.
+        self.collector.gc.meet(&self.mirror);
         match self.collector.joined_try_flip(&mut self.mirror, roots) {
             Flip::Done => true,
-            Flip::NotReady(_) => false,
+            Flip::NotReady(_) => unreachable!(),
         }
     }
 

@@ -16,7 +16,7 @@ use Rattle.ps_parts_memory.specs.Memory.{records_left}
 use Rattle.ps_parts_memory.specs.Laws.{GrantsLogs, SeesHeads, Opens, ClosesLogs}
 use Rattle.ps_parts_memory.proofs.Facts.{VmFacts, facts}
 use Rattle.ps_parts_memory.proofs.Room.{and_not_right, part_seen, records_other, records_more}
-use Rattle.ps_parts_memory.proofs.Logged.{granted, log_here, log_there, length_here}
+use Rattle.ps_parts_memory.proofs.Logged.{log_here, log_there, length_here}
 
 pub sees_heads : (v : Vm) → VmFacts v → ((slot n : ℕ) → slot < 32 → VmFinds v (2 + slot) n
     → (slice_index v.heads slot ≤ n) × (n ≤ length (log_of v.logs slot))) → SeesHeads v
@@ -76,11 +76,11 @@ opens v knows g out small =
     }
 
 pub closes_logs : (v : Vm) → VmKnows v → ClosesLogs v
-closes_logs v knows g slot is some =
-    let grant = granted v slot is some in
-    let low = grant.in_range in
-    let f = grant.not_closed in
-    let log = knows.logs.each slot grant.in_range in
+closes_logs v knows g slot can =
+    let is = can.opened in
+    let low = can.in_range in
+    let f : (closes (log_of v.logs slot) == v.epoch) ≡ false = rw is at can.not_shut in
+    let log = knows.logs.each slot low in
     let flipped = log.flipped in let opened = log.opened in
     let wide = knows.logs.logs in
     let epoch = number_is v.epoch (v.cycle + 1) is in
@@ -97,11 +97,11 @@ closes_logs v knows g slot is some =
     let below = lt_true slot 32 low in
     record {
       may = record {
-        in_range = grant.in_range;
+        in_range = low;
         opened = is;
         not_closed = ne;
-        room = grant.free;
-        short = let short = grant.short in omega arith;
+        room = can.room;
+        short = tt;
         fits = tt;
         written = tt;
       };
@@ -129,9 +129,8 @@ closes_logs v knows g slot is some =
 pub grants : (v : Vm) → VmKnows v → GrantsLogs v
 grants v knows slot lt is =
     let log = knows.logs.each slot lt in
-    let room = log.room in let short = log.short in
     let below = lt_true slot 32 lt in
     record {
       shut = λ t. let t' = rw is at t in rw (is, below, t') refl;
-      left = λ f. let f' = rw is at f in rw (is, below, f') (omega arith);
+      left = λ f. let f' = rw is at f in rw (is, below, f') refl;
     }

@@ -7,7 +7,6 @@ use Rattle.ps_language.specs.declared.kinds.Kind.{Kind}
 use Rattle.ps_language.specs.declared.kinds.Kind.TheVariants.{Array, Text, Dictionary, Lock, Condition, Body}
 use Rattle.ps_word.specs.declared.words.Word.{Word}
 use Rattle.ps_word.specs.Headers.{kind_in, fields_in, kind_number}
-use Rattle.ps_word.specs.Headers.{birth_limit}
 use Rattle.ps_mem.specs.Heap.{Heap, Standing, Grants, AfterNew, made, zero_word}
 use Rattle.ps_mem.specs.Heap as memory
 use Rattle.ps_mem.specs.Objects.{kind_of_number, word_of}

@@ -1,5 +1,5 @@
 -- What the part of a run gives to a seat that serves the mutator as a memory.
-use Rattle.std.specs.Prelude.{◌≡◌, ◌≢◌, ℕ, ◌+◌, ◌^◌, ◌<◌, ◌≤◌, ◌&&◌, true, false, min, nat_le, List, [], ◌∷◌, length, take, drop, Option, Some, None, IsTrue, IsSome, IfSome, slice_get, slice_index, slice_range}
+use Rattle.std.specs.Prelude.{◌≡◌, ◌≢◌, ℕ, ◌+◌, ◌-◌, ◌^◌, ◌<◌, ◌≤◌, ◌&&◌, true, false, min, nat_le, List, [], ◌∷◌, length, take, drop, Option, Some, None, IsTrue, IsSome, IfSome, slice_get, slice_index, slice_range}
 use Rattle.ps_language.specs.declared.kinds.Kind.{Kind}
 use Rattle.ps_language.specs.declared.kinds.Kind.TheVariants.{Dictionary, Body}
 use Rattle.ps_word.specs.declared.words.Word.{Word}
@@ -18,7 +18,7 @@ use Rattle.ps_core_parts.specs.declared.events.Vm.{Vm}
 use Rattle.ps_core_parts.specs.declared.events.Gc.{Gc}
 use Rattle.ps_core_parts.specs.Objects.{log_of}
 use Rattle.ps_core_parts.specs.Steps.{start, is_open, table_size, field_stored, vm_after, with_record}
-use Rattle.ps_core_parts.specs.Conditions.{VmMay}
+use Rattle.ps_core_parts.specs.Conditions.{HasRoom, VmMay}
 use Rattle.ps_parts_memory.specs.Shown.{VmRuns, VmFinds}
 use Rattle.ps_parts_memory.specs.Memory.{heap_of, grants_of, records_left, is_shut}
 use Rattle.ps_parts_memory.specs.Stores.{number_of, numbers, fields_stored, MayStoreFields, fields_stored_down, MayStoreFieldsDown, part_made}
@@ -194,12 +194,12 @@ Copies v = (source place target i count : ℕ) → CanCopy v source place target
 
 -- ---- records
 
--- in a cycle a closed log gets no record, and another as many as its ring has free places by the
--- head last loaded, but for the last number
+-- in a cycle a closed log is granted no record, and another as many as its ring has free places by
+-- the head last loaded, but none past the last that may be a place
 pub record GrantsRecords (v : Vm) (slot : ℕ) : Type 0 where
   pub shut : is_shut v slot ≡ true → records_left v slot ≡ 0
-  pub left : is_shut v slot ≡ false → records_left v slot + length (log_of v.logs slot)
-      ≡ min (slice_index v.heads slot + ring_length) log_limit
+  pub left : is_shut v slot ≡ false → records_left v slot
+      ≡ min (slice_index v.heads slot + ring_length) log_limit - length (log_of v.logs slot)
 
 abbrev pub GrantsLogs : Vm → Type 0
 GrantsLogs v = (slot : ℕ) → slot < slots → is_open v ≡ true → GrantsRecords v slot
@@ -324,8 +324,15 @@ pub record ClosesLog (v : Vm) (g : Gc) (slot : ℕ) : Type 0 where
   pub logs : (vm_after v g (RecordStore slot Close)).logs ≡ with_record v.logs slot Close
   pub settled : (vm_after v g (RecordStore slot Close)).written ≡ v.written
 
+-- in an open cycle that may be where the log isn't closed, and its ring has a free place
+pub record CanClose (v : Vm) (slot : ℕ) : Type 0 where
+  pub in_range : slot < slots
+  pub opened : is_open v ≡ true
+  pub not_shut : is_shut v slot ≡ false
+  pub room : HasRoom v slot
+
 abbrev pub ClosesLogs : Vm → Type 0
-ClosesLogs v = (g : Gc) (slot : ℕ) → is_open v ≡ true → 1 ≤ records_left v slot → ClosesLog v g slot
+ClosesLogs v = (g : Gc) (slot : ℕ) → CanClose v slot → ClosesLog v g slot
 
 -- ---- all of it
 

@@ -1,5 +1,5 @@
 -- The mutator's part of the state as a memory: what stands, and what is granted.
-use Rattle.std.specs.Prelude.{ℕ, ◌+◌, ◌-◌, ◌^◌, ◌==◌, ◌&&◌, Bool, not, nat_lt, min, length, map, slice_index, if◌then◌else◌}
+use Rattle.std.specs.Prelude.{ℕ, ◌+◌, ◌-◌, ◌==◌, ◌&&◌, Bool, not, nat_lt, min, length, map, slice_index, if◌then◌else◌}
 use Rattle.std.specs.Option.{option_map}
 use Rattle.ps_word.specs.Headers.{kind_in, birth_in, birth_limit}
 use Rattle.ps_record.specs.Format.{slots, ring_length, log_limit}
@@ -36,8 +36,8 @@ heap_of v = record {
 abbrev pub is_shut : Vm → ℕ → Bool
 is_shut v slot = is_open v && (closes (log_of v.logs slot) == v.epoch)
 
--- in a cycle a log that isn't closed gets as many records as have a free place by the head last
--- loaded, and no log has more than 2^63
+-- in a cycle a log that isn't closed is granted as many records as have a free place by the head
+-- last loaded, and none past the last that may be a place
 abbrev pub records_free : Vm → ℕ → ℕ
 records_free v slot = if nat_lt slot slots && not (closes (log_of v.logs slot) == v.epoch)
     then min (slice_index v.heads slot + ring_length) log_limit - length (log_of v.logs slot) else 0

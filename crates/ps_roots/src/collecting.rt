@@ -56,8 +56,7 @@ pub fn open_cycle<M: CollectedMemory>(
 }
 
 /// Ends the open cycle: the objects move, and the roots of all contexts are renamed. What contexts
-/// and memory stand for is the same. False: no cycle is open, or it could not end and is open
-/// still; nothing has moved.
+/// and memory stand for is the same. False: no cycle is open, and nothing has moved.
 pub fn end_cycle<M: CollectedMemory>(
     memory: &mut M,
     contexts: &mut Contexts,
@@ -68,7 +67,7 @@ pub fn end_cycle<M: CollectedMemory>(
     ensures kept { (calling : Option ACalling) → KeepsWorlds
         (held (over (M.heap memory.old) (M.grants memory.old) contexts.old) calling)
         (held (over (M.heap memory.new) (M.grants memory.new) contexts.new) calling) }
-    ensures closed { (M.grants memory.old).cycle_open ≡ false → result ≡ false }
+    ensures ended { result ≡ (M.grants memory.old).cycle_open }
     ensures quiet { result ≡ true → IsQuiet (M.grants memory.new) }
     ensures still { result ≡ false → (M.grants memory.new).cycle_open
         ≡ (M.grants memory.old).cycle_open }

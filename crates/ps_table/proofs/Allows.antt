@@ -311,6 +311,8 @@ module _ (space slots id : ℕ) (me : SeatState) (i : ℕ) (f : ℕ → ℕ) (e 
       (λ events a b n size r mine found next moved. record {
         did = refl;
         finds = vm_finds space events me.0.vm i n size r (mine.vm_is acts) found;
+        both = λ gc. both_find space events me.0.vm me.0.gc i n size r (mine.vm_is acts)
+            (mine.gc_is gc) found;
         runs = vm_runs space (e n ∷ events) (vm_did me.0 (e n)).vm size next (moved.vm_is acts);
       })
 
@@ -345,6 +347,8 @@ module _ (space slots id : ℕ) (me : SeatState) (i : ℕ) (f : ℕ → ℕ) (e 
         record {
           did = refl;
           finds = gc_finds space h.events me.0.gc i n h.size h.is_run is found;
+          both = λ vm. both_find space h.events me.0.vm me.0.gc i n h.size h.is_run
+              (mine.vm_is vm) is found;
           runs = gc_runs space (e n ∷ h.events) (gc_did me.0 (e n)).gc h.size next
               (moved.gc_is acts);
         },

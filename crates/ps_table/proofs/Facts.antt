@@ -2,14 +2,14 @@
 use Rattle.std.proofs.Common.{◌≡◌, ◌⊎◌, ◌^◌, ℕ, ◌+◌, ◌<◌, ◌≤◌, true, false, List, [], ◌∷◌, length, Some, None, Option, refl, sym, ◌∙◌, inl, inr, arith}
 use Rattle.std.proofs.Math.Logic.{∥∥₁_elim}
 use Rattle.std.proofs.Props.{props}
-use Rattle.std.specs.Prelude.{nat_le}
+use Rattle.std.specs.Prelude.{nat_le, slice_index}
 use Rattle.ps_record.specs.declared.Record.{Record}
 use Rattle.ps_record.specs.declared.Record.TheVariants.{Place, Close}
 use Rattle.ps_record.specs.Format.{IsRecord}
 use Rattle.ps_core_parts.specs.declared.events.Object.{Object}
 use Rattle.ps_core_parts.specs.declared.events.Vm.{Vm}
 use Rattle.ps_core_parts.specs.declared.events.Event.TheVariants.{FieldStore, HeaderStore}
-use Rattle.ps_core_parts.specs.Objects.{object_at}
+use Rattle.ps_core_parts.specs.Objects.{log_of, object_at}
 use Rattle.ps_core_parts.specs.Steps.{table_size, space_base}
 use Rattle.ps_core_parts.specs.Conditions.{HasField, VmMay}
 use Rattle.ps_core_laws.specs.Kept.{VmKnows, LogKept}
@@ -52,6 +52,7 @@ log_kept v slot t = record {
   short = ∥∥₁_elim t (hlevel props) (λ k. k.short);
   flipped = ∥∥₁_elim t (hlevel props) (λ k. k.flipped);
   opened = ∥∥₁_elim t (hlevel props) (λ k. k.opened);
+  shut = ∥∥₁_elim t (hlevel props) (λ k. k.shut);
   records = λ k r e. is_record r (∥∥₁_elim t (hlevel props) (λ l. ∣ l.records k r e ∣₁));
 }
 
@@ -80,6 +81,16 @@ knows v t = known v (∥∥₁_elim t (hlevel props) (λ r. ∣ part_knows kept 
 
 pub vm_facts : (v : Vm) → ∥ VmRuns v ∥₁ → VmFacts v
 vm_facts v t = facts v (knows v t)
+
+-- a log has no more records than the numbers of its ring places fit a word
+pub few_logged : (v : Vm) → ∥ VmRuns v ∥₁ → (slot : ℕ) → slot < 32
+    → (slice_index v.heads slot ≤ length (log_of v.logs slot))
+    × (length (log_of v.logs slot) + 256 < 2 ^ 64)
+few_logged v t slot lt =
+    let k = knows v t in
+    let log = k.logs.each slot lt in
+    let short = log.short in let small = k.cycles.small in
+    (log.seen, omega arith)
 
 -- what the words of the table follow from, and what was taken of the logs, after every run
 pub words : Always WordsFollow

@@ -3,10 +3,12 @@ pub mod CopySteps
 pub mod Counts
 pub mod Facts
 pub mod Flipping
+pub mod Full
 pub mod GcFacts
 pub mod GcMoves
 pub mod Kept
 pub mod Made
+pub mod Meeting
 pub mod Mirrored
 pub mod Moves
 pub mod Originals

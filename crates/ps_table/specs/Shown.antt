@@ -180,15 +180,18 @@ pub record BothRun (v : Vm) (g : Gc) : Type 0 where
 abbrev pub SeatState : Type 0
 SeatState = table.Me (Unit {0}) View
 
--- the mutator's seat makes the event; its part is that of a run before it and after it
+-- the mutator's seat makes the event; its part is that of a run before it and after it. Where the
+-- seat has the other part too, both are of the run in which the word was found
 pub record VmDoes (m : SeatState) (place found : ℕ) (e : Event) (m' : SeatState) : Type 0 where
   pub did : m' ≡ (vm_did m.0 e, m.1)
   pub finds : VmFinds m.0.vm place found
+  pub both : m.0.acts_gc ≡ true → BothFind m.0.vm m.0.gc place found
   pub runs : VmRuns m'.0.vm
 
 pub record GcDoes (m : SeatState) (place found : ℕ) (e : Event) (m' : SeatState) : Type 0 where
   pub did : m' ≡ (gc_did m.0 e, m.1)
   pub finds : GcFinds m.0.gc place found
+  pub both : m.0.acts_vm ≡ true → BothFind m.0.vm m.0.gc place found
   pub runs : GcRuns m'.0.gc
 
 pub record VmStores (m : SeatState) (e : Event) (m' : SeatState) : Type 0 where

@@ -1,8 +1,8 @@
 //! The collector's seat.
 //!
 //! Its part is that of some run of the machine, whatever the mutator's seat did meanwhile.
-ghost use Rattle.std.specs.Prelude.{◌≡◌, ◌<◌, ◌+◌, ◌^◌, ℕ, true, [], ◌∷◌, length, IfOk, Some};
-ghost use Rattle.ps_record.specs.Format.{slots, ring_place};
+ghost use Rattle.std.specs.Prelude.{◌≡◌, ◌<◌, ◌+◌, ◌^◌, ℕ, true, [], ◌∷◌, length, IfOk, Some, slice_get};
+ghost use Rattle.ps_record.specs.Format.{slots, ring_place, read_record};
 ghost use Rattle.ps_core_parts.specs.declared.events.Half.{Half};
 ghost use Rattle.ps_core_parts.specs.declared.events.Carried.{Carried};
 ghost use Rattle.ps_core_parts.specs.declared.events.Event.TheVariants.{GcLoad, TakeLoad, CopyLoad, ReplicaHeaderStore, ReplicaFieldStore, ForwardStore, HeadStore};
@@ -14,7 +14,7 @@ ghost use Rattle.ps_mem.specs.Heap.{empty_heap};
 ghost use Rattle.ps_mem.specs.Bounded.{bounded_space};
 ghost use Rattle.ps_parts_memory.specs.Memory.{heap_of};
 ghost use Rattle.ps_table.specs.Mirrored.{Sits};
-ghost use Rattle.ps_table.specs.Shown.{GcRuns, GcFinds, first_view, gc_did};
+ghost use Rattle.ps_table.specs.Shown.{BothRun, GcRuns, GcFinds, first_view, gc_did};
 
 use crate::gc_steps::{gc_copy, gc_fill};
 use crate::mirror::Mirror;
@@ -77,12 +77,17 @@ impl<W: Words> GcSeat<W> {
     }
 
     /// Loads the ring place of a slot's next record, which has this number in its log. Where that
-    /// record stands there, it is being taken from then on.
+    /// record stands there, it is being taken from then on. A seat that has both sides finds it
+    /// wherever the log has it.
     pub fn take(&mut self, slot: u64, number: u64) -> u64
         requires next { number ≡ length (log_of self.old.seat.me.0.gc.taken slot) }
         requires may { GcMay self.old.seat.me.0.gc (TakeLoad slot 0) }
         ensures did { self.new.seat.me.0 ≡ gc_did self.old.seat.me.0 (TakeLoad slot result) }
         ensures finds { GcFinds self.old.seat.me.0.gc (ring_place slot number) result }
+        ensures next { self.old.seat.me.0.acts_vm ≡ true → read_record number result
+            ≡ slice_get (log_of self.old.seat.me.0.vm.logs slot) number }
+        ensures runs { self.old.seat.me.0.acts_vm ≡ true
+            → BothRun self.old.seat.me.0.vm self.old.seat.me.0.gc }
         ensures same { W.id self.new.table ≡ W.id self.old.table }
     {
         self.table

@@ -1,13 +1,15 @@
 //! Cycles that the mutator's seat opens and logs that it closes, at any words.
-ghost use Rattle.std.specs.Prelude.{not, nat_lt, ◌&&◌, ◌≡◌, ◌≢◌, ◌<◌, ◌≤◌, ◌+◌, ◌↔◌, ℕ, true, false, IsTrue};
+ghost use Rattle.std.specs.Prelude.{not, nat_lt, ◌&&◌, ◌≡◌, ◌≢◌, ◌<◌, ◌≤◌, ◌+◌, ◌↔◌, ℕ, true, false, IsTrue, length};
 ghost use Rattle.ps_word.specs.Headers.{cycle_limit};
-ghost use Rattle.ps_record.specs.Format.{head_place};
+ghost use Rattle.ps_record.specs.Format.{head_place, ring_length};
 ghost use Rattle.ps_mem.specs.Heap.{IsLogBounded};
+ghost use Rattle.ps_core_parts.specs.Conditions.{HasRoom};
+ghost use Rattle.ps_core_parts.specs.Objects.{log_of};
 ghost use Rattle.ps_core_parts.specs.Steps.{is_open};
 ghost use Rattle.ps_core_parts.specs.declared.events.Event.TheVariants.{VmLoad, RecordStore, EpochStore};
-ghost use Rattle.ps_parts_memory.specs.Memory.{heap_of, grants_of, records_left, is_shut};
-ghost use Rattle.ps_parts_memory.specs.Laws.{AfterOpen, AfterClose};
-ghost use Rattle.ps_table.specs.Shown.{vm_did};
+ghost use Rattle.ps_parts_memory.specs.Memory.{heap_of, grants_of, is_shut};
+ghost use Rattle.ps_parts_memory.specs.Laws.{AfterOpen, AfterClose, CanClose};
+ghost use Rattle.ps_table.specs.Shown.{BothRun, vm_did};
 ghost use Rattle.ps_table.specs.Mirrored.{Sits, KeepsGc};
 
 use crate::mirror::Mirror;
@@ -55,8 +57,9 @@ impl Mirror {
     }
 
     /// Closes the log of a slot until the open cycle ends: it gets a close, and no object may be
-    /// filled then. A closed log stays as it is. `LogFull`: no record has a free place by the head
-    /// just loaded, and nothing that was granted is lost.
+    /// filled then. A closed log stays as it is. `LogFull`: its ring has no free place by the head
+    /// just loaded, and nothing that was granted is lost. By a seat that has both sides that is so
+    /// only where a whole ring of records isn't taken.
     pub fn close<W: Words>(
         &mut self,
         words: &mut W,
@@ -83,7 +86,14 @@ impl Mirror {
             × (seat.new.me.0 ≡ vm_did seat.old.me.0 (VmLoad (head_place slot) head)) }
         ensures closed { is_shut seat.old.me.0.vm slot ≡ false → result ≡ Closing.Closed
             → AfterClose (grants_of seat.old.me.0.vm) (grants_of seat.new.me.0.vm) slot }
-        ensures full { result ≡ Closing.LogFull → records_left seat.new.me.0.vm slot ≡ 0 }
+        ensures full { result ≡ Closing.LogFull → ¬ HasRoom seat.new.me.0.vm slot }
+        ensures taken { result ≡ Closing.LogFull → seat.old.me.0.acts_gc ≡ true
+            → length (log_of seat.old.me.0.vm.logs slot)
+            ≡ length (log_of seat.old.me.0.gc.taken slot) + ring_length }
+        ensures runs { result ≡ Closing.LogFull → seat.old.me.0.acts_gc ≡ true
+            → BothRun seat.old.me.0.vm seat.old.me.0.gc }
+        ensures shut { result ≡ Closing.Closed → is_shut seat.new.me.0.vm slot ≡ true }
+        ensures not_shut { result ≡ Closing.LogFull → is_shut seat.old.me.0.vm slot ≡ false }
         ensures kept { result ≡ Closing.LogFull
             → grants_of seat.new.me.0.vm ≡ grants_of seat.old.me.0.vm }
         ensures still_open { is_open seat.new.me.0.vm ≡ true }
@@ -92,7 +102,7 @@ impl Mirror {
             return Closing::Closed;
         }
         self.see_head(words, seat, slot as u64);
-        if self.left(seat, slot as u64) == 0 {
+        if self.is_full(seat, slot as u64) {
             return Closing::LogFull;
         }
         self.put_close(words, seat, slot as u64);
@@ -103,8 +113,7 @@ impl Mirror {
     fn put_close<W: Words>(&mut self, words: &mut W, seat: &mut Seat<(), View>, slot: u64)
         requires sits { W.seats words.old seat.old
             × Sits (W.id words.old).words seat.old.me self.old }
-        requires open { is_open seat.old.me.0.vm ≡ true }
-        requires granted { 1 ≤ records_left seat.old.me.0.vm slot }
+        requires can { CanClose seat.old.me.0.vm slot }
         ensures sits { W.seats words.new seat.new
             × Sits (W.id words.new).words seat.new.me self.new }
         ensures same { W.id words.new ≡ W.id words.old }

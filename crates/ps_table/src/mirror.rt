@@ -34,6 +34,7 @@ pub struct Mirror {
 impl Mirror {
     ghost use Rattle.std.specs.Prelude.{◌≡◌, ◌≢◌, ◌<◌, ◌≤◌, ◌+◌, ◌↔◌, ℕ, true, false, Err, length, IsTrue, IsOk, IsErr, OnOk};
     ghost use Rattle.ps_mem.specs.Heap.{has_room, standing_words};
+    ghost use Rattle.ps_core_parts.specs.Conditions.{HasRoom};
     ghost use Rattle.ps_core_parts.specs.Objects.{log_of};
     ghost use Rattle.ps_core_parts.specs.Steps.{start, is_open};
     ghost use Rattle.ps_parts_memory.specs.Memory.{heap_of, grants_of, records_left, is_shut};
@@ -143,6 +144,17 @@ impl Mirror {
         }
     }
 
+    /// Whether the ring of a slot has no free place, by the head last loaded.
+    #[inline]
+    pub(crate) fn is_full(&self, seat: &Seat<(), View>, slot: u64) -> bool
+        requires mirrors { Mirrors seat.now.me.0.vm self.now }
+        requires runs { ∥ VmRuns seat.now.me.0.vm ∥₁ }
+        requires slot { slot < SLOTS }
+        ensures { IsTrue result ↔ ¬ HasRoom seat.now.me.0.vm slot }
+    {
+        self.logged[slot as usize] >= self.heads[slot as usize] + RING
+    }
+
     /// How many records the log of a slot may get in the open cycle, where it isn't closed.
     #[inline]
     pub(crate) fn left(&self, seat: &Seat<(), View>, slot: u64) -> u64
@@ -155,10 +167,6 @@ impl Mirror {
     {
         let free = self.heads[slot as usize] + RING;
         let logged = self.logged[slot as usize];
-        if free < LOG_LIMIT {
-            free - logged
-        } else {
-            LOG_LIMIT - logged
-        }
+        free.min(LOG_LIMIT).saturating_sub(logged)
     }
 }

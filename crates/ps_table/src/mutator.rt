@@ -6,11 +6,12 @@ ghost use Rattle.std.specs.Prelude.{[], ◌∷◌, not, nat_lt, ◌&&◌, ◌≡
 ghost use Rattle.std.specs.Arc.{arc_value};
 ghost use Rattle.ps_word.specs.Headers.{cycle_limit};
 ghost use Rattle.ps_record.specs.Format.{head_place};
+ghost use Rattle.ps_core_parts.specs.Conditions.{HasRoom};
 ghost use Rattle.ps_core_parts.specs.Objects.{log_of, values_stand};
 ghost use Rattle.ps_core_parts.specs.Steps.{start, table_size, is_open};
 ghost use Rattle.ps_core_parts.specs.declared.events.Event.TheVariants.{VmLoad, RecordStore, EpochStore, HandOver};
 ghost use Rattle.ps_core_laws.specs.Runs.{IsSpace};
-ghost use Rattle.ps_parts_memory.specs.Memory.{heap_of, grants_of, records_left, is_shut};
+ghost use Rattle.ps_parts_memory.specs.Memory.{heap_of, grants_of, is_shut};
 ghost use Rattle.ps_parts_memory.specs.Laws.{AfterOpen, AfterClose};
 ghost use Rattle.ps_parts_memory.specs.Stores.{numbers};
 ghost use Rattle.ps_table.specs.Shown.{vm_did, AreJoined, BothRun};
@@ -112,7 +113,7 @@ impl VmSeat {
     }
 
     /// Closes the log of a slot until the open cycle ends: it gets a close, and no object may be
-    /// filled then. A closed log stays as it is. `LogFull`: no record has a free place by the head
+    /// filled then. A closed log stays as it is. `LogFull`: its ring has no free place by the head
     /// just loaded, and all that was granted is so still.
     pub fn close(&mut self, slot: u32) -> Closing
         requires slot { slot < SLOTS }
@@ -128,8 +129,7 @@ impl VmSeat {
             × (self.new.seat.me.0 ≡ vm_did self.old.seat.me.0 (VmLoad (head_place slot) head)) }
         ensures closed { is_shut self.old.seat.me.0.vm slot ≡ false → result ≡ Closing.Closed
             → AfterClose (grants_of self.old.seat.me.0.vm) (grants_of self.new.seat.me.0.vm) slot }
-        ensures full { result ≡ Closing.LogFull
-            → records_left self.new.seat.me.0.vm slot ≡ 0 }
+        ensures full { result ≡ Closing.LogFull → ¬ HasRoom self.new.seat.me.0.vm slot }
         ensures kept { result ≡ Closing.LogFull → grants_of self.new.seat.me.0.vm
             ≡ grants_of self.old.seat.me.0.vm }
         ensures still_open { is_open self.new.seat.me.0.vm ≡ true }

@@ -1,15 +1,16 @@
 //! Loads by the mutator's seat, at any words.
-ghost use Rattle.std.specs.Prelude.{◌∷◌, slice_set, slice_get, ◌≡◌, ◌<◌, Some, length, IsSome, IfSome};
+ghost use Rattle.std.specs.Prelude.{◌∷◌, slice_set, slice_get, ◌≡◌, ◌<◌, true, Some, length, IsSome, IfSome};
 ghost use Rattle.ps_word.specs.Headers.{kind_in, fields_in, birth_in, birth_limit};
 ghost use Rattle.ps_record.specs.Format.{head_place};
 ghost use Rattle.ps_mem.specs.Heap.{fields_at, object_at};
 ghost use Rattle.ps_mem.specs.Objects.{kind_of_number};
+ghost use Rattle.ps_core_parts.specs.Objects.{log_of};
 ghost use Rattle.ps_core_parts.specs.Steps.{table_size};
 ghost use Rattle.ps_core_parts.specs.declared.events.Event.TheVariants.{VmLoad};
 ghost use Rattle.ps_parts_memory.specs.Memory.{heap_of};
 ghost use Rattle.ps_parts_memory.specs.Shown.{VmFinds};
 ghost use Rattle.ps_parts_memory.specs.Laws.{StaysAfterLoad, SeesHead};
-ghost use Rattle.ps_table.specs.Shown.{vm_did};
+ghost use Rattle.ps_table.specs.Shown.{BothRun, vm_did};
 ghost use Rattle.ps_table.specs.Events.{did_all, head_loads};
 ghost use Rattle.ps_table.specs.Mirrored.{Sits, KeepsGc};
 
@@ -84,6 +85,10 @@ impl Mirror {
         ensures mirror { self.new
             ≡ record self.old { heads = slice_set self.old.heads slot result } }
         ensures sees { SeesHead seat.old.me.0.vm seat.old.me.0.gc slot result }
+        ensures taken { seat.old.me.0.acts_gc ≡ true
+            → result ≡ length (log_of seat.old.me.0.gc.taken slot) }
+        ensures runs { seat.old.me.0.acts_gc ≡ true
+            → BothRun seat.old.me.0.vm seat.old.me.0.gc }
     {
         let head = vm_load(words, seat, head_place(slot));
         self.heads[slot as usize] = head;

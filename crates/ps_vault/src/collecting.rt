@@ -64,19 +64,18 @@ impl<M: CollectedMemory + Drop, S: Interpret + Drop, D: Deeds + Drop> Vault<'_, 
     }
 
     /// Ends the open cycle: the objects move, and the roots of all contexts are renamed. False: no
-    /// cycle is open, or it could not end and is open still.
+    /// cycle was open.
     pub fn end_cycle(&mut self, roots: &mut Roots) -> bool
-        ensures run { SameRun self.old self.new }
-        ensures ended { result ≡ true
-            → (self.old.cycle_open ≡ true) × (self.new.cycle_open ≡ false) }
-        ensures same { result ≡ false → self.new ≡ self.old }
+        ensures run { self.new ≡ record self.old { cycle_open = false } }
+        ensures ended { result ≡ self.old.cycle_open }
     {
         end_cycle(&mut self.memory, &mut self.world.contexts, roots)
     }
 
-    /// Ends the open cycle, if there is one, and makes a whole one more, as far as they can end.
+    /// Ends the open cycle, if there is one, and makes a whole one more, if cycles are left. None is
+    /// open then.
     pub fn stop_all(&mut self, roots: &mut Roots)
-        ensures { SameRun self.old self.new }
+        ensures { self.new ≡ record self.old { cycle_open = false } }
     {
         self.end_cycle(roots);
         if self.open_cycle(roots) {

@@ -135,7 +135,7 @@ impl<M: CollectedMemory + Drop, S: Interpret + Drop, D: Deeds + Drop> Baton<'_, 
         }
     }
 
-    /// The open cycle is ended, if it can be.
+    /// The open cycle is ended, if there is one.
     fn end_cycle(&mut self)
         ensures { SameProgress self.old self.new }
     {

@@ -71,6 +71,7 @@ passed-preserved-then-to g c =
           sym (fields_told g gc.runs a p e')
           ∙ (ap fields_in (sym head) ∙ sym c.fields_in-count.ensures);
       part = part ∙ inv.part;
+      onward = let so_far = inv.onward in let field = c.if-to-count.true in omega arith;
       same = c.load.ensures.same ∙ inv.same;
       did = (
         inv.did.0 ++ GcLoad u.at n ∷ [],
@@ -97,6 +98,7 @@ passed-preserved g c =
           let le = ends_before g.pairs (other_base g.space g.cycle) a p e in
           absurd (omega arith);
       part = inv.part;
+      onward = let so_far = inv.onward in let field = c.if-to-count.true in omega arith;
       same = inv.same;
       did = inv.did;
     }

@@ -1,4 +1,4 @@
-use Rattle.std.proofs.Common.{◌≡◌, ◌-◌, ℕ, Some, List, length}
+use Rattle.std.proofs.Common.{◌≡◌, ◌-◌, ◌+◌, ◌≤◌, ℕ, Some, List, length}
 use Rattle.ps_core_parts.specs.declared.events.Event.{Event}
 use Rattle.ps_core_parts.specs.declared.events.Pair.{Pair}
 use Rattle.ps_core_parts.specs.Objects.{pair_of}
@@ -13,6 +13,7 @@ invariant-passed g l = record {
   counts : (a : ℕ) (p : Pair) → pair_of l.gc.seat.me.0.gc.pairs a ≡ Some p
       → p.replica ≡ l.to.at → length p.fields ≡ l.count;
   part : l.gc.seat.me.0.gc ≡ l.initial.gc.seat.me.0.gc;
+  onward : l.initial.to.at + l.initial.to.field ≤ l.to.at + l.to.field;
   same : g.W.Words.id l.gc.table ≡ g.W.Words.id l.initial.gc.table;
   did : (es : List Event) × (l.gc.seat.me.0 ≡ gc_did_all l.initial.gc.seat.me.0 es);
 }

@@ -1,4 +1,4 @@
-use Rattle.std.proofs.Common.{◌≡◌, ◌++◌, not, true, length, Some, refl, sym, ap, ◌∙◌, subst}
+use Rattle.std.proofs.Common.{arith, ◌≡◌, ◌++◌, not, true, length, Some, refl, sym, ap, ◌∙◌, subst}
 use Rattle.ps_word.specs.Headers.{fields_in}
 use Rattle.ps_core_parts.specs.declared.events.Gc.{Gc}
 use Rattle.ps_core_parts.specs.declared.events.Pair.{Pair}
@@ -7,7 +7,7 @@ use Rattle.ps_table.specs.Events.{gc_did_all}
 use Rattle.ps_table.proofs.Flipping.{gc_all-append}
 use Rattle.ps_gc.specs.Events.{Copied}
 use Rattle.ps_gc.proofs.Copying.{one_original}
-use Rattle.ps_gc.proofs.Scanning.{all_at_end, not_all, field_unfilled, fields_told}
+use Rattle.ps_gc.proofs.Scanning.{all_at_end, not_all, field_unfilled, fields_told, replica_words}
 use Rattle.ps_gc.proofs.collector.Collector.scan_one.Goals as goal
 
 pub returns-then-self-clause-answer : goal.returns-then-self-clause-answer
@@ -68,3 +68,19 @@ returns-clause-did g c =
           ∙ (sym (gc_all-append (gc_did_all m one.0) two.0 three.0)
           ∙ sym (gc_all-append m one.0 (two.0 ++ three.0)))),
     )
+
+pub returns-clause-onward : goal.returns-clause-onward
+returns-clause-onward g c = λ _.
+    let s = c.args.self.now in
+    let g = s.gc.seat.me.0.gc in
+    let pairing = c.scanned_pairing-pairing.ensures in
+    let p = pairing.is.0 in
+    let here : p.replica ≡ s.to.at = pairing.is.2 ∙ pairing.at in
+    let lt = s.field c.scanned_pairing-pairing.result.original p pairing.is.1 here in
+    let words = replica_words g s.gc.runs c.scanned_pairing-pairing.result.original p pairing.is.1
+    in
+    let top = words.inside in let size = words.size in
+    let moved = c.copy_field.ensures.at refl in
+    let at = moved.0 in let field = moved.1 in
+    let on = c.scan_on.ensures.onward in
+    record { on = omega arith; inside = omega arith }

@@ -1,18 +1,68 @@
-use Rattle.std.proofs.Common.{sym, ap, ◌∙◌, subst}
+use Rattle.std.proofs.Common.{◌≡◌, ap, sym, subst, ◌∙◌}
+use Rattle.ps_core_parts.specs.declared.events.Vm.{Vm}
+use Rattle.ps_core_parts.specs.declared.events.Gc.{Gc}
+use Rattle.ps_core_parts.specs.Steps.{is_open}
 use Rattle.ps_mem.specs.Heap.{Heap}
 use Rattle.ps_mem.specs.Shows.{AreValues}
 use Rattle.ps_parts_memory.specs.Memory.{heap_of}
+use Rattle.ps_parts_memory.specs.Stores.{numbers}
+use Rattle.ps_flips.specs.Collected.{IsCollected}
+use Rattle.ps_table.proofs.Kept.{keeps_vm, sits_on}
+use Rattle.ps_gc.specs.declared.flips.Flip.TheVariants.{Done}
+use Rattle.ps_gc.specs.Flipping.{MayFlip}
+use Rattle.ps_gc.proofs.Ending.{ended_scanned, logs_ended, must_flip}
+use Rattle.ps_gc.proofs.Roots.{still_have}
 use Rattle.ps_gc.proofs.Spaces.{values_name}
 use Rattle.ps_gc.proofs.space.CollectedSpaceCollectedMemory.end_cycle.Goals as goal
 
+pub meet-requires : goal.meet-requires
+meet-requires g c =
+    let did = c.scan_all.ensures.did in record {
+      sits = sits_on _ _ _ _ _ (ap (λ t. t.words) c.scan_all.ensures.same)
+          c.end_logs.new.self.sits (keeps_vm _ _ did.0 did.1) c.scan_all.new.self.gc.empty;
+    }
+
 pub joined_try_flip-requires-clause-stand : goal.joined_try_flip-requires-clause-stand
 joined_try_flip-requires-clause-stand g c =
-    let heap = ap heap_of c.scan_all.ensures.vm.part
-    ∙ (c.end_logs.ensures.heap ∙ c.hand.ensures.heap) in
-    values_name c.scan_all.new.self.collector.gc.seat.me.0.vm c.args.roots.now
+    let did = c.scan_all.ensures.did in
+    let heap = ap heap_of c.meet.ensures.parts.0 ∙ (ap heap_of (keeps_vm _ _ did.0 did.1).part
+    ∙ (c.end_logs.ensures.heap ∙ c.hand.ensures.heap)) in
+    values_name c.meet.new.self.seat.me.0.vm c.args.roots.now
     (subst (λ (h : Heap). AreValues h c.args.roots.now) (sym heap) c.requires.values)
 
-pub returns-in-Done-clause-quiet : goal.returns-in-Done-clause-quiet
-returns-in-Done-clause-quiet g c = λ yes.
+pub unreachable-requires : goal.unreachable-requires
+unreachable-requires g c =
+    let m = c.scan_all.new.self.gc.seat.me.0 in
+    let did = c.scan_all.ensures.did in
+    let keeps = keeps_vm c.end_logs.new.self.collector.gc.seat.me.0 m did.0 did.1 in
+    let opened = ap is_open keeps.part ∙ c.end_logs.ensures.«open» in
+    let drained = logs_ended m c.meet.ensures.runs opened
+    (λ slot lt. ended_scanned slot _ m keeps c.scan_all.ensures.scans
+    (c.end_logs.ensures.ended slot lt)) in
+    let have = still_have _ _ c.scan_all.ensures.scans.pairs (numbers c.args.roots.now)
+    (still_have _ _ c.end_logs.ensures.pairs (numbers c.args.roots.now) c.hand.ensures.copied) in
+    let may : MayFlip m.vm m.gc (numbers c.args.roots.now) =
+    ((drained, c.scan_all.ensures.filled), have) in
+    let n = c.meet.new.self.seat.me.0 in
+    let ready : MayFlip n.vm n.gc (numbers c.args.roots.now) =
+    subst (λ (x : Vm × Gc). MayFlip x.0 x.1 (numbers c.args.roots.now))
+    (λ i. (sym c.meet.ensures.parts.0 i, sym c.meet.ensures.parts.1 i)) may in
+    let done : c.joined_try_flip.result ≡ Done =
+    must_flip n.vm n.gc (numbers c.args.roots.now) c.joined_try_flip.result ready
+    c.joined_try_flip.ensures.answer in
+    absurd (cc)
+
+pub returns-clause-moved : goal.returns-clause-moved
+returns-clause-moved g c =
+    let did = c.scan_all.ensures.did in
+    let heap = ap heap_of c.meet.ensures.parts.0 ∙ (ap heap_of (keeps_vm _ _ did.0 did.1).part
+    ∙ (c.end_logs.ensures.heap ∙ c.hand.ensures.heap)) in
+    λ yes. subst (λ (h : Heap). IsCollected h
+    (heap_of c.joined_try_flip.new.self.gc.seat.me.0.vm) c.args.roots.now
+    c.joined_try_flip.new.roots) heap
+    (c.joined_try_flip.ensures.moved c.in-Done.is)
+
+pub returns-clause-quiet : goal.returns-clause-quiet
+returns-clause-quiet g c = λ yes.
     let g = c.joined_try_flip.ensures.grants c.in-Done.is in
     record { cycle_open = g.cycle_open; closed = g.closed; fresh = g.fresh }

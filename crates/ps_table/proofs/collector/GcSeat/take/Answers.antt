@@ -1,10 +1,13 @@
 use Rattle.std.proofs.Common.{arith, ◌≡◌, ℕ, sym, ap, ◌∙◌, subst}
-use Rattle.ps_record.specs.Format.{ring_place}
+use Rattle.std.specs.Prelude.{slice_get}
+use Rattle.ps_record.specs.Format.{ring_place, read_record}
 use Rattle.ps_core_parts.specs.declared.events.Event.TheVariants.{TakeLoad}
+use Rattle.ps_core_parts.specs.Objects.{log_of}
 use Rattle.ps_core_laws.proofs.Rings.{ring_in}
-use Rattle.ps_table.specs.Shown.{slot_at, gc_did, GcFinds}
+use Rattle.ps_table.specs.Shown.{slot_at, gc_did, BothFind, GcFinds}
 use Rattle.ps_table.proofs.Allows.{gc_allows, GcStep, gc_known}
 use Rattle.ps_table.proofs.GcMoves.{gc_take_step}
+use Rattle.ps_table.proofs.Meeting.{found_runs, next_found}
 use Rattle.ps_table.proofs.Moves.{slot_of_place}
 use Rattle.ps_table.proofs.collector.GcSeat.take.Goals as goal
 
@@ -39,4 +42,12 @@ returns g c =
           ∙ ap (λ (t : ℕ). gc_did c.args.self.now.seat.me.0 (TakeLoad t c.load.result)) slot;
       finds = subst (λ (k : ℕ). GcFinds c.args.self.now.seat.me.0.gc k c.load.result) at
           c.load.ensures.did.1.finds;
+      runs = λ vm. found_runs _ _ _ _ (c.load.ensures.did.1.both vm);
+      next = λ vm.
+          let s = c.args.self.now.seat.me.0 in
+          let both = subst (λ (k : ℕ). BothFind s.vm s.gc k c.load.result)
+          (at ∙ ap (ring_place c.args.slot) c.requires.next) (c.load.ensures.did.1.both vm) in
+          subst (λ (k : ℕ). read_record k c.load.result ≡ slice_get (log_of s.vm.logs c.args.slot) k)
+          (sym c.requires.next)
+          (next_found s.vm s.gc c.args.slot c.load.result c.requires.may.0 both);
     }

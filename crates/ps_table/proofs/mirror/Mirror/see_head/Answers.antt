@@ -1,12 +1,14 @@
-use Rattle.std.proofs.Common.{◌+◌, refl, ap}
+use Rattle.std.proofs.Common.{ℕ, ◌+◌, refl, ap, subst}
 use Rattle.std.specs.Prelude.{slice_set}
 use Rattle.ps_core_parts.specs.declared.events.Event.TheVariants.{VmLoad}
 use Rattle.ps_core_laws.proofs.KeptFacts.{kept}
 use Rattle.ps_parts_memory.proofs.Cycles.{sees_heads}
 use Rattle.ps_parts_memory.proofs.Facts.{head_found}
 use Rattle.ps_parts_memory.proofs.Room.{part_seen}
+use Rattle.ps_table.specs.Shown.{BothFind}
 use Rattle.ps_table.proofs.Facts.{vm_facts, words, taken}
 use Rattle.ps_table.proofs.Kept.{keeps_by}
+use Rattle.ps_table.proofs.Meeting.{found_runs, taken_found}
 use Rattle.ps_table.proofs.Mirrored.{goes_by, mirrors_seen}
 use Rattle.ps_table.proofs.mirror.Mirror.see_head.Goals as goal
 
@@ -40,3 +42,14 @@ returns-clause-sees g c =
     sees_heads m.0.vm (vm_facts m.0.vm c.requires.sits.1.runs) (head_found words kept taken m.0.vm)
     m.0.gc c.args.slot c.vm_load-head.result c.requires.slot
     (rw c.head_place.ensures at c.vm_load-head.ensures.does.finds)
+
+pub returns-clause-taken : goal.returns-clause-taken
+returns-clause-taken g c =
+    let m = c.args.seat.now.me.0 in
+    let head = c.vm_load-head.result in
+    let does = c.vm_load-head.ensures.does in
+    λ gc. taken_found m.vm m.gc c.args.slot head c.requires.slot
+    (subst (λ (k : ℕ). BothFind m.vm m.gc k head) c.head_place.ensures (does.both gc))
+
+pub returns-clause-runs : goal.returns-clause-runs
+returns-clause-runs g c = λ gc. found_runs _ _ _ _ (c.vm_load-head.ensures.does.both gc)
