@@ -1,6 +1,6 @@
 -- One element more is done by operands alone.
-use Rattle.std.proofs.Common.{◌≡◌, ◌≢◌, ℕ, ◌+◌, ◌-◌, ◌<◌, ◌≤◌, arith, Bool, true, false, List, [], ◌∷◌, drop, Option, Some, None, Ok, refl, sym, ap, subst, ◌∙◌}
-use Rattle.std.specs.Prelude.{Result, nat_lt, slice_get, if◌then◌else◌}
+use Rattle.std.proofs.Common.{◌≡◌, ◌≢◌, ℕ, zero, suc, ◌+◌, ◌-◌, ◌<◌, ◌≤◌, arith, Bool, true, false, List, [], ◌∷◌, drop, Option, Some, None, Ok, refl, sym, ap, subst, ◌∙◌}
+use Rattle.std.specs.Prelude.{Result, IfSome, nat_lt, slice_get, if◌then◌else◌}
 use Rattle.std.proofs.lemmas.Bool.Decides.{nat_tests}
 use Rattle.ps_language.specs.Access.{elements}
 use Rattle.ps_language.specs.Effect.{Around, Scene}
@@ -22,11 +22,11 @@ use Rattle.ps_acts.specs.Acts.{Asked}
 use Rattle.ps_acts.specs.Lent.{Lent, IsShown, IsGood}
 use Rattle.ps_turns.specs.declared.turned.Turned.{Turned}
 use Rattle.ps_turns.specs.declared.turned.Turned.TheVariants.{Goes}
-use Rattle.ps_turns.specs.Turns.{Turns}
+use Rattle.ps_turns.specs.Turns.{Turns, none_asked}
 use Rattle.ps_turns.proofs.Composing.{turns_as, restacked_good}
 use Rattle.ps_values.specs.Values.{meaning, GoesIn, among, done_turn, Asks, executed_asks}
 use Rattle.ps_frames.specs.declared.elements.Element.{Element}
-use Rattle.ps_frames.specs.Steps.{frames_after, rest_frames, running_turn, frame_asks, GoesAhead, IsElement}
+use Rattle.ps_frames.specs.Steps.{frames_after, rest_frames, running_turn, frame_asks, above, with_entered, GoesAhead, IsElement}
 use Rattle.ps_frames.proofs.Taking.{rest_some, rest_good, element_made}
 use Rattle.ps_interpreter.specs.Interprets.{asks_in, own_turn}
 use Rattle.ps_interpreter.specs.Makes.{ordinary, TurnsBehind, Runs}
@@ -131,7 +131,7 @@ module _ (heap : Heap) (dictionaries : List Word) (rest : Part) (old : List Word
         (so_far l below good)))
 
 -- the element at a place is the first of what is left
-pub element_first : (asks : Asks) (heap : Heap) (dictionaries : List Word) (rest : Part)
+element_first : (asks : Asks) (heap : Heap) (dictionaries : List Word) (rest : Part)
     (below : List Frame) (made : ℕ) (element : Element)
     → IsElement asks heap dictionaries rest made element
     → IsElement asks heap dictionaries (rest_from rest below made) 0 element
@@ -145,29 +145,21 @@ element_first asks heap dictionaries rest below made element is = record {
   treats = is.treats;
 }
 
--- of what is lent
-module _ (l : Lent) (rest : Part) (top : Some (Procedure rest) ≡ first_of l.frames)
-    (good : IsGood l) where
-  split : l.frames ≡ Procedure rest ∷ drop 1 l.frames
-  split = first_split l.frames (Procedure rest) top
+-- where it is known
+pub first_known : (asks : Asks) (heap : Heap) (dictionaries : List Word) (rest : Part)
+    (below : List Frame) (made : ℕ) (next : Option Element)
+    → IfSome next (IsElement asks heap dictionaries rest made)
+    → IfSome next (IsElement asks heap dictionaries (rest_from rest below made) 0)
+first_known asks heap dictionaries rest below made None is = tt
+first_known asks heap dictionaries rest below made (Some element) is =
+    element_first asks heap dictionaries rest below made element is
 
-  abbrev pub left : (made : ℕ) (operands : List Word) → Lent
-  left made operands =
-      stacked l.heap l.dictionaries operands (frames_after made rest (drop 1 l.frames)) l
-
-  pub made_first : (made : ℕ) (operands : List Word)
-      → DoesFirst l.heap l.dictionaries rest made l.operands operands
-      → HasRun made l (left made operands)
-  made_first made operands does =
-      subst (λ (frames : List Frame). HasRun made (record l { frames = frames })
-      (left made operands)) (sym split)
-      (does l (drop 1 l.frames)
-      (subst (λ (frames : List Frame). IsGood (record l { frames = frames })) split good))
-
-  pub left_top : (made : ℕ) (operands : List Word) → made < rest.length
-      → first_of (left made operands).frames
-      ≡ Some (Procedure (rest_from rest (drop 1 l.frames) made))
-  left_top made operands some = ap first_of (some_left rest (drop 1 l.frames) made some)
+-- all were taken
+all_taken : (rest : Part) (below : List Frame) (made : ℕ) → made ≡ rest.length
+    → frames_after made rest below ≡ below
+all_taken rest below made all =
+    let none : nat_lt made rest.length ≡ false = grind (arith, nat_tests, all) in
+    ap (λ (b : Bool). Frames_by rest below b (rest_from rest below made)) none
 
 -- ---- a turn of the general way
 
@@ -225,25 +217,6 @@ top_behind asks slot made old mid new so_far top other is result turns =
     turned_behind asks slot made old mid new so_far (framed_by asks mid top other is) result
     (own_turns asks mid top other is (ordinary slot) result new turns)
 
--- of what is left of a procedure behind its first elements
-module _ (l : Lent) (rest : Part) (top : Some (Procedure rest) ≡ first_of l.frames)
-    (good : IsGood l) (made : ℕ) (operands : List Word)
-    (does : DoesFirst l.heap l.dictionaries rest made l.operands operands) where
-  abbrev after_first : Lent
-  after_first = left l rest top good made operands
-
-  pub left_good : IsGood after_first
-  left_good = (made_first l rest top good made operands does).good
-
-  pub left_behind : (asks : Asks) (slot : ℕ) → made < rest.length
-      → (result : Result Turned Reason) (new : Lent)
-      → Turns (frame_asks asks) running_turn (ordinary slot) result after_first new
-      → TurnsBehind (own_asks asks) slot made result l new
-  left_behind asks slot some result new turns =
-      top_behind asks slot made l after_first new (made_first l rest top good made operands does)
-      (Procedure (rest_from rest (drop 1 l.frames) made)) (λ source at is. absurd (cc))
-      (left_top l rest top good made operands some) result turns
-
 -- one behind them that goes on is a step
 pub goes_behind : (asks : Asks) (slot made : ℕ) (old new : Lent)
     → TurnsBehind (own_asks asks) slot made (Ok Goes) old new
@@ -251,13 +224,26 @@ pub goes_behind : (asks : Asks) (slot made : ℕ) (old new : Lent)
 goes_behind asks slot made old new behind =
     run_more (own_asks asks) slot made old behind.mid new behind.makes behind.framed behind.turns
 
--- a turn of a loop is a step
-pub made_turn : (asks : Asks) (l after : Lent) (top : Frame)
+-- the procedure that is the topmost frame is above the others
+pub procedure_begins : (l : Lent) (rest : Part) → l.frames ≡ Procedure rest ∷ drop 1 l.frames
+    → IsGood l → HasRun 0 l (above rest (record l { frames = drop 1 l.frames }))
+procedure_begins l rest split good =
+    subst (λ (frames : List Frame). HasRun 0 l (record l { frames = frames })) split
+    (run_none l good)
+
+-- what asks for nothing
+pub no_asks : Asks
+no_asks operator around scene = none_asked
+
+-- a turn that goes ahead is a step
+pub made_turn : (l after : Lent) (top : Frame)
     → ((source : Source) (at : ℕ) → top ≡ Text source at → ⊥) → first_of l.frames ≡ Some top
-    → IsGood l → GoesAhead true l after → HasRun 1 l after
-made_turn asks l after top other is good goes =
+    → IsGood l → (asks : Asks)
+    → ((trial : Trial) → Turns (frame_asks asks) running_turn trial (Ok Goes) l after)
+    → HasRun 1 l after
+made_turn l after top other is good asks goes =
     run_more (own_asks asks) 0 0 l l after (run_none l good) (framed_by asks l top other is)
-    (own_turns asks l top other is (ordinary 0) (Ok Goes) after (goes asks (ordinary 0)))
+    (own_turns asks l top other is (ordinary 0) (Ok Goes) after (goes (ordinary 0)))
 
 -- what comes behind steps that were made comes behind them and those before
 pub runs_then : (asks : Status → Around → Scene → Asked) (slot first second : ℕ)
@@ -272,3 +258,62 @@ runs_then asks slot first second (Some result) old mid new one behind = record {
   framed = behind.framed;
   turns = behind.turns;
 }
+
+-- ---- of a procedure above the frames
+
+-- behind steps that were made, its first elements are done
+module _ (start l : Lent) (rest : Part) (so_far : ℕ) (makes : HasRun so_far start (above rest l))
+    (made : ℕ) (operands : List Word)
+    (does : DoesFirst l.heap l.dictionaries rest made l.operands operands) where
+  abbrev now : Lent
+  now = record l { operands = operands }
+
+  done : HasRun (so_far + made) start
+      (record l { operands = operands; frames = frames_after made rest l.frames })
+  done = run_then so_far made start (above rest l) _ makes (does l l.frames makes.good)
+
+  pub done_all : made ≡ rest.length → HasRun (so_far + made) start now
+  done_all all =
+      subst (λ (frames : List Frame). HasRun (so_far + made) start
+      (record l { operands = operands; frames = frames })) (all_taken rest l.frames made all) done
+
+  pub done_some : made < rest.length
+      → HasRun (so_far + made) start (above (rest_from rest l.frames made) now)
+  done_some some =
+      subst (λ (frames : List Frame). HasRun (so_far + made) start
+      (record l { operands = operands; frames = frames })) (some_left rest l.frames made some) done
+
+-- behind steps that were made, its first element is done
+module _ (asks : Asks) (start l : Lent) (rest : Part) (made : ℕ)
+    (makes : HasRun made start (above rest l)) where
+  abbrev AboveTurns : (trial : Trial) → Result Turned Reason → Lent → Type 0
+  AboveTurns trial result new =
+      Turns (asks_in (own_asks asks) None) (own_turn None) trial result (above rest l) new
+
+  own_above : (trial : Trial) (result : Result Turned Reason) (new : Lent)
+      → Turns (frame_asks asks) running_turn trial result (above rest l) new
+      → AboveTurns trial result new
+  own_above trial result new turns =
+      turns_as (frame_asks asks) (asks_in (own_asks asks) None) running_turn (own_turn None) trial
+      result (above rest l) new (λ s shown. refl) (λ s shown. refl) turns
+
+  pub goes_above : (new : Lent)
+      → ((trial : Trial) → Turns (frame_asks asks) running_turn trial (Ok Goes) (above rest l) new)
+      → HasRun (made + 1) start new
+  goes_above new goes =
+      run_more (own_asks asks) 0 made start (above rest l) new makes (λ none. absurd (cc))
+      (own_above (ordinary 0) (Ok Goes) new (goes (ordinary 0)))
+
+  pub turned_above : (slot : ℕ) (result : Result Turned Reason) (new : Lent)
+      → Turns (frame_asks asks) running_turn (ordinary slot) result (above rest l) new
+      → TurnsBehind (own_asks asks) slot made result start new
+  turned_above slot result new turns =
+      turned_behind asks slot made start (above rest l) new makes (λ none. absurd (cc)) result
+      (own_above (ordinary slot) result new turns)
+
+-- one step at least, where any may be made
+pub some_made : (most made more : ℕ) → 1 ≤ most → (1 ≤ most - made → 1 ≤ more)
+    → 1 ≤ made + more
+some_made most zero more some goes =
+    let any : 1 ≤ more = goes (omega (arith, some)) in omega (arith, any)
+some_made most (suc made) more some goes = omega arith

@@ -1,13 +1,15 @@
 -- Elements of a procedure that operands alone do (PLRM2, 3.5).
-use Rattle.std.specs.Prelude.{ℕ, List, ◌∷◌}
+use Rattle.std.specs.Prelude.{◌≡◌, ℕ, ◌≤◌, ◌<◌, List, ◌∷◌, length}
 use Rattle.ps_word.specs.declared.values.Part.{Part}
 use Rattle.ps_word.specs.declared.words.Word.{Word}
 use Rattle.ps_mem.specs.Heap.{Heap}
 use Rattle.ps_control.specs.declared.frames.Frame.{Frame}
 use Rattle.ps_control.specs.declared.frames.Frame.TheVariants.{Procedure}
 use Rattle.ps_acts.specs.Lent.{Lent, IsGood}
-use Rattle.ps_frames.specs.Steps.{frames_after}
+use Rattle.ps_frames.specs.Steps.{above, frames_after}
 use Rattle.ps_interpreter.specs.OwnSteps.{HasRun}
+use Rattle.ps_context.specs.declared.runs.Begin.{Begin}
+use Rattle.ps_context.specs.declared.runs.Begin.TheVariants.{Enters, Goes, Left}
 
 -- what is lent over a heap, with these stacks
 abbrev pub stacked : Heap → (dictionaries operands : List Word) → (frames : List Frame) → Lent
@@ -24,3 +26,16 @@ DoesFirst heap dictionaries rest made old new =
     → IsGood (stacked heap dictionaries old (Procedure rest ∷ below) l)
     → HasRun made (stacked heap dictionaries old (Procedure rest ∷ below) l)
     (stacked heap dictionaries new (frames_after made rest below) l)
+
+-- so many steps were made, one at most, and the frame of the procedure that is above the frames has
+-- room
+pub record BeginsWith (rest : Part) (made : ℕ) (old new : Lent) : Type 0 where
+  pub few : made ≤ 1
+  pub room : length new.frames < 250
+  pub makes : HasRun made old (above rest new)
+
+-- how steps of the topmost frame begin
+abbrev pub Begins : Begin → (old new : Lent) → Type 0
+Begins (Enters rest made) old new = BeginsWith rest made old new
+Begins Goes old new = HasRun 1 old new
+Begins Left old new = new ≡ old

@@ -1,20 +1,23 @@
 //! Steps of the topmost frame one after another, until one changes the frames (PLRM2, 3.4, 3.5).
 
-ghost use Rattle.std.specs.Prelude.{◌≡◌, ◌≢◌, ◌+◌, ◌-◌, ◌<◌, ◌≤◌, ◌^◌, [], IsSome, IsNone, Some, None};
+ghost use Rattle.std.specs.Prelude.{◌≡◌, ◌≢◌, ◌+◌, ◌-◌, ◌<◌, ◌≤◌, ◌^◌, [], IsSome, IsNone, Some, None, length, min};
 ghost use Rattle.ps_stacks.specs.Tops.{first_of};
 ghost use Rattle.ps_acts.specs.Lent.{lent, IsGood};
 ghost use Rattle.ps_turns.specs.Turns.{Turns};
 ghost use Rattle.ps_interpreter.specs.Interprets.{asks_in, own_turn};
 ghost use Rattle.ps_interpreter.specs.Makes.{Runs};
+ghost use Rattle.ps_frames.specs.Steps.{above};
+ghost use Rattle.ps_context.specs.Elements.{Begins};
 ghost use Rattle.ps_context.specs.Steps.{own_asks};
 
 use crate::elements::do_first;
 use crate::texts::text_turn;
 use ps_acts::lent::{Context, Shared, Trial};
-use ps_control::frames::Frame;
-use ps_frames::ahead::loop_quickly;
-use ps_frames::elements::{element_turn, procedure_turn};
-use ps_frames::frames::advance;
+use ps_control::ahead::Ahead;
+use ps_control::frames::{Frame, push_frame};
+use ps_frames::ahead::turn_ahead;
+use ps_frames::elements::{element_ahead, pushed_turn};
+use ps_frames::frames::drop_top;
 use ps_frames::steps::frame_turn;
 use ps_interpreter::interprets::Run;
 use ps_mem::{Memory, SLOTS};
@@ -27,7 +30,6 @@ use ps_word::values::Part;
 /// a value that waits, a turn of a loop, the end of `stopped` or of a monitor, or a part of `bind`.
 #[inline(never)]
 pub fn turn_frame<O: Operate, M: Memory>(
-    top: Frame,
     text: &mut Vec<u8>,
     operators: &O,
     context: &mut Context,
@@ -38,11 +40,14 @@ pub fn turn_frame<O: Operate, M: Memory>(
     requires slot { trial.slot < SLOTS }
     requires good { IsGood
         (lent (M.heap memory.old) (M.grants memory.old) context.old shared.old) }
-    requires top { first_of context.old.frames ≡ Some top }
+    requires framed { context.old.frames ≢ [] }
     ensures { Turns (asks_in (own_asks O.asks) None) (own_turn None) trial result
         (lent (M.heap memory.old) (M.grants memory.old) context.old shared.old)
         (lent (M.heap memory.new) (M.grants memory.new) context.new shared.new) }
 {
+    let Some(top) = context.frames.top() else {
+        unreachable!()
+    };
     match top {
         Frame::Text { source, at } => text_turn(
             source, at, text, operators, context, shared, memory, trial,
@@ -65,13 +70,26 @@ fn left_of(rest: Part, count: u16) -> Part
     }
 }
 
-/// Makes the first steps of the procedure that is the topmost frame, at most so many: those of its
-/// first elements, as far as operands alone do them, and that of the element behind them, where it
-/// is known as what it is treated, or where it is the first. The records go into the log of a slot.
+/// The least of a budget and of how many elements there are.
 #[inline(always)]
-fn run_procedure<O: Operate, M: Memory>(
-    rest: Part,
-    most: u16,
+fn least(budget: u32, length: u16) -> u16
+    ensures { result ≡ min budget length }
+{
+    if budget < length as u32 {
+        budget as u16
+    } else {
+        length
+    }
+}
+
+/// Makes the first steps of a procedure above the frames, at most so many: those of its first
+/// elements, as far as operands alone do them, of each procedure that is entered so, and that of
+/// the element behind them. What is left of the procedure is pushed before that, or where no more
+/// are to be made. The records go into the log of a slot.
+#[inline(always)]
+fn run_entered<O: Operate, M: Memory>(
+    entered: Part,
+    most: u32,
     operators: &O,
     context: &mut Context,
     shared: &mut Shared,
@@ -79,55 +97,103 @@ fn run_procedure<O: Operate, M: Memory>(
     slot: u32,
 ) -> Run
     requires slot { slot < SLOTS }
-    requires good { IsGood
-        (lent (M.heap memory.old) (M.grants memory.old) context.old shared.old) }
-    requires some { 1 ≤ most }
-    requires most { most ≤ rest.length }
-    requires top { first_of context.old.frames ≡ Some (Frame.Procedure rest) }
+    requires good { IsGood (above entered
+        (lent (M.heap memory.old) (M.grants memory.old) context.old shared.old)) }
+    requires room { length context.old.frames < 250 }
     ensures within { result.made ≤ most }
     ensures fewer { IsSome result.next → result.made < most }
-    ensures more { IsNone result.next → 1 ≤ result.made }
-    ensures runs { Runs (own_asks O.asks) slot result.made result.next
-        (lent (M.heap memory.old) (M.grants memory.old) context.old shared.old)
+    ensures more { IsNone result.next → 1 ≤ most → 1 ≤ result.made }
+    ensures runs { Runs (own_asks O.asks) slot result.made result.next (above entered
+        (lent (M.heap memory.old) (M.grants memory.old) context.old shared.old))
         (lent (M.heap memory.new) (M.grants memory.new) context.new shared.new) }
 {
-    let trial = Trial {
-        slot,
-        refused: false,
-    };
-    let dictionaries = &context.dictionaries;
-    let operands = &mut context.operands;
-    let first = do_first(rest, most, operators, dictionaries, operands, memory);
-    advance(&mut context.frames, rest, first.done);
-    let made = first.done as u32;
-    if let Some(element) = first.next {
-        let left = left_of(rest, first.done);
-        let next = element_turn(left, element, operators, context, shared, memory, trial);
-        return Run {
-            made,
-            next: Some(next),
-        };
+    let mut rest = entered;
+    let mut made = 0;
+    while made < most {
+        let count = least(most - made, rest.length);
+        let dictionaries = &context.dictionaries;
+        let operands = &mut context.operands;
+        let first = do_first(rest, count, operators, dictionaries, operands, memory);
+        made += first.done as u32;
+        if first.done == rest.length {
+            return Run { made, next: None };
+        }
+        rest = left_of(rest, first.done);
+        if made < most {
+            match element_ahead(rest, first.next, operators, context, shared, memory) {
+                Ahead::Enters(body) => {
+                    made += 1;
+                    rest = body;
+                }
+                Ahead::Goes => {
+                    return Run {
+                        made: made + 1,
+                        next: None,
+                    };
+                }
+                Ahead::Left => {
+                    let trial = Trial {
+                        slot,
+                        refused: false,
+                    };
+                    let next = pushed_turn(
+                        rest, first.next, operators, context, shared, memory, trial,
+                    );
+                    return Run {
+                        made,
+                        next: Some(next),
+                    };
+                }
+            }
+        }
     }
-    if made == 0 {
-        let left = left_of(rest, first.done);
-        let next = procedure_turn(left, operators, context, shared, memory, trial);
-        return Run {
-            made,
-            next: Some(next),
-        };
-    }
+    push_frame(&mut context.frames, Frame::Procedure { rest });
     Run { made, next: None }
 }
 
-/// What the first step came to.
+/// How steps of the topmost frame begin.
+#[derive(Clone, Copy, Debug, PartialEq, Eq)]
+pub enum Begin {
+    /// With so many steps, behind which a procedure is above the frames.
+    Enters { rest: Part, made: u32 },
+    /// With a step that enters none.
+    Goes,
+    /// Nothing has changed.
+    Left,
+}
+
+/// The procedure that is the topmost frame is taken off, or a loop turns, up to the frame of the
+/// procedure that it enters. The memory stays as it is.
 #[inline(always)]
-fn behind_none(next: Result<Turned, NotMade>) -> Run
-    ensures made { result.made ≡ 0 }
-    ensures next { result.next ≡ Some next }
+fn begin_with<M: Memory>(
+    top: Frame,
+    context: &mut Context,
+    shared: &Shared,
+    memory: &mut M,
+) -> Begin
+    requires good { IsGood
+        (lent (M.heap memory.old) (M.grants memory.old) context.old shared.now) }
+    requires top { first_of context.old.frames ≡ Some top }
+    ensures heap { M.heap memory.new ≡ M.heap memory.old }
+    ensures grants { M.grants memory.new ≡ M.grants memory.old }
+    ensures begins { Begins result
+        (lent (M.heap memory.old) (M.grants memory.old) context.old shared.now)
+        (lent (M.heap memory.old) (M.grants memory.old) context.new shared.now) }
 {
-    Run {
-        made: 0,
-        next: Some(next),
+    match top {
+        Frame::Procedure { rest } => {
+            drop_top(&mut context.frames);
+            Begin::Enters { rest, made: 0 }
+        }
+        Frame::Text { .. } => Begin::Left,
+        _ => match turn_ahead(top, context, shared, memory) {
+            Ahead::Enters(body) => Begin::Enters {
+                rest: body,
+                made: 1,
+            },
+            Ahead::Goes => Begin::Goes,
+            Ahead::Left => Begin::Left,
+        },
     }
 }
 
@@ -159,32 +225,29 @@ pub fn run_frame<O: Operate, M: Memory>(
     let Some(top) = context.frames.top() else {
         unreachable!()
     };
-    let trial = Trial {
-        slot,
-        refused: false,
-    };
-    match top {
-        Frame::Procedure { rest } => {
-            let most = if most < rest.length as u32 {
-                most as u16
-            } else {
-                rest.length
-            };
-            run_procedure(rest, most, operators, context, shared, memory, slot)
-        }
-        Frame::Text { .. } => {
-            let next = turn_frame(top, text, operators, context, shared, memory, trial);
-            behind_none(next)
-        }
-        _ => {
-            if loop_quickly(top, context, shared, memory) {
-                return Run {
-                    made: 1,
-                    next: None,
-                };
+    match begin_with(top, context, shared, memory) {
+        Begin::Enters { rest, made } => {
+            let left = most - made;
+            let run = run_entered(rest, left, operators, context, shared, memory, slot);
+            Run {
+                made: made + run.made,
+                next: run.next,
             }
-            let next = turn_frame(top, text, operators, context, shared, memory, trial);
-            behind_none(next)
+        }
+        Begin::Goes => Run {
+            made: 1,
+            next: None,
+        },
+        Begin::Left => {
+            let trial = Trial {
+                slot,
+                refused: false,
+            };
+            let next = turn_frame(text, operators, context, shared, memory, trial);
+            Run {
+                made: 0,
+                next: Some(next),
+            }
         }
     }
 }

@@ -41,7 +41,6 @@ impl<O: Operate> Interpret for Steps<O> {
         match unwinding {
             Some(cause) => unwind_turn(cause, top, context, shared, memory, trial),
             None => turn_frame(
-                top,
                 &mut self.text,
                 &self.operators,
                 context,

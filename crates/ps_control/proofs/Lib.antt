@@ -1,5 +1,6 @@
 pub mod Controlling
 pub mod Courses
+pub mod Entering
 pub mod Loops
 pub mod Reading
 pub mod Rooms

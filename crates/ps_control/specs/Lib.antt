@@ -1,3 +1,4 @@
+pub mod Ahead
 pub mod Frames
 pub mod Controls
 pub mod Turns

@@ -2,6 +2,7 @@
 //! 3.4, 8 'Operators': Control).
 #![tactic(auto)]
 
+pub mod ahead;
 pub mod control;
 pub mod frames;
 pub mod readers;

@@ -35,7 +35,8 @@ pub enum TurnOperands {
 
 impl TurnOperands {
     /// How many these are.
-    fn count(self) -> usize
+    #[inline(always)]
+    pub(crate) fn count(self) -> usize
         ensures { result ≡ length (words_of self) }
     {
         match self {
@@ -46,7 +47,8 @@ impl TurnOperands {
     }
 
     /// Pushes these, for which there is room.
-    fn push(self, operands: &mut Operands)
+    #[inline(always)]
+    pub(crate) fn push(self, operands: &mut Operands)
         requires room { length (words_of self) + length operands.old ≤ 500 }
         ensures { operands.new ≡ words_of self ++ operands.old }
     {
@@ -100,6 +102,7 @@ fn go_on(
 }
 
 /// Takes the topmost frame off.
+#[inline]
 pub fn leave(frames: &mut Frames)
     requires some { 1 ≤ length frames.old }
     ensures { frames.new ≡ drop 1 frames.old }
@@ -152,7 +155,8 @@ pub fn repeat_turn(
 }
 
 /// Whether a control value is past the limit, by the sign of the increment.
-fn is_past(control: i64, increment: i32, limit: i32) -> bool
+#[inline(always)]
+pub(crate) fn is_past(control: i64, increment: i32, limit: i32) -> bool
     ensures { result ≡ language.is_past control increment limit }
 {
     if increment < 0 {
@@ -163,7 +167,8 @@ fn is_past(control: i64, increment: i32, limit: i32) -> bool
 }
 
 /// The word of a control value that isn't past the limit, which is an integer of 32 bits.
-fn control_word(control: i64) -> Word
+#[inline(always)]
+pub(crate) fn control_word(control: i64) -> Word
     requires { FitsSigned w32 control }
     ensures value { (births : ℕ → ℕ) (names : List (List ℕ)) → value_of births names result
         ≡ integer control }

@@ -1,11 +1,12 @@
 -- What an operator did to operands alone.
-use Rattle.std.proofs.Common.{◌≡◌, ◌⊎◌, ℕ, Bool, true, false, List, [], Result, Ok, Err, refl, sym, subst, inl, inr}
+use Rattle.std.proofs.Common.{◌≡◌, ◌⊎◌, ℕ, ◌<◌, Bool, true, false, List, [], ◌∷◌, length, Result, Ok, Err, refl, sym, subst, inl, inr}
 use Rattle.std.specs.Result.{is_ok}
 use Rattle.ps_language.specs.declared.errors.ErrorName.{ErrorName}
 use Rattle.ps_language.specs.declared.operators.Operator.{Operator}
 use Rattle.ps_language.specs.declared.operators.Operator.TheVariants.{Mark, BeginArray, BeginDict}
 use Rattle.ps_language.specs.Outcome.{Outcome, leaves, fails}
-use Rattle.ps_language.specs.Rows.{Row, operand_row, reading_row}
+use Rattle.ps_language.specs.Control.{scene_effect}
+use Rattle.ps_language.specs.Rows.{Row, operand_row, reading_row, scene_row}
 use Rattle.ps_language.specs.RowsStack.{mark_row}
 use Rattle.ps_language.specs.Value.{Value, Store}
 use Rattle.ps_language.specs.Effect.{Scene}
@@ -13,16 +14,23 @@ use Rattle.ps_word.specs.declared.words.Word.{Word}
 use Rattle.ps_mem.specs.Heap.{Heap}
 use Rattle.ps_operands.specs.Does.{Does, Agrees, values_of}
 use Rattle.ps_operands.specs.Kept.{AreFrom}
+use Rattle.ps_control.specs.declared.ahead.Ahead.{Ahead}
+use Rattle.ps_control.specs.declared.ahead.Ahead.TheVariants.{Enters, Goes as Unentered, Left}
+use Rattle.ps_control.specs.declared.frames.Frame.{Frame}
+use Rattle.ps_control.specs.declared.frames.Frame.TheVariants.{Procedure}
+use Rattle.ps_control.specs.Ahead.{OnLeft, ControlsAhead}
+use Rattle.ps_control.specs.Controls.{stacks, IsReadyFor, Controls}
+use Rattle.ps_acts.specs.declared.lent.Trial.{Trial}
 use Rattle.ps_acts.specs.Acts.{Asked, Acts, nothing_asked}
 use Rattle.ps_ops.specs.Does.{Observes}
 use Rattle.ps_ops.proofs.Ready.{ready_from}
-use Rattle.ps_acts.specs.Lent.{Lent, IsShown}
-use Rattle.ps_acts.proofs.Lifts.{does_acts, observes_acts, held}
+use Rattle.ps_acts.specs.Lent.{Lent, IsGood, IsShown}
+use Rattle.ps_acts.proofs.Lifts.{does_acts, observes_acts, controls_acts, held, ready}
 use Rattle.ps_turns.specs.declared.turned.Turned.TheVariants.{Goes}
-use Rattle.ps_turns.specs.Turns.{IsShownWith}
+use Rattle.ps_turns.specs.Turns.{IsShownWith, TurnsWith}
 use Rattle.ps_turns.proofs.Composing.{turns_over}
-use Rattle.ps_values.specs.Values.{GoesAlone, operated_asks, operated_turn}
-use Rattle.ps_dispatch.specs.Alone.{ActsAlone}
+use Rattle.ps_values.specs.Values.{EntersAlone, GoesAlone, operated_asks, operated_turn}
+use Rattle.ps_dispatch.specs.Alone.{ActsAhead, ActsAlone}
 use Rattle.ps_dispatch.specs.Operators.{asked_of, row_now}
 use Rattle.ps_dispatch.specs.Turns.{operator_asks}
 use Rattle.ps_dispatch.proofs.Stepping.{goes_on}
@@ -89,6 +97,52 @@ alone_over old new row {operator} {which} {acts} same is none done kept from =
         (done refl l.heap) (ready_from l.heap old new (held good) from)))
     by false done kept = kept refl
 
+-- ---- operators that enter a procedure
+
+-- those that did their row over every frames
+pub ahead : {operator which : Operator} (row : List Value → Scene → Outcome Scene)
+    (came : Ahead) (old new : List Word) → operator ≡ which
+    → row_now which ≡ scene_row (scene_effect row) → asked_of which ≡ nothing_asked
+    → OnLeft came (new ≡ old)
+    → ((h : Heap) (size : ℕ) (frames : List Frame) → length frames < 250
+    → IsReadyFor h size (stacks old frames)
+    → ControlsAhead row came h size (stacks old frames) (stacks new frames))
+    → ActsAhead operator came old new
+ahead {operator} {which} row came old new same is none kept did =
+    subst (λ (o : Operator). ActsAhead o came old new) (sym same) (by came kept did)
+  where
+    acted : (l : Lent) (trial : Trial) (frames : List Frame)
+        → IsGood (record l { operands = old })
+        → Controls row (Ok tt) l.heap (length l.program) (stacks old l.frames) (stacks new frames)
+        → Acts (asked_of which) (row_now which) trial (Ok tt) (record l { operands = old })
+        (record l { operands = new; frames = frames })
+    acted l trial frames good controls =
+        let before : Lent = record l { operands = old } in
+        let after : Lent = record l { operands = new; frames = frames } in
+        subst (λ (r : Row). Acts (asked_of which) r trial (Ok tt) before after) (sym is)
+        (subst (λ (asks : Scene → Asked). Acts asks (scene_row (scene_effect row)) trial (Ok tt)
+        before after) (sym none)
+        (controls_acts before good new frames trial row (Ok tt) controls tt))
+
+    by : (came : Ahead) → OnLeft came (new ≡ old)
+        → ((h : Heap) (size : ℕ) (frames : List Frame) → length frames < 250
+        → IsReadyFor h size (stacks old frames)
+        → ControlsAhead row came h size (stacks old frames) (stacks new frames))
+        → ActsAhead which came old new
+    by (Enters body) kept did = (
+      tt,
+      λ l trial good room.
+          acted l trial (Procedure body ∷ l.frames) good
+          (did l.heap (length l.program) l.frames room (ready good)),
+    )
+    by Unentered kept did = (
+      tt,
+      λ l trial good room.
+          acted l trial l.frames good
+          (did l.heap (length l.program) l.frames room (ready good)),
+    )
+    by Left kept did = (kept, tt)
+
 -- ---- as a step
 
 pub goes_alone : (operator : Operator) (acts : Bool) (old new : List Word)
@@ -102,3 +156,31 @@ goes_alone operator true old new acts = λ l trial good none.
     (Ok Goes) before after (λ s held. held.shown) (λ s held. refl) (λ s held. refl)
     (goes_on operator trial before after (acts l trial good))
 goes_alone operator false old new same = same
+
+module _ (operator : Operator) (old new : List Word) where
+  stepped : (l : Lent) (trial : Trial) (frames : List Frame)
+      → Acts (asked_of operator) (row_now operator) trial (Ok tt) (record l { operands = old })
+      (record l { operands = new; frames = frames })
+      → TurnsWith [] [] (operated_asks operator_asks operator) (operated_turn operator) trial
+      (Ok Goes) (record l { operands = old }) (record l { operands = new; frames = frames })
+  stepped l trial frames acts =
+      let before : Lent = record l { operands = old } in
+      let after : Lent = record l { operands = new; frames = frames } in
+      turns_over IsShown (IsShownWith [] []) (operated_asks operator_asks operator)
+      (operated_asks operator_asks operator) (operated_turn operator) (operated_turn operator) trial
+      (Ok Goes) before after (λ s held. held.shown) (λ s held. refl) (λ s held. refl)
+      (goes_on operator trial before after acts)
+
+  pub enters_alone : (came : Ahead) → ActsAhead operator came old new
+      → EntersAlone [] (operated_asks operator_asks operator) (operated_turn operator) came old new
+  enters_alone (Enters body) acts = (
+    tt,
+    λ l trial good none room.
+        stepped l trial (Procedure body ∷ l.frames) (acts.1 l trial good room),
+  )
+  enters_alone Unentered acts = (
+    tt,
+    λ l trial good none room.
+        stepped l trial l.frames (acts.1 l trial good room),
+  )
+  enters_alone Left acts = (acts.0, tt)

@@ -1,7 +1,9 @@
--- What an operator does to operands alone.
-use Rattle.std.specs.Prelude.{◌≡◌, Bool, true, false, List, Ok}
+-- What an operator does to operands alone, and to frames.
+use Rattle.std.specs.Prelude.{◌≡◌, ◌<◌, Bool, true, false, List, length, Ok}
 use Rattle.ps_language.specs.declared.operators.Operator.{Operator}
 use Rattle.ps_word.specs.declared.words.Word.{Word}
+use Rattle.ps_control.specs.declared.ahead.Ahead.{Ahead}
+use Rattle.ps_control.specs.Ahead.{OnDone, OnLeft, frames_ahead}
 use Rattle.ps_acts.specs.declared.lent.Trial.{Trial}
 use Rattle.ps_acts.specs.Acts.{Acts}
 use Rattle.ps_acts.specs.Lent.{Lent, IsGood}
@@ -15,3 +17,12 @@ ActsAlone operator true old new =
     → Acts (asked_of operator) (row_now operator) trial (Ok tt) (record l { operands = old })
     (record l { operands = new })
 ActsAlone operator false old new = new ≡ old
+
+-- over fewer than 250 frames it acts and raises no error, once the frame is pushed of the procedure
+-- that it enters; or nothing has changed
+abbrev pub ActsAhead : Operator → Ahead → (old new : List Word) → Type 0
+ActsAhead operator ahead old new = OnLeft ahead (new ≡ old)
+    × OnDone ahead ((l : Lent) (trial : Trial) → IsGood (record l { operands = old })
+    → length l.frames < 250
+    → Acts (asked_of operator) (row_now operator) trial (Ok tt) (record l { operands = old })
+    (record l { operands = new; frames = frames_ahead ahead l.frames }))

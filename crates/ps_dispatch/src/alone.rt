@@ -1,7 +1,9 @@
-//! Operators on operands alone, where they raise no error (PLRM2, 8 'Operators').
+//! Operators on operands alone, and those that enter a procedure, where they raise no error (PLRM2, 8
+//! 'Operators').
 
-ghost use Rattle.ps_dispatch.specs.Alone.{ActsAlone};
+ghost use Rattle.ps_dispatch.specs.Alone.{ActsAhead, ActsAlone};
 
+use ps_control::ahead::{Ahead, if_ahead, if_else_ahead};
 use ps_language::operators::Operator;
 use ps_operands::{Operands, arithmetic, logic, stack_operators};
 use ps_relation_operators::equality::equality_quickly;
@@ -45,5 +47,18 @@ pub fn operate_alone(operator: Operator, operands: &mut Operands) -> bool
             stack_operators::mark(operands).is_ok()
         }
         _ => false,
+    }
+}
+
+/// An operator that enters a procedure, over fewer than 250 frames, acts up to the frame of that
+/// procedure, where it raises no error. Else nothing has changed, as by every other operator.
+#[inline(always)]
+pub fn enter_alone(operator: Operator, operands: &mut Operands) -> Ahead
+    ensures { ActsAhead operator result operands.old operands.new }
+{
+    match operator {
+        Operator::If => if_ahead(operands),
+        Operator::IfElse => if_else_ahead(operands),
+        _ => Ahead::Left,
     }
 }

@@ -5,9 +5,10 @@ ghost use Rattle.ps_dispatch.specs.Few.{operator_few};
 ghost use Rattle.ps_dispatch.specs.Turns.{operator_asks};
 ghost use Rattle.ps_turns.specs.Turns as turns;
 
-use crate::alone::operate_alone;
+use crate::alone::{enter_alone, operate_alone};
 use crate::turns::operated;
 use ps_acts::lent::{Context, Shared, Trial};
+use ps_control::ahead::Ahead;
 use ps_language::operators::Operator;
 use ps_mem::Memory;
 use ps_operands::Operands;
@@ -49,6 +50,12 @@ impl Operate for Operators {
     #[inline(always)]
     fn operate_quickly(&self, operator: Operator, operands: &mut Operands) -> bool {
         operate_alone(operator, operands)
+    }
+
+    /// One that enters a procedure.
+    #[inline(always)]
+    fn enter_quickly(&self, operator: Operator, operands: &mut Operands) -> Ahead {
+        enter_alone(operator, operands)
     }
 
     /// One that is left to the world is handed up; every other one acts.

@@ -1,20 +1,23 @@
 -- A turn of a loop that raises no error goes on; after any other nothing has changed.
-use Rattle.std.proofs.Common.{◌≡◌, Bool, true, List, ◌∷◌, drop, Some, Ok, Err, sym, subst, length}
-use Rattle.std.specs.Prelude.{Result, is_ok, OnErr}
-use Rattle.ps_language.specs.declared.errors.ErrorName.{ErrorName}
+use Rattle.std.proofs.Common.{◌≡◌, List, ◌∷◌, drop, Some, Ok, length, refl}
 use Rattle.ps_language.specs.declared.operators.Operator.{Operator}
 use Rattle.ps_language.specs.Value.{Store}
 use Rattle.ps_word.specs.declared.words.Word.{Word}
 use Rattle.ps_stacks.specs.Tops.{first_of}
+use Rattle.ps_control.specs.declared.ahead.Ahead.{Ahead}
+use Rattle.ps_control.specs.declared.ahead.Ahead.TheVariants as variants
 use Rattle.ps_control.specs.declared.frames.Frame.{Frame}
+use Rattle.ps_control.specs.declared.frames.Frame.TheVariants.{Procedure}
+use Rattle.ps_control.specs.Ahead.{OnLeft, TurnsAhead}
 use Rattle.ps_control.specs.Controls as controls
 use Rattle.ps_control.specs.Turns as control
+use Rattle.ps_acts.specs.declared.lent.Trial.{Trial}
 use Rattle.ps_acts.specs.Lent.{Lent, IsGood}
 use Rattle.ps_turns.specs.declared.turned.Turned.TheVariants.{Goes}
-use Rattle.ps_turns.specs.Turns.{nothing_more}
+use Rattle.ps_turns.specs.Turns.{Turns, nothing_more}
 use Rattle.ps_turns.proofs.Composing.{restacked}
 use Rattle.ps_values.specs.Values.{Asks}
-use Rattle.ps_frames.specs.Steps.{GoesAhead}
+use Rattle.ps_frames.specs.Steps.{running_turn, frame_asks, GoesAhead}
 use Rattle.ps_frames.proofs.Joining.{framed_asks, joined}
 use Rattle.ps_frames.proofs.Settling.{went}
 
@@ -22,23 +25,36 @@ module _ (l : Lent) (good : IsGood l) (operator : Operator) (top frame : Frame)
     (same : top ≡ frame) (is : first_of l.frames ≡ Some top)
     (nothing : (asks : Asks) (s : Store)
     → framed_asks asks l (frame ∷ drop 1 l.frames) s ≡ nothing_more l s) where
-  abbrev Comes : Result Unit ErrorName → (operands : List Word) → (frames : List Frame) → Type 0
-  Comes outcome operands frames = control.Turns operator outcome l.heap (length l.program)
+  abbrev Comes : (operands : List Word) → (frames : List Frame) → Type 0
+  Comes operands frames = control.Turns operator (Ok tt) l.heap (length l.program)
       (controls.stacks l.operands l.frames) (controls.stacks operands frames)
 
-  pub goes_so : (operands : List Word) (frames : List Frame) → Comes (Ok tt) operands frames
-      → GoesAhead true l (restacked l operands frames)
-  goes_so operands frames did = λ asks trial.
+  pub goes_so : (operands : List Word) (frames : List Frame) → Comes operands frames
+      → (asks : Asks) (trial : Trial)
+      → Turns (frame_asks asks) running_turn trial (Ok Goes) l (restacked l operands frames)
+  goes_so operands frames did asks trial =
       joined asks l (restacked l operands frames) trial (Ok Goes) top frame same is (nothing asks)
       (went l good trial operator operands frames did)
 
-  pub ahead : (outcome : Result Unit ErrorName) (goes : Bool) (operands : List Word)
-      (frames : List Frame) → goes ≡ is_ok outcome → Comes outcome operands frames
-      → OnErr outcome (operands ≡ l.operands) → OnErr outcome (frames ≡ l.frames)
-      → GoesAhead goes l (restacked l operands frames)
-  ahead (Ok u) goes operands frames so did operands_same frames_same =
-      subst (λ (b : Bool). GoesAhead b l (restacked l operands frames)) (sym so)
-      (goes_so operands frames did)
-  ahead (Err e) goes operands frames so did operands_same frames_same =
-      subst (λ (b : Bool). GoesAhead b l (restacked l operands frames)) (sym so)
-      (λ i. record l { operands = operands_same i; frames = frames_same i })
+  pub ahead : (came : Ahead) (operands : List Word) (frames : List Frame)
+      → TurnsAhead operator came l.heap (length l.program) (controls.stacks l.operands l.frames)
+      (controls.stacks operands frames)
+      → (asks : Asks) → GoesAhead asks came l (restacked l operands frames)
+  ahead (variants.Enters body) operands frames did asks =
+      goes_so operands (Procedure body ∷ frames) did asks
+  ahead variants.Goes operands frames did asks = goes_so operands frames did asks
+  ahead variants.Left operands frames did asks = tt
+
+-- nothing has changed
+pub same_left : {A : Type 0} (x : A) (came : Ahead) → OnLeft came (x ≡ x)
+same_left x (variants.Enters body) = tt
+same_left x variants.Goes = tt
+same_left x variants.Left = refl
+
+pub left_so : (l : Lent) (came : Ahead) (operands : List Word) (frames : List Frame)
+    → OnLeft came (operands ≡ l.operands) → OnLeft came (frames ≡ l.frames)
+    → OnLeft came (restacked l operands frames ≡ l)
+left_so l (variants.Enters body) operands frames operands_same frames_same = tt
+left_so l variants.Goes operands frames operands_same frames_same = tt
+left_so l variants.Left operands frames operands_same frames_same =
+    λ i. record l { operands = operands_same i; frames = frames_same i }

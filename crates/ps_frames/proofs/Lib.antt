@@ -1,5 +1,6 @@
 pub mod GoingAhead
 pub mod Binding
+pub mod Entered
 pub mod Few
 pub mod Framing
 pub mod Freeing

@@ -20,6 +20,8 @@ use Rattle.ps_mem.specs.Shows.{IsValue, IsWithin, Shows}
 use Rattle.ps_control.specs.declared.frames.Cause.{Cause}
 use Rattle.ps_control.specs.declared.frames.Frame.{Frame}
 use Rattle.ps_control.specs.declared.frames.Frame.TheVariants.{Text, Procedure}
+use Rattle.ps_control.specs.declared.ahead.Ahead.{Ahead}
+use Rattle.ps_control.specs.Ahead.{OnDone, frames_ahead}
 use Rattle.ps_control.specs.Turns.{cause_of}
 use Rattle.ps_acts.specs.declared.lent.Trial.{Trial}
 use Rattle.ps_acts.specs.Acts.{Asked, no_rooms}
@@ -145,12 +147,19 @@ module _ (asks : Asks) where
   abbrev pub frame_asks : Lent → Store → Asked
   frame_asks l s = top_asks (scene_of l s).frames (around_of l) (scene_of l s)
 
--- the turn of the topmost frame goes on, whatever operators ask for and however it is tried; or
--- nothing has changed
-abbrev pub GoesAhead : (goes : Bool) → (old new : Lent) → Type 0
-GoesAhead true old new = (asks : Asks) (trial : Trial)
-    → Turns (frame_asks asks) running_turn trial (Ok Goes) old new
-GoesAhead false old new = new ≡ old
+-- once the frame is pushed of the procedure that is entered
+abbrev pub with_entered : Ahead → Lent → Lent
+with_entered ahead l = with_frames (frames_ahead ahead l.frames) l
+
+-- a procedure above the frames
+abbrev pub above : Part → Lent → Lent
+above rest l = with_frames (Procedure rest ∷ l.frames) l
+
+-- the turn of the topmost frame goes on, however it is tried, once the frame is pushed of the
+-- procedure that it enters
+abbrev pub GoesAhead : Asks → Ahead → (old new : Lent) → Type 0
+GoesAhead asks ahead old new = OnDone ahead ((trial : Trial)
+    → Turns (frame_asks asks) running_turn trial (Ok Goes) old (with_entered ahead new))
 
 -- of bind, in what is lent
 abbrev pub bind_asks : (over : Part) → (at : ℕ) → Lent → Store → Asked

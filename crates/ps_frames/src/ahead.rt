@@ -2,52 +2,59 @@
 
 ghost use Rattle.std.specs.Prelude.{◌≡◌, Some};
 ghost use Rattle.ps_acts.specs.Lent.{lent, IsGood};
+ghost use Rattle.ps_control.specs.Ahead.{HasRoom, OnLeft};
 ghost use Rattle.ps_stacks.specs.Tops.{first_of};
+ghost use Rattle.ps_values.specs.Values.{Asks};
 ghost use Rattle.ps_frames.specs.Steps.{GoesAhead};
 
 use crate::frames::drop_top;
 use crate::places::operands_at;
 use ps_acts::lent::{Context, Shared};
+use ps_control::ahead::{Ahead, for_ahead, forall_ahead, loop_ahead, repeat_ahead};
 use ps_control::frames::Frame;
-use ps_control::turns::{for_turn, forall_turn, loop_turn, repeat_turn};
 use ps_mem::Memory;
 
-/// A turn of the loop that is the topmost frame, or its end. Where an error is to be raised, and by
-/// every other frame, nothing changes, and the answer is no. The memory stays as it is.
+/// A turn of the loop that is the topmost frame, up to the frame of the procedure that it enters, or
+/// its end. Where an error is to be raised, or the procedure is empty, and by every other frame,
+/// nothing changes. The memory stays as it is.
 #[inline(always)]
-pub fn loop_quickly<M: Memory>(
+pub fn turn_ahead<M: Memory>(
     top: Frame,
     context: &mut Context,
     shared: &Shared,
     memory: &mut M,
-) -> bool
+) -> Ahead
     requires good { IsGood
         (lent (M.heap memory.old) (M.grants memory.old) context.old shared.now) }
     requires top { first_of context.old.frames ≡ Some top }
     ensures heap { M.heap memory.new ≡ M.heap memory.old }
     ensures grants { M.grants memory.new ≡ M.grants memory.old }
-    ensures goes { GoesAhead result
+    ensures goes { (asks : Asks) → GoesAhead asks result
         (lent (M.heap memory.old) (M.grants memory.old) context.old shared.now)
         (lent (M.heap memory.old) (M.grants memory.old) context.new shared.now) }
+    ensures room { HasRoom result context.new.frames }
+    ensures left { OnLeft result
+        (lent (M.heap memory.old) (M.grants memory.old) context.new shared.now
+        ≡ lent (M.heap memory.old) (M.grants memory.old) context.old shared.now) }
 {
     let operands = &mut context.operands;
     let frames = &mut context.frames;
     match top {
-        Frame::Repeat { count, body } => repeat_turn(operands, frames, count, body).is_ok(),
-        Frame::Loop { body } => loop_turn(operands, frames, body).is_ok(),
+        Frame::Repeat { count, body } => repeat_ahead(operands, frames, count, body),
+        Frame::Loop { body } => loop_ahead(operands, frames, body),
         Frame::For {
             control,
             increment,
             limit,
             body,
-        } => for_turn(operands, frames, control, increment, limit, body).is_ok(),
+        } => for_ahead(operands, frames, control, increment, limit, body),
         Frame::Forall { over, at, body } => match operands_at(over, at, memory) {
             None => {
                 drop_top(frames);
-                true
+                Ahead::Goes
             }
-            Some(pushed) => { forall_turn(operands, frames, over, at, body, Some(pushed)).is_ok() }
+            Some(pushed) => forall_ahead(operands, frames, over, at, body, pushed),
         },
-        _ => false,
+        _ => Ahead::Left,
     }
 }

@@ -1,18 +1,22 @@
 //! Steps by the elements of a procedure, and by a value that waits (PLRM2, 3.5).
 
-ghost use Rattle.std.specs.Prelude.{◌≡◌, ◌<◌, Some};
+ghost use Rattle.std.specs.Prelude.{◌≡◌, ◌<◌, Some, IfSome, length};
 ghost use Rattle.ps_acts.specs.Lent.{lent, IsGood};
+ghost use Rattle.ps_control.specs.Ahead.{HasRoom, OnLeft};
 ghost use Rattle.ps_stacks.specs.Tops.{first_of};
 ghost use Rattle.ps_turns.specs.Turns.{Turns};
-ghost use Rattle.ps_frames.specs.Steps.{frame_asks, running_turn, IsElement};
+ghost use Rattle.ps_frames.specs.Steps.{above, frame_asks, running_turn, GoesAhead, IsElement};
 
-use crate::frames::{advance, drop_top, put_back};
+use crate::frames::{advance, drop_top, push_rest, put_back};
 use ps_acts::lent::{Context, Shared, Trial};
+use ps_control::ahead::Ahead;
 use ps_control::frames::{Frame, push_frame};
 use ps_mem::{Memory, SLOTS};
 use ps_ops::failure::NotMade;
 use ps_seq::arrays::element;
+use ps_stacks::FRAME_LIMIT;
 use ps_turns::turned::Turned;
+use ps_values::ahead::treat_ahead;
 use ps_values::operates::Operate;
 use ps_values::values::{do_element, execute, treat};
 use ps_word::values::Part;
@@ -89,6 +93,79 @@ pub fn element_turn<O: Operate, M: Memory>(
             put_back(&mut context.frames, rest);
             Err(reason)
         }
+    }
+}
+
+/// The first element that is left of a procedure above the frames is done, where its value is known,
+/// enters another procedure and raises no error, up to the frame of that. Else nothing has changed.
+#[inline(always)]
+pub fn element_ahead<O: Operate, M: Memory>(
+    rest: Part,
+    first: Option<Element>,
+    operators: &O,
+    context: &mut Context,
+    shared: &Shared,
+    memory: &M,
+) -> Ahead
+    requires good { IsGood (above rest
+        (lent (M.heap memory.now) (M.grants memory.now) context.old shared.now)) }
+    requires first { IfSome first
+        (IsElement O.asks (M.heap memory.now) context.old.dictionaries rest 0) }
+    ensures goes { GoesAhead O.asks result
+        (above rest (lent (M.heap memory.now) (M.grants memory.now) context.old shared.now))
+        (lent (M.heap memory.now) (M.grants memory.now) context.new shared.now) }
+    ensures room { HasRoom result context.new.frames }
+    ensures left { OnLeft result
+        (lent (M.heap memory.now) (M.grants memory.now) context.new shared.now
+        ≡ lent (M.heap memory.now) (M.grants memory.now) context.old shared.now) }
+{
+    let Some(element) = first else {
+        return Ahead::Left;
+    };
+    if context.frames.len() >= FRAME_LIMIT - 1 {
+        return Ahead::Left;
+    }
+    match treat_ahead(element.value, operators, &mut context.operands) {
+        Ahead::Enters(body) => {
+            push_rest(&mut context.frames, rest);
+            Ahead::Enters(body)
+        }
+        Ahead::Goes => {
+            push_rest(&mut context.frames, rest);
+            Ahead::Goes
+        }
+        Ahead::Left => Ahead::Left,
+    }
+}
+
+/// The procedure above the frames is pushed, and its first element is done: by its value, where
+/// that is known. Raises what the element raises, with the element as the command.
+///
+/// Not made, with nothing changed but for the frame: as the element.
+#[inline(always)]
+pub fn pushed_turn<O: Operate, M: Memory>(
+    rest: Part,
+    first: Option<Element>,
+    operators: &O,
+    context: &mut Context,
+    shared: &mut Shared,
+    memory: &mut M,
+    trial: Trial,
+) -> Result<Turned, NotMade>
+    requires slot { trial.slot < SLOTS }
+    requires good { IsGood (above rest
+        (lent (M.heap memory.old) (M.grants memory.old) context.old shared.old)) }
+    requires room { length context.old.frames < 250 }
+    requires first { IfSome first
+        (IsElement O.asks (M.heap memory.old) context.old.dictionaries rest 0) }
+    ensures { Turns (frame_asks O.asks) running_turn trial result
+        (above rest (lent (M.heap memory.old) (M.grants memory.old) context.old shared.old))
+        (lent (M.heap memory.new) (M.grants memory.new) context.new shared.new) }
+{
+    push_frame(&mut context.frames, Frame::Procedure { rest });
+    match first {
+        Some(element) => element_turn(rest, element, operators, context, shared, memory, trial),
+        None => procedure_turn(rest, operators, context, shared, memory, trial),
     }
 }
 

@@ -50,6 +50,24 @@ pub fn advance(frames: &mut Frames, rest: Part, count: u16)
     }
 }
 
+/// Pushes what is left of a procedure behind its first element, where something is.
+#[inline(always)]
+pub fn push_rest(frames: &mut Frames, rest: Part)
+    requires room { length frames.old < 250 }
+    requires end { rest.offset + rest.length < 2 ^ 16 }
+    ensures frames { frames.new ≡ rest_frames rest frames.old }
+    ensures room { length frames.new ≤ length frames.old + 1 }
+{
+    if rest.length > 1 {
+        let left = Part {
+            offset: rest.offset + 1,
+            length: rest.length - 1,
+            ..rest
+        };
+        frames.push_reserved(Frame::Procedure { rest: left });
+    }
+}
+
 /// Puts the first element back that was taken.
 #[inline(never)]
 pub fn put_back(frames: &mut Frames, rest: Part)

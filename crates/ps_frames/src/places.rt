@@ -15,7 +15,7 @@ use ps_word::values::{Content, Part};
 use ps_word::words::Word;
 
 /// The element at a place of an array; none past the last. The memory is only read.
-#[inline]
+#[inline(always)]
 fn element_at<M: Memory>(over: Word, part: Part, at: usize, memory: &mut M) -> Option<TurnOperands>
     requires sound { IsSound (M.heap memory.old) }
     requires held { IsValue (M.heap memory.old) over }
@@ -32,7 +32,7 @@ fn element_at<M: Memory>(over: Word, part: Part, at: usize, memory: &mut M) -> O
 }
 
 /// The byte at a place of a string; none past the last. The memory is only read.
-#[inline]
+#[inline(always)]
 fn byte_at<M: Memory>(over: Word, part: Part, at: usize, memory: &mut M) -> Option<TurnOperands>
     requires sound { IsSound (M.heap memory.old) }
     requires held { IsValue (M.heap memory.old) over }
@@ -71,6 +71,7 @@ fn pair_at<M: Memory>(over: Word, address: u32, at: usize, memory: &mut M) -> Op
 
 /// What a turn of `forall` pushes: the element, the byte or the pair at a place; none past the
 /// last. The memory is only read.
+#[inline(always)]
 pub fn operands_at<M: Memory>(over: Word, at: usize, memory: &mut M) -> Option<TurnOperands>
     requires sound { IsSound (M.heap memory.old) }
     requires held { IsValue (M.heap memory.old) over }

@@ -1,4 +1,5 @@
 pub mod Alone
+pub mod Entering
 pub mod Executing
 pub mod Few
 pub mod Pushing

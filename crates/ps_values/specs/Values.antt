@@ -1,5 +1,5 @@
 -- Executing a value, and doing an element of a procedure, over what is lent (PLRM2, 3.5).
-use Rattle.std.specs.Prelude.{◌≡◌, Bool, true, false, List, [], Ok, if◌then◌else◌}
+use Rattle.std.specs.Prelude.{◌≡◌, ◌<◌, Bool, true, false, List, [], length, Ok, if◌then◌else◌}
 use Rattle.ps_language.specs.declared.errors.ErrorName.TheVariants.{InvalidAccess}
 use Rattle.ps_language.specs.declared.operators.Operator.{Operator}
 use Rattle.ps_language.specs.Access.{is_executable}
@@ -13,9 +13,11 @@ use Rattle.ps_word.specs.declared.words.Word.{Word}
 use Rattle.ps_mem.specs.Heap.{Heap, birth_at}
 use Rattle.ps_mem.specs.Meaning.{value_of, part_of}
 use Rattle.ps_mem.specs.Shows.{IsValue, AreValues, IsWithin}
+use Rattle.ps_control.specs.declared.ahead.Ahead.{Ahead}
 use Rattle.ps_control.specs.declared.frames.Frame.{Frame}
 use Rattle.ps_control.specs.declared.frames.Frame.TheVariants.{Text}
 use Rattle.ps_control.specs.declared.frames.Source.TheVariants.{Text as TextOf}
+use Rattle.ps_control.specs.Ahead.{OnDone, OnLeft, frames_ahead}
 use Rattle.ps_control.specs.Frames.{frame_of}
 use Rattle.ps_acts.specs.declared.lent.Trial.{Trial}
 use Rattle.ps_acts.specs.Acts.{Asked}
@@ -151,6 +153,18 @@ GoesIn setting words asked turn false old new = new ≡ old
 abbrev pub GoesAlone : (words : List Word) → (asked : Lent → Store → Asked)
     → (turn : Lent → Store → Turn) → (goes : Bool) → (old new : List Word) → Type 0
 GoesAlone words asked turn goes old new = GoesIn (λ l. l) words asked turn goes old new
+
+-- ---- by operands and frames alone
+
+-- With these values in hand and over fewer than 250 frames the turn goes on by operands and frames
+-- alone, once the frame is pushed of the procedure that it enters; or nothing has changed
+abbrev pub EntersAlone : (words : List Word) → (asked : Lent → Store → Asked)
+    → (turn : Lent → Store → Turn) → Ahead → (old new : List Word) → Type 0
+EntersAlone words asked turn ahead old new = OnLeft ahead (new ≡ old)
+    × OnDone ahead ((l : Lent) (trial : Trial) → IsGood (record l { operands = old })
+    → AreValues l.heap words → length l.frames < 250
+    → TurnsWith words [] asked turn trial (Ok Goes) (record l { operands = old })
+    (record l { operands = new; frames = frames_ahead ahead l.frames }))
 
 -- over this heap and by this dictionary stack
 abbrev pub among : Heap → (dictionaries : List Word) → Lent → Lent

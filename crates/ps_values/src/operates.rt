@@ -6,9 +6,10 @@ ghost use Rattle.ps_language.specs.declared.operators.Operator as names;
 ghost use Rattle.ps_acts.specs.Acts.{Asked, AreFew};
 ghost use Rattle.ps_acts.specs.Lent.{lent, IsGood};
 ghost use Rattle.ps_turns.specs.Turns.{Turns};
-ghost use Rattle.ps_values.specs.Values.{GoesAlone, operated_asks, operated_turn};
+ghost use Rattle.ps_values.specs.Values.{EntersAlone, GoesAlone, operated_asks, operated_turn};
 
 use ps_acts::lent::{Context, Shared, Trial};
+use ps_control::ahead::Ahead;
 use ps_language::operators::Operator;
 use ps_mem::{Memory, SLOTS};
 use ps_operands::Operands;
@@ -24,6 +25,12 @@ pub trait Operate {
     /// the answer is no, as it is for every other operator.
     fn operate_quickly(&self, operator: Operator, operands: &mut Operands) -> bool
         ensures { GoesAlone [] (operated_asks asks operator) (operated_turn operator) result
+            operands.old operands.new };
+
+    /// An operator that enters a procedure, over fewer than 250 frames, acts up to the frame of that
+    /// procedure, where it raises no error. Else nothing has changed, as by every other operator.
+    fn enter_quickly(&self, operator: Operator, operands: &mut Operands) -> Ahead
+        ensures { EntersAlone [] (operated_asks asks operator) (operated_turn operator) result
             operands.old operands.new };
 
     /// An operator acts: its effect comes about, or its error is raised with the operator as the

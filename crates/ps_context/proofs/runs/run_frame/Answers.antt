@@ -1,47 +1,56 @@
--- The steps of a procedure, the token of a text, or the turn of another frame.
-use Rattle.std.proofs.Common.{arith, sym, ◌∙◌}
+-- The steps of a procedure, that of a loop, or the turn of another frame.
+use Rattle.std.proofs.Common.{◌≤◌, arith, sym, ◌∙◌}
 use Rattle.std.proofs.lemmas.Bool.{true≢false}
 use Rattle.ps_acts.specs.Lent.{Lent, lent}
 use Rattle.ps_interpreter.proofs.Running.{run_none}
-use Rattle.ps_context.proofs.Ahead.{turned_behind, made_turn}
+use Rattle.ps_context.specs.Steps.{own_asks}
+use Rattle.ps_context.proofs.Ahead.{turned_behind, runs_then, some_made}
 use Rattle.ps_context.proofs.runs.run_frame.Goals as goal
 
-pub returns-then-loop_quickly : goal.returns-then-loop_quickly
-returns-then-loop_quickly g c =
-    let h = g.M.Memory.heap c.args.memory.now in
-    let grants = g.M.Memory.grants c.args.memory.now in
+pub run_entered-run-requires-clause-good : goal.run_entered-run-requires-clause-good
+run_entered-run-requires-clause-good g c =
+    rw (c.begin_with.ensures.heap, c.begin_with.ensures.grants)
+    (rw c.in-Enters.is at c.begin_with.ensures.begins).makes.good
+
+pub run_entered-run-requires-clause-room : goal.run_entered-run-requires-clause-room
+run_entered-run-requires-clause-room g c = (rw c.in-Enters.is at c.begin_with.ensures.begins).room
+
+pub returns-in-Enters : goal.returns-in-Enters
+returns-in-Enters g c =
+    let begins = rw c.in-Enters.is at c.begin_with.ensures.begins in
+    let few : c.in-Enters.made ≤ 1 = begins.few in
     record {
-      within = c.requires.some;
-      fewer = λ some. absurd (true≢false (sym some));
-      more = λ none. omega arith;
-      runs = rw (c.loop_quickly.ensures.heap, c.loop_quickly.ensures.grants)
-          (made_turn g.O.Operate.asks (lent h grants c.args.context.now c.args.shared.now)
-          (lent h grants c.loop_quickly.new.context c.args.shared.now) c.in-Some.top
-          c.in_default-top.not-Text (sym c.top.ensures ∙ c.in-Some.is) c.requires.good
-          (rw c.if-loop_quickly.true at c.loop_quickly.ensures.goes));
+      within = omega (arith, few, c.requires.some, c.run_entered-run.ensures.within);
+      fewer = λ some.
+          let fewer = c.run_entered-run.ensures.fewer some in
+          omega (arith, few, c.requires.some, fewer);
+      more = λ none. some_made c.args.most c.in-Enters.made c.run_entered-run.result.made
+          c.requires.some (c.run_entered-run.ensures.more none);
+      runs = runs_then (own_asks g.O.Operate.asks) c.args.slot c.in-Enters.made
+          c.run_entered-run.result.made c.run_entered-run.result.next _ _ _ begins.makes
+          (rw (c.begin_with.ensures.heap, c.begin_with.ensures.grants) at c.run_entered-run.ensures.runs);
     }
 
-pub returns-in-Text-clause-runs : goal.returns-in-Text-clause-runs
-returns-in-Text-clause-runs g c =
-    let l : Lent = lent (g.M.Memory.heap c.args.memory.now) (g.M.Memory.grants c.args.memory.now)
-    c.args.context.now c.args.shared.now in
-    rw (c.behind_none.ensures.made, c.behind_none.ensures.next)
-    (turned_behind g.O.Operate.asks c.args.slot 0 l l _ (run_none l c.requires.good)
-    c.requires.framed c.turn_frame-next.result c.turn_frame-next.ensures)
+pub returns-in-Goes : goal.returns-in-Goes
+returns-in-Goes g c = record {
+  within = c.requires.some;
+  fewer = λ some. absurd (true≢false (sym some));
+  more = λ none. omega arith;
+  runs = rw (c.begin_with.ensures.heap, c.begin_with.ensures.grants)
+      (rw c.in-Goes.is at c.begin_with.ensures.begins);
+}
 
-pub returns-else-loop_quickly : goal.returns-else-loop_quickly
-returns-else-loop_quickly g c =
+pub returns-in-Left : goal.returns-in-Left
+returns-in-Left g c =
     let l : Lent = lent (g.M.Memory.heap c.args.memory.now) (g.M.Memory.grants c.args.memory.now)
     c.args.context.now c.args.shared.now in
-    let same = rw c.if-loop_quickly.false at c.loop_quickly.ensures.goes in
-    rw (c.behind_none-in_default-top.ensures.made, c.behind_none-in_default-top.ensures.next)
-    (record {
+    let same = rw c.in-Left.is at c.begin_with.ensures.begins in
+    record {
       within = omega arith;
       fewer = λ some. c.requires.some;
       more = λ none. absurd (true≢false none);
       runs = turned_behind g.O.Operate.asks c.args.slot 0 l l _
           (run_none l c.requires.good) c.requires.framed
-          c.turn_frame-next-in_default-top.result
-          (rw (c.loop_quickly.ensures.heap, c.loop_quickly.ensures.grants, same)
-          at c.turn_frame-next-in_default-top.ensures);
-    })
+          c.turn_frame-next.result
+          (rw (c.begin_with.ensures.heap, c.begin_with.ensures.grants, same) at c.turn_frame-next.ensures);
+    }

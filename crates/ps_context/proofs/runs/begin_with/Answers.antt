@@ -1,0 +1,38 @@
+-- A procedure is taken off, and a loop turns.
+use Rattle.std.proofs.Common.{◌≡◌, ◌∷◌, drop, arith, sym, subst}
+use Rattle.ps_ops.proofs.Operands.{first_split}
+use Rattle.ps_control.specs.declared.frames.Frame.TheVariants.{Procedure}
+use Rattle.ps_acts.specs.Lent.{Lent, lent}
+use Rattle.ps_interpreter.proofs.Running.{run_none}
+use Rattle.ps_context.proofs.Ahead.{procedure_begins, made_turn, no_asks}
+use Rattle.ps_context.proofs.runs.begin_with.Goals as goal
+
+pub returns-in-Procedure-clause-begins : goal.returns-in-Procedure-clause-begins
+returns-in-Procedure-clause-begins g c =
+    let l : Lent = lent (g.M.Memory.heap c.args.memory.now) (g.M.Memory.grants c.args.memory.now)
+    c.args.context.now c.args.shared.now in
+    record {
+      few = omega arith;
+      room = c.drop_top.ensures.room;
+      makes = rw c.drop_top.ensures.frames
+          (procedure_begins l c.in-Procedure.rest
+          (first_split _ _ (rw c.in-Procedure.is at (sym c.requires.top))) c.requires.good);
+    }
+
+pub returns-in-Enters-clause-begins : goal.returns-in-Enters-clause-begins
+returns-in-Enters-clause-begins g c =
+    let l : Lent = lent (g.M.Memory.heap c.args.memory.now) (g.M.Memory.grants c.args.memory.now)
+    c.args.context.now c.args.shared.now in
+    record {
+      few = omega arith;
+      room = rw c.in-Enters.is at c.turn_ahead.ensures.room;
+      makes = made_turn l _ c.args.top c.in_default.not-Text c.requires.top c.requires.good
+          no_asks (rw c.in-Enters.is at (c.turn_ahead.ensures.goes no_asks));
+    }
+
+pub returns-in-Goes-clause-begins : goal.returns-in-Goes-clause-begins
+returns-in-Goes-clause-begins g c =
+    let l : Lent = lent (g.M.Memory.heap c.args.memory.now) (g.M.Memory.grants c.args.memory.now)
+    c.args.context.now c.args.shared.now in
+    made_turn l _ c.args.top c.in_default.not-Text c.requires.top c.requires.good no_asks
+    (rw c.in-Goes.is at (c.turn_ahead.ensures.goes no_asks))

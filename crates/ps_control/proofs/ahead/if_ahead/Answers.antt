@@ -1,0 +1,18 @@
+-- The procedure is entered where the condition is true.
+use Rattle.std.proofs.Common.{◌∙◌, refl, sym}
+use Rattle.ps_mem.specs.Shows.{IsValue}
+use Rattle.ps_language.specs.Control.{if_row}
+use Rattle.ps_ops.proofs.Held.{first_of_two_held}
+use Rattle.ps_control.proofs.Entering.{enters_ahead}
+use Rattle.ps_control.proofs.Rows.{if_enters}
+use Rattle.ps_control.proofs.ahead.if_ahead.Goals as goal
+
+pub returns-then-truth-clause-controls : goal.returns-then-truth-clause-controls
+returns-then-truth-clause-controls c = λ h size frames room ready.
+    rw (c.enter_ahead.ensures, c.discard.ensures)
+    (enters_ahead if_row h size _ frames ready 2 _
+    (if_enters h _ _ _ _ c.in-Some.ensures c.in-Some-procedure_of.ensures.part
+    (sym c.is_executable.ensures ∙ c.if-not-is_executable.false)
+    (λ births names. rw (c.in-Some-boolean_of.ensures births names, c.if-truth.true) refl))
+    (c.in-Some-procedure_of.ensures.held h
+    (first_of_two_held (IsValue h) _ ready.operands.values _ _ c.in-Some.ensures)) room)
