@@ -132,6 +132,19 @@ module _ (text : List ℕ) where
   )
   taken at size (Err fault) fits answer place = tt
 
+  -- with the place where it began
+  pub placed : (at size : ℕ) (result : Result (Option Token) Fault) → length text ≤ size
+      → IfOk result (λ token. scan text at ≡ scan_of text token)
+      → IfOk result (λ token. IfSome token (λ t. (at < t.end) × (t.end ≤ length text)))
+      → IsTaken (λ end. (at < end) × (end ≤ size)) text result
+  placed at size (Ok None) fits answer place = tt
+  placed at size (Ok (Some token)) fits answer place = (
+    (place.0, omega (arith, fits, place.1)),
+    scanned_is_short text at (token_of text token.kind) token.end
+        answer,
+  )
+  placed at size (Err fault) fits answer place = tt
+
   -- by what holds of the place
   pub taken_at : (Holds More : ℕ → Type 0) (result : Result (Option Token) Fault)
       → ((end : ℕ) → Holds end → More end) → IsTaken Holds text result → IsTaken More text result
@@ -141,29 +154,63 @@ module _ (text : List ℕ) where
 
 -- a text that was read and scanned
 module _ (text slice : List ℕ) (is : slice ≡ text) (result : Result (Option Token) Fault)
-    (answer : IfOk result (λ token. scan slice 0 ≡ scan_of slice token)) where
-  pub read_scanned : (part : List ℕ) → text ≡ part → IfErr result (IsFaultBy slice 0)
-      → IsScanned ⊤ text result (scan part 0)
+    (at : ℕ) (answer : IfOk result (λ token. scan slice at ≡ scan_of slice token)) where
+  pub read_scanned : (part : List ℕ) → text ≡ part → IfErr result (IsFaultBy slice at)
+      → IsScanned ⊤ text result (scan part at)
   read_scanned part read fault =
-      subst (λ (t : List ℕ). IsScanned ⊤ text result (scan t 0)) read
-      (subst (λ (t : List ℕ). IsScanned ⊤ t result (scan t 0)) is
-      (answered_freely slice (scan slice 0) (TakesMemory (scan slice 0)) result
-      (answered slice 0 result answer fault)))
+      subst (λ (t : List ℕ). IsScanned ⊤ text result (scan t at)) read
+      (subst (λ (t : List ℕ). IsScanned ⊤ t result (scan t at)) is
+      (answered_freely slice (scan slice at) (TakesMemory (scan slice at)) result
+      (answered slice at result answer fault)))
 
   pub read_taken : (size : ℕ) → length text ≤ size
-      → IfOk result (λ token. IfSome token (λ t. (0 < t.end) × (t.end ≤ length slice)))
-      → IsTaken (λ end. end ≤ size) text result
+      → IfOk result (λ token. IfSome token (λ t. (at < t.end) × (t.end ≤ length slice)))
+      → IsTaken (λ end. (at < end) × (end ≤ size)) text result
   read_taken size fits place =
-      subst (λ (t : List ℕ). IsTaken (λ end. end ≤ size) t result) is
-      (taken slice 0 size result (subst (λ (t : List ℕ). length t ≤ size) (sym is) fits) answer
+      subst (λ (t : List ℕ). IsTaken (λ end. (at < end) × (end ≤ size)) t result) is
+      (placed slice at size result (subst (λ (t : List ℕ). length t ≤ size) (sym is) fits) answer
       place)
 
--- a fault stays further on
-pub fault_further : (text : List ℕ) (at : ℕ) (outcome rest : Scan) → outcome ≡ shifted at rest
-    → (fault : Fault) → IsScanned ⊤ text (Err fault) rest → IsScanned ⊤ text (Err fault) outcome
-fault_further text at outcome rest is Syntax scanned = is ∙ ap (shifted at) scanned
-fault_further text at outcome rest is Limit scanned = is ∙ ap (shifted at) scanned
-fault_further text at outcome rest is MemoryFault scanned = tt
+-- ---- what is scanned behind one front is scanned behind another
+
+module _ (front at : ℕ) (rest : Scan) where
+  pub token_further : (token : language.Token) (end : ℕ) → shifted front rest ≡ found token end
+      → shifted at rest ≡ found token (at + (end - front))
+  token_further token end is = by rest is
+    where
+      by : (rest : Scan) → shifted front rest ≡ found token end
+          → shifted at rest ≡ found token (at + (end - front))
+      by (found other stop) same =
+          let kind : other ≡ token = cc in
+          let place : front + stop ≡ end = cc in
+          let further : at + stop ≡ at + (end - front) = omega (arith, place) in
+          (λ j. found (kind j) (further j))
+      by exhausted same = cc
+      by (faulty fault) same = cc
+
+  pub nothing_further : shifted front rest ≡ exhausted → shifted at rest ≡ exhausted
+  nothing_further is = by rest is
+    where
+      by : (rest : Scan) → shifted front rest ≡ exhausted → shifted at rest ≡ exhausted
+      by (found other stop) same = cc
+      by exhausted same = refl
+      by (faulty fault) same = cc
+
+  fault_shifted : (fault : ScanFault) → shifted front rest ≡ faulty fault
+      → shifted at rest ≡ faulty fault
+  fault_shifted fault is = by rest is
+    where
+      by : (rest : Scan) → shifted front rest ≡ faulty fault → shifted at rest ≡ faulty fault
+      by (found other stop) same = cc
+      by exhausted same = cc
+      by (faulty other) same = same
+
+  pub fault_further : (text : List ℕ) (fault : Fault)
+      → IsScanned ⊤ text (Err fault) (shifted front rest)
+      → IsScanned ⊤ text (Err fault) (shifted at rest)
+  fault_further text Syntax scanned = fault_shifted _ scanned
+  fault_further text Limit scanned = fault_shifted _ scanned
+  fault_further text MemoryFault scanned = tt
 
 -- ---- what is left of a string, and a window of it
 
@@ -205,11 +252,24 @@ module _ (all : List ℕ) (offset count at : ℕ) (low : at ≤ count) where
         ∙ (scan_shifted window rest 0 ∙ ap (λ (n : ℕ). shifted n (scan rest 0)) size))
 
     -- a token that ends in a window is that of the whole
-    pub window_scanned : (token : language.Token) (end : ℕ)
-        → scan (slice_range all offset (offset + at)) 0 ≡ found token end → end < at
-        → scan (slice_range all offset (offset + count)) 0 ≡ found token end
+    pub window_scanned : (from : ℕ) (token : language.Token) (end : ℕ)
+        → scan (slice_range all offset (offset + at)) from ≡ found token end → end < at
+        → scan (slice_range all offset (offset + count)) from ≡ found token end
     unfolding window rest
-    window_scanned token end is below =
+    window_scanned from token end is below =
         let size = window_size in
-        ap (λ (t : List ℕ). scan t 0) parted
-        ∙ window_is_whole window rest 0 token end is (omega (arith, below, size))
+        ap (λ (t : List ℕ). scan t from) parted
+        ∙ window_is_whole window rest from token end is (omega (arith, below, size))
+
+-- what is left of a string behind another front
+module _ (all : List ℕ) (offset count at front : ℕ) (low : at ≤ count) (near : front ≤ offset + at)
+    (within : offset + count ≤ length all) where
+  pub fronted : scan (slice_range all ((offset + at) - front)
+      (((offset + at) - front) + ((count - at) + front))) front ≡ shifted front
+      (scan (slice_range all (offset + at) ((offset + at) + (count - at))) 0)
+  fronted =
+      let place : ((offset + at) - front) + front ≡ offset + at = omega (arith, near) in
+      let size : ((count - at) + front) - front ≡ count - at = omega arith in
+      rest_scanned all ((offset + at) - front) ((count - at) + front) front (omega arith)
+      (omega (arith, near, low, within))
+      ∙ (λ j. shifted front (scan (slice_range all (place j) (place j + size j)) 0))

@@ -31,6 +31,7 @@ use ps_values::operates::Operate;
 /// A token that was scanned is taken, and done.
 ///
 /// Not made, with nothing changed: as the token.
+#[inline(always)]
 fn take_token<O: Operate, M: Memory>(
     source: Source,
     at: usize,
@@ -73,6 +74,7 @@ fn take_token<O: Operate, M: Memory>(
 /// A fault is raised, with the command null: `syntaxerror` or `limitcheck`.
 ///
 /// `Memory`: there was none to scan. Not made, with nothing changed: also as the note of an error.
+#[inline(never)]
 fn fault_turn<O: Operate, M: Memory>(
     source: Source,
     at: usize,
@@ -124,6 +126,7 @@ fn fault_turn<O: Operate, M: Memory>(
 ///
 /// `Memory`: there was none to scan. Not made, with nothing changed: also as the token, or the note
 /// of an error.
+#[inline(always)]
 fn scanned_turn<O: Operate, M: Memory>(
     source: Source,
     at: usize,

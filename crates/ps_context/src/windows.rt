@@ -20,59 +20,69 @@ use ps_tokens::laws::scanned_is_short;
 use ps_word::values::Part;
 use std::alloc::{AllocError, Global};
 
-/// The bytes of the first window.
-const FIRST_WINDOW: u16 = 256;
+/// The bytes of a word.
+const BYTES: u16 = 8;
 
-/// The first token of a part of a string, whose bytes are read into the list as they stand now. The
-/// memory stays as it is.
+/// The bytes of the first window, three words.
+const FIRST_WINDOW: u16 = 24;
+
+/// The token of a part of a string from a place on. The part's bytes are read into the list as they
+/// stand now. The memory stays as it is.
 ///
 /// Faults as the scanner's. `ScanFault::Memory`: also a growth of the list was refused.
+#[inline(always)]
 fn scan_part<M: Memory>(
     memory: &mut M,
     part: Part,
+    at: usize,
     list: &mut Vec<u8>,
     alloc: Global,
 ) -> Result<Option<Token>, ScanFault>
     requires sound { IsSound (M.heap memory.old) }
     requires known { StandsAs (M.heap memory.old) Kind.Text part.address (words_for
         (part.offset + part.length)) }
+    requires within { at ≤ part.length }
     ensures heap { M.heap memory.new ≡ M.heap memory.old }
     ensures grants { M.grants memory.new ≡ M.grants memory.old }
     ensures scanned { (names : List (List ℕ)) (s : Store) → Shows (M.heap memory.old) names s
         → part.offset + part.length ≤ length (bytes s (birth_at (M.heap memory.old) part.address))
         → IsScanned ⊤ list.new.items result
-        (scan (part_bytes s (part_of (birth_at (M.heap memory.old)) part)) 0) }
-    ensures token { IsTaken (λ end. end ≤ part.length) list.new.items result }
+        (scan (part_bytes s (part_of (birth_at (M.heap memory.old)) part)) at) }
+    ensures token { IsTaken (λ end. (at < end) × (end ≤ part.length)) list.new.items result }
 {
     scanned_is_short();
     list.clear();
     match append_bytes(memory, part, list) {
-        Ok(()) => next_token(alloc, list.as_slice(), 0),
+        Ok(()) => next_token(alloc, list.as_slice(), at),
         Err(AllocError) => Err(ScanFault::Memory),
     }
 }
 
-/// The first token of a part of a string. It is read into the list by windows, each twice as long
-/// as the one before, until a token ends before its window does or the window is the whole part.
-/// The memory stays as it is.
+/// The token of a part of a string from a place on. The part is read into the list by windows, each
+/// twice as long as the one before, until a token ends before its window does or the window is the
+/// whole part. The memory stays as it is.
 ///
 /// Faults as the scanner's. `ScanFault::Memory`: also a growth of the list was refused.
+#[inline(always)]
 fn scan_by_windows<M: Memory>(
     memory: &mut M,
     part: Part,
+    at: usize,
     list: &mut Vec<u8>,
     alloc: Global,
 ) -> Result<Option<Token>, ScanFault>
     requires sound { IsSound (M.heap memory.old) }
     requires known { StandsAs (M.heap memory.old) Kind.Text part.address (words_for
         (part.offset + part.length)) }
+    requires within { at ≤ part.length }
+    requires near { at ≤ 24 }
     ensures heap { M.heap memory.new ≡ M.heap memory.old }
     ensures grants { M.grants memory.new ≡ M.grants memory.old }
     ensures scanned { (names : List (List ℕ)) (s : Store) → Shows (M.heap memory.old) names s
         → part.offset + part.length ≤ length (bytes s (birth_at (M.heap memory.old) part.address))
         → IsScanned ⊤ list.new.items result
-        (scan (part_bytes s (part_of (birth_at (M.heap memory.old)) part)) 0) }
-    ensures token { IsTaken (λ end. end ≤ part.length) list.new.items result }
+        (scan (part_bytes s (part_of (birth_at (M.heap memory.old)) part)) at) }
+    ensures token { IsTaken (λ end. (at < end) × (end ≤ part.length)) list.new.items result }
 {
     let mut size = part.length.min(FIRST_WINDOW);
     while size < part.length {
@@ -80,30 +90,35 @@ fn scan_by_windows<M: Memory>(
             length: size,
             ..part
         };
-        match scan_part(memory, window, list, alloc) {
+        match scan_part(memory, window, at, list, alloc) {
             Ok(Some(token)) if token.end < size as usize => return Ok(Some(token)),
             Err(ScanFault::Memory) => return Err(ScanFault::Memory),
             _ => size = size.saturating_mul(2).min(part.length),
         }
     }
-    scan_part(memory, part, list, alloc)
+    scan_part(memory, part, at, list, alloc)
 }
 
-/// The part of a string from a place on.
-fn rest_of(part: Part, at: usize) -> Part
+/// The part of a string from the start of the word on in which a place lies, so many bytes in front
+/// of it.
+fn rest_of(part: Part, at: usize, front: u16) -> Part
     requires within { at ≤ part.length }
     requires end { part.offset + part.length < 2 ^ 16 }
-    ensures { result ≡ record part { offset = part.offset + at; length = part.length - at } }
+    requires front { front ≤ part.offset + at }
+    ensures { result ≡ record part {
+      offset = part.offset + at - front;
+      length = part.length - at + front;
+    } }
 {
     Part {
-        offset: part.offset + at as u16,
-        length: part.length - at as u16,
+        offset: part.offset + at as u16 - front,
+        length: part.length - at as u16 + front,
         ..part
     }
 }
 
 /// The first token of a string from a place on, with the place right behind it. As much as it takes
-/// is read into the list as it stands now. The memory stays as it is.
+/// is read into the list as it stands now, by whole words. The memory stays as it is.
 ///
 /// Faults as the scanner's. `ScanFault::Memory`: also a growth of the list was refused.
 pub fn scan_string<M: Memory>(
@@ -124,10 +139,12 @@ pub fn scan_string<M: Memory>(
         (scan (part_bytes s (part_of (birth_at (M.heap memory.old)) part)) at) }
     ensures token { IsTaken (λ end. end ≤ part.length) list.new.items result }
 {
-    match scan_by_windows(memory, rest_of(part, at), list, alloc) {
+    let front = (part.offset + at as u16) % BYTES;
+    let rest = rest_of(part, at, front);
+    match scan_by_windows(memory, rest, front as usize, list, alloc) {
         Ok(Some(token)) => Ok(Some(Token {
             kind: token.kind,
-            end: at + token.end,
+            end: at + (token.end - front as usize),
         })),
         Ok(None) => Ok(None),
         Err(fault) => Err(fault),

@@ -2,6 +2,7 @@
 #![tactic(auto)]
 
 mod first;
+mod guesses;
 mod names;
 pub mod texts;
 

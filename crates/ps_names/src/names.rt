@@ -1,6 +1,6 @@
 //! The texts of names in the order of meeting.
 
-ghost use Rattle.std.specs.Prelude.{◌≡◌, ℕ, take, ◌<◌, ◌≤◌, ◌↔◌, ◌++◌, [], ◌∷◌, length, unwrap_or, slice_get, Some, None, IsOk, IsSome, IfOk, IfSome, OnOk, OnErr, IsErrOf, option_map};
+ghost use Rattle.std.specs.Prelude.{◌≡◌, ℕ, take, ◌<◌, ◌≤◌, ◌↔◌, ◌++◌, [], ◌∷◌, length, unwrap_or, slice_get, Some, None, IsOk, IsSome, IfOk, IfSome, OnOk, OnErr, IsErrOf, option_map, IsTrue};
 ghost use Rattle.std.specs.List.{position_or_len};
 ghost use Rattle.std.specs.Str.{bytes_eq};
 ghost use Rattle.ps_language.specs.Dictionaries.{meet};
@@ -9,6 +9,7 @@ ghost use Rattle.ps_language.specs.Limits.{name_limit, names_limit};
 ghost use Rattle.ps_names.specs.Names.{place_of, AreNames};
 
 use crate::first::{FIRST_COUNT, first_name};
+use crate::guesses::guess;
 use indexmap::IndexSet;
 use std::alloc::{AllocError, Global};
 use std::hash::RandomState;
@@ -93,8 +94,32 @@ impl Names {
         self.texts.len()
     }
 
-    /// The number of a text, if it stands. It takes no memory.
+    /// Whether a text has this number.
+    #[inline(always)]
+    fn is_at(&self, id: NameId, text: &[u8]) -> bool
+        ensures { IsTrue result ↔ (place_of text.now self.now ≡ Some id.0) }
+    {
+        usize::from(id.0) < self.len() && self.text(id) == text
+    }
+
+    /// The number of a text, if it stands. It takes no memory. A text that every run knows isn't
+    /// hashed.
+    #[inline]
     pub fn find(&self, text: &[u8]) -> Option<NameId>
+        ensures place { option_map (λ id. id.0) result ≡ place_of text.now self.now }
+        ensures within { IfSome result (λ id. id.0 < length self.now) }
+        ensures stands { IfSome result (λ id. slice_get self.now id.0 ≡ Some text.now) }
+    {
+        let id = guess(text);
+        if self.is_at(id, text) {
+            return Some(id);
+        }
+        self.search(text)
+    }
+
+    /// The number of a text, if it stands, by its hash. It takes no memory.
+    #[inline(never)]
+    fn search(&self, text: &[u8]) -> Option<NameId>
         ensures place { option_map (λ id. id.0) result ≡ place_of text.now self.now }
         ensures within { IfSome result (λ id. id.0 < length self.now) }
         ensures stands { IfSome result (λ id. slice_get self.now id.0 ≡ Some text.now) }
@@ -120,6 +145,7 @@ impl Names {
     /// `TooLong` comes exactly where it has more than `NAME_LIMIT` bytes, and `Full` exactly where
     /// it is new, no longer than that, and `NAMES_LIMIT` names stand. `Memory` comes only where it
     /// is to be added.
+    #[inline(always)]
     pub fn intern(&mut self, text: &[u8]) -> Result<NameId, NamesFault>
         // A text that stands keeps its number and the names stay; a new one goes last and has the
         // next.
@@ -144,10 +170,14 @@ impl Names {
         ensures fault { OnErr result (self.new ≡ self.old) }
     {
         let place = self.len();
+        let id = guess(text);
+        if self.is_at(id, text) {
+            return Ok(id);
+        }
         if text.len() > NAME_LIMIT {
             return Err(NamesFault::TooLong);
         }
-        if let Some(id) = self.find(text) {
+        if let Some(id) = self.search(text) {
             return Ok(id);
         }
         if place >= NAMES_LIMIT {
@@ -160,6 +190,7 @@ impl Names {
     }
 
     /// Puts a new text behind the others; where memory is refused, nothing has changed.
+    #[inline(never)]
     fn add(&mut self, text: &[u8]) -> Result<(), AllocError>
         requires new { place_of text.now self.old ≡ None }
         requires short { length text.now ≤ name_limit }

@@ -1,7 +1,7 @@
 //! Classes of bytes: white space, delimiters, digits (PLRM2, 3.2.1).
 
 ghost use Rattle.std.specs.Prelude.{◌≡◌, ◌≤◌};
-ghost use Rattle.ps_language.specs.Bytes.{is_white, is_comment_end, is_special, is_regular, digit_of, is_digit, is_sign, is_exponent_mark};
+ghost use Rattle.ps_language.specs.Bytes.{is_white, is_comment_end, is_regular, digit_of, is_digit, is_sign, is_exponent_mark};
 
 /// White space: NUL, tab, line feed, form feed, carriage return and space.
 pub(crate) fn is_white_byte(b: u8) -> bool
@@ -17,27 +17,23 @@ pub(crate) fn ends_comment(b: u8) -> bool
     b == b'\n' || b == b'\x0c' || b == b'\r'
 }
 
-/// A byte that delimits tokens: one of `( ) < > [ ] { } / %`.
-pub(crate) fn is_special_byte(b: u8) -> bool
-    ensures { result ≡ is_special b }
-{
-    b == 40
-        || b == 41
-        || b == 60
-        || b == 62
-        || b == 91
-        || b == 93
-        || b == 123
-        || b == 125
-        || b == 47
-        || b == 37
-}
-
-/// Any other byte.
+/// A byte that is neither white space nor one of `( ) < > [ ] { } / %`, which delimit tokens. Those
+/// below 64 and the others are told by a mask each.
+#[inline(always)]
 pub(crate) fn is_regular_byte(b: u8) -> bool
     ensures { result ≡ is_regular b }
 {
-    !is_white_byte(b) && !is_special_byte(b)
+    if b < 64 {
+        match b {
+            0 | 9 | 10 | 12 | 13 | 32 | b'(' | b')' | b'<' | b'>' | b'/' | b'%' => false,
+            _ => true,
+        }
+    } else {
+        match b {
+            b'[' | b']' | b'{' | b'}' => false,
+            _ => true,
+        }
+    }
 }
 
 /// The value of a digit or of a letter as a digit, and 36 for any other byte.

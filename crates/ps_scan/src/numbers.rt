@@ -189,7 +189,19 @@ fn number_by(run: &[u8], whole: &[u8], tail: &[u8]) -> Number
     }
 }
 
+/// What number a run of regular bytes writes that doesn't begin as a name.
+#[inline(never)]
+fn number_behind(run: &[u8]) -> Number
+    requires { 0 < length run.now }
+    ensures { result ≡ number_in (word_of run.now) }
+{
+    let digits = behind_sign(run);
+    let end = digits_end(digits, 0);
+    number_by(run, &digits[..end], &digits[end..])
+}
+
 /// What number a run of regular bytes writes.
+#[inline(always)]
 pub(crate) fn number_of(run: &[u8]) -> Number
     requires { 0 < length run.now }
     ensures { result ≡ number_in (word_of run.now) }
@@ -198,7 +210,5 @@ pub(crate) fn number_of(run: &[u8]) -> Number
     if !is_digit_byte(first) && !is_sign_byte(first) && first != b'.' {
         return Number::NoNumber;
     }
-    let digits = behind_sign(run);
-    let end = digits_end(digits, 0);
-    number_by(run, &digits[..end], &digits[end..])
+    number_behind(run)
 }

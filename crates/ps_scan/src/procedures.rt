@@ -5,9 +5,11 @@ ghost use Rattle.ps_language.specs.Reading.{enclosed};
 ghost use Rattle.ps_language.specs.Scan.{token_here, elements_from};
 ghost use Rattle.ps_scan.specs.Shown.{IsAnswer, MayStarve, token_at};
 
+use crate::classes::is_regular_byte;
 use crate::simple::simple_token;
 use crate::spans::blank_end;
 use crate::tokens::{SEQUENCE_LIMIT, ScanFault, Token, TokenKind};
+use crate::words::word_token;
 use std::alloc::{AllocError, Global};
 
 /// The token that begins at a place, where so many braces may still be opened.
@@ -29,6 +31,24 @@ pub(crate) fn token_from(
         return Err(ScanFault::Limit);
     }
     procedure_token(alloc, bytes, at, room - 1)
+}
+
+/// The same; a word goes no way round.
+#[inline(always)]
+pub(crate) fn outer_token(
+    alloc: Global,
+    bytes: &[u8],
+    at: usize,
+    room: u8,
+) -> Result<Token, ScanFault>
+    requires { at < length bytes.now }
+    ensures { let reading = token_at room bytes.now at in
+        IsAnswer (MayStarve room bytes.now at) bytes.now at result reading }
+{
+    if is_regular_byte(bytes[at]) {
+        return word_token(bytes, at);
+    }
+    token_from(alloc, bytes, at, room)
 }
 
 /// Adds an element, if there is room for one more.

@@ -4,7 +4,7 @@ ghost use Rattle.std.specs.Prelude.{◌≡◌, ◌<◌, ◌≤◌, IfOk, IfErr, 
 ghost use Rattle.ps_language.specs.Scan.{scan};
 ghost use Rattle.ps_scan.specs.Shown.{IsFaultBy, scan_of};
 
-use crate::procedures::token_from;
+use crate::procedures::outer_token;
 use crate::spans::blank_end;
 use crate::tokens::{NESTING_LIMIT, ScanFault, Token};
 use std::alloc::Global;
@@ -14,6 +14,7 @@ use std::alloc::Global;
 /// grammar there; `ScanFault::Limit`: a number, a name, a string, a procedure or the nesting of
 /// procedures is past its limit. `ScanFault::Memory`: a growth was refused, which no clause can
 /// say; only a string that isn't empty and a procedure take memory.
+#[inline]
 pub fn next_token(alloc: Global, bytes: &[u8], at: usize) -> Result<Option<Token>, ScanFault>
     requires { at ≤ length bytes.now }
     // a token exactly where the grammar has one, and nothing exactly where only white space and
@@ -28,7 +29,7 @@ pub fn next_token(alloc: Global, bytes: &[u8], at: usize) -> Result<Option<Token
     if here >= bytes.len() {
         return Ok(None);
     }
-    match token_from(alloc, bytes, here, NESTING_LIMIT) {
+    match outer_token(alloc, bytes, here, NESTING_LIMIT) {
         Ok(token) => Ok(Some(token)),
         Err(fault) => Err(fault),
     }

@@ -1,33 +1,52 @@
 //! Where white space, comments, regular bytes and digits end.
 
-ghost use Rattle.std.specs.Prelude.{◌≡◌, ◌≤◌, length, drop, false};
+ghost use Rattle.std.specs.Prelude.{◌≡◌, ◌≤◌, length, drop, true, false};
 ghost use Rattle.ps_language.specs.Bytes.{is_regular, is_digit};
 ghost use Rattle.ps_language.specs.Scan.{behind_blank, beyond};
 
 use crate::classes::{ends_comment, is_digit_byte, is_regular_byte, is_white_byte};
 
+/// The place behind a comment, from a place in it on.
+#[inline(never)]
+fn comment_end(bytes: &[u8], at: usize) -> usize
+    requires { at ≤ length bytes.now }
+    ensures low { at ≤ result }
+    ensures high { result ≤ length bytes.now }
+    ensures rest { behind_blank false (drop result bytes.now)
+        ≡ behind_blank true (drop at bytes.now) }
+{
+    for here in at..bytes.len() {
+        if ends_comment(bytes[here]) {
+            return here + 1;
+        }
+    }
+    bytes.len()
+}
+
 /// The place behind white space and comments.
+#[inline(always)]
 pub(crate) fn blank_end(bytes: &[u8], at: usize) -> usize
     requires { at ≤ length bytes.now }
     ensures low { at ≤ result }
     ensures high { result ≤ length bytes.now }
     ensures rest { drop result bytes.now ≡ behind_blank false (drop at bytes.now) }
 {
-    let mut is_in_comment = false;
-    for here in at..bytes.len() {
+    let mut here = at;
+    while here < bytes.len() {
         let b = bytes[here];
-        if is_in_comment {
-            is_in_comment = !ends_comment(b);
+        if is_white_byte(b) {
+            here += 1;
         } else if b == b'%' {
-            is_in_comment = true;
-        } else if !is_white_byte(b) {
+            here = comment_end(bytes, here + 1);
+        } else {
             return here;
         }
     }
-    bytes.len()
+    here
 }
 
 /// The place behind a run of regular bytes.
+#[inline(always)]
 pub(crate) fn run_end(bytes: &[u8], at: usize) -> usize
     requires { at ≤ length bytes.now }
     ensures low { at ≤ result }

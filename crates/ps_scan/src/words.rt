@@ -10,6 +10,7 @@ use crate::spans::run_end;
 use crate::tokens::{NAME_LIMIT, ScanFault, Span, Token, TokenKind};
 
 /// A number or an executable name: a run of regular bytes.
+#[inline(always)]
 pub(crate) fn word_token(bytes: &[u8], at: usize) -> Result<Token, ScanFault>
     requires inside { at < length bytes.now }
     requires regular { is_regular (slice_index bytes.now at) ≡ true }

@@ -52,6 +52,31 @@ pub fn byte<M: Memory>(memory: &mut M, part: Part, index: u16) -> u8
     word.0.to_le_bytes()[(at % BYTES) as usize]
 }
 
+/// Appends so many of a word's bytes to an output, from one of them on.
+///
+/// `AllocError`: the output lacks the room, and its growth was refused; it is as it was.
+#[inline(always)]
+fn append_some(
+    bytes: [u8; 8],
+    first: u32,
+    count: u32,
+    output: &mut Vec<u8>,
+) -> Result<(), AllocError>
+    requires { first + count ≤ 8 }
+    ensures items { OnOk result (output.new.items
+        ≡ output.old.items ++ slice_range bytes first (first + count)) }
+    ensures length { OnOk result (vec_len output.new ≡ vec_len output.old + count) }
+    ensures unchanged { OnErr result (output.new.items ≡ output.old.items) }
+    ensures full { OnErr result (vec_capacity output.old < vec_len output.old + count) }
+    ensures room { vec_capacity output.old ≤ vec_capacity output.new }
+{
+    // a whole word is one store
+    if count == BYTES {
+        return output.extend_from_slice(&bytes);
+    }
+    output.extend_from_slice(&bytes[first as usize..(first + count) as usize])
+}
+
 /// Appends the bytes of a part to an output, which grows once. The memory stays as it is.
 ///
 /// `AllocError`: the output lacks the room, and its growth was refused; it is as it was.
@@ -81,7 +106,7 @@ pub fn append_bytes<M: Memory>(
         let bytes = memory.load(part.address, place / BYTES).0.to_le_bytes();
         let first = place % BYTES;
         let count = (BYTES - first).min(end - place);
-        output.extend_from_slice(&bytes[first as usize..(first + count) as usize])?;
+        append_some(bytes, first, count, output)?;
         place += count;
     }
     Ok(())

@@ -64,6 +64,7 @@ pub(crate) fn name_word(id: NameId, executable: bool) -> Word
 }
 
 /// The value of a name is done in its place.
+#[inline(never)]
 fn do_value<O: Operate, M: Memory>(
     word: Word,
     operators: &O,
@@ -97,6 +98,7 @@ fn do_value<O: Operate, M: Memory>(
 }
 
 /// What is done with a name that was met.
+#[inline(always)]
 fn do_met<O: Operate, M: Memory>(
     kind: NameKind,
     word: Word,
@@ -132,6 +134,7 @@ fn do_met<O: Operate, M: Memory>(
 ///
 /// `Memory`: the name is new, and a growth for it was refused. Not made, with nothing changed: also
 /// as what is done with the name, which is taken back.
+#[inline(always)]
 pub fn do_name<O: Operate, M: Memory>(
     kind: NameKind,
     text: &[u8],

@@ -142,6 +142,7 @@ fn do_named<M: Memory>(
 /// `NeedSpace`: the words of the objects have no room. `Memory`: a growth of the memory, of the
 /// names or of the list for the words was refused, or the words are past 32 bits. Not made, with
 /// nothing changed: also as the note of an error.
+#[inline(never)]
 pub fn do_procedure<M: Memory>(
     elements: &[TokenKind],
     text: &[u8],

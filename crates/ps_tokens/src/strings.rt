@@ -25,6 +25,7 @@ use ps_turns::turned::Turned;
 ///
 /// `NeedSpace`: its words have no room. `Memory`: a growth of the memory was refused. Not made,
 /// with nothing changed: also as the note of an error.
+#[inline(never)]
 pub fn do_string<M: Memory>(
     bytes: &[u8],
     context: &mut Context,

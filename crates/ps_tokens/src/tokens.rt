@@ -22,6 +22,7 @@ use ps_values::operates::Operate;
 /// by its kind.
 ///
 /// Raises and is not made as `do_number`, `do_name`, `do_string` and `do_procedure`.
+#[inline(always)]
 pub fn do_token<O: Operate, M: Memory>(
     kind: &TokenKind,
     text: &[u8],

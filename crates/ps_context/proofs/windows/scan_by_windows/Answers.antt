@@ -13,7 +13,7 @@ returns-in-Ok-Some-clause-scanned g c = λ names s shows within.
     let scanned = rw (c.loop-size.invariant.heap, c.in-Ok-Some.is, c.in-Ok-Some.field-0-is) at
     c.scan_part.ensures.scanned in
     window_scanned (bytes s (birth_at (g.M.Memory.heap c.args.memory.now) part.address)) part.offset
-    part.length size low within _ _ (scanned names s shows (omega (arith, low, within)))
+    part.length size low within c.args.at _ _ (scanned names s shows (omega (arith, low, within)))
     c.if-scan_part-size.true
 
 pub returns-clause-scanned : goal.returns-clause-scanned

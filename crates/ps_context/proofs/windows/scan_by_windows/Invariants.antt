@@ -8,6 +8,7 @@ invariant-loop-size g l = record {
   grants : g.M.Memory.grants l.memory ≡ g.M.Memory.grants l.fn.memory;
   some : l.size < l.part.length → 0 < l.size;
   within : l.size ≤ l.part.length;
+  near : l.at ≤ l.size;
 }
 
 abbrev pub decreases-loop-size : goal.decreases-loop-size

@@ -10,7 +10,7 @@ pub returns-in-Ok-clause-scanned : goal.returns-in-Ok-clause-scanned
 returns-in-Ok-clause-scanned g c = λ names s shows within.
     let part : List ℕ =
     part_bytes s (part_of (birth_at (g.M.Memory.heap c.args.memory.now)) c.args.part) in
-    read_scanned _ _ c.as_slice.ensures.value c.next_token.result c.next_token.ensures.answer part
+    read_scanned _ _ c.as_slice.ensures.value c.next_token.result c.args.at c.next_token.ensures.answer part
     (c.in-Ok.ensures.value names s shows within
     ∙ ap (λ (t : List ℕ). t ++ part) c.clear.ensures.items) c.next_token.ensures.fault
 
@@ -18,5 +18,5 @@ pub returns-in-Ok-clause-token : goal.returns-in-Ok-clause-token
 returns-in-Ok-clause-token g c =
     let length = c.in-Ok.ensures.length in
     let empty = c.clear.ensures.items in
-    read_taken _ _ c.as_slice.ensures.value c.next_token.result c.next_token.ensures.answer
+    read_taken _ _ c.as_slice.ensures.value c.next_token.result c.args.at c.next_token.ensures.answer
     c.args.part.length (omega (arith, length, empty)) c.next_token.ensures.place

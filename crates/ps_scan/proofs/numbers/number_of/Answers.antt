@@ -1,13 +1,8 @@
--- A run is judged by the digits behind its sign, and what follows them.
-use Rattle.std.proofs.Common.{◌∙◌, ap, sym, take}
-use Rattle.ps_language.specs.Scan.{word_by}
+-- What begins as no number is a name.
+use Rattle.std.proofs.Common.{◌∙◌, ap, sym}
 use Rattle.ps_scan.specs.Numbers.{number_in}
-use Rattle.ps_scan.proofs.NumberForms.{tail_is, word_name, word_split}
+use Rattle.ps_scan.proofs.NumberForms.{word_name}
 use Rattle.ps_scan.proofs.numbers.number_of.Goals as goal
 
 pub returns-then-first-ne46 : goal.returns-then-first-ne46
 returns-then-first-ne46 c = sym (ap number_in (word_name c.args.run.now (sym c.is_digit_byte.ensures ∙ c.if-not-is_digit_byte.true) (sym c.is_sign_byte.ensures ∙ c.if-not-is_sign_byte.true) c.if-first-ne46.true))
-
-pub returns : goal.returns
-returns c = c.number_by.ensures ∙ ap (λ t. number_in (word_by c.args.run.now (take c.digits_end-end.result c.behind_sign-digits.result.now) t)) (tail_is c.behind_sign-digits.result.now c.digits_end-end.result)
-    ∙ sym (ap number_in (word_split c.args.run.now c.behind_sign-digits.result.now c.digits_end-end.result c.behind_sign-digits.ensures c.digits_end-end.ensures.rest c.digits_end-end.ensures.high))

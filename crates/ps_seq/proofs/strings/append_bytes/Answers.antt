@@ -37,7 +37,7 @@ loop-place-preserved g c = record {
       shows in
       let read = subst (λ (k : Heap). slice_get (fields_at k p.address) (place / 8)
       ≡ Some c.load.result) c.loop-place.invariant.heap c.load.ensures.answer in
-      c.in_ok-extend_from_slice.ensures.items
+      c.in_ok-append_some.ensures.items
       ∙ (ap (λ bs. c.loop-place.output.items ++ slice_range bs (place % 8)
       (place % 8 + count)) c.to_le_bytes-bytes.ensures
       ∙ loaded_more h p.address s text (place / 8) c.load.result read c.args.output.now.items
