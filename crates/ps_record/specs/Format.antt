@@ -12,7 +12,7 @@ slots = 32
 abbrev pub ring_length : ℕ
 ring_length = 256
 
--- no log gets more records: their numbers have 63 bits
+-- a log with so many records gets no further place, only the closes of the cycles that are left
 abbrev pub log_limit : ℕ
 log_limit = 2 ^ 63
 

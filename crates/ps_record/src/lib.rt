@@ -12,7 +12,7 @@ pub const SLOTS: u64 = 32;
 /// How many records a ring holds.
 pub const RING: u64 = 256;
 
-/// No log gets more records.
+/// A log with so many records gets no further place, only the closes of the cycles that are left.
 pub const LOG_LIMIT: u64 = 1 << 63;
 
 /// The words below the rings: the cycle word, the epoch word, a head for each slot, and blanks.
