@@ -26,7 +26,7 @@ use Rattle.ps_turns.specs.Turns.{Turns, none_asked}
 use Rattle.ps_turns.proofs.Composing.{turns_as, restacked_good}
 use Rattle.ps_values.specs.Values.{meaning, GoesIn, among, done_turn, Asks, executed_asks}
 use Rattle.ps_frames.specs.declared.elements.Element.{Element}
-use Rattle.ps_frames.specs.Steps.{frames_after, rest_frames, running_turn, frame_asks, above, with_entered, GoesAhead, IsElement}
+use Rattle.ps_frames.specs.Steps.{frames_after, rest_frames, running_turn, frame_asks, above, IsElement}
 use Rattle.ps_frames.proofs.Taking.{rest_some, rest_good, element_made}
 use Rattle.ps_interpreter.specs.Interprets.{asks_in, own_turn}
 use Rattle.ps_interpreter.specs.Makes.{ordinary, TurnsBehind, Runs}

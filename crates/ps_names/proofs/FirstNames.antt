@@ -1,9 +1,8 @@
 -- The names met at the start, one by one.
 use Rattle.std.proofs.Common.{◌≡◌, ℕ, zero, suc, ◌<◌, ◌+◌, List, [], ◌∷◌, ◌++◌, map, length, take, Some, refl, sym, ap, arith, ◌∙◌}
-use Rattle.std.specs.Prelude.{slice_get, slice_index_or, fold, get_or}
+use Rattle.std.specs.Prelude.{slice_get, slice_index_or, fold}
 use Rattle.std.proofs.lemmas.List.Sums.{fold_more}
 use Rattle.std.proofs.lemmas.Option.{slice_get_within, get_or_from_slice_get}
-use Rattle.ps_language.specs.declared.operators.Operator.{Operator}
 use Rattle.ps_language.specs.declared.operators.Operator.TheVariants.{Pop}
 use Rattle.ps_language.specs.OperatorList.{every_operator}
 use Rattle.ps_language.specs.OperatorNames.{operator_name}

@@ -1,5 +1,5 @@
 -- What enters a procedure, up to its frame.
-use Rattle.std.proofs.Common.{◌≡◌, ℕ, ◌<◌, ◌≤◌, ◌==◌, arith, Bool, true, false, List, [], ◌∷◌, length, Ok, refl}
+use Rattle.std.proofs.Common.{◌≡◌, ◌<◌, ◌≤◌, ◌==◌, arith, Bool, true, false, List, [], ◌∷◌, length, Ok, refl}
 use Rattle.std.specs.Prelude.{if◌then◌else◌}
 use Rattle.std.proofs.lemmas.Bool.Decides.{nat_tests}
 use Rattle.ps_language.specs.declared.operators.Operator.{Operator as Named}
@@ -15,7 +15,7 @@ use Rattle.ps_mem.specs.Shows.{AreValues}
 use Rattle.ps_control.specs.declared.ahead.Ahead.{Ahead}
 use Rattle.ps_control.specs.declared.ahead.Ahead.TheVariants as ahead
 use Rattle.ps_control.specs.declared.frames.Frame.TheVariants.{Procedure}
-use Rattle.ps_control.specs.Ahead.{entered_ahead, frames_ahead}
+use Rattle.ps_control.specs.Ahead.{entered_ahead}
 use Rattle.ps_control.specs.Frames.{frame_of, IsHeld}
 use Rattle.ps_control.proofs.Rooms.{fits}
 use Rattle.ps_acts.specs.declared.lent.Trial.{Trial}

@@ -1,9 +1,7 @@
 -- A procedure is taken off, and a loop turns.
-use Rattle.std.proofs.Common.{◌≡◌, ◌∷◌, drop, arith, sym, subst}
+use Rattle.std.proofs.Common.{arith, sym}
 use Rattle.ps_ops.proofs.Operands.{first_split}
-use Rattle.ps_control.specs.declared.frames.Frame.TheVariants.{Procedure}
 use Rattle.ps_acts.specs.Lent.{Lent, lent}
-use Rattle.ps_interpreter.proofs.Running.{run_none}
 use Rattle.ps_context.proofs.Ahead.{procedure_begins, made_turn, no_asks}
 use Rattle.ps_context.proofs.runs.begin_with.Goals as goal
 

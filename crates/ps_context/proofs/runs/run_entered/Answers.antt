@@ -1,5 +1,5 @@
 -- Element after element, procedure after procedure.
-use Rattle.std.proofs.Common.{◌≡◌, ◌+◌, ◌<◌, ◌≤◌, List, length, None, Some, arith, sym, ap, subst}
+use Rattle.std.proofs.Common.{◌+◌, ◌<◌, List, length, arith, sym, ap, subst}
 use Rattle.std.proofs.lemmas.Bool.{true≢false}
 use Rattle.std.proofs.lemmas.Bool.Decides.{nat_tests}
 use Rattle.std.specs.Prelude.{IfSome}

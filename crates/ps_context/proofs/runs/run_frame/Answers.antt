@@ -1,5 +1,5 @@
 -- The steps of a procedure, that of a loop, or the turn of another frame.
-use Rattle.std.proofs.Common.{◌≤◌, arith, sym, ◌∙◌}
+use Rattle.std.proofs.Common.{◌≤◌, arith, sym}
 use Rattle.std.proofs.lemmas.Bool.{true≢false}
 use Rattle.ps_acts.specs.Lent.{Lent, lent}
 use Rattle.ps_interpreter.proofs.Running.{run_none}

@@ -1,5 +1,5 @@
 -- The next control value, or the end.
-use Rattle.std.proofs.Common.{rules, arith, sym, [], ◌∷◌, ◌∙◌, ◌+ℤ◌, w32, w64}
+use Rattle.std.proofs.Common.{rules, sym, [], ◌∷◌, ◌∙◌, ◌+ℤ◌, w32, w64}
 use Rattle.std.proofs.lemmas.Int.{to_z-of_z}
 use mir.Val.{SFits}
 use Rattle.ps_language.specs.declared.operators.Operator.TheVariants.{For as ForOperator}

@@ -1,5 +1,5 @@
 -- The next place.
-use Rattle.std.proofs.Common.{◌+◌, arith, sym}
+use Rattle.std.proofs.Common.{◌+◌, sym}
 use Rattle.ps_language.specs.declared.operators.Operator.TheVariants.{Forall as ForallOperator}
 use Rattle.ps_control.specs.declared.frames.Frame.TheVariants.{Forall}
 use Rattle.ps_control.specs.Turns.{words_of}

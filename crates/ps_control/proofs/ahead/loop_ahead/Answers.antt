@@ -1,5 +1,5 @@
 -- The frame stays, and the procedure is entered.
-use Rattle.std.proofs.Common.{[], List, ◌∷◌, Ok, arith, sym, subst}
+use Rattle.std.proofs.Common.{[], List, ◌∷◌, Ok, sym, subst}
 use Rattle.ps_language.specs.declared.operators.Operator.TheVariants.{Loop as LoopOperator}
 use Rattle.ps_ops.proofs.Operands.{first_split}
 use Rattle.ps_control.specs.declared.frames.Frame.{Frame}

@@ -1,9 +1,8 @@
 -- The value is treated over the frames that are left.
-use Rattle.std.proofs.Common.{◌≡◌, ◌+◌, ◌<◌, ◌≤◌, ◌∷◌, List, length, arith, refl}
+use Rattle.std.proofs.Common.{◌<◌, length, arith}
 use Rattle.std.proofs.lemmas.Bool.Decides.{nat_tests}
 use Rattle.ps_control.specs.declared.ahead.Ahead.TheVariants as variants
 use Rattle.ps_acts.specs.Lent.{Lent, lent}
-use Rattle.ps_frames.specs.Steps.{rest_frames}
 use Rattle.ps_frames.proofs.Entered.{entered_goes}
 use Rattle.ps_frames.proofs.elements.element_ahead.Goals as goal
 

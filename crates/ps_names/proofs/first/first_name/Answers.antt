@@ -1,5 +1,5 @@
 -- Each name by its number.
-use Rattle.std.proofs.Common.{◌≡◌, Some, refl, sym, ap, arith, ◌∙◌}
+use Rattle.std.proofs.Common.{Some, sym, ap, arith, ◌∙◌}
 use Rattle.std.specs.Prelude.{slice_get}
 use Rattle.std.proofs.lemmas.Bool.Decides.{nat_tests}
 use Rattle.ps_language.specs.OperatorNames.{operator_name}

@@ -1,8 +1,7 @@
 -- Each byte takes the scanner on; where none is blank, or none is left, what is left is what was
 -- looked for.
-use Rattle.std.proofs.Common.{◌+◌, drop, length, sym, ap, ◌∙◌, arith, false}
+use Rattle.std.proofs.Common.{sym, ◌∙◌, arith, false}
 use Rattle.std.proofs.lemmas.List.{at_drop_all}
-use Rattle.ps_language.specs.Scan.{behind_blank}
 use Rattle.ps_language.proofs.Places.{blank_percent, blank_white, blank_none, blank_end}
 use Rattle.ps_scan.proofs.spans.blank_end.Goals as goal
 

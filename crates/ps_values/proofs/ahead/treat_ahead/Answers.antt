@@ -1,5 +1,5 @@
 -- A procedure is entered, and an operator acts.
-use Rattle.std.proofs.Common.{[], List, ◌∷◌, sym, subst, ◌∙◌}
+use Rattle.std.proofs.Common.{[], ◌∷◌, sym, subst, ◌∙◌}
 use Rattle.ps_control.specs.declared.ahead.Ahead.{Ahead}
 use Rattle.ps_values.specs.Values.{EntersAlone, treated_asks, treated_turn}
 use Rattle.ps_values.proofs.Entering.{operator_enters, procedure_enters}
