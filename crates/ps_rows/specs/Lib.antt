@@ -1,1 +1,2 @@
+pub mod Fakes
 pub mod Plays

@@ -1,8 +1,8 @@
 //! A program of many contexts under other turns, and under schedules by chance.
 
+use crate::fakes::{deeds_in, steps_in};
 use crate::rows::Verdict;
 use crate::runs::CONFIG;
-use ps_tests::fakes::{deeds_in, steps_in};
 use ps_vault::{Config, Entry, Outcome, RunFault, replay, run_plain};
 use std::alloc::{AllocError, Global};
 use std::hash::RandomState;

@@ -1,8 +1,8 @@
 //! A program in a space that is collected, by some numbers of workers.
 
+use crate::fakes::{deeds_in, steps_in};
 use crate::rows::Verdict;
 use crate::runs::{CONFIG, again};
-use ps_tests::fakes::{deeds_in, steps_in};
 use ps_vault::{Config, Outcome, Report, RunFault};
 use ps_workers::{Gate, run, run_gated};
 use std::alloc::Global;

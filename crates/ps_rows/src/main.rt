@@ -1,38 +1,114 @@
-//! Runs the programs of its input, each with what it prints, and prints how many there are and
-//! which of them differ from what they say.
+//! Runs the rows and the cases of its input, and prints how many there are, and which of them differ
+//! from what they say. A row is a line with tabs; a case is the lines up to an empty one; a line
+//! behind `#` is a remark.
 #![tactic(auto)]
 
+mod cases;
 mod chances;
 mod collected;
+mod driven;
+mod fakes;
+mod held;
+mod judges;
 mod plays;
 mod rows;
 mod runs;
 
 use anyhow::{Result, bail};
+use cases::Case;
+use judges::Amiss;
 use rows::Verdict;
 use std::hash::RandomState;
+use std::sync::Wait;
+use std::thread::Threads;
 
-/// Runs each row in turn. Fails where the keys of the tables of names can't be had, and where a row
-/// wanted memory, when all have run.
+/// How many rows and cases there were, and how many of them wanted memory.
+#[derive(Clone, Copy)]
+struct Tally {
+    rows: u64,
+    cases: u64,
+    wanting: u64,
+}
+
+impl Tally {
+    /// Runs a row, by threads of `workers`. Fails where it can't be printed that it differs.
+    fn row<R: Threads + Wait + Sync>(
+        &mut self,
+        rt: &HostRuntime,
+        workers: &R,
+        keys: RandomState,
+        row: &str,
+    ) -> Result<()> {
+        self.rows = self.rows.wrapping_add(1);
+        match rows::verdict_of(workers, rt.alloc(), keys, row) {
+            Ok(Verdict::Same) => {}
+            Ok(Verdict::Different) => println!(rt; "differs: {row}")?,
+            Ok(Verdict::WantsMemory) | Err(_) => self.wanting = self.wanting.wrapping_add(1),
+        }
+        Ok(())
+    }
+
+    /// Runs the case of these lines, where there are any, by threads of `workers`. Fails where it
+    /// can't be printed that it differs.
+    fn case<R: Threads + Wait + Sync>(
+        &mut self,
+        rt: &HostRuntime,
+        workers: &R,
+        keys: RandomState,
+        lines: &[String],
+    ) -> Result<()> {
+        if lines.is_empty() {
+            return Ok(());
+        }
+        self.cases = self.cases.wrapping_add(1);
+        let judged = match Case::read(rt.alloc(), lines)? {
+            Some(case) => case.judge(workers, rt.alloc(), keys),
+            None => Err(Amiss::Differs("lines")),
+        };
+        match judged {
+            Ok(()) => {}
+            Err(Amiss::WantsMemory) => self.wanting = self.wanting.wrapping_add(1),
+            Err(Amiss::Differs(what)) => {
+                println!(rt; "its {what} differs:")?;
+                for line in lines {
+                    println!(rt; "    {line}")?;
+                }
+            }
+        }
+        Ok(())
+    }
+}
+
+/// Runs each row and case in turn. Fails where the keys of the tables of names can't be had, and
+/// where one wanted memory, when all have run.
 fn main(rt: HostRuntime) -> Result<()> {
     let keys = RandomState::new(&rt)?;
-    let mut count: u64 = 0;
-    let mut wanting: u64 = 0;
+    let mut tally = Tally {
+        rows: 0,
+        cases: 0,
+        wanting: 0,
+    };
+    let mut lines = Vec::new(rt.alloc());
     for line in rt.lines(rt.alloc()) {
-        let row = line?;
-        if rows::is_remark(row.as_str()) {
-            continue;
-        }
-        count = count.wrapping_add(1);
-        match rows::verdict_of(&rt, rt.alloc(), keys, row.as_str()) {
-            Ok(Verdict::Same) => {}
-            Ok(Verdict::Different) => println!(&rt; "differs: {row}")?,
-            Ok(Verdict::WantsMemory) | Err(_) => wanting = wanting.wrapping_add(1),
+        let line = line?;
+        if line.is_empty() {
+            tally.case(&rt, &rt, keys, lines.as_slice())?;
+            lines.clear();
+        } else if line.contains('\t') {
+            tally.row(&rt, &rt, keys, line.as_str())?;
+        } else if !line.starts_with('#') {
+            lines.push(line)?;
         }
     }
+    tally.case(&rt, &rt, keys, lines.as_slice())?;
+    let Tally {
+        rows,
+        cases,
+        wanting,
+    } = tally;
     if wanting > 0 {
-        bail!("{wanting} rows want memory");
+        bail!("{wanting} rows and cases want memory");
     }
-    println!(&rt; "{count} rows")?;
+    println!(&rt; "{rows} rows, {cases} cases")?;
     Ok(())
 }

@@ -5,6 +5,7 @@ ghost use Rattle.ps_start.specs.Starts.{first_machine};
 ghost use Rattle.ps_interpreter.specs.Courses.{IsAt};
 ghost use Rattle.ps_rows.specs.Plays.{held_over};
 
+use crate::fakes::steps_in;
 use anyhow::{Result, bail};
 use ps_acts::lent::Trial;
 use ps_context::steps::Steps;
@@ -13,7 +14,6 @@ use ps_interpreter::interpreter::Interpreter;
 use ps_mem::Memory;
 use ps_mem::bounded::BoundedMemory;
 use ps_ops::failure::NotMade;
-use ps_tests::fakes::steps_in;
 use std::alloc::{AllocError, Global};
 use std::hash::RandomState;
 use std::io::Write;

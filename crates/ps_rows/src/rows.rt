@@ -1,6 +1,6 @@
 //! Rows, one a line, of three fields with tabs between them: how it is run, the program, and what
-//! comes of it. `\n` is a newline and `\b` a backslash. `|` stands between the pieces of a program,
-//! of which `N*TEXT` is a text so many times.
+//! comes of it. `\n` is a newline, `\r` a carriage return and `\b` a backslash. `|` stands between the
+//! pieces of a program, of which `N*TEXT` is a text so many times.
 //!
 //! `drive STATUS`: by the command line, over plain memory and in a space that is collected, with that
 //! exit status, and again under the schedule of a run. `plain STATUS`: over plain memory alone.
@@ -8,14 +8,17 @@
 //! `collected SPACE`: in a space of so many words that is collected, by some numbers of workers, and
 //! again under the schedule of each run; `flipped SPACE`: so too, and the spaces are exchanged at
 //! least once; `stressed SPACE`: at least 100 times.
+//! `held SPACE`: in such a space too, step by step, and the log of the first context is closed before
+//! its first step; a store waits until the cycle has ended.
 //! `bounded SIZE`, `full SIZE`, `closed SIZE`: step by step in a space of so many words, with
 //! no cycle open, with a full log, with a closed one; what comes of it begins with why steps were
 //! not made.
 
 use crate::chances::scheduled;
 use crate::collected::{MANY, worked};
+use crate::held::held_up;
 use crate::plays::{Log, Play};
-use crate::runs::{Words, driven, replayed};
+use crate::runs::{Words, ran, replayed};
 use anyhow::Result;
 use std::alloc::{AllocError, Global};
 use std::hash::RandomState;
@@ -47,26 +50,26 @@ impl Verdict {
     }
 }
 
-/// Whether a line is no row.
-pub fn is_remark(line: &str) -> bool {
-    line.is_empty() || line.starts_with('#')
+/// A number, zero where the text is none.
+pub fn number_of(text: &str) -> u32 {
+    text.parse::<u32>().unwrap_or(0)
 }
 
-/// The bytes that a field writes.
-fn bytes_of(alloc: Global, field: &str) -> Result<Vec<u8>, AllocError> {
+/// The bytes that a text writes.
+pub fn bytes_of(alloc: Global, field: &str) -> Result<Vec<u8>, AllocError> {
     let mut bytes = Vec::new(alloc);
     for (place, piece) in field.split('\\').enumerate() {
         if place == 0 {
             bytes.extend_from_slice(piece.as_bytes())?;
             continue;
         }
-        let (escaped, rest) = match (piece.strip_prefix('n'), piece.strip_prefix('b')) {
-            (Some(rest), _) => (b'\n', rest),
-            (None, Some(rest)) => (b'\\', rest),
-            (None, None) => (b'\\', piece),
-        };
-        bytes.push(escaped)?;
-        bytes.extend_from_slice(rest.as_bytes())?;
+        let (letter, rest) = piece.as_bytes().split_at(piece.len().min(1));
+        bytes.push(match letter {
+            b"n" => b'\n',
+            b"r" => b'\r',
+            _ => b'\\',
+        })?;
+        bytes.extend_from_slice(rest)?;
     }
     Ok(bytes)
 }
@@ -77,7 +80,7 @@ fn program_of(alloc: Global, field: &str) -> Result<Vec<u8>, AllocError> {
     let mut program = Vec::new(alloc);
     for piece in field.split('|') {
         let (times, text) = match piece.split_once('*') {
-            Some((times, text)) => (times.parse::<u32>().unwrap_or(0), text),
+            Some((times, text)) => (number_of(times), text),
             None => (1, piece),
         };
         let text = bytes_of(alloc, text)?;
@@ -103,7 +106,7 @@ pub fn verdict_of<R: Threads + Wait + Sync>(
     let Some((name, number)) = place.split_once(' ') else {
         return Ok(Verdict::Different);
     };
-    let number = number.parse::<u32>().unwrap_or(0);
+    let number = number_of(number);
     let program = program_of(alloc, program)?;
     let wanted = bytes_of(alloc, wanted)?;
     let log = match name {
@@ -134,6 +137,10 @@ pub fn verdict_of<R: Threads + Wait + Sync>(
                 least,
             ));
         }
+        "held" => {
+            let (program, wanted) = (program.as_slice(), wanted.as_slice());
+            return Ok(held_up(alloc, keys, program, wanted, number)?);
+        }
         "bounded" => Log::Idle,
         "full" => Log::Full,
         "closed" => Log::Closed,
@@ -154,11 +161,11 @@ fn run<R: Threads + Wait + Sync>(
     printed: &[u8],
     status: u8,
 ) -> Verdict {
-    let mut verdict = driven(rt, alloc, keys, Words::Plain, program, printed, status).and(replayed(
+    let mut verdict = ran(rt, alloc, keys, Words::Plain, program, printed, status).and(replayed(
         alloc, keys, program, printed,
     ));
     if name != "plain" {
-        verdict = verdict.and(driven(rt, alloc, keys, Words::Collected, program, printed, status));
+        verdict = verdict.and(ran(rt, alloc, keys, Words::Collected, program, printed, status));
     }
     if name == "contexts" {
         verdict = verdict.and(scheduled(alloc, keys, program, printed));

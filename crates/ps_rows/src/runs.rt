@@ -1,19 +1,14 @@
 //! A program by the command line, and again under the schedule that its run returned.
 
+use crate::driven::{ALL_WRITES, MEMORY, driven};
+use crate::fakes::{Files, deeds_in, steps_in};
 use crate::rows::Verdict;
-use ps_run::{Flushed, drive};
-use ps_tests::fakes::{OneFile, Output, deeds_in, steps_in};
+use ps_run::ReadFault;
 use ps_vault::{Config, Outcome, Report, RunFault, replay, run_plain};
 use std::alloc::Global;
 use std::hash::RandomState;
 use std::sync::Wait;
 use std::thread::Threads;
-
-/// More writes than a run makes.
-const AMPLE: u32 = 1000;
-
-/// The exit status for want of memory.
-const MEMORY: u8 = 5;
 
 /// The numbers of a run that ends by itself.
 pub const CONFIG: Config = Config {
@@ -42,8 +37,8 @@ impl Words {
     }
 }
 
-/// Whether `drive` prints this, with this status and nothing told.
-pub fn driven<R: Threads + Wait + Sync>(
+/// Whether the command line prints this, with this status and nothing told.
+pub fn ran<R: Threads + Wait + Sync>(
     rt: &R,
     alloc: Global,
     keys: RandomState,
@@ -52,36 +47,23 @@ pub fn driven<R: Threads + Wait + Sync>(
     printed: &[u8],
     status: u8,
 ) -> Verdict {
-    let mut files = OneFile {
-        bytes: Ok(program),
-        last_fault: None,
-    };
-    let mut output = Output::new(alloc, AMPLE);
-    if output.bytes.reserve(printed.len()).is_err() {
-        return Verdict::WantsMemory;
-    }
-    let mut out = Flushed::new(output);
-    let mut err = Output::new(alloc, AMPLE);
-    let given = drive(
+    let mut files = Files::new(alloc, Ok(program), Err(ReadFault::NoRead));
+    let given = driven(
         rt,
         alloc,
-        steps_in(alloc),
-        deeds_in(alloc),
         keys,
         words.all(),
         &mut files,
-        &mut out,
-        &mut err,
+        ALL_WRITES,
+        printed.len(),
     );
-    let Output { bytes: written, .. } = out.into_inner();
-    if given == MEMORY {
-        return if printed.starts_with(written.as_slice()) {
-            Verdict::WantsMemory
-        } else {
-            Verdict::Different
-        };
+    let Ok(given) = given else {
+        return Verdict::WantsMemory;
+    };
+    if given.status == MEMORY && printed.starts_with(given.out.as_slice()) {
+        return Verdict::WantsMemory;
     }
-    Verdict::of(given == status && written.as_slice() == printed && err.bytes.is_empty())
+    Verdict::of(given.status == status && given.out.as_slice() == printed && given.err.is_empty())
 }
 
 /// Whether a run prints this, or a beginning of it where memory is wanted, and prints the same

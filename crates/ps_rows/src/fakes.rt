@@ -3,7 +3,7 @@
 ghost use Rattle.std.specs.Prelude.{◌≡◌, ◌≢◌, ◌≤◌, ◌+◌, ℕ, List, [], true, Some, None, Err, OnOk, OnErr, IsErr, IfOk, IfErr, IfSome, length, vec_len};
 ghost use Rattle.std.specs.Io.{WritesAtMost};
 ghost use Rattle.std.specs.Io.KnownBytes.{WriteAppends, Keeps};
-ghost use Rattle.ps_tests.specs.Fakes.{bytes_in, known_in};
+ghost use Rattle.ps_rows.specs.Fakes.{bytes_in, known_in};
 
 use ps_context::steps::Steps;
 use ps_deeds::operators::WorldOperators;
@@ -34,45 +34,11 @@ fn copied(alloc: Global, bytes: Result<&[u8], ReadFault>, most: usize) -> Result
 {
     match bytes {
         Ok(bytes) if bytes.len() > most => Err(ReadFault::TooLong),
-        Ok(bytes) => Vec::from_slice(alloc, bytes).map_err(|_| ReadFault::Memory),
+        Ok(bytes) => match Vec::from_slice(alloc, bytes) {
+            Ok(copy) => Ok(copy),
+            Err(_) => Err(ReadFault::Memory),
+        },
         Err(fault) => Err(fault),
-    }
-}
-
-/// One file that can be read, whatever its name, or a fault in its place; nothing can be written.
-#[derive(Drop)]
-pub struct OneFile<'a> {
-    pub bytes: Result<&'a [u8], ReadFault>,
-    /// Why the last read that failed did.
-    pub last_fault: Option<ReadFault>,
-}
-
-impl FileSet for OneFile<'_> {
-    ghost contents = { λ file name. bytes_in file.bytes };
-
-    ghost last_fault = { λ file. file.last_fault };
-
-    ghost is_unwritten = { λ file. true };
-
-    fn read(&mut self, alloc: Global, _name: &str, most: usize) -> Result<Vec<u8>, ReadFault> {
-        let read = copied(alloc, self.bytes, most);
-        if let Err(fault) = &read {
-            self.last_fault = Some(*fault);
-        }
-        read
-    }
-
-    fn write(&mut self, _name: &str, _bytes: &[u8]) -> Result<(), WriteFault>
-        ensures refused { result ≡ Err WriteFault.NoWrite }
-        ensures written { OnOk result
-            (IfSome (bytes_in self.new.bytes) (λ known. known ≡ _bytes.now)) }
-        ensures kept { (other : List ℕ) → other ≢ _name.now
-            → bytes_in self.new.bytes ≡ bytes_in self.old.bytes }
-        ensures failed { OnErr result (true ≡ true) }
-        ensures succeeded { OnOk result (true ≡ true) }
-        ensures reads { self.new.last_fault ≡ self.old.last_fault }
-    {
-        Err(WriteFault::NoWrite)
     }
 }
 
@@ -91,6 +57,25 @@ pub struct Files<'a> {
     pub last_fault: Option<ReadFault>,
     /// Whether a write failed.
     pub unwritten: bool,
+}
+
+impl<'a> Files<'a> {
+    /// Files of which nothing was read or written yet, and one can be written.
+    pub fn new(
+        alloc: Global,
+        program: Result<&'a [u8], ReadFault>,
+        schedule: Result<&'a [u8], ReadFault>,
+    ) -> Files<'a> {
+        Files {
+            program,
+            schedule,
+            alloc,
+            written: None,
+            takes_writes: true,
+            last_fault: None,
+            unwritten: false,
+        }
+    }
 }
 
 impl Files<'_> {

@@ -1,0 +1,58 @@
+//! A log that is closed between two steps.
+
+use crate::fakes::{deeds_in, steps_in};
+use crate::rows::Verdict;
+use crate::runs::CONFIG;
+use ps_gc::SerialSpaces;
+use ps_ops::failure::NotMade;
+use ps_vault::{Closing, Config, Roots, Told, Vault};
+use std::alloc::{AllocError, Global};
+use std::hash::RandomState;
+
+/// The first context, and the slot of its log.
+const FIRST: u32 = 1;
+
+const SLOT: u32 = 1;
+
+/// More steps than any row needs.
+const AMPLE: u32 = 100;
+
+/// Whether a closed log holds the first store of a program up until its cycle has ended, in a space
+/// of so many words, and the program prints this then. Fails for want of memory.
+pub fn held_up(
+    alloc: Global,
+    keys: RandomState,
+    program: &[u8],
+    printed: &[u8],
+    space: u32,
+) -> Result<Verdict, AllocError> {
+    if !(Config { space, ..CONFIG }).is_within() {
+        return Ok(Verdict::Different);
+    }
+    let memory = SerialSpaces::new(alloc, space)?;
+    let mut roots = Roots::new(alloc)?;
+    let (steps, deeds) = (steps_in(alloc), deeds_in(alloc));
+    let mut vault = Vault::new(alloc, memory, steps, deeds, program, keys, 4)?;
+    if vault.is_open() || !vault.open_cycle(&mut roots) {
+        return Ok(Verdict::Different);
+    }
+    let first = vault.close_log(SLOT);
+    let again = vault.close_log(SLOT);
+    vault.reserve_entries()?;
+    if !vault.is_ready(FIRST) {
+        return Ok(Verdict::Different);
+    }
+    let held = vault.advance(FIRST, AMPLE, true);
+    let is_held = held.told == Told::HeldUp(NotMade::LogClosed) && vault.is_open();
+    let has_ended = vault.end_cycle(&mut roots) && !vault.is_open();
+    if vault.caller().is_some() || !vault.is_ready(FIRST) {
+        return Ok(Verdict::Different);
+    }
+    let turn = vault.turns(FIRST, AMPLE, AMPLE);
+    let (text, _) = vault.into_followed(&[]);
+    if held.told == Told::HeldUp(NotMade::Memory) || turn.held {
+        return Ok(Verdict::WantsMemory);
+    }
+    let is_closed = first == Closing::Closed && again == Closing::Closed;
+    Ok(Verdict::of(is_closed && is_held && has_ended && text.as_slice() == printed))
+}
