@@ -43,8 +43,9 @@ pub fn held_up(
         return Ok(Verdict::Different);
     }
     let held = vault.advance(FIRST, AMPLE, true);
-    let is_held = held.told == Told::HeldUp(NotMade::LogClosed) && vault.is_open();
-    let has_ended = vault.end_cycle(&mut roots) && !vault.is_open();
+    let stays_open = vault.is_open();
+    let has_ended = vault.end_cycle(&mut roots);
+    let is_shut = !vault.is_open();
     if vault.caller().is_some() || !vault.is_ready(FIRST) {
         return Ok(Verdict::Different);
     }
@@ -54,5 +55,7 @@ pub fn held_up(
         return Ok(Verdict::WantsMemory);
     }
     let is_closed = first == Closing::Closed && again == Closing::Closed;
-    Ok(Verdict::of(is_closed && is_held && has_ended && text.as_slice() == printed))
+    let is_held = held.told == Told::HeldUp(NotMade::LogClosed) && stays_open;
+    let is_ended = has_ended && is_shut;
+    Ok(Verdict::of(is_closed && is_held && is_ended && text.as_slice() == printed))
 }
