@@ -2,12 +2,19 @@ pub mod AskedLemmas
 pub mod Behind
 pub mod Blanks
 mod ContextExamples
+pub mod ControlStack
 pub mod DictionaryLaws
 pub mod EqualityLaws
 mod ErrorExamples
 pub mod Evaluation
 pub mod ExampleScenes
+pub mod Leaving
+pub mod LeftContexts
 pub mod LiveLaws
+pub mod LowestDeeds
+pub mod LowestRows
+pub mod LowestStacks
+pub mod LowestSteps
 pub mod OperandsKept
 pub mod Places
 pub mod Procedures

@@ -94,7 +94,7 @@ module _ (now : World) (identifier : ℕ) (refused : Bool) (shown : Option (ℤ 
   moved-alike (retaking lock) context = one
   moved-alike _ context = own-alike (machine_of now context) _
       (turn_as-keeps (around_of now.program (machine_of now context)) context.status context.frames
-      (scene_of (machine_of now context)))
+      (scene_of (machine_of now context))).0
 
 pub stepped-alike : (now : World) (identifier : ℕ) (refused : Bool) (shown : Option (ℤ × ℤ))
     → AreAlike (stepped now identifier refused None) (stepped now identifier refused shown)

@@ -12,6 +12,7 @@ pub mod Keeping
 pub mod Limits
 pub mod Live
 pub mod Locks
+pub mod Lowest
 pub mod Machines
 pub mod Objects
 pub mod OperatorList

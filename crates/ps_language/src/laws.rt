@@ -5,6 +5,7 @@ ghost use Rattle.ps_language.specs.Effect.{Around, Scene};
 ghost use Rattle.ps_language.specs.Keeping.{Keeps, stays};
 ghost use Rattle.ps_language.specs.Live.{Live};
 ghost use Rattle.ps_language.specs.Locks.{is_ready};
+ghost use Rattle.ps_language.specs.Lowest.{HaveFirstDictionaries};
 ghost use Rattle.ps_language.specs.Machines.{turn_as, after_turn, erred};
 ghost use Rattle.ps_language.specs.Objects.{lacks_room, made_between};
 ghost use Rattle.ps_language.specs.Schedules.{Move, moves, plain_move, added, is_longest, Begins};
@@ -52,4 +53,7 @@ pub fn language_laws()
     // What a world needs is one number, and at the start it is 528 words.
     ensures live { (now : World) (m n : ℕ) → Live now m → Live now n → m ≡ n }
     ensures start { (program : List ℕ) → Live (starting_world program) 528 }
+    // Userdict above systemdict are the lowest dictionaries of each context, after every schedule.
+    ensures lowest { (program : List ℕ) (steps : List Move)
+        → HaveFirstDictionaries (after_moves (starting_world program) steps) }
 {}

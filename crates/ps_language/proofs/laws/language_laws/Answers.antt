@@ -5,10 +5,11 @@ use Rattle.ps_language.proofs.Recorded.{recorded-same}
 use Rattle.ps_language.proofs.WorldLaws.{step-unready, world-append}
 use Rattle.ps_language.proofs.ScheduleLaws.{moves-added, longest-added, begins-part}
 use Rattle.ps_language.proofs.LiveLaws.{Live-unique, starting-live}
+use Rattle.ps_language.proofs.LowestSteps.{after_moves-lowest}
 use Rattle.ps_language.proofs.laws.language_laws.Goals as goal
 
 pub returns-clause-kept : goal.returns-clause-kept
-returns-clause-kept c around status scene = turn_as-keeps around status scene.frames scene
+returns-clause-kept c around status scene = (turn_as-keeps around status scene.frames scene).0
 
 pub returns-clause-unasked : goal.returns-clause-unasked
 returns-clause-unasked c = refused-unasked
@@ -40,3 +41,6 @@ returns-clause-live c = Live-unique
 
 pub returns-clause-start : goal.returns-clause-start
 returns-clause-start c = starting-live
+
+pub returns-clause-lowest : goal.returns-clause-lowest
+returns-clause-lowest c = after_moves-lowest
