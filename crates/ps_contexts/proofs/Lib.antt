@@ -14,3 +14,4 @@ pub mod Lifting
 pub mod Beginning
 pub mod Named
 pub mod Owning
+pub mod Reached

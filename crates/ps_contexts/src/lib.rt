@@ -3,5 +3,6 @@
 
 pub mod contexts;
 pub mod laws;
+pub mod living;
 pub mod members;
 pub mod table;

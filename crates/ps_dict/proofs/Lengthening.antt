@@ -13,7 +13,7 @@ use Rattle.ps_mem.specs.References.{StandsAs, IsKnown, AreKnown}
 use Rattle.ps_mem.specs.Meaning.{value_of}
 use Rattle.ps_mem.specs.Shows.{IsNatural, IsValue, AreValues, DictionaryFields, IsSound, IsWithin, words_of_pairs, pair_of, Shows}
 use Rattle.ps_mem.proofs.Lists.{all_splice, length-splice, splice-one, drop-splice}
-use Rattle.ps_mem.proofs.HeapLemmas.{object_at-stored_same, object_at-stored_other, birth_at-stored, next-stored, stored_more, length-fields_at_stored}
+use Rattle.ps_mem.proofs.HeapLemmas.{object_at-stored_same, object_at-stored_other, birth_at-stored, rest_of, rest-stored, stored_more, length-fields_at_stored}
 use Rattle.ps_mem.proofs.KeepsLemmas.{Keeps-stored, IsValue-kept, IsKnown-kept, Extends-stored}
 use Rattle.ps_mem.proofs.ShowsLemmas.{known_fields}
 use Rattle.ps_dict.specs.Places.{natural_in, body_in, count_at, capacity_at, body_at, pairs_at}
@@ -110,11 +110,11 @@ module _ (h : Heap) (a : ℕ) (known : StandsAs h DictionaryKind a 4) (sound : I
       ne'
       ∙ object_at-stored_other h a 0 (w ∷ []) c ne)
 
-  next-after : after_index.next ≡ h.next
-  next-after =
-      next-stored after_pair (body_at h a) (2 * capacity_at h a + p) (last ∷ [])
-      ∙ (next-stored after_count (body_at h a) (2 * count_at h a) (key ∷ value ∷ [])
-      ∙ next-stored h a 0 (w ∷ []))
+  rest-after : rest_of after_index ≡ rest_of h
+  rest-after =
+      rest-stored after_pair (body_at h a) (2 * capacity_at h a + p) (last ∷ [])
+      ∙ (rest-stored after_count (body_at h a) (2 * count_at h a) (key ∷ value ∷ [])
+      ∙ rest-stored h a 0 (w ∷ []))
 
   births-after : birth_at after_index ≡ birth_at h
   births-after =
@@ -214,13 +214,13 @@ module _ (h : Heap) (a : ℕ) (known : StandsAs h DictionaryKind a 4) (sound : I
 
   pub appended-keeps : Keeps h after_index
   appended-keeps = rewritten-keeps h a known sound after_index
-      (splice known.object.fields 0 (w ∷ [])) with_index at-dictionary at-body at-others next-after
+      (splice known.object.fields 0 (w ∷ [])) with_index at-dictionary at-body at-others rest-after
       births-after length-with_index w more is-more fields-more room-more pairs-are index-now
       values-more
 
   pub appended-sound : IsSound after_index
   appended-sound = rewritten-sound h a known sound after_index
-      (splice known.object.fields 0 (w ∷ [])) with_index at-dictionary at-body at-others next-after
+      (splice known.object.fields 0 (w ∷ [])) with_index at-dictionary at-body at-others rest-after
       births-after length-with_index w more is-more fields-more room-more pairs-are index-now
       values-more
 
@@ -229,7 +229,7 @@ module _ (h : Heap) (a : ℕ) (known : StandsAs h DictionaryKind a 4) (sound : I
   abbrev shape-more : DictionaryFields after_index (birth_at h a)
       (splice known.object.fields 0 (w ∷ []))
   shape-more = shape-after h a known sound after_index (splice known.object.fields 0 (w ∷ []))
-      with_index at-dictionary at-body at-others next-after births-after length-with_index w more
+      with_index at-dictionary at-body at-others rest-after births-after length-with_index w more
       is-more fields-more room-more pairs-are index-now values-more
 
   fields-appended : fields_at after_index a ≡ splice known.object.fields 0 (w ∷ [])
@@ -339,7 +339,7 @@ module _ (h : Heap) (a : ℕ) (known : StandsAs h DictionaryKind a 4) (sound : I
         ∙ ap (λ ps. ps ++ (value_of (birth_at h) names key, value_of (birth_at h) names value)
         ∷ []) (sym (pairs-shown h a known sound names s shows)))
         (rewritten-shows h a known sound after_index (splice known.object.fields 0 (w ∷ []))
-        with_index at-dictionary at-body at-others next-after births-after length-with_index w
+        with_index at-dictionary at-body at-others rest-after births-after length-with_index w
         more is-more fields-more room-more pairs-are index-now values-more
         names s shows (splice index-before p (last ∷ [])) holds-more
         (all_splice (IsWithin (birth_at h) names s) with_pair (2 * capacity_at h a + p) (last ∷ [])

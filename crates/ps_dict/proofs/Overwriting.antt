@@ -11,7 +11,7 @@ use Rattle.ps_mem.specs.References.{StandsAs, IsKnown, AreKnown}
 use Rattle.ps_mem.specs.Shows.{IsNatural, IsValue, AreValues, IsSound, IsWithin, AreWithin, words_of_pairs, pair_of, Shows}
 use Rattle.ps_mem.specs.Index.{index_words}
 use Rattle.ps_mem.proofs.Lists.{all_splice, splice-zero}
-use Rattle.ps_mem.proofs.HeapLemmas.{object_at-stored_same, object_at-stored_other, birth_at-stored, next-stored}
+use Rattle.ps_mem.proofs.HeapLemmas.{object_at-stored_same, object_at-stored_other, birth_at-stored, rest_of, rest-stored}
 use Rattle.ps_mem.proofs.KeepsLemmas.{known_values}
 use Rattle.ps_mem.proofs.ShowsLemmas.{known_fields}
 use Rattle.ps_dict.specs.Bodies.{whole_body}
@@ -93,8 +93,8 @@ module _ (h : Heap) (a : ℕ) (known : StandsAs h DictionaryKind a 4) (sound : I
     over-others c ne ne' = object_at-stored_other after_body a 0 (w ∷ []) c ne
         ∙ object_at-stored_other h (body_at h a) 0 words c ne'
 
-    next-after : after_number.next ≡ h.next
-    next-after = next-stored after_body a 0 (w ∷ []) ∙ next-stored h (body_at h a) 0 words
+    rest-after : rest_of after_number ≡ rest_of h
+    rest-after = rest-stored after_body a 0 (w ∷ []) ∙ rest-stored h (body_at h a) 0 words
 
     pub over-births : birth_at after_number ≡ birth_at h
     over-births = birth_at-stored after_body a 0 (w ∷ []) ∙ birth_at-stored h (body_at h a) 0 words
@@ -106,14 +106,14 @@ module _ (h : Heap) (a : ℕ) (known : StandsAs h DictionaryKind a 4) (sound : I
 
     pub over-keeps : Keeps h after_number
     over-keeps = rewritten-keeps h a known sound after_number
-        (splice known.object.fields 0 (w ∷ [])) words at-dictionary at-body over-others next-after
+        (splice known.object.fields 0 (w ∷ [])) words at-dictionary at-body over-others rest-after
         over-births words-fit w pairs is fields-are room
         (whole-pairs (birth_at h) (capacity_at h a) pairs room)
         (whole-index (birth_at h) (capacity_at h a) pairs room) words-values
 
     pub over-sound : IsSound after_number
     over-sound = rewritten-sound h a known sound after_number
-        (splice known.object.fields 0 (w ∷ [])) words at-dictionary at-body over-others next-after
+        (splice known.object.fields 0 (w ∷ [])) words at-dictionary at-body over-others rest-after
         over-births words-fit w pairs is fields-are room
         (whole-pairs (birth_at h) (capacity_at h a) pairs room)
         (whole-index (birth_at h) (capacity_at h a) pairs room) words-values
@@ -125,7 +125,7 @@ module _ (h : Heap) (a : ℕ) (known : StandsAs h DictionaryKind a 4) (sound : I
         { pairs = map (pair_of (birth_at h) names) pairs }))
     over-shows names s shows within =
         rewritten-shows h a known sound after_number (splice known.object.fields 0 (w ∷ [])) words
-        at-dictionary at-body over-others next-after over-births words-fit w pairs is fields-are
+        at-dictionary at-body over-others rest-after over-births words-fit w pairs is fields-are
         room (whole-pairs (birth_at h) (capacity_at h a) pairs room)
         (whole-index (birth_at h) (capacity_at h a) pairs room) words-values names s shows
         (index_words (birth_at h) (capacity_at h a) pairs) refl

@@ -11,7 +11,7 @@ use Rattle.ps_mem.specs.References.{StandsAs}
 use Rattle.ps_mem.specs.Meaning.{value_of}
 use Rattle.ps_mem.specs.Shows.{IsNatural, IsValue, AreValues, IsSound, IsWithin, words_of_pairs, Shows}
 use Rattle.ps_mem.proofs.Lists.{all_splice, length-splice, drop-splice}
-use Rattle.ps_mem.proofs.HeapLemmas.{object_at-stored_same, object_at-stored_other, birth_at-stored, next-stored}
+use Rattle.ps_mem.proofs.HeapLemmas.{object_at-stored_same, object_at-stored_other, birth_at-stored, rest-stored}
 use Rattle.ps_mem.proofs.ShowsLemmas.{known_fields}
 use Rattle.ps_dict.specs.Places.{natural_in, body_in, count_at, capacity_at, body_at, pairs_at}
 use Rattle.ps_dict.proofs.Pairs.{pairs-of_words_of_pairs, take-front_all}
@@ -155,7 +155,7 @@ module _ (h : Heap) (a : ℕ) (known : StandsAs h DictionaryKind a 4) (sound : I
   pub replaced-keeps : Keeps h after_value
   replaced-keeps = rewritten-keeps h a known sound after_value known.object.fields
       (splice body_words (2 * i + 1) (v ∷ [])) value-at value-body value-others
-      (next-stored h (body_at h a) (2 * i + 1) (v ∷ []))
+      (rest-stored h (body_at h a) (2 * i + 1) (v ∷ []))
       (birth_at-stored h (body_at h a) (2 * i + 1) (v ∷ []))
       (length-splice body_words (2 * i + 1) (v ∷ []) value-fits)
       (shape h a known sound).count_word others_pairs value-count value-fields value-room
@@ -164,7 +164,7 @@ module _ (h : Heap) (a : ℕ) (known : StandsAs h DictionaryKind a 4) (sound : I
   pub replaced-sound : IsSound after_value
   replaced-sound = rewritten-sound h a known sound after_value known.object.fields
       (splice body_words (2 * i + 1) (v ∷ [])) value-at value-body value-others
-      (next-stored h (body_at h a) (2 * i + 1) (v ∷ []))
+      (rest-stored h (body_at h a) (2 * i + 1) (v ∷ []))
       (birth_at-stored h (body_at h a) (2 * i + 1) (v ∷ []))
       (length-splice body_words (2 * i + 1) (v ∷ []) value-fits)
       (shape h a known sound).count_word others_pairs value-count value-fields value-room
@@ -186,7 +186,7 @@ module _ (h : Heap) (a : ℕ) (known : StandsAs h DictionaryKind a 4) (sound : I
       (sym (pairs-shown h a known sound names s shows)))
       (rewritten-shows h a known sound after_value known.object.fields
       (splice body_words (2 * i + 1) (v ∷ [])) value-at value-body value-others
-      (next-stored h (body_at h a) (2 * i + 1) (v ∷ []))
+      (rest-stored h (body_at h a) (2 * i + 1) (v ∷ []))
       (birth_at-stored h (body_at h a) (2 * i + 1) (v ∷ []))
       (length-splice body_words (2 * i + 1) (v ∷ []) value-fits)
       (shape h a known sound).count_word others_pairs value-count value-fields value-room

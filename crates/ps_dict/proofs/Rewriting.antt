@@ -6,11 +6,12 @@ use Rattle.ps_language.specs.declared.kinds.Kind.TheVariants.{Dictionary as Dict
 use Rattle.ps_language.specs.Value.{Dictionary as DictionaryValue, Store}
 use Rattle.ps_language.specs.Access.{dictionary_at, with_dictionary}
 use Rattle.ps_word.specs.declared.words.Word.{Word}
-use Rattle.ps_mem.specs.Heap.{Heap, Standing, object_at, birth_at, fields_at, zero_word}
+use Rattle.ps_mem.specs.Heap.{Heap, Space, Standing, object_at, birth_at, fields_at, zero_word}
 use Rattle.ps_mem.specs.Index.{pairs_of_words, index_words}
 use Rattle.ps_mem.specs.Keeps.{Keeps}
 use Rattle.ps_mem.specs.References.{StandsAs, AreKnown}
 use Rattle.ps_mem.specs.Shows.{IsNatural, AreValues, DictionaryFields, IsSound, AreWithin, words_of_pairs, pair_of, ShowsDictionary, Shows}
+use Rattle.ps_mem.proofs.HeapLemmas.{rest_of}
 use Rattle.ps_mem.proofs.KeepsLemmas.{known_values}
 use Rattle.ps_mem.proofs.DictionaryStores.{ChangesDictionary, Keeps-changed, IsSound-changed, Shows-changed}
 use Rattle.ps_dict.specs.Places.{capacity_at, body_at}
@@ -22,7 +23,7 @@ module _ (h : Heap) (a : ℕ) (known : StandsAs h DictionaryKind a 4) (sound : I
     (at' : object_at k (body_at h a) ≡ Some
     (record { kind = BodyKind; birth = birth_at h a; fields = words }))
     (others : (c : ℕ) → a ≢ c → body_at h a ≢ c → object_at k c ≡ object_at h c)
-    (next : k.next ≡ h.next) (births : birth_at k ≡ birth_at h)
+    (rest : rest_of k ≡ rest_of h) (births : birth_at k ≡ birth_at h)
     (length_words : length words ≡ length (fields_at h (body_at h a)))
     (w : Word) (pairs : List (Word × Word)) (is : IsNatural w (length pairs))
     (fields_are : fields ≡ w ∷ (shape h a known sound).capacity_word
@@ -49,7 +50,8 @@ module _ (h : Heap) (a : ℕ) (known : StandsAs h DictionaryKind a 4) (sound : I
     body_was = body-stands h a known sound;
     body_is = at';
     others = others;
-    next = next;
+    next = ap (λ (r : ℕ × Space). r.0) rest;
+    space = ap (λ (r : ℕ × Space). r.1) rest;
     kind_was = known.kind_is;
     kind_is = known.kind_is;
     body_kind_was = refl;

@@ -11,7 +11,7 @@ use Rattle.ps_mem.specs.Keeps.{Keeps}
 use Rattle.ps_mem.specs.References.{StandsAs, IsKnown, AreKnown}
 use Rattle.ps_mem.specs.Shows.{IsNatural, IsValue, AreValues, IsSound, IsWithin, AreWithin, words_of_pairs, pair_of, Shows}
 use Rattle.ps_mem.proofs.Lists.{all_splice, length-splice, splice-zero, drop-splice}
-use Rattle.ps_mem.proofs.HeapLemmas.{object_at-stored_same, object_at-stored_other, birth_at-stored, next-stored}
+use Rattle.ps_mem.proofs.HeapLemmas.{object_at-stored_same, object_at-stored_other, birth_at-stored, rest_of, rest-stored}
 use Rattle.ps_mem.proofs.KeepsLemmas.{Keeps-stored, IsValue-kept, AreValues-kept, known_values}
 use Rattle.ps_mem.proofs.ShowsLemmas.{known_fields}
 use Rattle.ps_dict.specs.Places.{count_at, capacity_at, body_at, pairs_at, IsPlaceFor}
@@ -215,11 +215,11 @@ module _ (h : Heap) (a : ℕ) (known : StandsAs h DictionaryKind a 4) (sound : I
       ∙ (object_at-stored_other after_positions (body_at h a) (2 * count_at h a) ws c ne'
       ∙ object_at-stored_other h (body_at h a) (2 * capacity_at h a) index c ne')
 
-  next-after : after_number.next ≡ h.next
-  next-after =
-      next-stored after_words a 0 (w ∷ [])
-      ∙ (next-stored after_positions (body_at h a) (2 * count_at h a) ws
-      ∙ next-stored h (body_at h a) (2 * capacity_at h a) index)
+  rest-after : rest_of after_number ≡ rest_of h
+  rest-after =
+      rest-stored after_words a 0 (w ∷ [])
+      ∙ (rest-stored after_positions (body_at h a) (2 * count_at h a) ws
+      ∙ rest-stored h (body_at h a) (2 * capacity_at h a) index)
 
   pub several-births : birth_at after_number ≡ birth_at h
   several-births =
@@ -315,13 +315,13 @@ module _ (h : Heap) (a : ℕ) (known : StandsAs h DictionaryKind a 4) (sound : I
   pub several-keeps : Keeps h after_number
   several-keeps = rewritten-keeps h a known sound after_number
       (splice known.object.fields 0 (w ∷ [])) with_words at-dictionary at-body several-others
-      next-after several-births length-with_words w more is-more fields-more room-more pairs-are
+      rest-after several-births length-with_words w more is-more fields-more room-more pairs-are
       index-now values-more
 
   pub several-sound : IsSound after_number
   several-sound = rewritten-sound h a known sound after_number
       (splice known.object.fields 0 (w ∷ [])) with_words at-dictionary at-body several-others
-      next-after several-births length-with_words w more is-more fields-more room-more pairs-are
+      rest-after several-births length-with_words w more is-more fields-more room-more pairs-are
       index-now values-more
 
   module _ (names : List (List ℕ)) (s : Store) (shows : Shows h names s)
@@ -364,7 +364,7 @@ module _ (h : Heap) (a : ℕ) (known : StandsAs h DictionaryKind a 4) (sound : I
         ∙ ap (λ ps. ps ++ map (pair_of (birth_at h) names) (pairs_of_words ws))
         (sym (pairs-shown h a known sound names s shows)))
         (rewritten-shows h a known sound after_number (splice known.object.fields 0 (w ∷ []))
-        with_words at-dictionary at-body several-others next-after several-births
+        with_words at-dictionary at-body several-others rest-after several-births
         length-with_words w more is-more fields-more room-more pairs-are index-now values-more
         names s shows behind holds-more
         (all_splice (IsWithin (birth_at h) names s) with_index (2 * count_at h a) ws

@@ -14,7 +14,7 @@ use Rattle.ps_mem.specs.Keeps.{Keeps}
 use Rattle.ps_mem.specs.References.{StandsAs, IsKnown, AreKnown}
 use Rattle.ps_mem.specs.Shows.{IsNatural, IsValue, AreValues, IsSound, IsWithin, words_of_pairs, pair_of, Shows}
 use Rattle.ps_mem.proofs.Lists.{all_splice, all_take, all_drop, length-splice}
-use Rattle.ps_mem.proofs.HeapLemmas.{object_at-stored_same, object_at-stored_other, birth_at-stored, next-stored}
+use Rattle.ps_mem.proofs.HeapLemmas.{object_at-stored_same, object_at-stored_other, birth_at-stored, rest_of, rest-stored}
 use Rattle.ps_mem.proofs.KeepsLemmas.{known_values}
 use Rattle.ps_mem.proofs.ShowsLemmas.{known_fields}
 use Rattle.ps_mem.proofs.ZeroLemmas.{AreValues-zeros, AreWithin-zeros}
@@ -201,12 +201,12 @@ module _ (h : Heap) (a : ℕ) (known : StandsAs h DictionaryKind a 4) (sound : I
       ∙ (object_at-stored_other moved b (2 * (count_at h a - 1)) two_nulls c ne'
       ∙ object_at-stored_other h b (2 * i) behind c ne'))
 
-  next-after : after.next ≡ h.next
-  next-after =
-      next-stored counted b (2 * capacity_at h a) index
-      ∙ (next-stored nulled a 0 (w ∷ [])
-      ∙ (next-stored moved b (2 * (count_at h a - 1)) two_nulls
-      ∙ next-stored h b (2 * i) behind))
+  rest-after : rest_of after ≡ rest_of h
+  rest-after =
+      rest-stored counted b (2 * capacity_at h a) index
+      ∙ (rest-stored nulled a 0 (w ∷ [])
+      ∙ (rest-stored moved b (2 * (count_at h a - 1)) two_nulls
+      ∙ rest-stored h b (2 * i) behind))
 
   pub births-after : birth_at after ≡ birth_at h
   births-after =
@@ -304,12 +304,12 @@ module _ (h : Heap) (a : ℕ) (known : StandsAs h DictionaryKind a 4) (sound : I
 
   pub taken-keeps : Keeps h after
   taken-keeps = rewritten-keeps h a known sound after (splice known.object.fields 0 (w ∷ [])) words
-      dictionary-after body-after others-after next-after births-after length-words w left is-left
+      dictionary-after body-after others-after rest-after births-after length-words w left is-left
       fields-left left-fits pairs-left index-left values-left
 
   pub taken-sound : IsSound after
   taken-sound = rewritten-sound h a known sound after (splice known.object.fields 0 (w ∷ [])) words
-      dictionary-after body-after others-after next-after births-after length-words w left is-left
+      dictionary-after body-after others-after rest-after births-after length-words w left is-left
       fields-left left-fits pairs-left index-left values-left
 
   module _ (names : List (List ℕ)) (s : Store) (shows : Shows h names s) where
@@ -371,7 +371,7 @@ module _ (h : Heap) (a : ℕ) (known : StandsAs h DictionaryKind a 4) (sound : I
         ∙ (ap (λ ps. without_place ps i) (sym (pairs-shown h a known sound names s shows))
         ∙ sym (without-present (dictionary_at s (birth_at h a)).pairs key i at)))
         (rewritten-shows h a known sound after (splice known.object.fields 0 (w ∷ [])) words
-        dictionary-after body-after others-after next-after births-after length-words w left
+        dictionary-after body-after others-after rest-after births-after length-words w left
         is-left fields-left left-fits pairs-left index-left values-left
         names s shows index holds-left
         (all_splice (IsWithin (birth_at h) names s) nulled_words (2 * capacity_at h a) index

@@ -1,49 +1,9 @@
 -- How many words stand: after a move no more than before.
 use Rattle.std.proofs.Common.{◌≡◌, ◌≢◌, ◌^◌, ℕ, zero, suc, ◌+◌, ◌<◌, ◌≤◌, length, Some, None, Option, refl, sym, ap, ◌∙◌, arith}
-use Rattle.std.specs.Prelude.{◌==◌, if◌then◌else◌}
-use native.Mathlib.Decide.{ℕ_discrete}
 use Rattle.ps_mem.specs.Heap.{Heap, Standing, object_at, size_of, words_below, standing_words}
-use Rattle.ps_core_laws.proofs.HeapTests.{eq_true, number_not}
+use Rattle.ps_mem.proofs.LessWords.{without, there, words_less}
 use Rattle.ps_flips.specs.Moves.{Forwarding, moved_object, IsMovedTo, KeepsRoom}
 use Rattle.ps_flips.proofs.Words.{length-moved_fields}
-
--- ---- an object less
-
-module _ (at : ℕ → Option Standing) (a : ℕ) where
-  abbrev without : ℕ → Option Standing
-  without b = if a == b then None else at b
-
-  here : without a ≡ None
-  here = let t = eq_true a a refl in rw t refl
-
-  there : (b : ℕ) → a ≢ b → without b ≡ at b
-  there b other = let f = number_not a b other in rw f refl
-
-  words_before : (n : ℕ) → n ≤ a → words_below without n ≡ words_below at n
-  unfolding words_below
-  words_before zero le = refl
-  words_before (suc n) le =
-      let rest = words_before n (omega arith) in
-      let same = ap size_of (there n (λ e. omega arith)) in
-      omega (arith, rest, same)
-
-  words_less : (n : ℕ) → a < n → words_below without n + size_of (at a) ≡ words_below at n
-  unfolding words_below
-  words_less zero lt = absurd (omega arith)
-  words_less (suc n) lt = elim (ℕ_discrete a n) [
-    | yes e ↦
-        let rest = words_before n (omega arith) in
-        let gone : size_of (without n) ≡ 0 =
-        ap (λ b. size_of (without b)) (sym e) ∙ ap size_of here in
-        let was : size_of (at a) ≡ size_of (at n) = ap (λ b. size_of (at b)) e in
-        omega (arith, rest, gone, was)
-    | no other ↦
-        let rest = words_less n (omega arith) in
-        let same = ap size_of (there n other) in
-        omega (arith, rest, same)
-  ]
-
--- ---- all that was moved
 
 -- an object of these words below this address, and its replica
 record IsSource (at : ℕ → Option Standing) (forward : Forwarding) (n b words : ℕ) : Type 0 where

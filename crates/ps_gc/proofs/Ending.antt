@@ -135,6 +135,13 @@ drains_but slot what old new k d = record {
   pairs = replicas_on old.gc.pairs new.gc.pairs d.pairs;
 }
 
+-- ---- the two sides of a run
+
+-- they count the same cycles
+pub cycles_meet : (v : Vm) (g : Gc) → BothRun v g → g.cycle ≡ v.cycle
+cycles_meet v g r = ap (λ (x : Gc). x.cycle) (sym r.gc_is)
+    ∙ ((kept v.space r.size r.events r.is_run).both.cycle ∙ ap (λ (x : Vm). x.cycle) r.vm_is)
+
 -- ---- what a log has behind what was taken of it
 
 begins : (v : Vm) (g : Gc) (slot : ℕ) → BothRun v g → slot < 32
@@ -200,9 +207,7 @@ module _ (m : View) (r : BothRun m.vm m.gc) (opened : is_open m.vm ≡ true) whe
   log_ended slot lt e =
       let k = subst (λ (v : Vm). VmKnows v) r.vm_is
       (kept m.vm.space r.size r.events r.is_run).mutator in
-      let meet = (kept m.vm.space r.size r.events r.is_run).both.cycle in
-      let cycle : m.gc.cycle ≡ m.vm.cycle = ap (λ (x : Gc). x.cycle) (sym r.gc_is) ∙ (meet
-      ∙ ap (λ (v : Vm). v.cycle) r.vm_is) in
+      let cycle = cycles_meet m.vm m.gc r in
       let b = begins m.vm m.gc slot r lt in
       let open_is = number_is m.vm.epoch (m.vm.cycle + 1) opened in
       let shut = (and_parts (is_open m.vm)
@@ -228,9 +233,7 @@ pub not_drained : (v : Vm) (g : Gc) (slot : ℕ) → slot < 32 → BothRun v g �
     → is_shut v slot ≡ false → is_drained g slot ≡ false
 not_drained v g slot lt r opened open_log =
     let k = subst (λ (x : Vm). VmKnows x) r.vm_is (kept v.space r.size r.events r.is_run).mutator in
-    let meet = (kept v.space r.size r.events r.is_run).both.cycle in
-    let cycle : g.cycle ≡ v.cycle = ap (λ (x : Gc). x.cycle) (sym r.gc_is) ∙ (meet
-    ∙ ap (λ (x : Vm). x.cycle) r.vm_is) in
+    let cycle = cycles_meet v g r in
     let open_is = number_is v.epoch (v.cycle + 1) opened in
     let b = begins v g slot r lt in
     let sum = ap closes b.1 ∙ closes_append (log_of g.taken slot) b.0 in
@@ -338,9 +341,7 @@ pub shut_drained : (v : Vm) (g : Gc) (slot : ℕ) → slot < 32 → FindsNext No
     → is_shut v slot ≡ true → is_drained g slot ≡ true
 shut_drained v g slot lt f shut =
     let r = f.runs in
-    let meet = (kept v.space r.size r.events r.is_run).both.cycle in
-    let cycle : g.cycle ≡ v.cycle = ap (λ (x : Gc). x.cycle) (sym r.gc_is) ∙ (meet
-    ∙ ap (λ (x : Vm). x.cycle) r.vm_is) in
+    let cycle = cycles_meet v g r in
     let p = and_parts (is_open v) (closes (log_of v.logs slot) == v.epoch) shut in
     let open_is = number_is v.epoch (v.cycle + 1) p.0 in
     let closed = number_is (closes (log_of v.logs slot)) v.epoch p.1 in

@@ -1,32 +1,35 @@
 -- The memory of both seats: where its objects lie, and what its values name.
-use Rattle.std.proofs.Common.{◌≡◌, ◌+◌, ◌^◌, ◌<◌, true, List, [], ◌∷◌, Some, None, Option, length, refl, sym, ap, ◌∙◌, arith}
-use Rattle.std.specs.Prelude.{◌==◌}
+use Rattle.std.proofs.Common.{◌≡◌, ◌+◌, ◌^◌, ◌<◌, ◌&&◌, true, not, List, [], ◌∷◌, Some, None, Option, length, refl, sym, ap, ◌∙◌, inl, inr, arith}
+use Rattle.std.specs.Prelude.{◌==◌, nat_lt}
+use Rattle.std.proofs.lemmas.Bool.Decides.{nat_tests}
 use Rattle.std.proofs.Math.Logic.{∥∥₁_elim}
 use Rattle.std.proofs.Props.{props}
 use Rattle.std.specs.Option.{option_map}
 use Rattle.ps_word.specs.declared.words.Word.{Word}
+use Rattle.ps_word.specs.Headers.{cycle_limit}
 use Rattle.ps_mem.specs.Heap as memory
 use Rattle.ps_mem.specs.Heap.{Standing}
 use Rattle.ps_mem.specs.Shows.{AreValues}
+use Rattle.ps_mem.specs.Stands.{IsAddressed}
 use Rattle.ps_core_parts.specs.declared.events.Object.{Object}
 use Rattle.ps_core_parts.specs.declared.events.Vm.{Vm}
 use Rattle.ps_core_parts.specs.declared.events.Gc.{Gc}
 use Rattle.ps_core_parts.specs.Objects.{object_at, value_stands, values_stand}
-use Rattle.ps_core_laws.proofs.HeapTests.{and_both}
+use Rattle.ps_core_laws.proofs.HeapTests.{and_both, bool_cases}
 use Rattle.ps_core_laws.proofs.KeptFacts.{kept}
 use Rattle.ps_parts_memory.specs.Memory.{heap_of, standing}
 use Rattle.ps_parts_memory.specs.Shown.{VmRuns}
 use Rattle.ps_parts_memory.specs.Stores.{numbers}
 use Rattle.ps_parts_memory.proofs.Written.{known_stands}
-use Rattle.ps_flips.specs.Collected.{IsAddressed}
+use Rattle.ps_flips.specs.Collected.{may_open}
 use Rattle.ps_core_parts.specs.declared.events.Event.{Event}
-use Rattle.ps_core_parts.specs.Steps.{knows_open}
+use Rattle.ps_core_parts.specs.Steps.{is_open, knows_open}
 use Rattle.ps_table.specs.declared.plays.View.{View}
 use Rattle.ps_table.specs.Events.{gc_did_all}
 use Rattle.ps_table.specs.Mirrored.{KeepsVm}
 use Rattle.ps_table.specs.Shown.{GcRuns}
 use Rattle.ps_table.proofs.Kept.{keeps_vm}
-use Rattle.ps_table.proofs.Facts.{vm_facts}
+use Rattle.ps_table.proofs.Facts.{knows, vm_facts}
 
 -- what values refer to stands
 pub values_name : (v : Vm) (ws : List Word) → AreValues (heap_of v) ws
@@ -35,23 +38,21 @@ values_name v [] are = refl
 values_name v (w ∷ ws) are = and_both (value_stands v.objects w.0)
     (values_stand v.objects (numbers ws)) (known_stands v w are.0.known) (values_name v ws are.1)
 
--- what stands lies in the table, which is below 2^24 words
-pub addressed : (v : Vm) → ∥ VmRuns v ∥₁ → IsAddressed (heap_of v)
-unfolding memory.object_at
-addressed v runs a stands = go (object_at v.objects a) refl
-  where
-    go : (x : Option Object) → object_at v.objects a ≡ x → a < 2 ^ 24
-    go None e = absurd (stands (ap (option_map standing) e))
-    go (Some o) e =
-        let k = vm_facts v runs in
-        let high = (k.within a o e).1 in
-        let top = k.end_high in let wide = k.base_high in let size = k.size.1 in
-        omega arith
-
 -- each slot has a log
 pub taken_wide : (g : Gc) → ∥ GcRuns g ∥₁ → length g.taken ≡ 32
 taken_wide g t = ∥∥₁_elim t (hlevel props) (λ r. ap (λ (x : Gc). length x.taken) (sym r.is)
     ∙ (kept g.space r.size r.events r.is_run).collector.taken)
+
+-- outside a cycle as many were opened as were flipped
+pub may_open_is : (v : Vm) → ∥ VmRuns v ∥₁
+    → (not (is_open v) && nat_lt (v.epoch + 1) cycle_limit) ≡ may_open (is_open v) v.cycle
+may_open_is v runs = elim (bool_cases (is_open v)) [
+  | inl now ↦ rw now refl
+  | inr none ↦ (let k = (knows v runs).cycles in
+      let low = k.low in let high = k.high in
+      let same : v.epoch ≡ v.cycle = grind (arith, nat_tests) in
+      ap (λ n. not (is_open v) && nat_lt (n + 1) cycle_limit) same)
+]
 
 -- ---- a seat with both sides
 

@@ -2,8 +2,7 @@
 //!
 //! One seat has both, at words of any kind. The numbers of the mutator's side are its part's
 //! (`Sits`), and the slot that is drained next is one.
-ghost use Rattle.std.specs.Prelude.{◌≡◌, ◌<◌, ◌+◌, ◌-◌, ◌^◌, ◌&&◌, ℕ, not, nat_lt, min, true, false, IfOk, refl};
-ghost use Rattle.ps_word.specs.Headers.{cycle_limit};
+ghost use Rattle.std.specs.Prelude.{◌≡◌, ◌<◌, ◌+◌, ◌-◌, ◌^◌, ℕ, min, true, false, IfOk, refl};
 ghost use Rattle.ps_record.specs.Format.{slots};
 ghost use Rattle.ps_mem.specs.Heap.{empty_heap};
 ghost use Rattle.ps_mem.specs.Bounded.{bounded_space};
@@ -14,7 +13,7 @@ ghost use Rattle.ps_core_laws.specs.Runs.{IsSpace};
 ghost use Rattle.ps_parts_memory.specs.Laws.{AfterOpen};
 ghost use Rattle.ps_parts_memory.specs.Memory.{heap_of, grants_of, is_shut};
 ghost use Rattle.ps_parts_memory.specs.Stores.{numbers};
-ghost use Rattle.ps_flips.specs.Collected.{IsCollected, IsQuiet};
+ghost use Rattle.ps_flips.specs.Collected.{IsCollected, IsQuiet, may_open, one_more_if};
 ghost use Rattle.ps_table.specs.Mirrored.{KeepsVm, Sits};
 ghost use Rattle.ps_gc.specs.Ending.{IsEnded, KeepsReplicas, StaysBut};
 ghost use Rattle.ps_gc.specs.Events.{is_drained};
@@ -82,6 +81,8 @@ impl<W: Words> CollectedSpace<W> {
             ≡ heap_of self.old.collector.gc.seat.me.0.vm }
         ensures grants { grants_of self.new.collector.gc.seat.me.0.vm
             ≡ record (grants_of self.old.collector.gc.seat.me.0.vm) { fresh = λ a. false } }
+        ensures flips { self.new.collector.gc.seat.me.0.vm.cycle
+            ≡ self.old.collector.gc.seat.me.0.vm.cycle }
         ensures knows { knows_open self.new.collector.gc.seat.me.0.gc ≡ true }
         ensures copied { values_have_replicas self.new.collector.gc.seat.me.0.gc.pairs
             (numbers roots.now) ≡ true }
@@ -176,6 +177,8 @@ impl<W: Words> CollectedSpace<W> {
         requires knows { knows_open self.old.collector.gc.seat.me.0.gc ≡ true }
         ensures heap { heap_of self.new.collector.gc.seat.me.0.vm
             ≡ heap_of self.old.collector.gc.seat.me.0.vm }
+        ensures flips { self.new.collector.gc.seat.me.0.vm.cycle
+            ≡ self.old.collector.gc.seat.me.0.vm.cycle }
         ensures open { is_open self.new.collector.gc.seat.me.0.vm ≡ true }
         ensures knows { knows_open self.new.collector.gc.seat.me.0.gc ≡ true }
         ensures ended { (slot : ℕ) → slot < slots
@@ -266,22 +269,22 @@ impl<W: Words> Memory for CollectedSpace<W> {
 }
 
 impl<W: Words> CollectedMemory for CollectedSpace<W> {
+    ghost flips = { λ s. s.collector.gc.seat.me.0.vm.cycle };
+
     fn is_open(&mut self) -> bool {
         self.mirror.is_open(&self.collector.gc.seat)
     }
 
-    /// As the memory's; it opens a cycle exactly where none is open and cycles are left, and what
-    /// the roots refer to has replicas then.
+    /// As the memory's; what the roots refer to has replicas then.
     fn open_cycle(&mut self, roots: &[Word]) -> bool
         requires values { AreValues (heap_of self.old.collector.gc.seat.me.0.vm) roots.now }
-        ensures answer { result ≡ (not (is_open self.old.collector.gc.seat.me.0.vm)
-            && nat_lt (self.old.collector.gc.seat.me.0.vm.epoch + 1) cycle_limit) }
+        ensures answer { result ≡ may_open (is_open self.old.collector.gc.seat.me.0.vm)
+            self.old.collector.gc.seat.me.0.vm.cycle }
         ensures heap { heap_of self.new.collector.gc.seat.me.0.vm
             ≡ heap_of self.old.collector.gc.seat.me.0.vm }
-        ensures opened { result ≡ true
-            → ((grants_of self.old.collector.gc.seat.me.0.vm).cycle_open ≡ false)
-            × ((grants_of self.new.collector.gc.seat.me.0.vm).cycle_open ≡ true) }
-        ensures grants { result ≡ true → AfterOpen (grants_of self.old.collector.gc.seat.me.0.vm)
+        ensures flips { self.new.collector.gc.seat.me.0.vm.cycle
+            ≡ self.old.collector.gc.seat.me.0.vm.cycle }
+        ensures opened { result ≡ true → AfterOpen (grants_of self.old.collector.gc.seat.me.0.vm)
             (grants_of self.new.collector.gc.seat.me.0.vm) }
         ensures copied { result ≡ true → values_have_replicas
             self.new.collector.gc.seat.me.0.gc.pairs (numbers roots.now) ≡ true }
@@ -304,6 +307,8 @@ impl<W: Words> CollectedMemory for CollectedSpace<W> {
             ≡ heap_of self.old.collector.gc.seat.me.0.vm }
         ensures grants { grants_of self.new.collector.gc.seat.me.0.vm
             ≡ grants_of self.old.collector.gc.seat.me.0.vm }
+        ensures flips { self.new.collector.gc.seat.me.0.vm.cycle
+            ≡ self.old.collector.gc.seat.me.0.vm.cycle }
         ensures filled { result ≡ false
             → knows_open self.new.collector.gc.seat.me.0.gc ≡ true
             → all_filled self.new.collector.gc.seat.me.0.gc.pairs ≡ true }
@@ -332,17 +337,21 @@ impl<W: Words> CollectedMemory for CollectedSpace<W> {
         requires values { AreValues (heap_of self.old.collector.gc.seat.me.0.vm) roots.old }
         ensures none { is_open self.old.collector.gc.seat.me.0.vm ≡ false
             → (result ≡ false) × (self.new ≡ self.old) }
+        ensures flips { self.new.collector.gc.seat.me.0.vm.cycle
+            ≡ one_more_if result self.old.collector.gc.seat.me.0.vm.cycle }
         ensures moved { result ≡ true → IsCollected (heap_of self.old.collector.gc.seat.me.0.vm)
             (heap_of self.new.collector.gc.seat.me.0.vm) roots.old roots.new }
         ensures ended { result ≡ is_open self.old.collector.gc.seat.me.0.vm }
-        ensures quiet { result ≡ true → IsQuiet (grants_of self.new.collector.gc.seat.me.0.vm) }
+        ensures quiet { IsQuiet (grants_of self.new.collector.gc.seat.me.0.vm) }
+        ensures fresh { result ≡ true → (address : ℕ)
+            → (grants_of self.new.collector.gc.seat.me.0.vm).fresh address ≡ false }
         ensures room { result ≡ true → (grants_of self.new.collector.gc.seat.me.0.vm).words
             + (heap_of self.new.collector.gc.seat.me.0.vm).used
             ≡ (heap_of self.new.collector.gc.seat.me.0.vm).space.size }
         ensures heap { result ≡ false → heap_of self.new.collector.gc.seat.me.0.vm
             ≡ heap_of self.old.collector.gc.seat.me.0.vm }
-        ensures still { result ≡ false → is_open self.new.collector.gc.seat.me.0.vm
-            ≡ is_open self.old.collector.gc.seat.me.0.vm }
+        ensures grants { result ≡ false → grants_of self.new.collector.gc.seat.me.0.vm
+            ≡ grants_of self.old.collector.gc.seat.me.0.vm }
         ensures roots { result ≡ false → roots.new ≡ roots.old }
     {
         if !self.mirror.cycle_open {
@@ -361,7 +370,10 @@ impl<W: Words> CollectedMemory for CollectedSpace<W> {
 
     /// As the memory's: the cycle word, and the sum of the heads, at most 2^64 - 1.
     fn counts(&mut self) -> Counts
-        ensures flips { result.flips ≡ self.old.collector.gc.seat.me.0.gc.cycle }
+        ensures flipped { result.flips ≡ self.old.collector.gc.seat.me.0.vm.cycle }
+        ensures cycle { result.flips ≡ self.old.collector.gc.seat.me.0.gc.cycle }
+        ensures flips { self.new.collector.gc.seat.me.0.vm.cycle
+            ≡ self.old.collector.gc.seat.me.0.vm.cycle }
         ensures taken { result.taken
             ≡ min (taken_in_all self.old.collector.gc.seat.me.0.gc) (2 ^ 64 - 1) }
         ensures heap { heap_of self.new.collector.gc.seat.me.0.vm
@@ -369,6 +381,8 @@ impl<W: Words> CollectedMemory for CollectedSpace<W> {
         ensures grants { grants_of self.new.collector.gc.seat.me.0.vm
             ≡ grants_of self.old.collector.gc.seat.me.0.vm }
     {
+        // So both sides are known to count the same cycles.
+        self.collector.gc.meet(&self.mirror);
         let mut taken: u64 = 0;
         for slot in 0..SLOTS {
             taken = taken.saturating_add(self.collector.taken(slot));

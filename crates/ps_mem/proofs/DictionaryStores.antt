@@ -26,6 +26,7 @@ pub record ChangesDictionary (g h : Heap) (a b : ℕ) (old new : Standing)
   pub body_is : object_at h b ≡ Some new_body
   pub others : (c : ℕ) → a ≢ c → b ≢ c → object_at h c ≡ object_at g c
   pub next : h.next ≡ g.next
+  pub space : h.space ≡ g.space
   pub kind_was : old.kind ≡ DictionaryKind
   pub kind_is : new.kind ≡ DictionaryKind
   pub body_kind_was : old_body.kind ≡ BodyKind
@@ -88,7 +89,7 @@ module _ (g h : Heap) (a b : ℕ) (old new old_body new_body : Standing)
   ]
 
   pub Keeps-changed : Keeps g h
-  Keeps-changed = record { stays = still }
+  Keeps-changed = record { stays = still; space = change.space }
 
   KeepsBirth-changed : (birth : ℕ) → birth ≢ old.birth → KeepsBirth g h birth
   KeepsBirth-changed birth other = record {

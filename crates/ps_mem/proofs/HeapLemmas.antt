@@ -6,7 +6,7 @@ use Rattle.ps_language.specs.declared.kinds.Kind.{Kind}
 use Rattle.ps_language.specs.declared.kinds.Kind.TheVariants.{Body}
 use Rattle.ps_language.specs.Access.{splice}
 use Rattle.ps_word.specs.declared.words.Word.{Word}
-use Rattle.ps_mem.specs.Heap.{Heap, Standing, object_at, birth_of, birth_at, fields_of, fields_at, with_fields, stored, made, made_body, zero_word}
+use Rattle.ps_mem.specs.Heap.{Heap, Space, Standing, object_at, birth_of, birth_at, fields_of, fields_at, with_fields, stored, made, made_body, zero_word}
 use Rattle.ps_mem.proofs.Lists.{splice_more, splice-nil, length-splice}
 
 -- two heaps of the same objects are one
@@ -38,6 +38,15 @@ used-stored h a place items = refl
 pub space-stored : (h : Heap) (a place : ℕ) (items : List Word) → (stored h a place items).space ≡ h.space
 unfolding stored
 space-stored h a place items = refl
+
+-- the next birth number and the space
+abbrev pub rest_of : Heap → ℕ × Space
+rest_of h = (h.next, h.space)
+
+pub rest-stored : (h : Heap) (a place : ℕ) (items : List Word)
+    → rest_of (stored h a place items) ≡ rest_of h
+unfolding stored
+rest-stored h a place items = refl
 
 standing_of_fields : (found : Option Standing) (i : ℕ) → i < length (fields_of found) → (o : Standing) × (found ≡ Some o) × (fields_of found ≡ o.fields)
 standing_of_fields None i below = absurd (omega arith)
@@ -112,6 +121,14 @@ next-made h a kind n = refl
 pub next-made_body : (h : Heap) (a birth n : ℕ) → (made_body h a birth n).next ≡ h.next
 unfolding made_body
 next-made_body h a birth n = refl
+
+pub space-made : (h : Heap) (a : ℕ) (kind : Kind) (n : ℕ) → (made h a kind n).space ≡ h.space
+unfolding made
+space-made h a kind n = refl
+
+pub space-made_body : (h : Heap) (a birth n : ℕ) → (made_body h a birth n).space ≡ h.space
+unfolding made_body
+space-made_body h a birth n = refl
 
 -- the number of fields stays
 length-with_fields : (o : Option Standing) (place : ℕ) (items : List Word) → place + length items ≤ length (fields_of o) → length (fields_of (with_fields o (splice (fields_of o) place items))) ≡ length (fields_of o)

@@ -17,7 +17,7 @@ use Rattle.ps_mem.specs.Index.{hash_of_content, hash_of, hashes_of, index_of, in
 use Rattle.ps_mem.specs.Keeps.{StandsStill, Keeps, KeepsBirth, Extends}
 use Rattle.ps_mem.specs.Shows.{IsValue, AreValues, IsWithin, IsWithinContent, AreWithin}
 use Rattle.ps_mem.proofs.Lists.{all_map, all_take, length-splice}
-use Rattle.ps_mem.proofs.HeapLemmas.{object_at-stored_same, object_at-stored_other, object_at-made_other, object_at-made_body_other}
+use Rattle.ps_mem.proofs.HeapLemmas.{object_at-stored_same, object_at-stored_other, object_at-made_other, object_at-made_body_other, space-stored, space-made, space-made_body}
 
 -- ---- what keeps
 
@@ -25,13 +25,15 @@ pub Keeps-Extends : (g h : Heap) → Extends g h → Keeps g h
 Keeps-Extends g h e = record {
   stays = λ a o at. record
       { now = o; at = e.same a o at; kind = refl; birth = refl; count = refl };
+  space = e.space;
 }
 
 pub Extends-same : (h : Heap) → Extends h h
-Extends-same h = record { same = λ a o at. at }
+Extends-same h = record { same = λ a o at. at; space = refl }
 
 pub Extends-then : (f g h : Heap) → Extends f g → Extends g h → Extends f h
-Extends-then f g h e k = record { same = λ a o at. k.same a o (e.same a o at) }
+Extends-then f g h e k =
+    record { same = λ a o at. k.same a o (e.same a o at); space = k.space ∙ e.space }
 
 pub Keeps-then : (f g h : Heap) → Keeps f g → Keeps g h → Keeps f h
 Keeps-then f g h first second = record {
@@ -46,6 +48,7 @@ Keeps-then f g h first second = record {
         count =
             q.count ∙ p.count;
       };
+  space = second.space ∙ first.space;
 }
 
 free_apart : (h : Heap) (a b : ℕ) (o : Standing) → object_at h a ≡ None → object_at h b ≡ Some o
@@ -56,7 +59,10 @@ free_apart h a b o free at same = let clash : None ≡ Some o = sym free
 pub Extends-made : (h : Heap) (a : ℕ) (kind : Kind) (n : ℕ) → object_at h a ≡ None
     → Extends h (made h a kind n)
 Extends-made h a kind n free =
-    record { same = λ b o at. object_at-made_other h a kind n b (free_apart h a b o free at) ∙ at }
+    record {
+      same = λ b o at. object_at-made_other h a kind n b (free_apart h a b o free at) ∙ at;
+      space = space-made h a kind n;
+    }
 
 pub Extends-made_body : (h : Heap) (a birth n : ℕ) → object_at h a ≡ None
     → Extends h (made_body h a birth n)
@@ -64,6 +70,7 @@ Extends-made_body h a birth n free =
     record {
       same = λ b o at. object_at-made_body_other h a birth n b (free_apart h a b o free at)
           ∙ at;
+      space = space-made_body h a birth n;
     }
 
 -- a store into what is new to an older heap leaves the older heap
@@ -73,6 +80,7 @@ Extends-stored g h a place items e free =
     record {
       same = λ b o at. object_at-stored_other h a place items b (free_apart g a b o free at)
           ∙ e.same b o at;
+      space = space-stored h a place items ∙ e.space;
     }
 
 module _ (h : Heap) (a place : ℕ) (items : List Word) (o : Standing) (at : object_at h a ≡ Some o)
@@ -116,7 +124,7 @@ module _ (h : Heap) (a place : ℕ) (items : List Word) (o : Standing) (at : obj
   ]
 
   pub Keeps-stored : Keeps h (stored h a place items)
-  Keeps-stored = record { stays = still }
+  Keeps-stored = record { stays = still; space = space-stored h a place items }
 
   pub KeepsBirth-stored : (birth : ℕ) → o.birth ≢ birth
       → KeepsBirth h (stored h a place items) birth

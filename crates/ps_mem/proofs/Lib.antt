@@ -19,5 +19,9 @@ pub mod DictionaryStores
 pub mod NewShows
 pub mod NameLemmas
 pub mod ZeroLemmas
+pub mod StandingLemmas
 pub mod EmptyLemmas
 pub mod ValueLemmas
+pub mod StandsLemmas
+pub mod LessWords
+pub mod ReachedWords

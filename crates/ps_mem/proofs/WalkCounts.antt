@@ -1,10 +1,12 @@
 -- How many words stand: the sizes of the objects that stand one after another are the words that
 -- they stand in.
-use Rattle.std.proofs.Common.{◌≡◌, ℕ, zero, suc, ◌+◌, ◌-◌, ◌^◌, ◌<◌, ◌≤◌, List, [], ◌∷◌, length, take, drop, Option, None, ap, arith, ◌∙◌, length-drop}
+use Rattle.std.proofs.Common.{◌≡◌, ℕ, zero, suc, ◌+◌, ◌-◌, ◌^◌, ◌<◌, ◌≤◌, List, [], ◌∷◌, length, take, drop, Option, None, ap, arith, inl, inr, ◌∙◌, length-drop}
+use Rattle.std.proofs.lemmas.Bool.{cases_lt}
 use Rattle.std.proofs.lemmas.List.{length-map, length-take-le}
 use Rattle.ps_word.specs.Headers.{fields_in}
-use Rattle.ps_mem.specs.Heap.{Space, Standing, size_of, words_below, standing_words}
+use Rattle.ps_mem.specs.Heap.{Space, Standing, object_at, size_of, words_below, standing_words}
 use Rattle.ps_mem.specs.Objects.{standing_of, object_in, wanting, heap_in}
+use Rattle.ps_mem.specs.Stands.{IsAddressed}
 use Rattle.ps_mem.proofs.Walks.{object_in_past, wanting_none}
 
 -- the first object, and then those behind
@@ -65,3 +67,15 @@ counted words used next space within limited whole =
     let count : length (take used words) ≡ used = length-take-le used words within in
     counted_to (take used words) whole (2 ^ 24) (2 ^ 24 - used)
     (omega (arith, count, within, limited)) ∙ count
+
+-- nothing stands behind the words that are used
+pub addressed : (words : List ℕ) (used next : ℕ) (space : Space) → used ≤ length words
+    → length words < 2 ^ 24 → IsAddressed (heap_in words used next space)
+unfolding object_at heap_in
+addressed words used next space within limited address stands =
+    let count : length (take used words) ≡ used = length-take-le used words within in
+    elim (cases_lt address (2 ^ 24)) [
+      | inl below ↦ below
+      | inr past ↦ absurd (stands (object_in_past (take used words) 0 address
+          (omega (arith, count, within, limited, past))))
+    ]

@@ -7,4 +7,5 @@ pub mod Objects
 pub mod Plain
 pub mod References
 pub mod Shows
+pub mod Stands
 pub mod Strings

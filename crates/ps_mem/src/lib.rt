@@ -5,6 +5,7 @@ ghost use Rattle.std.specs.Prelude.{◌≡◌, ℕ, ◌+◌, ◌^◌, ◌<◌, �
 ghost use Rattle.ps_word.specs.Headers.{birth_limit};
 ghost use Rattle.ps_mem.specs.Heap.{Heap, Grants, AfterNew, AfterStore, object_at, fields_at, birth_at, stored, made, made_body, IsKind, has_room, standing_words, records_put, IsLogBounded};
 ghost use Rattle.ps_mem.specs.References.{NamesStanding};
+ghost use Rattle.ps_mem.specs.Stands.{IsAddressed};
 
 pub mod bounded;
 pub mod plain;
@@ -53,12 +54,15 @@ pub trait Memory {
     /// What may be made, filled and stored.
     ghost grants: { Self → Grants };
 
-    /// How many words stand: of a memory that is never collected, all that were ever made.
+    /// How many words stand: of a memory that is never collected, all that were ever made. They
+    /// are no more than the space has. What stands has an address of 24 bits.
     fn used(&mut self) -> u32
         ensures heap { heap self.new ≡ heap self.old }
         ensures grants { grants self.new ≡ grants self.old }
         ensures answer { result ≡ (heap self.old).used }
-        ensures counted { (heap self.old).used ≡ standing_words (heap self.old) };
+        ensures counted { (heap self.old).used ≡ standing_words (heap self.old) }
+        ensures within { (heap self.old).used ≤ (heap self.old).space.size }
+        ensures addressed { IsAddressed (heap self.old) };
 
     /// The words of the space; of a memory that grows, the most that it takes.
     fn size(&mut self) -> u32

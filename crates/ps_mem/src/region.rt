@@ -4,6 +4,7 @@ ghost use Rattle.std.specs.Prelude.{◌≡◌, ◌≢◌, ℕ, true, ◌+◌, �
 ghost use Rattle.ps_word.specs.Headers.{birth_limit};
 ghost use Rattle.ps_mem.specs.Objects.{wanting, all_headers, heap_in};
 ghost use Rattle.ps_mem.specs.Heap.{Space, object_at, fields_at, birth_at, stored, made, made_body, IsKind, standing_words};
+ghost use Rattle.ps_mem.specs.Stands.{IsAddressed};
 
 use ps_language::kinds::Kind;
 use ps_raw::RawWords;
@@ -64,6 +65,8 @@ impl Region {
         ensures counted { (space : Space)
             → standing_words (heap_in self.now.words self.now.used self.now.next space) ≡
             self.now.used }
+        ensures addressed { (space : Space)
+            → IsAddressed (heap_in self.now.words self.now.used self.now.next space) }
     {
         self.used
     }

@@ -13,7 +13,7 @@ use Rattle.ps_mem.specs.Heap.{Heap, birth_at}
 use Rattle.ps_mem.specs.References.{StandsAs, words_for}
 use Rattle.ps_mem.specs.Meaning.{part_of}
 use Rattle.ps_mem.specs.Shows.{IsValue, AreValues}
-use Rattle.ps_flips.specs.Collected.{IsAddressed}
+use Rattle.ps_mem.specs.Stands.{IsAddressed}
 use Rattle.ps_flips.specs.Moves.{Forwarding, IsMovedTo, HasReplica, HaveReplicas, moved_word}
 use Rattle.ps_flips.proofs.Words.{IsValue-moved, IsWithin-moved, value-moved}
 use Rattle.ps_control.specs.declared.frames.Source.{Source}

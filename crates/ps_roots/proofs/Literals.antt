@@ -11,7 +11,8 @@ use Rattle.ps_word.proofs.Places.{is_reference-at, address_of-at}
 use Rattle.ps_mem.specs.Heap.{Heap, birth_at}
 use Rattle.ps_mem.specs.References.{StandsAs, IsKnown, IsKnownContent}
 use Rattle.ps_mem.specs.Shows.{IsValue}
-use Rattle.ps_flips.specs.Collected.{IsAddressed}
+use Rattle.ps_mem.specs.Stands.{IsAddressed}
+use Rattle.ps_mem.proofs.StandsLemmas.{address-below}
 use Rattle.ps_flips.specs.Moves.{Forwarding, IsMovedTo, HasReplica, moved_word}
 use Rattle.ps_flips.proofs.Words.{placed, place, content-moved, birth_at-moved, IsValue-moved}
 use Rattle.ps_roots.specs.Roots.{literal}
@@ -48,11 +49,11 @@ value-literal h c form visible known = record {
   visible = ap is_body (content-literal c form) ∙ visible;
 }
 
--- what stands has an address of 24 bits
+-- an object of a kind stands at an address of 24 bits
 pub address-stands : (h : Heap) → IsAddressed h → (kind : Kind) (a n : ℕ) → StandsAs h kind a n
     → IsAddress a
 address-stands h addressed kind a n stands =
-    addressed a (λ none. let clash : None ≡ Some stands.object = sym none ∙ stands.at in cc)
+    address-below h addressed a stands.object stands.at
 
 -- ---- once it was moved
 

@@ -12,7 +12,7 @@ use Rattle.ps_word.specs.Format.{address_in}
 use Rattle.ps_mem.specs.Heap.{Heap, Grants, birth_at}
 use Rattle.ps_mem.specs.References.{StandsAs}
 use Rattle.ps_mem.specs.Shows.{IsValue, AreValues}
-use Rattle.ps_flips.specs.Collected.{IsAddressed}
+use Rattle.ps_mem.specs.Stands.{IsAddressed}
 use Rattle.ps_flips.specs.Moves.{Forwarding, IsMovedTo, HasReplica, HaveReplicas, moved_word}
 use Rattle.ps_flips.proofs.Words.{AreValues-moved, AreWithin-moved, values_of-moved}
 use Rattle.ps_flips.proofs.Objects.{sound-moved, shown_all-moved}

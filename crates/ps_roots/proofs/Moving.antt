@@ -5,8 +5,9 @@ use Rattle.ps_language.specs.Value.{Store}
 use Rattle.ps_language.specs.World.{World}
 use Rattle.ps_mem.specs.Heap.{Heap, Grants}
 use Rattle.ps_mem.specs.Shows.{AreValues}
+use Rattle.ps_mem.specs.Stands.{IsAddressed}
 use Rattle.ps_word.specs.declared.words.Word.{Word}
-use Rattle.ps_flips.specs.Collected.{IsAddressed, IsCollected}
+use Rattle.ps_flips.specs.Collected.{IsCollected}
 use Rattle.ps_flips.specs.Moves.{Forwarding, IsMovedTo, HaveReplicas, moved_word}
 use Rattle.ps_flips.proofs.Objects.{sound-moved, shown_all-moved}
 use Rattle.ps_acts.specs.Lent.{IsShown}
@@ -15,7 +16,7 @@ use Rattle.ps_contexts.specs.declared.contexts.Contexts.{Contexts}
 use Rattle.ps_contexts.specs.Desks.{Desk, desk, lent_to, AllMembers, IsWorld, IsGoodMember, IsSteady}
 use Rattle.ps_world.specs.declared.worlds.Calling.{Calling}
 use Rattle.ps_world.specs.Calls.{over}
-use Rattle.ps_world.specs.Held.{held, IsAtBy, AreFramedBy}
+use Rattle.ps_world.specs.Held.{Held, held, IsAtBy, AreFramedBy}
 use Rattle.ps_roots.specs.Roots.{roots_in}
 use Rattle.ps_roots.specs.Renamed.{Renaming, renamed_members, moved_desk}
 use Rattle.ps_roots.specs.Moved.{KeepsWorlds}
@@ -75,11 +76,10 @@ module _ (d : Desk) (now : Heap) (grants : Grants) (forward : Forwarding)
       → KeepsWorlds (held d calling) (held after calling)
   moved-keeps calling steady = record {
     at = at-led steady calling;
-    steady = λ held. record {
-      steady = steady-led held.steady;
-      framed = framed-led calling held.framed;
-    };
+    steady = steady-led;
+    framed = framed-led calling;
     program = refl;
+    space = moves.space;
   }
 
 -- ---- other grants
@@ -157,18 +157,28 @@ module _ (d : Desk) (grants : Grants) where
       → KeepsWorlds (held d calling) (held granted calling)
   granted-keeps calling = record {
     at = granted-at calling;
-    steady = λ held. record {
-      steady = record {
-        sound = held.steady.sound;
-        names = held.steady.names;
-        first = held.steady.first;
-        empty = held.steady.empty;
-        members = granted-good d.members held.steady.members;
-      };
-      framed = granted-framed calling held.framed;
+    steady = λ steady. record {
+      sound = steady.sound;
+      names = steady.names;
+      first = steady.first;
+      empty = steady.empty;
+      members = granted-good d.members steady.members;
     };
+    framed = granted-framed calling;
     program = refl;
+    space = refl;
   }
+
+-- ---- one change after another
+
+pub keeps-then : (a b c : Held) → KeepsWorlds a b → KeepsWorlds b c → KeepsWorlds a c
+keeps-then a b c first then = record {
+  at = λ w at. then.at w (first.at w at);
+  steady = λ steady. then.steady (first.steady steady);
+  framed = λ framed. then.framed (first.framed framed);
+  program = then.program ∙ first.program;
+  space = then.space ∙ first.space;
+}
 
 -- ---- contexts over a memory
 

@@ -3,7 +3,7 @@
 ghost use Rattle.std.specs.Prelude.{Option};
 ghost use Rattle.ps_mem.specs.Heap.{Heap, Grants};
 ghost use Rattle.ps_mem.specs.Shows.{AreValues};
-ghost use Rattle.ps_flips.specs.Collected.{IsAddressed};
+ghost use Rattle.ps_mem.specs.Stands.{IsAddressed};
 ghost use Rattle.ps_flips.specs.Moves.{Forwarding, IsMovedTo, HaveReplicas};
 ghost use Rattle.ps_contexts.specs.Desks.{Desk, IsSteady};
 ghost use Rattle.ps_world.specs.declared.worlds.Calling.{Calling as ACalling};

@@ -8,6 +8,6 @@ pub mod laws;
 mod reading;
 mod writing;
 
-pub use collecting::{Roots, end_cycle, open_cycle};
+pub use collecting::{Roots, end_cycle, open_cycle, stop_all};
 pub use reading::{ROOT_LIMIT, read_roots};
 pub use writing::write_roots;

@@ -8,6 +8,9 @@ use Rattle.ps_language.specs.Schedules.{count_of, moves, Begins}
 use Rattle.ps_language.specs.World as world
 use Rattle.ps_language.specs.Worlds as worlds
 use Rattle.ps_acts.specs.Acts as acts
+use Rattle.ps_mem.specs.Bounded.{bounded_space}
+use Rattle.ps_mem.specs.Heap.{Space}
+use Rattle.ps_mem.specs.Plain.{plain_space}
 use Rattle.ps_options.specs.declared.options.Options.{Options}
 use Rattle.ps_options.specs.CommandLine.{IsNumber, IsFlag, IsExplored, AreNumbers, file_in, named_in}
 use Rattle.ps_schedules.specs.Texts.{AreEntries, IsBadAt, text_of}
@@ -88,9 +91,10 @@ most_program_bytes = 16777215
 abbrev pub most_schedule_bytes : ℕ
 most_schedule_bytes = 2 ^ 40
 
--- what the words ask for of a run; plain: whether over memory that is never collected; explored:
--- under how many schedules, if they are chosen by chance
+-- what the words ask for of a run; plain: whether over memory that is never collected, whatever the
+-- space; explored: under how many schedules, if they are chosen by chance
 pub record Asked : Type 0 where
+  pub space : ℕ
   pub steps : ℕ
   pub quantum : ℕ
   pub plain : Bool
@@ -98,9 +102,14 @@ pub record Asked : Type 0 where
   pub explored : Option ℕ
 
 abbrev pub AreAsked : List Text → Asked → Type 0
-AreAsked words asked = IsNumber (codes "steps") words asked.steps
+AreAsked words asked = IsNumber (codes "space") words asked.space
+    × IsNumber (codes "steps") words asked.steps
     × IsNumber (codes "quantum") words asked.quantum × IsFlag (codes "plain") words asked.plain
     × IsFlag (codes "stats") words asked.stats × IsExplored words asked.explored
+
+-- the space of its memory
+abbrev pub space_of : Asked → Space
+space_of asked = if asked.plain then plain_space else bounded_space asked.space
 
 -- the names of files that they give: the program's, and where they are given that of the record and
 -- that of the schedule to follow
@@ -127,6 +136,7 @@ config_in options = record {
 
 abbrev pub asked_of : Options → Asked
 asked_of options = record {
+  space = options.space;
   steps = options.steps;
   quantum = options.quantum;
   plain = options.plain;
@@ -189,10 +199,10 @@ module _ (asks : world.Status → Around → Scene → acts.Asked) (program : Li
         (MayWantNext asks program given report.schedule.items) report.outcome
     pub uncollected : IsUncollected report
 
-  -- a run with a budget of steps, in memory that grows or doesn't, whose schedule has a text that
-  -- can be read again
-  pub record IsRecordable (grows : Bool) (steps : ℕ) (report : Report) : Type 0 where
-    pub run : IsRunIn asks grows program steps report
+  -- a run with a budget of steps, in a memory of this space, whose schedule has a text that can be
+  -- read again
+  pub record IsRecordable (space : Space) (steps : ℕ) (report : Report) : Type 0 where
+    pub run : IsRunIn asks space program steps report
     pub entries : AreEntries report.schedule.items
 
   -- over memory that is never collected no step is refused, and there are passes with turns of at
@@ -206,7 +216,7 @@ module _ (asks : world.Status → Around → Scene → acts.Asked) (program : Li
   -- or one under a schedule that is given
   abbrev pub IsMade : Option (List Entry) → Asked → Report → Type 0
   IsMade None asked report =
-      IsRecordable asked.plain asked.steps report
+      IsRecordable (space_of asked) asked.steps report
       × (asked.plain ≡ true → IsPlain asked.quantum report)
   IsMade (Some given) asked report = IsReplayOf given report
 

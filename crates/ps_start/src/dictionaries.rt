@@ -68,6 +68,7 @@ pub(crate) fn make_dictionaries<M: Memory>(
     requires room { 208 ≤ vec_capacity scratch.old }
     ensures first { AreFirst (M.heap memory.new) result }
     ensures scratch { scratch.new.items ≡ [] }
+    ensures space { (M.heap memory.new).space ≡ (M.heap memory.old).space }
     ensures logs { SameLogs (M.grants memory.old) (M.grants memory.new) }
 {
     let system = new_dictionary(memory, SYSTEM_CAPACITY);

@@ -122,6 +122,7 @@ pub fn start<'a, M: Memory>(
     requires heap { IsEmptyHeap (M.heap memory.old) }
     ensures starts { IfOk result (λ made. Starts program.now
         (lent (M.heap memory.new) (M.grants memory.new) made.0 made.1)) }
+    ensures space { (M.heap memory.new).space ≡ (M.heap memory.old).space }
     ensures not_made { OnErr result (M.heap memory.new ≡ M.heap memory.old) }
     ensures reason { IfErr result (λ reason. IsStartReason reason (M.heap memory.old)) }
     ensures logs { SameLogs (M.grants memory.old) (M.grants memory.new) }

@@ -1,3 +1,4 @@
+pub mod Addressed
 pub mod Allows
 pub mod CopySteps
 pub mod Counts

@@ -3,6 +3,7 @@
 ghost use Rattle.std.specs.Prelude.{[], ◌∷◌, ◌≡◌, ◌≢◌, ◌<◌, ◌≤◌, ◌+◌, ◌^◌, ◌↔◌, ℕ, None, Some, Err, length, slice_get, slice_range, IsTrue, IsSome, IfSome, IsOk, IsErr, OnOk, OnErr};
 ghost use Rattle.ps_word.specs.Headers.{birth_limit};
 ghost use Rattle.ps_record.specs.Format.{head_place};
+ghost use Rattle.ps_mem.specs.Stands.{IsAddressed};
 ghost use Rattle.ps_mem.specs.Heap.{AfterNew, AfterStore, IsKind, IsLogBounded, birth_at, fields_at, has_room, made, made_body, object_at, records_put, standing_words, stored};
 ghost use Rattle.ps_mem.specs.References.{NamesStanding};
 ghost use Rattle.ps_core_parts.specs.declared.events.Event.TheVariants.{VmLoad};
@@ -26,6 +27,9 @@ impl Memory for VmSeat {
         ensures answer { result ≡ (heap_of self.old.seat.me.0.vm).used }
         ensures counted { (heap_of self.old.seat.me.0.vm).used
             ≡ standing_words (heap_of self.old.seat.me.0.vm) }
+        ensures within { (heap_of self.old.seat.me.0.vm).used
+            ≤ (heap_of self.old.seat.me.0.vm).space.size }
+        ensures addressed { IsAddressed (heap_of self.old.seat.me.0.vm) }
         ensures table { self.new.seat.table_id ≡ self.old.seat.table_id }
     {
         self.mirror.used(&self.seat)

@@ -34,6 +34,7 @@ pub struct Mirror {
 impl Mirror {
     ghost use Rattle.std.specs.Prelude.{◌≡◌, ◌≢◌, ◌<◌, ◌≤◌, ◌+◌, ◌↔◌, ℕ, true, false, Err, length, IsTrue, IsOk, IsErr, OnOk};
     ghost use Rattle.ps_mem.specs.Heap.{has_room, standing_words};
+    ghost use Rattle.ps_mem.specs.Stands.{IsAddressed};
     ghost use Rattle.ps_core_parts.specs.Conditions.{HasRoom};
     ghost use Rattle.ps_core_parts.specs.Objects.{log_of};
     ghost use Rattle.ps_core_parts.specs.Steps.{start, is_open};
@@ -96,6 +97,8 @@ impl Mirror {
         ensures answer { result ≡ (heap_of seat.now.me.0.vm).used }
         ensures counted { (heap_of seat.now.me.0.vm).used
             ≡ standing_words (heap_of seat.now.me.0.vm) }
+        ensures within { (heap_of seat.now.me.0.vm).used ≤ (heap_of seat.now.me.0.vm).space.size }
+        ensures addressed { IsAddressed (heap_of seat.now.me.0.vm) }
     {
         (self.end - self.base) as u32
     }

@@ -7,6 +7,7 @@ use Rattle.std.proofs.lemmas.Bool.{lt-ltb, true≢false}
 use Rattle.ps_language.specs.declared.schedules.Entry.{Entry}
 use Rattle.ps_language.specs.Effect as effect
 use Rattle.ps_language.specs.Effect.{turn_ends, Around, Scene}
+use Rattle.ps_language.specs.Live.{Live}
 use Rattle.ps_language.specs.Locks.{is_ready_as, is_ready}
 use Rattle.ps_language.specs.Schedules.{Move, plain_move, added, moves, count_of, is_longest}
 use Rattle.ps_language.specs.World.{Status, Context, World}
@@ -15,23 +16,27 @@ use Rattle.ps_language.proofs.ScheduleLaws.{moves-added, count_of-added, longest
 use Rattle.ps_language.proofs.WorldLaws.{after_moves-append, all_ready-append}
 use Rattle.ps_acts.specs.Acts.{Asked}
 use Rattle.ps_language.specs.Worlds.{kept_pair}
-use Rattle.ps_mem.specs.Heap.{Heap, Grants}
+use Rattle.ps_mem.specs.Heap.{Heap, Grants, Space, standing_words}
+use Rattle.ps_mem.specs.Stands.{IsAddressed}
 use Rattle.ps_ops.specs.declared.failure.NotMade.{NotMade as Reason}
 use Rattle.ps_world.specs.declared.notes.Note.{Note}
 use Rattle.ps_world.specs.declared.notes.Note.TheVariants.{Nothing, TurnEnds, ShowsMemory, Wishes}
-use Rattle.ps_world.specs.Held.{Held, IsAt}
+use Rattle.ps_world.specs.declared.worlds.Calling.{Calling}
+use Rattle.ps_world.specs.Held.{Held, IsAt, IsAtBy}
 use Rattle.ps_world.specs.Notes.{note_of}
-use Rattle.ps_world.specs.Steps.{AllFrom, AreShown, HasMade, IsQuiet, IsUnready, KeepsOthers, StepsBehind, ordinary, words_shown}
+use Rattle.ps_world.specs.Steps.{AllFrom, HasMade, IsQuiet, IsUnready, KeepsOthers, ShowsAt, StepsBehind, ordinary, words_shown}
 use Rattle.ps_language.specs.Step.{stepped}
 use Rattle.ps_vault.specs.Holds as holds
 use Rattle.ps_vault.specs.Holds.{IsHeldUp, wish_in}
 use Rattle.ps_vault.specs.Order.{IsOnlyLeft, IsAlone, Tells, IsNoEnd, IsNoWish, AllTell, IsOfOne, AllOfOne, AllTellButLast, EndsWith}
 use Rattle.ps_vault.specs.Reports.{are_words, fits, is_number_of_words, is_ordinary}
+use Rattle.ps_vault.specs.Showing.{AllShowOf, IsPairOf}
 use Rattle.ps_vault.specs.Stories.{Keeps, move_of}
 use Rattle.ps_vault.specs.Turns.{added_times}
 use Rattle.ps_vault.proofs.Following.{times_moves}
 use Rattle.ps_vault.proofs.Keeping.{and_both, keeps_noted, keeps_unmade, held_step}
 use Rattle.ps_vault.proofs.Ordering.{adds_all_more}
+use Rattle.ps_vault.proofs.Showing.{kept_shown, lives_in, pair_of_space, shows_added, shows_times}
 
 -- the world after so many more
 pub world_times : (program : List ℕ) (schedule : List Entry) (n : ℕ) (move : Move)
@@ -76,21 +81,20 @@ number_shown words =
     (lt-ltb (min (max 1 words) 2147483647) (2 ^ 31) (omega arith))
 
 -- what a memory shows are numbers of words
-pub words_kept : (old new : Heap) (note : Note) (shown : Option (ℤ × ℤ))
-    → IfSome shown (λ pair. AreShown old new pair)
+words_kept : (mid new : Held) (note : Note) (shown : Option (ℤ × ℤ)) → ShowsAt mid new shown
     → are_words (kept_pair (note_of note) shown) ≡ true
-words_kept old new note None words = words_of_none note
+words_kept mid new note None words = words_of_none note
   where
     words_of_none : (note : Note) → are_words (kept_pair (note_of note) None) ≡ true
     words_of_none Nothing = refl
     words_of_none TurnEnds = refl
     words_of_none ShowsMemory = refl
     words_of_none (Wishes number) = refl
-words_kept old new note (Some pair) words = words_of_pair note
+words_kept mid new note (Some pair) words = words_of_pair note
   where
     words_are : are_words (Some pair) ≡ true
-    words_are = subst (λ (pair : ℤ × ℤ). are_words (Some pair) ≡ true) (sym words.is)
-        (and_both _ _ (number_shown words.heap.used) (number_shown words.heap.space.size))
+    words_are = subst (λ (pair : ℤ × ℤ). are_words (Some pair) ≡ true) (sym words.1.is)
+        (and_both _ _ (number_shown words.1.heap.used) (number_shown words.1.heap.space.size))
 
     words_of_pair : (note : Note) → are_words (kept_pair (note_of note) (Some pair)) ≡ true
     words_of_pair Nothing = refl
@@ -220,6 +224,17 @@ module _ (context made : ℕ) (old new : Held) (schedule : List Entry) (keeps : 
     longest = longest_times made schedule (plain_move context) keeps.longest;
   }
 
+  -- they show nothing, and the space stays
+  pub space_made : new.desk.heap.space.size ≡ old.desk.heap.space.size
+  space_made = ap (λ (s : Space). s.size) has.keeps.space
+
+  pub shows_made : AllShowOf old.desk.heap.space.size old.desk.program schedule
+      → AllShowOf new.desk.heap.space.size new.desk.program later
+  shows_made all =
+      subst (λ (n : ℕ). AllShowOf n new.desk.program later) (sym space_made)
+      (subst (λ (p : List ℕ). AllShowOf old.desk.heap.space.size p later) (sym has.program)
+      (shows_times old.desk.heap.space.size old.desk.program schedule all context made))
+
   pub tell_made : (IsSo : effect.Note → Type 0) → IsSo effect.nothing
       → AllTell IsSo (starting_world old.desk.program) (moves schedule) (moves later)
   unfolding world
@@ -286,6 +301,36 @@ module _ (asks : Status → Around → Scene → Asked) (context slot made : ℕ
     ready_mid = ap (λ (p : List ℕ). is_ready (world p so_far) context) behind.makes.program
         ∙ ready_here
 
+    -- the space is that of before, and what was shown before the step is of it
+    space_behind : new.desk.heap.space.size ≡ behind.mid.desk.heap.space.size
+    space_behind = ap (λ (s : Space). s.size) behind.steps.keeps.space
+
+    pub space_kept : new.desk.heap.space.size ≡ old.desk.heap.space.size
+    space_kept = space_behind ∙ space_made context made old behind.mid schedule keeps ready
+        behind.makes
+
+    shows_mid : AllShowOf old.desk.heap.space.size old.desk.program schedule
+        → AllShowOf behind.mid.desk.heap.space.size behind.mid.desk.program so_far
+    shows_mid = shows_made context made old behind.mid schedule keeps ready behind.makes
+
+    -- what lives in the world before the step needs no more than stands there
+    lives_mid : behind.mid.calling ≡ None → IsAddressed behind.mid.desk.heap → (words : ℕ)
+        → Live (world behind.mid.desk.program so_far) words
+        → words ≤ standing_words behind.mid.desk.heap
+    lives_mid none =
+        lives_in behind.mid.desk behind.mid.desk.program so_far context
+        (subst (λ (c : Option Calling). IsAtBy c behind.mid.desk
+        (world behind.mid.desk.program so_far)) none keeps_mid.at)
+        behind.makes.steady.steady ready_mid
+
+    of_new : (after : List Entry)
+        → AllShowOf behind.mid.desk.heap.space.size behind.mid.desk.program after
+        → AllShowOf new.desk.heap.space.size new.desk.program after
+    of_new after all =
+        subst (λ (n : ℕ). AllShowOf n new.desk.program after) (sym space_behind)
+        (subst (λ (p : List ℕ). AllShowOf behind.mid.desk.heap.space.size p after)
+        (sym behind.steps.program) all)
+
     pub tell_mid : (IsSo : effect.Note → Type 0) → IsSo effect.nothing
         → AllTell IsSo (starting_world old.desk.program) (moves schedule) (moves so_far)
     tell_mid = tell_made context made old behind.mid schedule keeps ready behind.makes
@@ -306,6 +351,35 @@ module _ (asks : Status → Around → Scene → Asked) (context slot made : ℕ
       keeps_behind kept is =
           keeps_noted asks context (ordinary slot) shown behind.mid new so_far
           (keeps_mid (Ok note) behind) (ready_mid (Ok note) behind) note kept behind.steps is
+
+      -- they are numbers of words
+      pub words_behind : are_words (kept_pair (note_of note) shown) ≡ true
+      words_behind = words_kept behind.mid new note shown behind.shows
+
+      -- what it was shown is of the space, and at least what lives in the world before it
+      shown_pair : IfSome shown (IsPairOf behind.mid.desk.heap.space.size
+          (world behind.mid.desk.program so_far))
+      shown_pair = by shown behind.shows
+        where
+          by : (shown : Option (ℤ × ℤ)) → ShowsAt behind.mid new shown
+              → IfSome shown (IsPairOf behind.mid.desk.heap.space.size
+              (world behind.mid.desk.program so_far))
+          by None shows = tt
+          by (Some pair) shows =
+              pair_of_space behind.mid.desk.heap new.desk.heap pair
+              (world behind.mid.desk.program so_far) (lives_mid (Ok note) behind shows.0) shows.1
+
+      pub shows_behind : (kept : Option (ℤ × ℤ)) → kept ≡ kept_pair (note_of note) shown
+          → AllShowOf old.desk.heap.space.size old.desk.program schedule
+          → AllShowOf new.desk.heap.space.size new.desk.program
+          (added so_far (move_of context false kept))
+      shows_behind kept is all =
+          of_new (Ok note) behind (added so_far (move_of context false kept))
+          (shows_added behind.mid.desk.heap.space.size behind.mid.desk.program so_far
+          (shows_mid (Ok note) behind all) (move_of context false kept)
+          (subst (λ (one : Option (ℤ × ℤ)). IfSome one
+          (IsPairOf behind.mid.desk.heap.space.size (world behind.mid.desk.program so_far)))
+          (sym is) (kept_shown _ note shown shown_pair)))
 
       -- it was made as the definitions make it
       told : (stepped (world old.desk.program so_far) context false shown).note ≡ note_of note
@@ -396,6 +470,11 @@ module _ (asks : Status → Around → Scene → Asked) (context slot made : ℕ
     held_behind =
         held_step asks context (ordinary slot) shown behind.mid new so_far
         (keeps_mid (Err reason) behind) (ready_mid (Err reason) behind) reason behind.steps
+
+    -- what was shown is of the space
+    pub shows_held : AllShowOf old.desk.heap.space.size old.desk.program schedule
+        → AllShowOf new.desk.heap.space.size new.desk.program so_far
+    shows_held all = of_new (Err reason) behind so_far (shows_mid (Err reason) behind all)
 
     -- who alone was left still is
     pub left_held : IsOnlyLeft (world old.desk.program schedule) context

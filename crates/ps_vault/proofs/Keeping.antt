@@ -21,7 +21,7 @@ use Rattle.ps_ops.specs.declared.failure.NotMade.TheVariants.{LogFull, LogClosed
 use Rattle.ps_acts.specs.declared.lent.Trial.{Trial}
 use Rattle.ps_acts.specs.Acts.{Asked}
 use Rattle.ps_mem.specs.declared.TheConstants.{SLOTS}
-use Rattle.ps_mem.specs.Heap.{Heap, Grants}
+use Rattle.ps_mem.specs.Heap.{Heap, Grants, Space}
 use Rattle.ps_contexts.specs.declared.members.Member.{Member}
 use Rattle.ps_contexts.specs.Seats.{item_at, IsNextLeft}
 use Rattle.ps_contexts.specs.Worlds.{context_of, contexts_in}
@@ -44,7 +44,8 @@ use Rattle.ps_vault.specs.Holds.{slot_of, Grows, IsHeldUp, OnlyGrows}
 use Rattle.ps_vault.specs.Order.{IsOnlyLeft}
 use Rattle.ps_vault.specs.declared.reports.TheConstants.{FIRST_ENTRIES}
 use Rattle.ps_vault.specs.Reports.{all_fit, EndsAs, IsOneStarved, IsRunIn, MayWant}
-use Rattle.ps_vault.specs.Stories.{Story, Keeps, move_of, world_at}
+use Rattle.ps_vault.specs.Showing.{AllShowOf}
+use Rattle.ps_vault.specs.Stories.{Story, Keeps, ShowsSpace, logs_closed, move_of, world_at}
 
 -- ---- one more move
 
@@ -135,10 +136,14 @@ module _ (asks : Status → Around → Scene → Asked) (context : ℕ) (trial :
         longest = longest-added schedule (move_of context trial.refused kept) keeps.longest;
       }
 
-  -- no cycle was opened or ended
+  -- no cycle was opened or ended, and no log closed
   pub same_cycle : (result : Result Note Reason) → Steps asks context trial shown result old new
       → new.desk.grants.cycle_open ≡ old.desk.grants.cycle_open
   same_cycle result steps = (steps.logs here keeps.at ready).cycle_open
+
+  pub same_closed : (result : Result Note Reason) → Steps asks context trial shown result old new
+      → logs_closed new.desk.grants.closed ≡ logs_closed old.desk.grants.closed
+  same_closed result steps = ap logs_closed (steps.logs here keeps.at ready).closed
 
   -- with what was shown
   pub keeps_step : (note : Note) → Steps asks context trial shown (Ok note) old new
@@ -304,7 +309,7 @@ printed_by (Some calling) d w at =
     (at.leaves false)).is ∙ at.world.printed
 
 -- a vault at its end is a run
-pub run_at_end : (asks : Status → Around → Scene → Asked) (grows : Bool) (h : Held)
+pub run_at_end : (asks : Status → Around → Scene → Asked) (space : Space) (h : Held)
     (report : Report) (steps : ℕ) (caller : Option ℕ) (story : Story)
     → report.printed.items ≡ h.desk.printed
     → Keeps h report.schedule.items
@@ -313,15 +318,18 @@ pub run_at_end : (asks : Status → Around → Scene → Asked) (grows : Bool) (
       schedule = report.schedule.items;
       capacity = vec_capacity report.schedule;
       caller = caller;
+      space = h.desk.heap.space.size;
       cycle_open = h.desk.grants.cycle_open;
+      closed = logs_closed h.desk.grants.closed;
     } ≡ story
+    → space.size ≡ story.space
     → count_of story.schedule ≤ steps
-    → all_fit (moves story.schedule) ≡ true → FIRST_ENTRIES ≤ story.capacity
+    → all_fit (moves story.schedule) ≡ true → ShowsSpace story → FIRST_ENTRIES ≤ story.capacity
     → EndsAs (world_at story) (count_of story.schedule == steps)
-    (IsOneStarved asks grows (world_at story) story.capacity story.schedule) report.outcome
-    → IsRunIn asks grows story.program steps report
+    (IsOneStarved asks space.grows (world_at story) story.capacity story.schedule) report.outcome
+    → IsRunIn asks space story.program steps report
 unfolding printed
-run_at_end asks grows h report steps caller story prints keeps view few fit room ends =
+run_at_end asks space h report steps caller story prints keeps view size few fit shows room ends =
     let schedule : List Entry = report.schedule.items in
     let outcome : Outcome = report.outcome in
     let capacity : ℕ = vec_capacity report.schedule in
@@ -335,11 +343,13 @@ run_at_end asks grows h report steps caller story prints keeps view few fit room
       longest = keeps.longest;
       within = subst (λ (s : List Entry). count_of s ≤ steps) made few;
       fits = subst (λ (s : List Entry). all_fit (moves s) ≡ true) made fit;
+      shown = subst (λ (n : ℕ). AllShowOf n story.program schedule) (sym size)
+          (subst (λ (s : List Entry). AllShowOf story.space story.program s) made shows);
       room = subst (λ (n : ℕ). FIRST_ENTRIES ≤ n) (sym (ap (λ (s : Story). s.capacity) view)) room;
       ends = subst (λ (s : List Entry). EndsAs (world story.program s) (count_of s == steps)
-          (IsOneStarved asks grows (world story.program s) capacity s) outcome) made
+          (IsOneStarved asks space.grows (world story.program s) capacity s) outcome) made
           (subst (λ (n : ℕ). EndsAs (world_at story) (count_of story.schedule == steps)
-          (IsOneStarved asks grows (world_at story) n story.schedule) outcome)
+          (IsOneStarved asks space.grows (world_at story) n story.schedule) outcome)
           (sym (ap (λ (s : Story). s.capacity) view)) ends);
     }
 

@@ -10,3 +10,4 @@ pub mod Alone
 pub mod NextStep
 pub mod Endings
 pub mod Collected
+pub mod Showing

@@ -1,6 +1,8 @@
 pub mod Holds
 pub mod Reports
+pub mod Showing
 pub mod Stories
+pub mod Cycles
 pub mod Turns
 pub mod Order
 pub mod Endings

@@ -9,6 +9,8 @@ use Rattle.ps_language.specs.World.{Status, World}
 use Rattle.ps_language.specs.Worlds as worlds
 use Rattle.ps_language.specs.Worlds.{IsProper, is_all_over, is_some_ready, IsFinished, IsFaulted, IsAllWaiting}
 use Rattle.ps_acts.specs.Acts.{Asked}
+use Rattle.ps_mem.specs.Heap.{Space}
+use Rattle.ps_mem.specs.Plain.{plain_space}
 use Rattle.ps_world.specs.Growth.{may_fail}
 use Rattle.ps_world.specs.Needs.{step_wants}
 use Rattle.ps_vault.specs.declared.reports.Config.{Config}
@@ -16,6 +18,7 @@ use Rattle.ps_vault.specs.declared.reports.Outcome.{Outcome}
 use Rattle.ps_vault.specs.declared.reports.Outcome.TheVariants.{Finished, Faulted, AllWaiting, StepsOut, Memory}
 use Rattle.ps_vault.specs.declared.reports.Report.{Report}
 use Rattle.ps_vault.specs.declared.reports.TheConstants.{FIRST_ENTRIES}
+use Rattle.ps_vault.specs.Showing.{AllShowOf}
 
 -- each number is in its range
 pub record IsWithin (config : Config) : Type 0 where
@@ -87,25 +90,28 @@ module _ (asks : Status → Around → Scene → Asked) (grows : Bool) where
     pub makes : refused ≡ true → (1 ≤ (step_wants asks context false w).words) × (grows ≡ false)
     pub starved : IsStarved context refused w capacity schedule
 
-  -- a run of the program with a budget of steps: its bytes are those that the definitions print
-  -- under its schedule, which is proper and of the longest entries, and the outcome is that of its
-  -- world; its steps may be refused. The schedule had room from the start, and can have its numbers
-  pub record IsRunIn (program : List ℕ) (steps : ℕ) (report : Report) : Type 0 where
-    pub prints : report.printed.items ≡ worlds.printed program report.schedule.items
-    pub proper : IsProper program report.schedule.items
-    pub longest : is_longest report.schedule.items ≡ true
-    pub within : count_of report.schedule.items ≤ steps
-    pub fits : all_fit (moves report.schedule.items) ≡ true
-    pub room : FIRST_ENTRIES ≤ vec_capacity report.schedule
-    pub ends : EndsAs (worlds.world program report.schedule.items)
-        (count_of report.schedule.items == steps)
-        (IsOneStarved (worlds.world program report.schedule.items) (vec_capacity report.schedule)
-        report.schedule.items) report.outcome
+-- a run of the program with a budget of steps, in a memory of this space: its bytes are those that
+-- the definitions print under its schedule, which is proper and of the longest entries, and the
+-- outcome is that of its world; its steps may be refused, and what they show is of that space. The
+-- schedule had room from the start, and can have its numbers
+pub record IsRunIn (asks : Status → Around → Scene → Asked) (space : Space) (program : List ℕ)
+    (steps : ℕ) (report : Report) : Type 0 where
+  pub prints : report.printed.items ≡ worlds.printed program report.schedule.items
+  pub proper : IsProper program report.schedule.items
+  pub longest : is_longest report.schedule.items ≡ true
+  pub within : count_of report.schedule.items ≤ steps
+  pub fits : all_fit (moves report.schedule.items) ≡ true
+  pub shown : AllShowOf space.size program report.schedule.items
+  pub room : FIRST_ENTRIES ≤ vec_capacity report.schedule
+  pub ends : EndsAs (worlds.world program report.schedule.items)
+      (count_of report.schedule.items == steps)
+      (IsOneStarved asks space.grows (worlds.world program report.schedule.items)
+      (vec_capacity report.schedule) report.schedule.items) report.outcome
 
 -- a run over a memory that grows, whose steps are all ordinary
 pub record IsRunOf (asks : Status → Around → Scene → Asked) (program : List ℕ) (steps : ℕ)
     (report : Report) : Type 0 where
-  pub run : IsRunIn asks true program steps report
+  pub run : IsRunIn asks plain_space program steps report
   pub ordinary : are_ordinary (moves report.schedule.items) ≡ true
 
 -- whether it is for want of memory

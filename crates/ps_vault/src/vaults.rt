@@ -8,12 +8,13 @@ ghost use Rattle.ps_language.specs.Schedules.{added, count_of, moves, plain_move
 ghost use Rattle.ps_language.specs.Worlds as worlds;
 ghost use Rattle.ps_language.specs.Worlds.{after_move, after_moves, starting_world};
 ghost use Rattle.ps_vault.specs.Order.{IsNoneAbove, IsOnlyLeft, AddsSteps, AllOfOne, NoneEnds, OnlyLastMayEnd, EndsTurn, WishesAs};
+ghost use Rattle.ps_mem.specs.Heap.{Space};
 ghost use Rattle.ps_start.specs.Starts.{IsEmptyHeap};
 ghost use Rattle.ps_vault.specs.Holds as holds;
 ghost use Rattle.ps_vault.specs.Holds.{IfHeldUp, IsHeldUp, is_held_up, wish_in};
 ghost use Rattle.ps_vault.specs.Reports.{all_fit, are_ordinary, are_words, is_memory, EndsAs, IsOneStarved, IsRunIn, IsShort};
 ghost use Rattle.ps_vault.specs.declared.reports.TheConstants.{FIRST_ENTRIES};
-ghost use Rattle.ps_vault.specs.Stories.{Story, HasRoom, MayGo, world_at, move_of};
+ghost use Rattle.ps_vault.specs.Stories.{Story, HasRoom, MayGo, ShowsSpace, world_at, move_of};
 ghost use Rattle.ps_vault.specs.Turns.{added_times};
 
 use crate::reports::{Outcome, Report};
@@ -35,8 +36,8 @@ use std::hash::RandomState;
 use std::marker::Model;
 
 /// All contexts, who makes their steps, their memory, and the steps that they made: seen as the
-/// program, the schedule, how many entries find room, whose call waits, and whether a cycle of the
-/// collector is open.
+/// program, the schedule, how many entries find room, whose call waits, the words of the memory's
+/// space, whether a cycle of the collector is open, and which logs are closed.
 #[derive(Drop)]
 pub struct Vault<'a, M: Memory + Drop, S: Interpret + Drop, D: Deeds + Drop> {
     interpret: S,
@@ -50,7 +51,7 @@ impl<'a, M: Memory + Drop, S: Interpret + Drop, D: Deeds + Drop> Model for Vault
     ghost use Rattle.std.specs.Prelude.{option_map, vec_capacity};
     ghost use Rattle.ps_world.specs.Calls.{over};
     ghost use Rattle.ps_world.specs.Held.{held};
-    ghost use Rattle.ps_vault.specs.Stories.{Story, Keeps};
+    ghost use Rattle.ps_vault.specs.Stories.{Story, Keeps, logs_closed};
 
     ghost Value = { Story };
 
@@ -59,7 +60,9 @@ impl<'a, M: Memory + Drop, S: Interpret + Drop, D: Deeds + Drop> Model for Vault
       schedule = v.schedule.items;
       capacity = vec_capacity v.schedule;
       caller = option_map (λ calling. calling.caller) v.world.calling;
+      space = (M.heap v.memory).space.size;
       cycle_open = (M.grants v.memory).cycle_open;
+      closed = logs_closed (M.grants v.memory).closed;
     } };
 
     ghost invariant = { λ v. Keeps (held (over (M.heap v.memory) (M.grants v.memory)
@@ -138,6 +141,7 @@ impl<'a, M: Memory + Drop, S: Interpret + Drop, D: Deeds + Drop> Vault<'a, M, S,
         ensures schedule { IfOk result (λ vault. vault.schedule ≡ []) }
         ensures room { IfOk result (λ vault. entries ≤ vault.capacity) }
         ensures calling { IfOk result (λ vault. vault.caller ≡ None) }
+        ensures space { IfOk result (λ vault. vault.space ≡ (M.heap memory).space.size) }
     {
         let Ok(world) = start_world(alloc, &mut memory, program, keys) else {
             return Err(AllocError);
@@ -205,7 +209,9 @@ impl<M: Memory + Drop, S: Interpret + Drop, D: Deeds + Drop> Vault<'_, M, S, D> 
         ensures schedule { self.new.schedule ≡ self.old.schedule }
         ensures calling { self.new.caller ≡ self.old.caller }
         ensures capacity { self.old.capacity ≤ self.new.capacity }
+        ensures space { self.new.space ≡ self.old.space }
         ensures cycle { self.new.cycle_open ≡ self.old.cycle_open }
+        ensures closed { self.new.closed ≡ self.old.closed }
         ensures room { OnOk result (HasRoom self.new) }
         ensures short { OnErr result (IsShort self.new.capacity self.new.schedule) }
     {
@@ -213,9 +219,9 @@ impl<M: Memory + Drop, S: Interpret + Drop, D: Deeds + Drop> Vault<'_, M, S, D> 
     }
 
     /// Makes a step of a context that is ready, where no other's call waits; a refused one makes no
-    /// object, and a `vmstatus` shows the given pair. No cycle is opened or ended. Not made, at the
-    /// same world, for the reason that is told: room for records, or for words, or a growth that
-    /// the step may want.
+    /// object, and a `vmstatus` shows the given pair. No cycle is opened or ended, and no log
+    /// closed. Not made, at the same world, for the reason that is told: room for records, or for
+    /// words, or a growth that the step may want.
     pub fn step(
         &mut self,
         context: u32,
@@ -235,7 +241,9 @@ impl<M: Memory + Drop, S: Interpret + Drop, D: Deeds + Drop> Vault<'_, M, S, D> 
             → all_fit (moves self.new.schedule) ≡ true) }
         ensures longer { length self.new.schedule ≤ length self.old.schedule + 1 }
         ensures capacity { self.old.capacity ≤ self.new.capacity }
+        ensures space { self.new.space ≡ self.old.space }
         ensures cycle { self.new.cycle_open ≡ self.old.cycle_open }
+        ensures closed { self.new.closed ≡ self.old.closed }
         ensures calling { MayGo self.new context }
         ensures calling_on { OnOk result (self.new.caller ≡ None) }
         ensures not_made { OnErr result (self.new.schedule ≡ self.old.schedule) }
@@ -267,6 +275,8 @@ impl<M: Memory + Drop, S: Interpret + Drop, D: Deeds + Drop> Vault<'_, M, S, D> 
     /// as it goes on by itself, and the step behind them; shows says whether a `vmstatus` is shown
     /// the memory, or zeros. One is made at least, but where it is held up, for the reason that is
     /// told.
+    ///
+    /// What is shown is how many words stand just before the step, and the space.
     pub fn advance(&mut self, context: u32, most: u32, shows: bool) -> Advanced
         requires calling { MayGo self.old context }
         requires ready { locks.is_ready (world_at self.old) context ≡ true }
@@ -281,6 +291,7 @@ impl<M: Memory + Drop, S: Interpret + Drop, D: Deeds + Drop> Vault<'_, M, S, D> 
             → are_ordinary (moves self.new.schedule) ≡ true }
         ensures fits { all_fit (moves self.old.schedule) ≡ true
             → all_fit (moves self.new.schedule) ≡ true }
+        ensures shown { ShowsSpace self.old → ShowsSpace self.new }
         ensures takes { AddsSteps context result.made (moves self.old.schedule)
             (moves self.new.schedule) }
         ensures keeps { result.told ≢ Told.TurnEnds → NoneEnds
@@ -299,6 +310,7 @@ impl<M: Memory + Drop, S: Interpret + Drop, D: Deeds + Drop> Vault<'_, M, S, D> 
             ≡ added_times result.made self.old.schedule (plain_move context) }
         ensures longer { length self.new.schedule ≤ length self.old.schedule + 2 }
         ensures capacity { self.old.capacity ≤ self.new.capacity }
+        ensures space { self.new.space ≡ self.old.space }
         ensures calling { MayGo self.new context }
         ensures calling_on { is_held_up result.told ≡ false → self.new.caller ≡ None }
         ensures held_up { IfHeldUp
@@ -400,11 +412,12 @@ impl<M: Memory + Drop, S: Interpret + Drop, D: Deeds + Drop> Vault<'_, M, S, D> 
     pub fn into_report(self, steps: u32, outcome: Outcome, counts: Counts) -> Report
         requires few { count_of self.schedule ≤ steps }
         requires fits { all_fit (moves self.schedule) ≡ true }
+        requires shown { ShowsSpace self }
         requires room { FIRST_ENTRIES ≤ self.capacity }
-        ensures run { (grows : Bool) → EndsAs (world_at self.entry)
-            (count_of self.entry.schedule == steps) (IsOneStarved S.asks grows
+        ensures run { (space : Space) → space.size ≡ self.entry.space → EndsAs (world_at self.entry)
+            (count_of self.entry.schedule == steps) (IsOneStarved S.asks space.grows
             (world_at self.entry) self.entry.capacity self.entry.schedule) outcome
-            → IsRunIn S.asks grows self.entry.program steps result }
+            → IsRunIn S.asks space self.entry.program steps result }
         ensures schedule { result.schedule.items ≡ self.entry.schedule }
         ensures capacity { vec_capacity result.schedule ≡ self.entry.capacity }
         ensures outcome { result.outcome ≡ outcome }

@@ -15,8 +15,9 @@ use Rattle.ps_vault.specs.declared.reports.Config.{Config}
 use Rattle.ps_vault.specs.declared.reports.Outcome.{Outcome}
 use Rattle.ps_vault.specs.declared.reports.Outcome.TheVariants.{Memory}
 use Rattle.ps_vault.specs.Reports.{all_fit, EndsAs, IsShort, IsStarved, MayWant}
-use Rattle.ps_vault.specs.Stories.{Story, MayGo, world_at}
+use Rattle.ps_vault.specs.Stories.{Story, MayGo, ShowsSpace, world_at}
 use Rattle.ps_vault.proofs.Following.{ready_not_over}
+use Rattle.ps_vault.proofs.Showing.{shows_same}
 use Rattle.ps_workers.specs.Batons.{Progress, MayGoOn, IsStarvedAt, Keeps}
 
 abbrev pub progress : Story → Config → ℕ → Option Outcome → Progress
@@ -119,15 +120,18 @@ kept_ends asks p outcome steps keeps is same =
 pub keeps_ended : (asks : Status → Around → Scene → Asked) (p : Progress) (story : Story)
     (outcome : Outcome) → Keeps asks p
     → story.program ≡ p.story.program → story.schedule ≡ p.story.schedule
-    → story.caller ≡ p.story.caller → p.story.capacity ≤ story.capacity
+    → story.caller ≡ p.story.caller → story.space ≡ p.story.space
+    → p.story.capacity ≤ story.capacity
     → EndsAs (world_at story) (p.made == p.config.steps) (IsStarvedAt asks story) outcome
     → Keeps asks (progress story p.config p.made (Some outcome))
-keeps_ended asks p story outcome keeps program schedule caller more ends = record {
+keeps_ended asks p story outcome keeps program schedule caller space more ends = record {
   numbers = keeps.numbers;
   budget = keeps.budget;
   counted = ap count_of schedule ∙ keeps.counted;
   within = keeps.within;
   fits = ap (λ (s : List Entry). all_fit (moves s)) schedule ∙ keeps.fits;
+  space = space ∙ keeps.space;
+  shown = shows_same p.story story space program schedule keeps.shown;
   room = omega (arith, keeps.room, more);
   waits = waits_same p story (Some outcome) keeps.waits program schedule caller;
   judged = ends;
@@ -137,13 +141,14 @@ keeps_ended asks p story outcome keeps program schedule caller more ends = recor
 pub short_starved : (asks : Status → Around → Scene → Asked) (p : Progress) (story : Story)
     (context : ℕ) → Keeps asks p → MayGoOn p context
     → story.program ≡ p.story.program → story.schedule ≡ p.story.schedule
-    → story.caller ≡ p.story.caller → p.story.capacity ≤ story.capacity
+    → story.caller ≡ p.story.caller → story.space ≡ p.story.space
+    → p.story.capacity ≤ story.capacity
     → IsShort story.capacity story.schedule
     → Keeps asks (progress story p.config p.made (Some Memory))
-short_starved asks p story context keeps may program schedule caller more short =
+short_starved asks p story context keeps may program schedule caller space more short =
     let here : MayGoOn (progress story p.config p.made None) context =
     may_same p story None context may program schedule caller in
-    keeps_ended asks p story Memory keeps program schedule caller more
+    keeps_ended asks p story Memory keeps program schedule caller space more
     (ends_starved asks (progress story p.config p.made None) context false here
     (λ is. absurd (true≢false (sym is))) (record { ready = here.ready; wants = inr short }))
 
@@ -153,6 +158,8 @@ short_starved asks p story context keeps may program schedule caller more short 
 pub record Goes (p : Progress) (story : Story) (count : ℕ) : Type 0 where
   pub counted : count_of story.schedule ≡ count_of p.story.schedule + count
   pub fits : all_fit (moves p.story.schedule) ≡ true → all_fit (moves story.schedule) ≡ true
+  pub space : story.space ≡ p.story.space
+  pub shown : ShowsSpace p.story → ShowsSpace story
   pub more : p.story.capacity ≤ story.capacity
 
 pub keeps_made : (asks : Status → Around → Scene → Asked) (p : Progress) (story : Story)
@@ -168,6 +175,8 @@ keeps_made asks p story count outcome keeps goes within waits judged = record {
   counted = goes.counted ∙ ap (λ n. n + count) keeps.counted;
   within = within;
   fits = goes.fits keeps.fits;
+  space = goes.space ∙ keeps.space;
+  shown = goes.shown keeps.shown;
   room = omega (arith, keeps.room, goes.more);
   waits = waits;
   judged = judged;
@@ -183,12 +192,14 @@ counts_on asks p count keeps within = omega (arith, within, keeps.budget)
 -- the run ends there
 pub keeps_wanted : (asks : Status → Around → Scene → Asked) (p : Progress) (story : Story)
     (context : ℕ) (refused : Bool) → Keeps asks p → MayGoOn p context
-    → story.program ≡ p.story.program → story.schedule ≡ p.story.schedule → MayGo story context
+    → story.program ≡ p.story.program → story.schedule ≡ p.story.schedule
+    → story.space ≡ p.story.space → MayGo story context
     → p.story.capacity ≤ story.capacity
     → (refused ≡ true → MakesObjects asks context (world_at p.story))
     → MayWant asks false context refused (world_at story)
     → Keeps asks (progress story p.config p.made (Some Memory))
-keeps_wanted asks p story context refused keeps may program schedule calling more makes wanted =
+keeps_wanted asks p story context refused keeps may program schedule space calling more makes
+    wanted =
     let here : MayGoOn (progress story p.config p.made None) context =
     record { calling = calling; ready = wanted.ready; left = may.left } in
     record {
@@ -197,6 +208,8 @@ keeps_wanted asks p story context refused keeps may program schedule calling mor
       counted = ap count_of schedule ∙ keeps.counted;
       within = keeps.within;
       fits = ap (λ (s : List Entry). all_fit (moves s)) schedule ∙ keeps.fits;
+      space = space ∙ keeps.space;
+      shown = shows_same p.story story space program schedule keeps.shown;
       room = omega (arith, keeps.room, more);
       waits = waits_as (progress story p.config p.made (Some Memory)) context
           (record { calling = calling; ready = wanted.ready; left = may.left });

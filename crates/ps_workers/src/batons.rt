@@ -5,6 +5,7 @@
 //! once it stands, is that of the vault's world.
 
 ghost use Rattle.std.specs.Prelude.{◌≡◌, ◌<◌, ◌≢◌, false, IfOk, IfSome, IfNone, IsSome, None, Err};
+ghost use Rattle.ps_mem.specs.Bounded.{bounded_space};
 ghost use Rattle.ps_start.specs.Starts.{IsEmptyHeap};
 ghost use Rattle.ps_vault.specs.Order.{IsNoneAbove};
 ghost use Rattle.ps_vault.specs.Reports.{IsRunIn, IsWithin};
@@ -64,8 +65,8 @@ impl<'a, M: CollectedMemory + Drop, S: Interpret + Drop, D: Deeds + Drop> Model
 }
 
 impl<'a, M: CollectedMemory + Drop, S: Interpret + Drop, D: Deeds + Drop> Baton<'a, M, S, D> {
-    /// A baton for the run of a program, over a memory in which nothing stands. `AllocError`: the
-    /// room that the run starts with can't be had.
+    /// A baton for the run of a program, over a memory of the configuration's size in which nothing
+    /// stands. `AllocError`: the room that the run starts with can't be had.
     pub fn new(
         alloc: Global,
         memory: M,
@@ -76,6 +77,7 @@ impl<'a, M: CollectedMemory + Drop, S: Interpret + Drop, D: Deeds + Drop> Baton<
         keys: RandomState,
     ) -> Result<Self, AllocError>
         requires empty { IsEmptyHeap (M.heap memory) }
+        requires sized { (M.heap memory).space.size ≡ config.space }
         requires numbers { IsWithin config }
         ensures program { IfOk result (λ baton. baton.story.program ≡ program.now) }
         ensures config { IfOk result (λ baton. baton.config ≡ config) }
@@ -194,7 +196,8 @@ impl<M: CollectedMemory + Drop, S: Interpret + Drop, D: Deeds + Drop> Baton<'_, 
 
     /// The run's report, if it is over and was one of this program with these numbers.
     pub fn into_report(self, program: &[u8], config: Config) -> Result<Report, RunFault>
-        ensures run { IfOk result (IsRunIn S.asks false program.now config.steps) }
+        ensures run { IfOk result (IsRunIn S.asks (bounded_space config.space) program.now
+            config.steps) }
         ensures fault { result ≢ Err RunFault.Config }
     {
         let Baton {

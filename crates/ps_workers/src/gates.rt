@@ -91,6 +91,8 @@ impl<M: CollectedMemory + Drop, G: Gate> Memory for Gated<'_, M, G> {
 }
 
 impl<M: CollectedMemory + Drop, G: Gate> CollectedMemory for Gated<'_, M, G> {
+    ghost flips = { λ g. M.flips g.memory };
+
     fn is_open(&mut self) -> bool {
         self.memory.is_open()
     }

@@ -1,6 +1,7 @@
 //! A run by workers: threads that take the baton one at a time, for some turns each.
 
 ghost use Rattle.std.specs.Prelude.{◌≡◌, ◌↔◌, false, Err, IfOk};
+ghost use Rattle.ps_mem.specs.Bounded.{bounded_space};
 ghost use Rattle.ps_start.specs.Starts.{IsEmptyHeap};
 ghost use Rattle.ps_vault.specs.Reports.{IsRunIn, IsWithin};
 
@@ -48,8 +49,8 @@ fn work_all<
     });
 }
 
-/// Runs a program with so many workers over a memory that is collected, in which nothing stands,
-/// for at most so many steps. The keys are for the names alone.
+/// Runs a program with so many workers over a memory of the configuration's size that is collected,
+/// in which nothing stands, for at most so many steps. The keys are for the names alone.
 ///
 /// The fault is `Config` where a number is out of its range. It is `Memory` where the room that the
 /// run starts with can't be had, or a thread can't be started; also where what the lock held was of
@@ -71,9 +72,11 @@ pub fn run_in<
     config: Config,
     keys: RandomState,
 ) -> Result<Report, RunFault>
-    requires { IsEmptyHeap (M.heap memory) }
+    requires empty { IsEmptyHeap (M.heap memory) }
+    requires sized { (M.heap memory).space.size ≡ config.space }
     ensures config { (result ≡ Err RunFault.Config) ↔ ¬ IsWithin config }
-    ensures run { IfOk result (IsRunIn S.asks false program.now config.steps) }
+    ensures run { IfOk result (IsRunIn S.asks (bounded_space config.space) program.now
+        config.steps) }
 {
     if !config.is_within() {
         return Err(RunFault::Config);
@@ -89,7 +92,10 @@ pub fn run_in<
 /// A space of the configuration's size, in which nothing stands. `AllocError`: it can't be had.
 fn space_of<W: Words>(alloc: Global, config: Config) -> Result<CollectedSpace<W>, AllocError>
     requires { IsWithin config }
-    ensures { IfOk result (λ space. IsEmptyHeap (⟦<CollectedSpace<W> as Memory>⟧.heap space)) }
+    ensures empty { IfOk result
+        (λ space. IsEmptyHeap (⟦<CollectedSpace<W> as Memory>⟧.heap space)) }
+    ensures sized { IfOk result
+        (λ space. (⟦<CollectedSpace<W> as Memory>⟧.heap space).space.size ≡ config.space) }
 {
     CollectedSpace::new(alloc, config.space)
 }
@@ -106,7 +112,8 @@ pub fn run<S: Interpret + Drop + Send, D: Deeds + Drop + Send, R: Threads + Wait
     keys: RandomState,
 ) -> Result<Report, RunFault>
     ensures config { (result ≡ Err RunFault.Config) ↔ ¬ IsWithin config }
-    ensures run { IfOk result (IsRunIn S.asks false program.now config.steps) }
+    ensures run { IfOk result (IsRunIn S.asks (bounded_space config.space) program.now
+        config.steps) }
 {
     if !config.is_within() {
         return Err(RunFault::Config);
@@ -135,7 +142,8 @@ pub fn run_gated<
     gate: &G,
 ) -> Result<Report, RunFault>
     ensures config { (result ≡ Err RunFault.Config) ↔ ¬ IsWithin config }
-    ensures run { IfOk result (IsRunIn S.asks false program.now config.steps) }
+    ensures run { IfOk result (IsRunIn S.asks (bounded_space config.space) program.now
+        config.steps) }
 {
     if !config.is_within() {
         return Err(RunFault::Config);

@@ -1,6 +1,6 @@
 -- The step behind many own ones.
 use Rattle.std.proofs.Common.{◌≡◌, ◌≢◌, ℕ, ℤ, Bool, true, Option, Some, None, Ok, Err, refl, sym, ap, subst, ◌∙◌, List, [], ◌∷◌}
-use Rattle.std.specs.Prelude.{Result, IsSome, ◌&&◌, if◌then◌else◌}
+use Rattle.std.specs.Prelude.{Result, IsSome, IfSome, ◌&&◌, if◌then◌else◌}
 use Rattle.ps_language.specs.Effect.{Around, Scene}
 use Rattle.ps_language.specs.Locks.{is_ready}
 use Rattle.ps_language.specs.Machines.{may_end}
@@ -33,9 +33,10 @@ use Rattle.ps_world.specs.declared.notes.Note.{Note}
 use Rattle.ps_world.specs.Finishes.{settled_desk, settled_held, Finishes}
 use Rattle.ps_world.specs.Held.{Held, held, CourseAt, IsSteadyHeld, course_in}
 use Rattle.ps_world.specs.Lending.{LendsDesk, RunsSo, TurnsSo}
-use Rattle.ps_world.specs.Steps.{HasMade, ordinary, StepsBehind, Steps}
+use Rattle.ps_world.specs.Steps.{HasMade, IsCounted, ordinary, ShowsAt, shown_words, StepsBehind, Steps}
 use Rattle.ps_world.proofs.Calling.{none_left}
 use Rattle.ps_world.proofs.Running.{or_false, run_desk, run_steady, run_world, run_made}
+use Rattle.ps_world.proofs.Telling.{shown_between}
 use Rattle.ps_world.proofs.Turned.{turned_is_steady, turned_finishes, unmade_steps}
 
 course_framed : (frames : List Frame) → frames ≢ [] → course_after Goes frames ≡ Running
@@ -130,20 +131,23 @@ made_none identifier h steady = record {
   ready = λ w at ready. refl;
   quiet = λ w at ready. tt;
   others = λ w at ready. tt;
+  keeps = keeps-same h.desk.heap;
   steady = steady;
   program = refl;
 }
 
+-- a step by itself, that is shown nothing
 pub step_alone : (asks : Status → Around → Scene → Asked) (identifier slot : ℕ)
-    (shown : Option (ℤ × ℤ)) (told : Result Note Reason) (old new : Held) → IsSteadyHeld old
-    → Steps asks identifier (ordinary slot) shown told old new
-    → StepsBehind asks identifier slot 0 shown told old new
+    (told : Result Note Reason) (old new : Held) → IsSteadyHeld old
+    → Steps asks identifier (ordinary slot) None told old new
+    → StepsBehind asks identifier slot 0 None told old new
 unfolding after_moves
-step_alone asks identifier slot shown told old new steady steps = record {
+step_alone asks identifier slot told old new steady steps = record {
   mid = old;
   makes = made_none identifier old steady;
   ready = λ w at ready. ready;
   steps = steps;
+  shows = tt;
 }
 
 -- ---- and its turn behind them
@@ -218,13 +222,15 @@ module _ (asks : Status → Around → Scene → Asked) (before after : Desk) (i
 
   behind : (told : Result Note Reason) (final : Held)
       → Steps asks identifier (ordinary slot) shown told (held mid_desk None) final
+      → ShowsAt (held mid_desk None) final shown
       → StepsBehind asks identifier slot made shown told (held before None) final
-  behind told final steps = record {
+  behind told final steps shows = record {
     mid = held mid_desk None;
     makes = run_made before steady.steady steady.framed identifier made lends.member lends.found
         runs mid lends.goes_on.makes;
     ready = λ w at ready. mid_ready w at;
     steps = steps;
+    shows = shows;
   }
 
   -- the turn is made
@@ -235,48 +241,46 @@ module _ (asks : Status → Around → Scene → Asked) (before after : Desk) (i
       turned_is_steady asks None mid_desk after identifier (ordinary slot) shown mid_steady
       mid_course result mid_lends turned ok
 
-  pub behind_finishes : (turned : Turned) → result ≡ Ok turned → (told : Result Note Reason)
-      (final : Held) → Finishes turned identifier (ordinary slot) shown told
-      (settled_held turned identifier after) final
-      → StepsBehind asks identifier slot made shown told (held before None) final
-  behind_finishes turned ok told final finishes =
-      behind told final
-      (turned_finishes asks None mid_desk after identifier (ordinary slot) shown mid_steady
-      mid_course result mid_lends turned ok told final finishes)
-
   -- it is not
-  pub behind_unmade : AreFew asks → (reason : Reason) → result ≡ Err reason
+  pub behind_unmade : AreFew asks → shown ≡ None → (reason : Reason) → result ≡ Err reason
       → StepsBehind asks identifier slot made shown (Err reason) (held before None)
       (held after None)
-  behind_unmade few reason err =
+  behind_unmade few none reason err =
       behind (Err reason) (held after None)
       (unmade_steps asks None mid_desk after identifier (ordinary slot) shown mid_steady
       mid_course result mid_lends few reason err)
+      (subst (ShowsAt (held mid_desk None) (held after None)) (sym none) tt)
 
   -- what stood stands in the memory that its call is shown, and what stands there after the call
-  pub behind_keeps : (turned : Turned) (told : Result Note Reason) (final : Held)
-      → Finishes turned identifier (ordinary slot) shown told
-      (settled_held turned identifier after) final
-      → Keeps before.heap after.heap × Keeps after.heap final.desk.heap
-  behind_keeps turned told final finishes = (
-    subst (λ (d : Desk). Keeps before.heap d.heap) (sym lends.is)
-        (Keeps-then before.heap mid.heap lends.after.heap lends.goes_on.makes.keeps
-        lends.goes_on.turns.keeps),
-    finished_keeps turned told final finishes,
-  )
-    where
-      settled_keeps : (final : Held) (settled : Desk) (calling : _) → final ≡ held settled calling
-          → Keeps settled.heap final.desk.heap
-      settled_keeps final settled calling same =
-          subst (λ (h : Held). Keeps settled.heap h.desk.heap) (sym same) (keeps-same settled.heap)
+  called_keeps : Keeps mid.heap after.heap
+  called_keeps = subst (λ (d : Desk). Keeps mid.heap d.heap) (sym lends.is) lends.goes_on.turns.keeps
 
-      finished_keeps : (turned : Turned) (told : Result Note Reason) (final : Held)
-          → Finishes turned identifier (ordinary slot) shown told
-          (settled_held turned identifier after) final → Keeps after.heap final.desk.heap
-      finished_keeps (Calls operator) told final finishes = (finishes asks).keeps
-      finished_keeps Goes told final finishes =
-          settled_keeps final (settled_desk Goes identifier after) None finishes.1
-      finished_keeps (Breaks cause) told final finishes =
-          settled_keeps final (settled_desk (Breaks cause) identifier after) None finishes.1
-      finished_keeps (Ends faults) told final finishes =
-          settled_keeps final (settled_desk (Ends faults) identifier after) None finishes.1
+  settled_keeps : (final : Held) (settled : Desk) (calling : _) → final ≡ held settled calling
+      → Keeps settled.heap final.desk.heap
+  settled_keeps final settled calling same =
+      subst (λ (h : Held). Keeps settled.heap h.desk.heap) (sym same) (keeps-same settled.heap)
+
+  finished_keeps : (turned : Turned) (told : Result Note Reason) (final : Held)
+      → Finishes turned identifier (ordinary slot) shown told
+      (settled_held turned identifier after) final → Keeps after.heap final.desk.heap
+  finished_keeps (Calls operator) told final finishes = (finishes asks).keeps
+  finished_keeps Goes told final finishes =
+      settled_keeps final (settled_desk Goes identifier after) None finishes.1
+  finished_keeps (Breaks cause) told final finishes =
+      settled_keeps final (settled_desk (Breaks cause) identifier after) None finishes.1
+  finished_keeps (Ends faults) told final finishes =
+      settled_keeps final (settled_desk (Ends faults) identifier after) None finishes.1
+
+  pub behind_finishes : (shows : Bool)
+      → shown ≡ (if shows then Some (shown_words after.heap) else None)
+      → IfSome shown (λ pair. IsCounted after.heap)
+      → (turned : Turned) → result ≡ Ok turned → (told : Result Note Reason)
+      (final : Held) → Finishes turned identifier (ordinary slot) shown told
+      (settled_held turned identifier after) final
+      → StepsBehind asks identifier slot made shown told (held before None) final
+  behind_finishes shows is counted turned ok told final finishes =
+      behind told final
+      (turned_finishes asks None mid_desk after identifier (ordinary slot) shown mid_steady
+      mid_course result mid_lends turned ok told final finishes)
+      (shown_between (held mid_desk None) final after.heap shows shown refl called_keeps
+      (finished_keeps turned told final finishes) is counted)

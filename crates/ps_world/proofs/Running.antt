@@ -257,6 +257,7 @@ module _ (d : Desk) (steady : IsSteady d) (framed : AreFramed d.members) (identi
     ready = λ w at ready. run_ready w at;
     quiet = λ w at ready. run_quiet w at;
     others = λ w at ready. run_others w at;
+    keeps = run.keeps;
     steady = run_steady;
     program = run.stays.program;
   }

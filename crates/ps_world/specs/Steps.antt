@@ -1,5 +1,5 @@
 -- When steps of the contexts of a world went as the definitions say (PLRM2, 7.1).
-use Rattle.std.specs.Prelude.{◌≡◌, ◌≢◌, ℕ, ℤ, pos, min, max, true, false, IsTrue, Option, Some, None, Result, Ok, Err, List, [], ◌∷◌}
+use Rattle.std.specs.Prelude.{◌≡◌, ◌≢◌, ℕ, ℤ, pos, min, max, ◌≤◌, true, false, IsTrue, Option, Some, None, IfSome, Result, Ok, Err, List, [], ◌∷◌}
 use Rattle.ps_language.specs.Contexts.{context_at}
 use Rattle.ps_language.specs.Effect.{nothing, Around, Scene}
 use Rattle.ps_language.specs.Locks.{is_ready}
@@ -7,8 +7,9 @@ use Rattle.ps_language.specs.Schedules.{Move}
 use Rattle.ps_language.specs.Step.{Stepped, stepped}
 use Rattle.ps_language.specs.World.{Status, World}
 use Rattle.ps_language.specs.Worlds.{after_move, after_moves, all_ready}
-use Rattle.ps_mem.specs.Heap.{Heap}
+use Rattle.ps_mem.specs.Heap.{Heap, standing_words}
 use Rattle.ps_mem.specs.Keeps.{Keeps}
+use Rattle.ps_mem.specs.Stands.{IsAddressed}
 use Rattle.ps_ops.specs.declared.failure.NotMade.{NotMade as Reason}
 use Rattle.ps_ops.specs.Does.{KeepsLogsWithin, most_records, spent}
 use Rattle.ps_acts.specs.declared.lent.Trial.{Trial}
@@ -56,12 +57,24 @@ words_shown words = pos (min (max 1 words) 2147483647)
 abbrev pub shown_words : Heap → ℤ × ℤ
 shown_words heap = (words_shown heap.used, words_shown heap.space.size)
 
+-- what is used is what stands, and no more than there is; addresses have 24 bits
+pub record IsCounted (heap : Heap) : Type 0 where
+  pub counted : heap.used ≡ standing_words heap
+  pub within : heap.used ≤ heap.space.size
+  pub addressed : IsAddressed heap
+
 -- a pair is of a memory between the one before and the one after
 pub record AreShown (old new : Heap) (pair : ℤ × ℤ) : Type 0 where
   pub heap : Heap
   pub from : Keeps old heap
   pub to : Keeps heap new
   pub is : pair ≡ shown_words heap
+  pub counted : IsCounted heap
+
+-- it is shown a pair only where no call waits
+abbrev pub ShowsAt : (mid new : Held) → Option (ℤ × ℤ) → Type 0
+ShowsAt mid new shown =
+    IfSome shown (λ pair. (mid.calling ≡ None) × AreShown mid.desk.heap new.desk.heap pair)
 
 -- ---- many
 
@@ -80,7 +93,8 @@ KeepsOthers identifier now move = (other : ℕ) → other ≢ identifier
     → context_at (after_move now move) other ≡ context_at now other
 
 -- so many were made, from every world that it was at where the context was ready, each while it
--- was; nothing is told of them, and they leave every other context as it is
+-- was; nothing is told of them, they leave every other context as it is, and what stood goes on
+-- standing
 pub record HasMade (identifier made : ℕ) (old new : Held) : Type 0 where
   pub at : (w : World) → IsAt old w → is_ready w identifier ≡ true
       → IsAt new (after_moves w (plain_moves identifier made))
@@ -90,6 +104,7 @@ pub record HasMade (identifier made : ℕ) (old new : Held) : Type 0 where
       → AllFrom IsQuiet w (plain_moves identifier made)
   pub others : (w : World) → IsAt old w → is_ready w identifier ≡ true
       → AllFrom (KeepsOthers identifier) w (plain_moves identifier made)
+  pub keeps : Keeps old.desk.heap new.desk.heap
   pub steady : IsSteadyHeld new
   pub program : new.desk.program ≡ old.desk.program
 
@@ -105,6 +120,7 @@ pub record StepsBehind (asks : Status → Around → Scene → Asked) (identifie
   pub ready : (w : World) → IsAt old w → is_ready w identifier ≡ true
       → is_ready (after_moves w (plain_moves identifier made)) identifier ≡ true
   pub steps : Steps asks identifier (ordinary slot) shown result mid new
+  pub shows : ShowsAt mid new shown
 
 -- in no world that it is at the context is ready
 abbrev pub IsUnready : (identifier : ℕ) → Held → Type 0

@@ -5,7 +5,7 @@ ghost use Rattle.ps_contexts.specs.Seats.{item_at};
 ghost use Rattle.ps_world.specs.Calls.{over};
 ghost use Rattle.ps_world.specs.Held.{held, CourseAt, IsSteadyHeld, MayStep, course_in};
 ghost use Rattle.ps_world.specs.Steps as steps;
-ghost use Rattle.ps_world.specs.Steps.{AreShown, GoesOn, IsUnready};
+ghost use Rattle.ps_world.specs.Steps.{GoesOn, IsCounted, IsUnready};
 
 use crate::deeds::Deeds;
 use crate::notes::Note;
@@ -48,6 +48,7 @@ fn shown_by<M: Memory>(memory: &mut M, shows: bool) -> Option<(i32, i32)>
     ensures grants { M.grants memory.new ≡ M.grants memory.old }
     ensures shown { result
         ≡ (if shows then Some (steps.shown_words (M.heap memory.old)) else None) }
+    ensures counted { IfSome result (λ pair. IsCounted (M.heap memory.old)) }
 {
     if !shows {
         return None;
@@ -60,8 +61,9 @@ fn shown_by<M: Memory>(memory: &mut M, shows: bool) -> Option<(i32, i32)>
 impl World<'_> {
     /// Makes ordinary steps of a context one after another, at most so many, as long as it goes on
     /// by itself, and tells what the step behind them came to, which may call an operator on other
-    /// contexts; of a context that doesn't run, that step alone. Shows says whether `vmstatus`
-    /// shows the memory, or three zeros.
+    /// contexts; of a context that doesn't run, or whose call waits, that step alone. Shows says
+    /// whether `vmstatus` shows the memory, or three zeros. Where its call waits it shows zeros: it
+    /// has raised an error, and raises it again.
     pub fn go_on<S: Interpret, D: Deeds, M: Memory>(
         &mut self,
         interpret: &mut S,
@@ -82,8 +84,6 @@ impl World<'_> {
         ensures within { result.made ≤ most }
         ensures fewer { IsSome result.next → result.made < most }
         ensures hidden { IfSome result.next (λ next. shows ≡ false → next.shown ≡ None) }
-        ensures words { IfSome result.next (λ next. IfSome next.shown (λ pair.
-            AreShown (M.heap memory.old) (M.heap memory.new) pair)) }
         ensures ended { IsNone result.next → result.made < most → IsUnready identifier
             (held (over (M.heap memory.new) (M.grants memory.new) self.new.contexts)
             self.new.calling) }
@@ -98,15 +98,14 @@ impl World<'_> {
         if self.calling.is_none() && course == Course::Running {
             return self.run(interpret, deeds, memory, identifier, slot, most, shows);
         }
-        let shown = shown_by(memory, shows);
         let trial = Trial {
             slot,
             refused: false,
         };
-        let told = self.step(interpret, deeds, memory, identifier, trial, shown);
+        let told = self.step(interpret, deeds, memory, identifier, trial, None);
         Advance {
             made: 0,
-            next: Some(Next { told, shown }),
+            next: Some(Next { told, shown: None }),
         }
     }
 
@@ -129,8 +128,6 @@ impl World<'_> {
         ensures within { result.made ≤ most }
         ensures fewer { IsSome result.next → result.made < most }
         ensures hidden { IfSome result.next (λ next. shows ≡ false → next.shown ≡ None) }
-        ensures words { IfSome result.next (λ next. IfSome next.shown (λ pair.
-            AreShown (M.heap memory.old) (M.heap memory.new) pair)) }
         ensures ended { IsNone result.next → result.made < most → IsUnready identifier
             (held (over (M.heap memory.new) (M.grants memory.new) self.new.contexts)
             self.new.calling) }

@@ -37,6 +37,7 @@ pub fn start_world<'a, M: Memory>(
         (held (over (M.heap memory.new) (M.grants memory.new) made.contexts) None)) }
     ensures calling { IfOk result (λ made. made.calling ≡ None) }
     ensures program { IfOk result (λ made. made.contexts.shared.program.now ≡ program.now) }
+    ensures space { (M.heap memory.new).space ≡ (M.heap memory.old).space }
     ensures not_made { OnErr result (M.heap memory.new ≡ M.heap memory.old) }
     ensures reason { IfErr result (λ reason. IsStartReason reason (M.heap memory.old)) }
     ensures logs { SameLogs (M.grants memory.old) (M.grants memory.new) }

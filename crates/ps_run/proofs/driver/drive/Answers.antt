@@ -23,6 +23,9 @@ are_asked : (g : givens.Over) (c : In-Ok g) (asked : Asked) → asked ≡ asked_
     → AreAsked (map (λ word. word.now) c.args.words.now) asked
 are_asked g c asked is = (
   λ text found numeral small.
+      ap (λ (a : Asked). a.space) is
+      ∙ c.in-Ok.ensures.numbers.space text found numeral small,
+  λ text found numeral small.
       ap (λ (a : Asked). a.steps) is
       ∙ c.in-Ok.ensures.numbers.steps text found numeral small,
   λ text found numeral small.

@@ -145,3 +145,10 @@ returns-clause-first g c =
         born = ap (λ (births : ℕ → ℕ). births error) births35 ∙ third;
       };
     }
+
+pub returns-clause-space : goal.returns-clause-space
+returns-clause-space g c =
+    c.fill_access.ensures.keeps.space
+    ∙ (c.fill_pairs.ensures.keeps.space
+    ∙ (c.make_error_dictionary-error.ensures.extends.space
+    ∙ (c.new_dictionary-user.ensures.extends.space ∙ c.new_dictionary-system.ensures.extends.space)))

@@ -5,6 +5,7 @@ use Rattle.ps_language.proofs.ScheduleLaws.{count_of-nil}
 use Rattle.ps_mem.specs.Objects.{heap_in}
 use Rattle.ps_vault.specs.Reports.{are_ordinary}
 use Rattle.ps_vault.proofs.Beginning.{nothing_stands, plain_grows}
+use Rattle.ps_vault.proofs.Showing.{nothing_shown}
 use Rattle.ps_vault.proofs.orders.run_in_order.Goals as goal
 
 pub new-requires : goal.new-requires
@@ -24,3 +25,11 @@ pub into_run-requires-clause-ordinary : goal.into_run-requires-clause-ordinary
 unfolding moves
 into_run-requires-clause-ordinary g c = c.run_by-run.ensures.ordinary
     (ap (λ (entries : List Entry). are_ordinary (moves entries)) c.in_ok-vault.ensures.schedule)
+
+pub into_run-requires-clause-shown : goal.into_run-requires-clause-shown
+into_run-requires-clause-shown g c =
+    c.run_by-run.ensures.shown (nothing_shown _ _ _ c.in_ok-vault.ensures.schedule)
+
+pub into_run-requires-clause-space : goal.into_run-requires-clause-space
+unfolding heap_in
+into_run-requires-clause-space g c = c.run_by-run.ensures.space ∙ c.in_ok-vault.ensures.space

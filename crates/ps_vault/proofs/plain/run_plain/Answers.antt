@@ -8,6 +8,7 @@ use Rattle.ps_mem.specs.Objects.{heap_in}
 use Rattle.ps_vault.specs.Order.{HasTurn, InOrder}
 use Rattle.ps_vault.specs.Reports.{are_ordinary, IsStarved}
 use Rattle.ps_vault.proofs.Beginning.{nothing_stands, plain_grows}
+use Rattle.ps_vault.proofs.Showing.{nothing_shown}
 use Rattle.ps_vault.proofs.plain.run_plain.Given as givens
 use Rattle.ps_vault.proofs.plain.run_plain.Goals as goal
 use Rattle.ps_vault.proofs.plain.run_plain.Goals.{After-run-run}
@@ -76,3 +77,11 @@ returns-clause-starved g c = λ memory.
           (subst (λ (p : List ℕ). IsStarved g.S.Interpret.asks true owed.0 false
           (world p made.schedule) made.capacity made.schedule) program owed.2)),
     )
+
+pub into_run-requires-clause-shown : goal.into_run-requires-clause-shown
+into_run-requires-clause-shown g c =
+    c.run-run.ensures.shown (nothing_shown _ _ _ c.in-Ok.ensures.schedule)
+
+pub into_run-requires-clause-space : goal.into_run-requires-clause-space
+unfolding heap_in
+into_run-requires-clause-space g c = c.run-run.ensures.space ∙ c.in-Ok.ensures.space

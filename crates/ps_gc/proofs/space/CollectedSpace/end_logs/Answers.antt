@@ -32,6 +32,7 @@ loop-slot-preserved g c =
     let opened = (and_parts (is_open n.vm) (closes (log_of n.vm.logs slot) == n.vm.epoch) shut).0 in
     record {
       heap = ap heap_of part ∙ (c.close_one.ensures.heap ∙ inv.heap);
+      cycle = ap (λ (v : Vm). v.cycle) part ∙ (x.cycle ∙ inv.cycle);
       opened = ap is_open part ∙ opened;
       knows = knows_on n.gc o.gc (y.gc_cycle, y.gc_epoch)
           (knows_on m.gc n.gc (x.gc_cycle, x.gc_epoch) inv.knows);

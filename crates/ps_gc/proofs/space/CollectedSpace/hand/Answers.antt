@@ -1,5 +1,7 @@
 use Rattle.std.proofs.Common.{ap, ◌∙◌}
+use Rattle.ps_core_parts.specs.declared.events.Vm.{Vm}
 use Rattle.ps_parts_memory.specs.Memory.{heap_of, grants_of}
+use Rattle.ps_table.specs.Shown.{SeatState}
 use Rattle.ps_table.proofs.Kept.{keeps_vm, sits_on}
 use Rattle.ps_gc.proofs.Spaces.{values_name}
 use Rattle.ps_gc.proofs.space.CollectedSpace.hand.Goals as goal
@@ -20,6 +22,12 @@ pub returns-clause-heap : goal.returns-clause-heap
 returns-clause-heap g c =
     let did = c.add_roots.ensures.did in
     ap heap_of (keeps_vm _ _ did.0 did.1).part ∙ c.joined_hand_over.ensures.heap
+
+pub returns-clause-flips : goal.returns-clause-flips
+returns-clause-flips g c =
+    let did = c.add_roots.ensures.did in
+    ap (λ (v : Vm). v.cycle) (keeps_vm _ _ did.0 did.1).part
+    ∙ ap (λ (m : SeatState). m.0.vm.cycle) c.joined_hand_over.ensures.does.1.did
 
 pub returns-clause-grants : goal.returns-clause-grants
 returns-clause-grants g c =

@@ -1,7 +1,14 @@
 use Rattle.std.proofs.Common.{ap, sym, ◌∙◌}
 use Rattle.ps_mem.specs.Heap.{Grants}
 use Rattle.ps_table.proofs.Full.{full_left}
+use Rattle.ps_gc.proofs.Ending.{close_stays}
 use Rattle.ps_gc.proofs.space.CollectedSpaceCollectedMemory.close_log.Goals as goal
+
+pub returns-clause-flips : goal.returns-clause-flips
+returns-clause-flips g c = (close_stays c.args.slot c.args.self.now.collector.gc.seat.me.0
+    c.close.new.seat.me.0 c.close.result c.close.ensures.gc
+    (λ t. ap (λ x. x.me.0) (c.close.ensures.already t).2) c.close.ensures.did
+    c.close.ensures.looked).cycle
 
 pub returns-clause-full : goal.returns-clause-full
 returns-clause-full g c = λ full.

@@ -1,4 +1,4 @@
-use Rattle.std.proofs.Common.{◌≡◌, ap, sym, subst, ◌∙◌}
+use Rattle.std.proofs.Common.{◌≡◌, ◌+◌, ap, sym, subst, ◌∙◌}
 use Rattle.ps_core_parts.specs.declared.events.Vm.{Vm}
 use Rattle.ps_core_parts.specs.declared.events.Gc.{Gc}
 use Rattle.ps_core_parts.specs.Steps.{is_open}
@@ -62,7 +62,16 @@ returns-clause-moved g c =
     c.joined_try_flip.new.roots) heap
     (c.joined_try_flip.ensures.moved c.in-Done.is)
 
+pub returns-clause-flips : goal.returns-clause-flips
+returns-clause-flips g c =
+    let did = c.scan_all.ensures.did in
+    let kept = ap (λ (v : Vm). v.cycle) c.meet.ensures.parts.0
+    ∙ (ap (λ (v : Vm). v.cycle) (keeps_vm _ _ did.0 did.1).part
+    ∙ (c.end_logs.ensures.flips ∙ c.hand.ensures.flips)) in
+    ap (λ (v : Vm). v.cycle) (c.joined_try_flip.ensures.parts c.in-Done.is).0
+    ∙ ap (λ n. n + 1) kept
+
 pub returns-clause-quiet : goal.returns-clause-quiet
-returns-clause-quiet g c = λ yes.
+returns-clause-quiet g c =
     let g = c.joined_try_flip.ensures.grants c.in-Done.is in
-    record { cycle_open = g.cycle_open; closed = g.closed; fresh = g.fresh }
+    record { cycle_open = g.cycle_open; closed = g.closed }

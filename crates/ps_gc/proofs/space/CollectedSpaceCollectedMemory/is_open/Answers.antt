@@ -1,4 +1,4 @@
-use Rattle.ps_gc.proofs.Spaces.{addressed}
+use Rattle.ps_table.proofs.Addressed.{addressed}
 use Rattle.ps_gc.proofs.space.CollectedSpaceCollectedMemory.is_open.Goals as goal
 
 pub returns-clause-addressed : goal.returns-clause-addressed

@@ -1,5 +1,6 @@
 use Rattle.std.proofs.Common.{arith}
 use Rattle.ps_parts_memory.proofs.Counted.{counted}
+use Rattle.ps_table.proofs.Addressed.{addressed}
 use Rattle.ps_table.proofs.Facts.{knows, vm_facts}
 use Rattle.ps_table.proofs.mirror.Mirror.used.Goals as goal
 
@@ -20,3 +21,12 @@ pub returns-clause-counted : goal.returns-clause-counted
 returns-clause-counted c =
     counted c.args.seat.now.me.0.vm
     (knows c.args.seat.now.me.0.vm c.requires.runs)
+
+pub returns-clause-within : goal.returns-clause-within
+returns-clause-within c =
+    let k = vm_facts c.args.seat.now.me.0.vm c.requires.runs in
+    let high = k.end_high in
+    omega (arith, high)
+
+pub returns-clause-addressed : goal.returns-clause-addressed
+returns-clause-addressed c = addressed c.args.seat.now.me.0.vm c.requires.runs

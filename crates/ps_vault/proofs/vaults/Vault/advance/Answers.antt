@@ -1,5 +1,5 @@
 -- So many steps more of the schedule, and the one behind them.
-use Rattle.std.proofs.Common.{◌≡◌, ℕ, ℤ, Bool, false, true, List, Option, Some, None, Err, refl, sym, ap, subst, ◌∙◌, ◌+◌, arith}
+use Rattle.std.proofs.Common.{◌≡◌, ℕ, ℤ, Bool, false, true, List, Option, Some, None, Ok, Err, refl, sym, ap, subst, ◌∙◌, ◌+◌, arith}
 use Rattle.std.specs.List.{list_all}
 use Rattle.ps_language.specs.declared.schedules.Entry.{Entry}
 use Rattle.ps_language.specs.Effect as effect
@@ -12,11 +12,12 @@ use Rattle.ps_world.specs.Notes.{note_of}
 use Rattle.ps_vault.specs.Holds.{wish_in}
 use Rattle.ps_vault.specs.Order.{IsOnlyLeft, AddsSteps, NoneEnds, AllOfOne, OnlyLastMayEnd, IsNoEnd, IsNoWish, AllTell, WishesLast, WishesAs}
 use Rattle.ps_vault.specs.Reports.{are_words, fits, is_ordinary}
-use Rattle.ps_vault.specs.Stories.{Story, world_at, move_of}
+use Rattle.ps_vault.specs.Showing.{AllShowOf}
+use Rattle.ps_vault.specs.Stories.{ShowsSpace, Story, world_at, move_of}
 use Rattle.ps_vault.specs.Turns.{added_times}
 use Rattle.ps_vault.proofs.Following.{times_noted}
 use Rattle.ps_vault.proofs.Keeping.{caller_there, may_step}
-use Rattle.ps_vault.proofs.Advancing.{keeps_made, count_times, move_fits, all_added, all_times, words_kept, some_made, tell_made, tell_mid, tell_behind, others_behind, nothing_ends, nothing_wishes, ends_noted, wish_noted, no_wish_noted, keeps_behind, ends_behind, keeps_held, held_behind, kept_none, alone_made, alone_mid, alone_behind, left_held}
+use Rattle.ps_vault.proofs.Advancing.{keeps_made, count_times, move_fits, all_added, all_times, some_made, tell_made, tell_mid, tell_behind, others_behind, nothing_ends, nothing_wishes, ends_noted, wish_noted, no_wish_noted, keeps_behind, ends_behind, keeps_held, held_behind, kept_none, alone_made, alone_mid, alone_behind, left_held, space_made, space_kept, shows_made, shows_held, shows_behind, words_behind}
 use Rattle.ps_vault.proofs.Ordering.{adds_times, adds_one, adds_more}
 use Rattle.ps_vault.proofs.vaults.Vault.advance.Given as givens
 use Rattle.ps_vault.proofs.vaults.Vault.advance.Goals as goal
@@ -87,6 +88,12 @@ only_inside : (g : givens.Over) (c : After-note_turn g)
 only_inside g c left =
     subst (λ (s : Story). IsOnlyLeft (world_at s) c.args.context) (sym c.self.view_is) left
 
+-- what was shown before is of the space inside
+shown_inside : (g : givens.Over) (c : After-note_turn g) → ShowsSpace c.args.self.now
+    → AllShowOf (g.M.Memory.heap c.self.inside.memory).space.size
+    c.self.inside.world.contexts.shared.program.now c.self.inside.schedule.items
+shown_inside g c all = subst ShowsSpace (sym c.self.view_is) all
+
 -- ---- nothing is told
 
 pub invariant_of-self : goal.invariant_of-self
@@ -151,6 +158,21 @@ returns-in_default-clause-alone g c = λ left.
     (alone_made c.args.context c.go_on-made.result.made _ _ c.self.inside.schedule.items
     c.self.invariant (ready_before g (goal.at.returns-in_default-clause-alone g c).After-go_on-made)
     (rw c.in_default.is at c.go_on-made.ensures.makes) (only_inside g at left)))
+
+pub returns-in_default-clause-shown : goal.returns-in_default-clause-shown
+returns-in_default-clause-shown g c = λ all.
+    rw c.note_turn.ensures.added
+    (shows_made c.args.context c.go_on-made.result.made _ _ c.self.inside.schedule.items
+    c.self.invariant (ready_before g (goal.at.returns-in_default-clause-shown g c).After-go_on-made)
+    (rw c.in_default.is at c.go_on-made.ensures.makes)
+    (shown_inside g (goal.at.returns-in_default-clause-shown g c).After-note_turn all))
+
+pub returns-in_default-clause-space : goal.returns-in_default-clause-space
+returns-in_default-clause-space g c =
+    space_made c.args.context c.go_on-made.result.made _ _ c.self.inside.schedule.items
+    c.self.invariant (ready_before g (goal.at.returns-in_default-clause-space g c).After-go_on-made)
+    (rw c.in_default.is at c.go_on-made.ensures.makes)
+    ∙ ap (λ (s : Story). s.space) c.self.view_is
 
 -- ---- the next step was held up
 
@@ -232,6 +254,23 @@ returns-in-Err-clause-left g c = λ held left.
     (ready_before g (goal.at.returns-in-Err-clause-left g c).After-go_on-made) c.in-Err.reason
     (rw (c.in-Some.is, c.in-Err.is) at c.go_on-made.ensures.makes) (only_inside g at left))
 
+pub returns-in-Err-clause-shown : goal.returns-in-Err-clause-shown
+returns-in-Err-clause-shown g c = λ all.
+    rw c.note_turn.ensures.added
+    (shows_held g.S.Interpret.asks c.args.context c.slot_of.result c.go_on-made.result.made
+    c.in-Some.next.shown _ _ c.self.inside.schedule.items c.self.invariant
+    (ready_before g (goal.at.returns-in-Err-clause-shown g c).After-go_on-made) c.in-Err.reason
+    (rw (c.in-Some.is, c.in-Err.is) at c.go_on-made.ensures.makes)
+    (shown_inside g (goal.at.returns-in-Err-clause-shown g c).After-note_turn all))
+
+pub returns-in-Err-clause-space : goal.returns-in-Err-clause-space
+returns-in-Err-clause-space g c =
+    space_kept g.S.Interpret.asks c.args.context c.slot_of.result c.go_on-made.result.made
+    c.in-Some.next.shown _ _ c.self.inside.schedule.items c.self.invariant
+    (ready_before g (goal.at.returns-in-Err-clause-space g c).After-go_on-made) (Err c.in-Err.reason)
+    (rw (c.in-Some.is, c.in-Err.is) at c.go_on-made.ensures.makes)
+    ∙ ap (λ (s : Story). s.space) c.self.view_is
+
 -- ---- the next step was made
 
 pub invariant_of-self-2 : goal.invariant_of-self-2
@@ -269,8 +308,10 @@ behind_fits g c =
     move_fits c.args.context false c.kept-kept.result
     (let few = c.ranges.context.fits in omega (arith, few))
     (subst (λ (shown : Option (ℤ × ℤ)). are_words shown ≡ true) (sym c.kept-kept.ensures)
-    (words_kept _ _ c.in-Ok.told c.in-Some.next.shown
-    (rw c.in-Some.is at c.go_on-made.ensures.words)))
+    (words_behind g.S.Interpret.asks c.args.context c.slot_of.result c.go_on-made.result.made
+    c.in-Some.next.shown _ _ c.self.inside.schedule.items c.self.invariant
+    (ready_before g (goal.at.After-note g c).After-go_on-made)
+    c.in-Ok.told (rw (c.in-Some.is, c.in-Ok.is) at c.go_on-made.ensures.makes)))
 
 pub returns-clause-ordinary : goal.returns-clause-ordinary
 returns-clause-ordinary g c =
@@ -283,6 +324,24 @@ returns-clause-fits g c =
     let at = (goal.at.returns-clause-fits g c).After-note in
     each_behind g at fits
     (plain_fits g (goal.at.After-note g at).After-note_turn) (behind_fits g at)
+
+pub returns-clause-shown : goal.returns-clause-shown
+returns-clause-shown g c = λ all.
+    rw (c.note.ensures.added, c.note_turn.ensures.added)
+    (shows_behind g.S.Interpret.asks c.args.context c.slot_of.result c.go_on-made.result.made
+    c.in-Some.next.shown _ _ c.self.inside.schedule.items c.self.invariant
+    (ready_before g (goal.at.returns-clause-shown g c).After-go_on-made)
+    c.in-Ok.told (rw (c.in-Some.is, c.in-Ok.is) at c.go_on-made.ensures.makes)
+    c.kept-kept.result c.kept-kept.ensures
+    (shown_inside g (goal.at.returns-clause-shown g c).After-note_turn all))
+
+pub returns-clause-space : goal.returns-clause-space
+returns-clause-space g c =
+    space_kept g.S.Interpret.asks c.args.context c.slot_of.result c.go_on-made.result.made
+    c.in-Some.next.shown _ _ c.self.inside.schedule.items c.self.invariant
+    (ready_before g (goal.at.returns-clause-space g c).After-go_on-made) (Ok c.in-Ok.told)
+    (rw (c.in-Some.is, c.in-Ok.is) at c.go_on-made.ensures.makes)
+    ∙ ap (λ (s : Story). s.space) c.self.view_is
 
 pub returns-clause-takes : goal.returns-clause-takes
 returns-clause-takes g c =

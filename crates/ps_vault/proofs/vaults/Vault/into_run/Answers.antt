@@ -2,8 +2,9 @@ use Rattle.std.proofs.Common.{◌==◌, ◌<◌, ◌≤◌, List, ℕ, true, sym
 use Rattle.std.proofs.lemmas.Bool.Decides.{nat_tests}
 use Rattle.ps_language.specs.declared.schedules.Entry.{Entry}
 use Rattle.ps_language.specs.Schedules.{count_of, moves}
+use Rattle.ps_mem.specs.Plain.{plain_space}
 use Rattle.ps_vault.specs.Reports.{all_fit, are_ordinary, EndsAs, IsOneStarved, IsRunIn}
-use Rattle.ps_vault.specs.Stories.{Story, world_at}
+use Rattle.ps_vault.specs.Stories.{ShowsSpace, Story, world_at}
 use Rattle.ps_vault.proofs.Advancing.{ordinary_fit}
 use Rattle.ps_vault.proofs.Following.{ends_so, ready_not_over}
 use Rattle.ps_vault.proofs.vaults.Vault.into_run.Goals as goal
@@ -26,13 +27,17 @@ into_report-requires-2-clause-fits g c =
     ap (λ (s : Story). all_fit (moves s.schedule)) c.outcome-outcome.ensures.same
     ∙ ordinary_fit (moves c.args.self.schedule) c.requires.ordinary
 
+pub into_report-requires-2-clause-shown : goal.into_report-requires-2-clause-shown
+into_report-requires-2-clause-shown g c =
+    subst ShowsSpace (sym c.outcome-outcome.ensures.same) c.requires.shown
+
 pub returns-then-run-clause-run : goal.returns-then-run-clause-run
 returns-then-run-clause-run g c =
     let less : count_of c.args.self.schedule < c.args.steps =
     omega (arith, c.requires.counted, c.requires.fewer c.if-run.true) in
     let one = c.requires.starved c.if-run.true in
     record {
-      run = c.into_report.ensures.run true (
+      run = c.into_report.ensures.run plain_space (sym c.requires.space) (
         grind (arith, nat_tests),
         ready_not_over (world_at c.args.self) one.context one.starved.ready,
         one,
@@ -52,9 +57,10 @@ returns-clause-run g c =
     c.outcome-outcome.result) (sym c.requires.counted)
     (ends_so (world_at c.args.self) _ _ c.outcome-outcome.result c.outcome-outcome.ensures.ends) in
     record {
-      run = subst (λ (p : List ℕ). IsRunIn g.S.Interpret.asks true p c.args.steps
+      run = subst (λ (p : List ℕ). IsRunIn g.S.Interpret.asks plain_space p c.args.steps
           c.into_report-2.result) (ap (λ (s : Story). s.program) same)
-          (c.into_report-2.ensures.run true (subst (λ (s : Story). EndsAs (world_at s)
+          (c.into_report-2.ensures.run plain_space
+          (sym (ap (λ (s : Story). s.space) same ∙ c.requires.space)) (subst (λ (s : Story). EndsAs (world_at s)
           (count_of s.schedule == c.args.steps) (IsOneStarved g.S.Interpret.asks true (world_at s)
           s.capacity s.schedule) c.outcome-outcome.result) (sym same) ends));
       ordinary = ap (λ (s : List Entry). are_ordinary (moves s)) (c.into_report-2.ensures.schedule

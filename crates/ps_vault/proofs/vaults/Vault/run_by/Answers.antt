@@ -1,8 +1,8 @@
 -- Each round is the turn of the context that is chosen.
-use Rattle.std.proofs.Common.{◌≡◌, ◌∙◌, true, ap, arith}
+use Rattle.std.proofs.Common.{◌≡◌, ◌∙◌, true, ap, arith, subst, sym}
 use Rattle.ps_language.specs.Schedules.{count_of, moves}
 use Rattle.ps_vault.specs.Reports.{are_ordinary}
-use Rattle.ps_vault.specs.Stories.{Story}
+use Rattle.ps_vault.specs.Stories.{ShowsSpace, Story}
 use Rattle.ps_vault.proofs.Following.{ordinary_starved}
 use Rattle.ps_vault.proofs.vaults.Vault.run_by.Goals as goal
 
@@ -24,6 +24,10 @@ loop-made-preserved g c =
       ordinary = λ plain. c.turns-turn.ensures.ordinary
           (ap (λ (s : Story). are_ordinary (moves s.schedule)) same
           ∙ c.loop-made.invariant.ordinary plain);
+      shown = λ all. c.turns-turn.ensures.shown
+          (subst ShowsSpace (sym same) (c.loop-made.invariant.shown all));
+      space = c.turns-turn.ensures.space
+          ∙ (ap (λ (s : Story). s.space) same ∙ c.loop-made.invariant.space);
       capacity = (
           let held = ap (λ (s : Story). s.capacity) same in
           omega (arith, held, c.turns-turn.ensures.capacity, c.loop-made.invariant.capacity)

@@ -4,9 +4,10 @@ use Rattle.ps_language.specs.declared.schedules.Entry.{Entry}
 use Rattle.ps_language.specs.Locks.{is_ready}
 use Rattle.ps_language.specs.Schedules.{moves}
 use Rattle.ps_language.specs.Worlds.{after_move, world}
+use Rattle.ps_mem.specs.Heap.{Space}
 use Rattle.ps_vault.specs.Reports.{all_fit, fits}
 use Rattle.ps_vault.specs.Stories.{Story, world_at, move_of}
-use Rattle.ps_vault.proofs.Keeping.{caller_there, keeps_step, held_step, may_step, same_cycle, world_added}
+use Rattle.ps_vault.proofs.Keeping.{caller_there, keeps_step, held_step, may_step, same_closed, same_cycle, world_added}
 use Rattle.ps_vault.proofs.Advancing.{all_added, move_fits}
 use Rattle.ps_vault.proofs.vaults.Vault.step.Goals as goal
 
@@ -65,3 +66,29 @@ returns-in-Err-clause-cycle g c =
     (ap (λ (s : Story). is_ready (world_at s) c.args.context) c.self.view_is ∙ c.requires.ready)
     _ c.step-told.ensures
     ∙ ap (λ (s : Story). s.cycle_open) c.self.view_is
+
+pub returns-in-Ok-clause-space : goal.returns-in-Ok-clause-space
+returns-in-Ok-clause-space g c =
+    ap (λ (s : Space). s.size) c.step-told.ensures.keeps.space
+    ∙ ap (λ (s : Story). s.space) c.self.view_is
+
+pub returns-in-Err-clause-space : goal.returns-in-Err-clause-space
+returns-in-Err-clause-space g c =
+    ap (λ (s : Space). s.size) c.step-told.ensures.keeps.space
+    ∙ ap (λ (s : Story). s.space) c.self.view_is
+
+pub returns-in-Ok-clause-closed : goal.returns-in-Ok-clause-closed
+returns-in-Ok-clause-closed g c =
+    same_closed g.S.Interpret.asks c.args.context _ c.args.shown _ _
+    c.self.inside.schedule.items c.self.invariant
+    (ap (λ (s : Story). is_ready (world_at s) c.args.context) c.self.view_is ∙ c.requires.ready)
+    _ c.step-told.ensures
+    ∙ ap (λ (s : Story). s.closed) c.self.view_is
+
+pub returns-in-Err-clause-closed : goal.returns-in-Err-clause-closed
+returns-in-Err-clause-closed g c =
+    same_closed g.S.Interpret.asks c.args.context _ c.args.shown _ _
+    c.self.inside.schedule.items c.self.invariant
+    (ap (λ (s : Story). is_ready (world_at s) c.args.context) c.self.view_is ∙ c.requires.ready)
+    _ c.step-told.ensures
+    ∙ ap (λ (s : Story). s.closed) c.self.view_is

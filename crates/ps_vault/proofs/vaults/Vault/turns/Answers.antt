@@ -13,11 +13,12 @@ use Rattle.ps_vault.specs.declared.vaults.Told.TheVariants.{TurnEnds}
 use Rattle.ps_vault.specs.Holds.{is_held_up}
 use Rattle.ps_vault.specs.Order.{IsAlone, IsOnlyLeft, AddsSteps, AllOfOne, NoneEnds, OnlyLastMayEnd, IsOver, EndsTurn}
 use Rattle.ps_vault.specs.Reports.{are_ordinary}
-use Rattle.ps_vault.specs.Stories.{Story, world_at}
+use Rattle.ps_vault.specs.Stories.{ShowsSpace, Story, world_at}
 use Rattle.ps_vault.proofs.Advancing.{only_left_ready}
 use Rattle.ps_vault.proofs.Keeping.{may_want, only_left}
 use Rattle.ps_vault.proofs.Alone.{Begun, begun_none, Chunk, chunk_of, Last, last_of, held_of, count_now, turns_begun, turns_ended}
 use Rattle.ps_vault.proofs.Ordering.{world_moves}
+use Rattle.ps_vault.proofs.Showing.{shows_same}
 use Rattle.ps_vault.proofs.vaults.Vault.turns.Given as givens
 use Rattle.ps_vault.proofs.vaults.Vault.turns.Goals as goal
 use Rattle.ps_vault.proofs.vaults.Vault.turns.Goals.{After-advance-advanced}
@@ -33,6 +34,8 @@ loop-context-init g c = record {
   program = refl;
   counted = omega arith;
   ordinary = λ plain. plain;
+  shown = λ all. all;
+  space = refl;
   capacity = omega arith;
   rest = omega arith;
   turns = begun_none c.args.quantum (starting_world c.args.self.now.program) c.args.context
@@ -53,6 +56,17 @@ module _ (g : givens.Over) (c : After-advance-advanced g) where
 
   abbrev made : ℕ
   made = c.advance-advanced.result.made
+
+  -- what is shown is of the space
+  shown_on : ShowsSpace c.args.self.now → ShowsSpace c.advance-advanced.new.self
+  shown_on all = c.advance-advanced.ensures.shown
+      (shows_same c.loop-context.self c.reserve_entries.new.self c.reserve_entries.ensures.space
+      c.reserve_entries.ensures.program c.reserve_entries.ensures.schedule
+      (c.loop-context.invariant.shown all))
+
+  space_on : c.advance-advanced.new.self.space ≡ c.args.self.now.space
+  space_on = c.advance-advanced.ensures.space
+      ∙ (c.reserve_entries.ensures.space ∙ c.loop-context.invariant.space)
 
   -- making room changes neither
   same_schedule : c.reserve_entries.new.self.schedule ≡ c.loop-context.self.schedule
@@ -275,6 +289,8 @@ loop-context-preserved g c =
           ∙ c.advance-advanced.ensures.ordinary
           (subst (λ (entries : List Entry). are_ordinary (moves entries) ≡ true)
           (sym (same_schedule g at)) (c.loop-context.invariant.ordinary plain));
+      shown = λ all. subst ShowsSpace (sym same) (shown_on g at all);
+      space = ap (λ (s : Story). s.space) same ∙ space_on g at;
       capacity = (
           let held = ap (λ (s : Story). s.capacity) same in
           omega (

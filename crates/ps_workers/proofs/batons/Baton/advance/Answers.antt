@@ -10,8 +10,8 @@ invariant_of-self g c =
     c.self.inside.made c.self.inside.outcome) c.reserve_entries.new.self c.args.context
     c.self.invariant (subst (λ (p : Progress). MayGoOn p c.args.context) (sym c.self.view_is)
     c.requires.may) c.reserve_entries.ensures.program c.reserve_entries.ensures.schedule
-    c.reserve_entries.ensures.calling c.reserve_entries.ensures.capacity
-    (on_error c.reserve_entries.result _
+    c.reserve_entries.ensures.calling c.reserve_entries.ensures.space
+    c.reserve_entries.ensures.capacity (on_error c.reserve_entries.result _
     c.reserve_entries.ensures.short (sym c.is_err.ensures.value ∙ c.if-is_err.true))
 
 pub overflow_add-self : goal.overflow_add-self

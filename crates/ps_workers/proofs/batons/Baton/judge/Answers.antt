@@ -13,7 +13,7 @@ invariant_of-self g c =
     keeps_ended g.S.Interpret.asks (progress c.self.inside.vault c.self.inside.config
     c.self.inside.made c.self.inside.outcome) c.outcome-outcome.new.self c.outcome-outcome.result
     c.self.invariant (ap (λ (s : Story). s.program) same) (ap (λ (s : Story). s.schedule) same)
-    (ap (λ (s : Story). s.caller) same)
+    (ap (λ (s : Story). s.caller) same) (ap (λ (s : Story). s.space) same)
     (let held = ap (λ (s : Story). s.capacity) same in omega (arith, held))
     (subst (λ (s : Story). EndsAs (world_at s) (c.self.inside.made == c.self.inside.config.steps)
     (IsStarvedAt g.S.Interpret.asks s) c.outcome-outcome.result) (sym same)

@@ -6,6 +6,7 @@ use Rattle.ps_vault.specs.Reports.{all_fit}
 use Rattle.ps_language.proofs.ScheduleLaws.{count_of-added}
 use Rattle.ps_vault.specs.Stories.{move_of, world_at}
 use Rattle.ps_vault.proofs.Keeping.{memory_wanted}
+use Rattle.ps_vault.proofs.Showing.{shows_same, unshown_added}
 use Rattle.ps_workers.specs.Batons.{Progress, MayGoOn, Keeps}
 use Rattle.ps_workers.proofs.Keeping.{progress, on_error, short_starved, keeps_made, waits_none, counts_on, keeps_wanted, MakesObjects}
 use Rattle.ps_workers.proofs.batons.Baton.refuse_step.Goals as goal
@@ -16,8 +17,8 @@ invariant_of-self g c =
     c.self.inside.made c.self.inside.outcome) c.reserve_entries.new.self c.args.context
     c.self.invariant (subst (λ (p : Progress). MayGoOn p c.args.context) (sym c.self.view_is)
     c.requires.may) c.reserve_entries.ensures.program c.reserve_entries.ensures.schedule
-    c.reserve_entries.ensures.calling c.reserve_entries.ensures.capacity
-    (on_error c.reserve_entries.result _
+    c.reserve_entries.ensures.calling c.reserve_entries.ensures.space
+    c.reserve_entries.ensures.capacity (on_error c.reserve_entries.result _
     c.reserve_entries.ensures.short (sym c.is_err.ensures.value ∙ c.if-is_err.true))
 
 pub overflow_add-self : goal.overflow_add-self
@@ -48,6 +49,13 @@ invariant_of-self-in-Ok g c =
       counted = made;
       fits = λ fit. c.in-Ok.ensures.fits refl
           (ap (λ (s : List Entry). all_fit (moves s)) c.reserve_entries.ensures.schedule ∙ fit);
+      space = c.step.ensures.space ∙ c.reserve_entries.ensures.space;
+      shown = λ all. unshown_added c.reserve_entries.new.self c.step.new.self
+          (move_of c.args.context true None) refl c.step.ensures.space c.step.ensures.program
+          c.in-Ok.ensures.made
+          (shows_same c.self.inside.vault c.reserve_entries.new.self
+          c.reserve_entries.ensures.space c.reserve_entries.ensures.program
+          c.reserve_entries.ensures.schedule all);
       more = omega (arith, c.reserve_entries.ensures.capacity, c.step.ensures.capacity);
     })
     (omega (arith, may.left))
@@ -63,7 +71,7 @@ invariant_of-self-in-Err-Memory g c =
     c.self.inside.made c.self.inside.outcome) c.step.new.self c.args.context true
     c.self.invariant may (c.step.ensures.program ∙ c.reserve_entries.ensures.program)
     (c.in-Err-Memory.ensures.not_made ∙ c.reserve_entries.ensures.schedule)
-    c.step.ensures.calling
+    (c.step.ensures.space ∙ c.reserve_entries.ensures.space) c.step.ensures.calling
     (omega (arith, c.reserve_entries.ensures.capacity, c.step.ensures.capacity))
     (λ _. subst (λ (p : Progress). MakesObjects g.S.Interpret.asks c.args.context
     (world_at p.story)) (sym c.self.view_is) c.requires.makes)

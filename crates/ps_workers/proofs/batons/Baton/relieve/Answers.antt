@@ -20,7 +20,7 @@ invariant_of-self g c =
     (memory_wanted g.M.Memory.heap g.M.Memory.grants g.S.Interpret.asks c.args.context false _
     false g.met.M.CollectedMemory.bounded (rw c.in-Memory.is at c.requires.held_up)) in
     keeps_wanted g.S.Interpret.asks here c.self.inside.vault c.args.context false
-    c.self.invariant may refl refl may.calling (omega arith)
+    c.self.invariant may refl refl refl may.calling (omega arith)
     (λ is. absurd (true≢false (sym is))) wanted
 
 pub refuse_step-requires-clause-makes : goal.refuse_step-requires-clause-makes

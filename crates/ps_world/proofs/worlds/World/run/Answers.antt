@@ -1,8 +1,7 @@
 -- Own steps, and the step behind them.
 use Rattle.std.proofs.Common.{None, Ok, Err, refl}
-use Rattle.ps_world.proofs.Behind.{run_settles, run_left, still_there, behind_is_steady, behind_finishes, behind_keeps, behind_unmade}
+use Rattle.ps_world.proofs.Behind.{run_settles, run_left, still_there, behind_is_steady, behind_finishes, behind_unmade}
 use Rattle.ps_world.proofs.Ended.{run_ended}
-use Rattle.ps_world.proofs.Telling.{shown_between}
 use Rattle.ps_world.proofs.Turned.{lends_desk, lends_runs}
 use Rattle.ps_world.proofs.worlds.World.run.Goals as goal
 
@@ -55,7 +54,7 @@ returns-in-Err-clause-makes g c =
     c.run_of-framed.result.run.made None c.requires.steady c.requires.course (Err c.in-Err.reason)
     (rw (c.in-Some.is, c.in-Err.is) at (lends_runs _ _ _ _ _ _ _ _ _
     (lends_desk c.args.identifier _ _ _ _ _ _ _ c.run_of-framed.ensures.lends)))
-    g.met.S.Interpret.few c.in-Err.reason refl)
+    g.met.S.Interpret.few refl c.in-Err.reason refl)
 
 pub finish-told-requires-clause-there : goal.finish-told-requires-clause-there
 finish-told-requires-clause-there g c =
@@ -75,17 +74,7 @@ returns-clause-makes g c =
     behind_finishes g.S.Interpret.asks _ _ c.args.identifier c.args.slot
     c.run_of-framed.result.run.made c.shown_by-shown.result c.requires.steady c.requires.course
     (Ok c.in-Ok.turned) (rw (c.in-Some.is, c.in-Ok.is) at (lends_runs _ _ _ _ _ _ _ _ _
-    (lends_desk c.args.identifier _ _ _ _ _ _ _ c.run_of-framed.ensures.lends))) c.in-Ok.turned refl
-    c.finish-told.result _
+    (lends_desk c.args.identifier _ _ _ _ _ _ _ c.run_of-framed.ensures.lends)))
+    c.args.shows c.shown_by-shown.ensures.shown c.shown_by-shown.ensures.counted
+    c.in-Ok.turned refl c.finish-told.result _
     (rw (c.shown_by-shown.ensures.heap, c.shown_by-shown.ensures.grants) at c.finish-told.ensures)
-
-pub returns-clause-words : goal.returns-clause-words
-returns-clause-words g c =
-    let keeps = behind_keeps g.S.Interpret.asks _ _ c.args.identifier c.args.slot
-    c.run_of-framed.result.run.made c.shown_by-shown.result c.requires.steady c.requires.course
-    (Ok c.in-Ok.turned) (rw (c.in-Some.is, c.in-Ok.is) at (lends_runs _ _ _ _ _ _ _ _ _
-    (lends_desk c.args.identifier _ _ _ _ _ _ _ c.run_of-framed.ensures.lends))) c.in-Ok.turned
-    c.finish-told.result _
-    (rw (c.shown_by-shown.ensures.heap, c.shown_by-shown.ensures.grants) at c.finish-told.ensures) in
-    shown_between _ _ _ c.args.shows c.shown_by-shown.result keeps.0 keeps.1
-    c.shown_by-shown.ensures.shown
