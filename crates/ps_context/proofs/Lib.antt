@@ -1,6 +1,7 @@
 pub mod Ahead
 mod Frugal
 pub mod Listing
+pub mod Reading
 pub mod Scanning
 pub mod Taking
 pub mod WindowLaw

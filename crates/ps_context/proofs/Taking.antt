@@ -1,16 +1,22 @@
 -- A token is taken from a text: the frame goes on, and the token is done over it.
-use Rattle.std.proofs.Common.{◌≡◌, ℕ, List, ◌∷◌, length, refl, subst}
+use Rattle.std.proofs.Common.{◌≡◌, ℕ, List, ◌∷◌, length, Ok, Err, refl, subst}
 use Rattle.ps_language.specs.StepFrames.{frame_turn}
 use Rattle.ps_language.specs.Token.{Token, found}
 use Rattle.ps_language.specs.Value.{Store}
+use Rattle.ps_ops.specs.declared.failure.NotMade.{NotMade as Reason}
 use Rattle.ps_control.specs.declared.frames.Source.{Source}
 use Rattle.ps_control.specs.declared.frames.Frame.{Frame}
 use Rattle.ps_control.specs.declared.frames.Frame.TheVariants.{Text}
 use Rattle.ps_control.specs.Frames.{IsSourceAt, AreFrames, AreFramesWithin}
+use Rattle.ps_acts.specs.declared.lent.Trial.{Trial}
+use Rattle.ps_acts.specs.Acts.{Asked}
 use Rattle.ps_acts.specs.Lent.{Lent, IsShown, IsGood}
-use Rattle.ps_turns.proofs.Composing.{AreGood, restacked}
+use Rattle.ps_turns.specs.declared.turned.Turned.{Turned}
+use Rattle.ps_turns.specs.Turns.{Turns}
+use Rattle.ps_turns.proofs.Composing.{AreGood, restacked, restacked_good, restacked_shown, composes}
 use Rattle.ps_values.specs.Values.{Asks}
 use Rattle.ps_frames.specs.Steps.{running_turn}
+use Rattle.ps_frames.proofs.Framing.{unmade_over}
 use Rattle.ps_tokens.specs.Tokens.{token_asks, token_turn}
 use Rattle.ps_context.specs.Texts.{scan_at, scanned_asks}
 
@@ -41,3 +47,35 @@ module _ (l : Lent) (source : Source) (at : ℕ) (below : List Frame)
         → token_asks asks token (restacked l l.operands (Text source end ∷ below)) s
         ≡ scanned_asks asks source below (scan_at source at l s) l s
     token_asked asks s shown = rw (scanned s shown) refl
+
+    -- a turn of the token over the text that goes on is the text's
+    module _ (asks : Asks) (further : IsSourceAt l.heap (length l.program) source end)
+        (good : IsGood l) (trial : Trial) where
+      abbrev pub behind : Lent
+      behind = restacked l l.operands (Text source end ∷ below)
+
+      abbrev pub asked : Lent → Store → Asked
+      asked m s = scanned_asks asks source below (scan_at source at m s) m s
+
+      pub behind_good : IsGood behind
+      behind_good = restacked_good l l.operands (Text source end ∷ below)
+          (further_good end further good) good
+
+      behind_shown : (s : Store) → IsShown l s → IsShown behind s
+      behind_shown = restacked_shown l l.operands (Text source end ∷ below)
+          (further_good end further good)
+
+      pub token_goes : (turned : Turned) (new : Lent)
+          → Turns (token_asks asks token) (token_turn token) trial (Ok turned) behind new
+          → Turns asked running_turn trial (Ok turned) l new
+      token_goes =
+          composes l l.operands (Text source end ∷ below) asked (token_asks asks token) running_turn
+          (token_turn token) trial IsShown behind_shown token_is (token_asked asks)
+
+      -- not made; the frame is put back
+      pub token_unmade : (reason : Reason) (new : Lent)
+          → Turns (token_asks asks token) (token_turn token) trial (Err reason) behind new
+          → Turns asked running_turn trial (Err reason) l (record new { frames = l.frames })
+      token_unmade =
+          unmade_over l (Text source end ∷ below) asked (token_asks asks token) running_turn
+          (token_turn token) trial IsShown behind_shown token_is (token_asked asks) good

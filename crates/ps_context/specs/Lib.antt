@@ -2,3 +2,4 @@ pub mod Elements
 pub mod Texts
 pub mod Steps
 pub mod Few
+pub mod Reading

@@ -14,6 +14,7 @@ use Rattle.ps_scan.specs.declared.tokens.ScanFault.TheVariants.{Syntax, Limit, M
 use Rattle.ps_scan.specs.declared.tokens.Token.{Token}
 use Rattle.ps_scan.specs.Shown.{TakesMemory, scan_of, token_of}
 use Rattle.ps_control.specs.declared.frames.Source.{Source}
+use Rattle.ps_control.specs.declared.frames.Source.TheVariants.{Program, Text as TextOf}
 use Rattle.ps_control.specs.declared.frames.Frame.{Frame}
 use Rattle.ps_control.specs.Frames.{source_of, frames_in}
 use Rattle.ps_acts.specs.Acts.{Asked}
@@ -35,6 +36,11 @@ abbrev pub scan_at : Source → (at : ℕ) → Lent → Store → Scan
 scan_at source at l s = scan (bytes_of source l s) at
 
 -- ---- what was scanned
+
+-- of the program itself, and of a string what was read of it
+abbrev pub bytes_scanned : Source → (program list : List ℕ) → List ℕ
+bytes_scanned Program program list = program
+bytes_scanned (TextOf part) program list = list
 
 -- the outcome is that fault; where memory ran out, what is known is given
 abbrev pub IsFaulty : (starved : Type 0) → Fault → Scan → Type 0

@@ -5,6 +5,7 @@
 mod elements;
 pub mod laws;
 mod runs;
+mod sources;
 pub mod steps;
 pub mod texts;
 mod windows;

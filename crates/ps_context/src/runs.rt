@@ -11,10 +11,10 @@ ghost use Rattle.ps_context.specs.Elements.{Begins};
 ghost use Rattle.ps_context.specs.Steps.{own_asks};
 
 use crate::elements::do_first;
-use crate::texts::text_turn;
+use crate::texts::{Taken, read_token, text_turn};
 use ps_acts::lent::{Context, Shared, Trial};
 use ps_control::ahead::Ahead;
-use ps_control::frames::{Frame, push_frame};
+use ps_control::frames::{Frame, Source, push_frame, replace_top};
 use ps_frames::ahead::turn_ahead;
 use ps_frames::elements::{element_ahead, pushed_turn};
 use ps_frames::frames::drop_top;
@@ -151,6 +151,104 @@ fn run_entered<O: Operate, M: Memory>(
     Run { made, next: None }
 }
 
+/// Makes the first steps of the topmost frame, a text, at most so many: those of its next tokens, as
+/// far as operands alone do them, and that of the token behind them. The text's frame goes on once
+/// for all of them. The records go into the log of a slot.
+#[inline(always)]
+fn run_text<O: Operate, M: Memory>(
+    source: Source,
+    at: usize,
+    most: u32,
+    slot: u32,
+    text: &mut Vec<u8>,
+    operators: &O,
+    context: &mut Context,
+    shared: &mut Shared,
+    memory: &mut M,
+) -> Run
+    requires slot { slot < SLOTS }
+    requires good { IsGood
+        (lent (M.heap memory.old) (M.grants memory.old) context.old shared.old) }
+    requires top { first_of context.old.frames ≡ Some (Frame.Text source at) }
+    ensures within { result.made ≤ most }
+    ensures fewer { IsSome result.next → result.made < most }
+    ensures all { IsNone result.next → result.made ≡ most }
+    ensures runs { Runs (own_asks O.asks) slot result.made result.next
+        (lent (M.heap memory.old) (M.grants memory.old) context.old shared.old)
+        (lent (M.heap memory.new) (M.grants memory.new) context.new shared.new) }
+{
+    let trial = Trial {
+        slot,
+        refused: false,
+    };
+    let mut place = at;
+    let mut made = 0;
+    while made < most {
+        match read_token(
+            source, place, text, operators, context, shared, memory, trial,
+        ) {
+            Taken::Done(end) => {
+                place = end;
+                made += 1;
+            }
+            Taken::Came(turned) => {
+                return Run {
+                    made,
+                    next: Some(turned),
+                };
+            }
+        }
+    }
+    replace_top(&mut context.frames, Frame::Text { source, at: place });
+    Run { made, next: None }
+}
+
+/// Makes the first steps of the topmost frame where none goes ahead, at most so many: of a text
+/// those of its next tokens, and of every other frame that of its turn. The records go into the log
+/// of a slot.
+#[inline(never)]
+fn run_turns<O: Operate, M: Memory>(
+    most: u32,
+    slot: u32,
+    text: &mut Vec<u8>,
+    operators: &O,
+    context: &mut Context,
+    shared: &mut Shared,
+    memory: &mut M,
+) -> Run
+    requires slot { slot < SLOTS }
+    requires good { IsGood
+        (lent (M.heap memory.old) (M.grants memory.old) context.old shared.old) }
+    requires some { 1 ≤ most }
+    requires framed { context.old.frames ≢ [] }
+    ensures within { result.made ≤ most }
+    ensures fewer { IsSome result.next → result.made < most }
+    ensures more { IsNone result.next → 1 ≤ result.made }
+    ensures runs { Runs (own_asks O.asks) slot result.made result.next
+        (lent (M.heap memory.old) (M.grants memory.old) context.old shared.old)
+        (lent (M.heap memory.new) (M.grants memory.new) context.new shared.new) }
+{
+    let Some(top) = context.frames.top() else {
+        unreachable!()
+    };
+    match top {
+        Frame::Text { source, at } => run_text(
+            source, at, most, slot, text, operators, context, shared, memory,
+        ),
+        _ => {
+            let trial = Trial {
+                slot,
+                refused: false,
+            };
+            let next = turn_frame(text, operators, context, shared, memory, trial);
+            Run {
+                made: 0,
+                next: Some(next),
+            }
+        }
+    }
+}
+
 /// How steps of the topmost frame begin.
 #[derive(Clone, Copy, Debug, PartialEq, Eq)]
 pub enum Begin {
@@ -198,8 +296,8 @@ fn begin_with<M: Memory>(
 }
 
 /// Makes the first steps of the topmost frame, at most so many, and one at least but where it is
-/// told what the first came to: of a procedure those of its first elements, and of everything else
-/// one. The records go into the log of a slot.
+/// told what the first came to: of a procedure those of its first elements, of a text those of its
+/// next tokens, and of everything else one. The records go into the log of a slot.
 #[inline(always)]
 pub fn run_frame<O: Operate, M: Memory>(
     most: u32,
@@ -238,16 +336,6 @@ pub fn run_frame<O: Operate, M: Memory>(
             made: 1,
             next: None,
         },
-        Begin::Left => {
-            let trial = Trial {
-                slot,
-                refused: false,
-            };
-            let next = turn_frame(text, operators, context, shared, memory, trial);
-            Run {
-                made: 0,
-                next: Some(next),
-            }
-        }
+        Begin::Left => run_turns(most, slot, text, operators, context, shared, memory),
     }
 }

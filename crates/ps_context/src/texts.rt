@@ -1,32 +1,38 @@
 //! A step by a text: its next token is taken and done (PLRM2, 3.2, 3.5).
 
-ghost use Rattle.std.specs.Prelude.{◌≡◌, ℕ, ◌<◌, ◌≤◌, ◌+◌, ◌-◌, ◌^◌, drop, length, Some};
+ghost use Rattle.std.specs.Prelude.{◌≡◌, ℕ, ◌<◌, ◌≤◌, ◌+◌, ◌-◌, ◌^◌, ⊤, drop, length, Some};
 ghost use Rattle.ps_language.specs.Token.{found};
 ghost use Rattle.ps_acts.specs.Lent.{lent, IsGood, IsShown};
 ghost use Rattle.ps_control.specs.Frames.{IsSourceAt, source_of};
 ghost use Rattle.ps_mem.specs.Heap.{birth_at};
 ghost use Rattle.ps_language.specs.Value.{Store};
+ghost use Rattle.ps_mem.specs.Shows.{AreValues, IsSound};
 ghost use Rattle.ps_scan.specs.Shown.{token_of};
 ghost use Rattle.ps_stacks.specs.Tops.{first_of};
 ghost use Rattle.ps_tokens.specs.Short.{IsShort};
 ghost use Rattle.ps_turns.specs.Turns.{Turns};
 ghost use Rattle.ps_frames.specs.Steps.{running_turn};
+ghost use Rattle.ps_context.specs.Reading.{read_to, IsRead, Reads, Takes};
 ghost use Rattle.ps_context.specs.Texts.{IsFaulty, IsScanned, Starves, IsTaken, scan_at, scanned_asks, text_asks};
 
-use crate::windows::scan_string;
-use ps_acts::lent::{Context, Shared, Trial};
+use crate::sources::{scan_source, scanned_bytes};
+use ps_acts::lent::{Context, Dictionaries, Shared, Trial};
 use ps_control::frames::{Frame, Source, replace_top};
 use ps_frames::frames::drop_top;
 use ps_language::errors::ErrorName;
 use ps_mem::{Memory, SLOTS};
-use ps_operands::plain;
+use ps_names::Names;
+use ps_operands::{Operands, plain};
 use ps_ops::failure::NotMade;
-use ps_scan::{ScanFault, Token, TokenKind, next_token};
-use ps_tokens::laws::scanned_is_short;
+use ps_scan::{ScanFault, Token, TokenKind};
 use ps_tokens::tokens::do_token;
+use ps_tokens::words::word_of;
 use ps_turns::raises::raise;
 use ps_turns::turned::Turned;
 use ps_values::operates::Operate;
+use ps_values::quick::{Quick, do_quickly};
+use ps_values::values::treat;
+use ps_word::words::Word;
 
 /// A token that was scanned is taken, and done.
 ///
@@ -126,7 +132,7 @@ fn fault_turn<O: Operate, M: Memory>(
 ///
 /// `Memory`: there was none to scan. Not made, with nothing changed: also as the token, or the note
 /// of an error.
-#[inline(always)]
+#[inline(never)]
 fn scanned_turn<O: Operate, M: Memory>(
     source: Source,
     at: usize,
@@ -176,6 +182,188 @@ fn scanned_turn<O: Operate, M: Memory>(
     }
 }
 
+/// What the next token of a text came to.
+#[derive(Clone, Copy, Debug)]
+pub enum Taken {
+    /// It was done by operands alone, and ends at this place.
+    Done(usize),
+    /// The turn came to this.
+    Came(Result<Turned, NotMade>),
+}
+
+/// What a token that was scanned came to by operands alone.
+#[derive(Clone, Copy, Debug, PartialEq, Eq)]
+pub enum Read {
+    /// It is done, and ends at this place.
+    Done(usize),
+    /// Nothing has changed. It is done as its word, which is treated as this value, and ends at
+    /// this place.
+    Treats { word: Word, value: Word, end: usize },
+    /// Nothing has changed, and no more is known.
+    Left,
+}
+
+/// Does a token that was scanned by operands alone, where that raises no error and forms no name.
+/// Else it tells as which value the token is treated, where its name was met and looked up. The
+/// memory stays as it is.
+#[inline(always)]
+fn token_ahead<O: Operate, M: Memory>(
+    scanned: &Result<Option<Token>, ScanFault>,
+    text: &[u8],
+    operators: &O,
+    dictionaries: &Dictionaries,
+    names: &Names,
+    operands: &mut Operands,
+    memory: &mut M,
+) -> Read
+    requires sound { IsSound (M.heap memory.old) }
+    requires dictionaries { AreValues (M.heap memory.old) dictionaries.now }
+    requires short { IsTaken (λ end. ⊤) text.now scanned.now }
+    ensures heap { M.heap memory.new ≡ M.heap memory.old }
+    ensures grants { M.grants memory.new ≡ M.grants memory.old }
+    ensures reads { Reads O.asks (M.heap memory.old) dictionaries.now names.now text.now result
+        scanned.now operands.old operands.new }
+{
+    let Ok(Some(token)) = scanned else {
+        return Read::Left;
+    };
+    let Some(word) = word_of(&token.kind, text, names) else {
+        return Read::Left;
+    };
+    let end = token.end;
+    match do_quickly(word, operators, dictionaries, operands, memory) {
+        Quick::Done => Read::Done(end),
+        Quick::Treats(value) => Read::Treats { word, value, end },
+        Quick::Left => Read::Left,
+    }
+}
+
+/// A token is done as its value is treated, and the frame of the text goes on behind it. Raises what
+/// the value raises, with the token's word as the command.
+///
+/// Not made, with nothing changed but for the frame, which is read up to the token: as the value.
+#[inline(never)]
+fn treat_token<O: Operate, M: Memory>(
+    source: Source,
+    at: usize,
+    end: usize,
+    word: Word,
+    value: Word,
+    operators: &O,
+    context: &mut Context,
+    shared: &mut Shared,
+    memory: &mut M,
+    trial: Trial,
+) -> Result<Turned, NotMade>
+    requires slot { trial.slot < SLOTS }
+    requires framed { 1 ≤ length context.old.frames }
+    requires good { IsGood (read_to source at
+        (lent (M.heap memory.old) (M.grants memory.old) context.old shared.old)) }
+    requires read { IsRead O.asks source at word value end (read_to source at
+        (lent (M.heap memory.old) (M.grants memory.old) context.old shared.old)) }
+    ensures { Turns (text_asks O.asks source at (drop 1 context.old.frames)) running_turn trial
+        result (read_to source at
+        (lent (M.heap memory.old) (M.grants memory.old) context.old shared.old))
+        (lent (M.heap memory.new) (M.grants memory.new) context.new shared.new) }
+{
+    let behind = Frame::Text { source, at: end };
+    replace_top(&mut context.frames, behind);
+    match treat(value, word, operators, context, shared, memory, trial) {
+        Ok(turned) => Ok(turned),
+        Err(reason) => {
+            let before = Frame::Text { source, at };
+            replace_top(&mut context.frames, before);
+            Err(reason)
+        }
+    }
+}
+
+/// What was scanned of a text behind a place is taken: a token is done by operands alone, or the
+/// frame goes on from that place and the turn is made.
+#[inline(always)]
+fn take_scanned<O: Operate, M: Memory>(
+    source: Source,
+    at: usize,
+    scanned: Result<Option<Token>, ScanFault>,
+    text: &[u8],
+    operators: &O,
+    context: &mut Context,
+    shared: &mut Shared,
+    memory: &mut M,
+    trial: Trial,
+) -> Taken
+    requires slot { trial.slot < SLOTS }
+    requires framed { 1 ≤ length context.old.frames }
+    requires good { IsGood (read_to source at
+        (lent (M.heap memory.old) (M.grants memory.old) context.old shared.old)) }
+    requires scanned { (s : Store) → IsShown (read_to source at
+        (lent (M.heap memory.old) (M.grants memory.old) context.old shared.old)) s
+        → let outcome = scan_at source at
+        (lent (M.heap memory.old) (M.grants memory.old) context.old shared.old) s in
+        IsScanned (Starves (source_of (birth_at (M.heap memory.old)) source) outcome) text.now
+        scanned outcome }
+    requires token { IsTaken
+        (IsSourceAt (M.heap memory.old) (length shared.old.program.now) source) text.now scanned }
+    ensures { Takes O.asks source at trial result
+        (lent (M.heap memory.old) (M.grants memory.old) context.old shared.old)
+        (lent (M.heap memory.new) (M.grants memory.new) context.new shared.new) }
+{
+    let dictionaries = &context.dictionaries;
+    let operands = &mut context.operands;
+    let names = &shared.names;
+    match token_ahead(
+        &scanned,
+        text,
+        operators,
+        dictionaries,
+        names,
+        operands,
+        memory,
+    ) {
+        Read::Done(end) => Taken::Done(end),
+        Read::Treats { word, value, end } => Taken::Came(treat_token(
+            source, at, end, word, value, operators, context, shared, memory, trial,
+        )),
+        Read::Left => {
+            let top = Frame::Text { source, at };
+            replace_top(&mut context.frames, top);
+            Taken::Came(scanned_turn(
+                source, at, scanned, text, operators, context, shared, memory, trial,
+            ))
+        }
+    }
+}
+
+/// The next token of a text behind a place is taken. A string is read into the list as it stands
+/// now, as far as the token takes.
+#[inline(always)]
+pub fn read_token<O: Operate, M: Memory>(
+    source: Source,
+    at: usize,
+    list: &mut Vec<u8>,
+    operators: &O,
+    context: &mut Context,
+    shared: &mut Shared,
+    memory: &mut M,
+    trial: Trial,
+) -> Taken
+    requires slot { trial.slot < SLOTS }
+    requires framed { 1 ≤ length context.old.frames }
+    requires good { IsGood (read_to source at
+        (lent (M.heap memory.old) (M.grants memory.old) context.old shared.old)) }
+    ensures { Takes O.asks source at trial result
+        (lent (M.heap memory.old) (M.grants memory.old) context.old shared.old)
+        (lent (M.heap memory.new) (M.grants memory.new) context.new shared.new) }
+{
+    let alloc = *shared.printed.allocator();
+    let program = shared.program;
+    let scanned = scan_source(source, at, program, list, memory, alloc);
+    let text = scanned_bytes(source, program, list);
+    take_scanned(
+        source, at, scanned, text, operators, context, shared, memory, trial,
+    )
+}
+
 /// A step by the topmost frame, a text: its next token is taken and done; with none left the frame
 /// goes. A string is read into the list as it stands now, as far as the token takes. Raises
 /// `syntaxerror` and `limitcheck` with the command null where the text breaks the grammar or a
@@ -203,28 +391,10 @@ pub fn text_turn<O: Operate, M: Memory>(
         (lent (M.heap memory.new) (M.grants memory.new) context.new shared.new) }
 {
     let alloc = *shared.printed.allocator();
-    match source {
-        Source::Program => {
-            scanned_is_short();
-            let text = shared.program;
-            let scanned = next_token(alloc, text, at);
-            scanned_turn(
-                source, at, scanned, text, operators, context, shared, memory, trial,
-            )
-        }
-        Source::Text(part) => {
-            let scanned = scan_string(memory, part, at, list, alloc);
-            scanned_turn(
-                source,
-                at,
-                scanned,
-                list.as_slice(),
-                operators,
-                context,
-                shared,
-                memory,
-                trial,
-            )
-        }
-    }
+    let program = shared.program;
+    let scanned = scan_source(source, at, program, list, memory, alloc);
+    let text = scanned_bytes(source, program, list);
+    scanned_turn(
+        source, at, scanned, text, operators, context, shared, memory, trial,
+    )
 }

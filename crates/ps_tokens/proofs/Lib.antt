@@ -20,3 +20,4 @@ pub mod StringTurns
 pub mod Together
 pub mod Unmet
 pub mod Walking
+pub mod Worded

@@ -5,3 +5,4 @@ pub mod Names
 pub mod Procedures
 pub mod Short
 pub mod Tokens
+pub mod Words

@@ -12,3 +12,4 @@ pub mod procedures;
 mod room;
 pub mod strings;
 pub mod tokens;
+pub mod words;

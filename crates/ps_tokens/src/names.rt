@@ -38,7 +38,7 @@ pub enum NameKind {
 impl NameKind {
     /// Whether the word of the name is executable.
     #[inline]
-    fn is_executed(self) -> bool
+    pub(crate) fn is_executed(self) -> bool
         ensures { result ≡ is_executed self }
     {
         match self {

@@ -1,10 +1,8 @@
 -- The steps of a procedure, that of a loop, or the turn of another frame.
 use Rattle.std.proofs.Common.{◌≤◌, arith, sym}
 use Rattle.std.proofs.lemmas.Bool.{true≢false}
-use Rattle.ps_acts.specs.Lent.{Lent, lent}
-use Rattle.ps_interpreter.proofs.Running.{run_none}
 use Rattle.ps_context.specs.Steps.{own_asks}
-use Rattle.ps_context.proofs.Ahead.{turned_behind, runs_then, some_made}
+use Rattle.ps_context.proofs.Ahead.{runs_then, some_made}
 use Rattle.ps_context.proofs.runs.run_frame.Goals as goal
 
 pub run_entered-run-requires-clause-good : goal.run_entered-run-requires-clause-good
@@ -42,15 +40,11 @@ returns-in-Goes g c = record {
 
 pub returns-in-Left : goal.returns-in-Left
 returns-in-Left g c =
-    let l : Lent = lent (g.M.Memory.heap c.args.memory.now) (g.M.Memory.grants c.args.memory.now)
-    c.args.context.now c.args.shared.now in
     let same = rw c.in-Left.is at c.begin_with.ensures.begins in
     record {
-      within = omega arith;
-      fewer = λ some. c.requires.some;
-      more = λ none. absurd (true≢false none);
-      runs = turned_behind g.O.Operate.asks c.args.slot 0 l l _
-          (run_none l c.requires.good) c.requires.framed
-          c.turn_frame-next.result
-          (rw (c.begin_with.ensures.heap, c.begin_with.ensures.grants, same) at c.turn_frame-next.ensures);
+      within = c.run_turns.ensures.within;
+      fewer = c.run_turns.ensures.fewer;
+      more = c.run_turns.ensures.more;
+      runs = rw (c.begin_with.ensures.heap, c.begin_with.ensures.grants, same)
+          at c.run_turns.ensures.runs;
     }

@@ -1,0 +1,47 @@
+-- By the source.
+use Rattle.std.proofs.Common.{ℕ, ◌≤◌, List, length, arith, sym, subst}
+use Rattle.ps_language.specs.Scan.{scan}
+use Rattle.ps_language.specs.StepFrames.{source_bytes}
+use Rattle.ps_language.specs.Value.{Store}
+use Rattle.ps_mem.specs.Heap.{birth_at}
+use Rattle.ps_mem.specs.Shows.{Shows}
+use Rattle.ps_control.specs.declared.frames.Source.{Source}
+use Rattle.ps_control.specs.declared.frames.Source.TheVariants.{Text as TextOf}
+use Rattle.ps_control.specs.Frames.{IsSourceAt, IsSourceWithin, source_of}
+use Rattle.ps_context.specs.Texts.{IsScanned, Starves, IsTaken, bytes_scanned}
+use Rattle.ps_context.proofs.Scanning.{taken, taken_at}
+use Rattle.ps_context.proofs.sources.scan_source.Goals as goal
+
+pub returns-in-Program-clause-token : goal.returns-in-Program-clause-token
+returns-in-Program-clause-token g c =
+    let program = c.args.program.now in
+    subst (λ (source : Source). IsTaken
+    (IsSourceAt (g.M.Memory.heap c.args.memory.now) (length program) source)
+    (bytes_scanned source program c.args.list.now.items) c.next_token.result) (sym c.in-Program.is)
+    (taken program c.args.at (length program) c.next_token.result (omega arith)
+    c.next_token.ensures.answer c.next_token.ensures.place)
+
+pub returns-in-Text-clause-scanned : goal.returns-in-Text-clause-scanned
+returns-in-Text-clause-scanned g c =
+    let heap = g.M.Memory.heap c.args.memory.now in
+    subst (λ (source : Source). (names : List (List ℕ)) (s : Store) → Shows heap names s
+    → IsSourceWithin (birth_at heap) s source
+    → let whose = source_of (birth_at heap) source in
+    let outcome = scan (source_bytes c.args.program.now s whose) c.args.at in
+    IsScanned (Starves whose outcome)
+    (bytes_scanned source c.args.program.now c.scan_string.new.list.items) c.scan_string.result
+    outcome) (sym c.in-Text.is)
+    c.scan_string.ensures.scanned
+
+pub returns-in-Text-clause-token : goal.returns-in-Text-clause-token
+returns-in-Text-clause-token g c =
+    let heap = g.M.Memory.heap c.args.memory.now in
+    let size = length c.args.program.now in
+    let held = subst (λ (source : Source). IsSourceAt heap size source c.args.at) c.in-Text.is
+    c.requires.place in
+    subst (λ (source : Source). IsTaken (IsSourceAt heap size source)
+    (bytes_scanned source c.args.program.now c.scan_string.new.list.items) c.scan_string.result)
+    (sym c.in-Text.is)
+    (taken_at c.scan_string.new.list.items (λ end. end ≤ c.in-Text.part.length)
+    (IsSourceAt heap size (TextOf c.in-Text.part)) c.scan_string.result
+    (λ end below. (held.0, below)) c.scan_string.ensures.token)

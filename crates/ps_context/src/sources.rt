@@ -1,0 +1,63 @@
+//! The next token of a source: of the program, or of a string that is executed (PLRM2, 3.2).
+
+ghost use Rattle.std.specs.Prelude.{◌≡◌, ℕ, ◌≤◌, List, length};
+ghost use Rattle.ps_language.specs.Scan.{scan};
+ghost use Rattle.ps_language.specs.StepFrames.{source_bytes};
+ghost use Rattle.ps_language.specs.Value.{Store};
+ghost use Rattle.ps_control.specs.Frames.{IsSourceAt, IsSourceWithin, source_of};
+ghost use Rattle.ps_mem.specs.Heap.{birth_at};
+ghost use Rattle.ps_mem.specs.Shows.{IsSound, Shows};
+ghost use Rattle.ps_context.specs.Texts.{IsScanned, Starves, IsTaken, bytes_scanned};
+
+use crate::windows::scan_string;
+use ps_control::frames::Source;
+use ps_mem::Memory;
+use ps_scan::{ScanFault, Token, next_token};
+use ps_tokens::laws::scanned_is_short;
+use std::alloc::Global;
+
+/// The bytes that were scanned: the program, or what was read of a string.
+#[inline(always)]
+pub(crate) fn scanned_bytes<'a>(source: Source, program: &'a [u8], list: &'a Vec<u8>) -> &'a [u8]
+    ensures { result.now ≡ bytes_scanned source program.now list.now.items }
+{
+    match source {
+        Source::Program => program,
+        Source::Text(_) => list.as_slice(),
+    }
+}
+
+/// The next token of a source behind a place. A string is read into the list as it stands now, as
+/// far as the token takes. The memory stays as it is.
+///
+/// Faults as the scanner's. `ScanFault::Memory`: also a growth of the list was refused.
+#[inline(always)]
+pub(crate) fn scan_source<M: Memory>(
+    source: Source,
+    at: usize,
+    program: &[u8],
+    list: &mut Vec<u8>,
+    memory: &mut M,
+    alloc: Global,
+) -> Result<Option<Token>, ScanFault>
+    requires sound { IsSound (M.heap memory.old) }
+    requires place { IsSourceAt (M.heap memory.old) (length program.now) source at }
+    ensures heap { M.heap memory.new ≡ M.heap memory.old }
+    ensures grants { M.grants memory.new ≡ M.grants memory.old }
+    ensures scanned { (names : List (List ℕ)) (s : Store) → Shows (M.heap memory.old) names s
+        → IsSourceWithin (birth_at (M.heap memory.old)) s source
+        → let whose = source_of (birth_at (M.heap memory.old)) source in
+        let outcome = scan (source_bytes program.now s whose) at in
+        IsScanned (Starves whose outcome) (bytes_scanned source program.now list.new.items) result
+        outcome }
+    ensures token { IsTaken (IsSourceAt (M.heap memory.old) (length program.now) source)
+        (bytes_scanned source program.now list.new.items) result }
+{
+    match source {
+        Source::Program => {
+            scanned_is_short();
+            next_token(alloc, program, at)
+        }
+        Source::Text(part) => scan_string(memory, part, at, list, alloc),
+    }
+}
