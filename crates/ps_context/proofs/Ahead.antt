@@ -1,6 +1,7 @@
 -- One element more is done by operands alone.
 use Rattle.std.proofs.Common.{◌≡◌, ◌≢◌, ℕ, zero, suc, ◌+◌, ◌-◌, ◌<◌, ◌≤◌, arith, Bool, true, false, List, [], ◌∷◌, drop, Option, Some, None, Ok, refl, sym, ap, subst, ◌∙◌}
-use Rattle.std.specs.Prelude.{Result, IfSome, nat_lt, slice_get, if◌then◌else◌}
+use Rattle.std.specs.Prelude.{Result, IfSome, IsSome, IsNone, nat_lt, slice_get, if◌then◌else◌}
+use Rattle.std.proofs.lemmas.Bool.{true≢false}
 use Rattle.std.proofs.lemmas.Bool.Decides.{nat_tests}
 use Rattle.ps_language.specs.Access.{elements}
 use Rattle.ps_language.specs.Effect.{Around, Scene}
@@ -28,6 +29,7 @@ use Rattle.ps_values.specs.Values.{meaning, GoesIn, among, done_turn, Asks, exec
 use Rattle.ps_frames.specs.declared.elements.Element.{Element}
 use Rattle.ps_frames.specs.Steps.{frames_after, rest_frames, running_turn, frame_asks, above, IsElement}
 use Rattle.ps_frames.proofs.Taking.{rest_some, rest_good, element_made}
+use Rattle.ps_interpreter.specs.declared.interprets.Run.{Run}
 use Rattle.ps_interpreter.specs.Interprets.{asks_in, own_turn}
 use Rattle.ps_interpreter.specs.Makes.{ordinary, TurnsBehind, Runs}
 use Rattle.ps_interpreter.specs.OwnSteps.{HasRun}
@@ -317,3 +319,21 @@ pub some_made : (most made more : ℕ) → 1 ≤ most → (1 ≤ most - made →
 some_made most zero more some goes =
     let any : 1 ≤ more = goes (omega (arith, some)) in omega (arith, any)
 some_made most (suc made) more some goes = omega arith
+
+-- so many were made and no more were asked for, where the turn behind them is one more or is told
+pub with_within : (most made : ℕ) (run : Run) → made < most
+    → (IsSome run.next → run.made ≡ made) → (IsNone run.next → run.made ≡ made + 1)
+    → run.made ≤ most
+with_within most made run fewer behind more = by run.next behind more
+  where
+    by : (next : Option (Result Turned Reason)) → (IsSome next → run.made ≡ made)
+        → (IsNone next → run.made ≡ made + 1) → run.made ≤ most
+    by None behind more = let is = more refl in omega (arith, fewer, is)
+    by (Some turn) behind more = let is = behind refl in omega (arith, fewer, is)
+
+-- none is told
+pub none_runs : (asks : Status → Around → Scene → Asked) (slot made : ℕ)
+    (next : Option (Result Turned Reason)) (old new : Lent) → IsNone next
+    → Runs asks slot made next old new → HasRun made old new
+none_runs asks slot made None old new none runs = runs
+none_runs asks slot made (Some turn) old new none runs = absurd (true≢false none)

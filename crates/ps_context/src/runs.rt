@@ -1,11 +1,12 @@
 //! Steps of the topmost frame one after another, until one changes the frames (PLRM2, 3.4, 3.5).
 
-ghost use Rattle.std.specs.Prelude.{◌≡◌, ◌≢◌, ◌+◌, ◌-◌, ◌<◌, ◌≤◌, ◌^◌, [], IsSome, IsNone, Some, None, length, min};
+ghost use Rattle.std.specs.Prelude.{◌≡◌, ◌≢◌, ℕ, ◌+◌, ◌-◌, ◌<◌, ◌≤◌, ◌^◌, [], IfSome, IsSome, IsNone, Some, None, length, min};
 ghost use Rattle.ps_stacks.specs.Tops.{first_of};
-ghost use Rattle.ps_acts.specs.Lent.{lent, IsGood};
+ghost use Rattle.ps_acts.specs.Lent.{lent, Lent, IsGood};
 ghost use Rattle.ps_turns.specs.Turns.{Turns};
 ghost use Rattle.ps_interpreter.specs.Interprets.{asks_in, own_turn};
-ghost use Rattle.ps_interpreter.specs.Makes.{Runs};
+ghost use Rattle.ps_interpreter.specs.Makes.{Runs, TurnsBehind};
+ghost use Rattle.ps_values.specs.Values.{Asks};
 ghost use Rattle.ps_frames.specs.Steps.{above};
 ghost use Rattle.ps_context.specs.Elements.{Begins};
 ghost use Rattle.ps_context.specs.Steps.{own_asks};
@@ -151,6 +152,28 @@ fn run_entered<O: Operate, M: Memory>(
     Run { made, next: None }
 }
 
+/// Steps that were made, and what the turn behind them came to: where it goes on it is a step more.
+#[inline(always)]
+fn with_turn(made: u32, turn: Result<Turned, NotMade>) -> Run
+    requires few { made + 1 < 2 ^ 32 }
+    ensures behind { IsSome result.next → result.made ≡ made }
+    ensures more { IsNone result.next → result.made ≡ made + 1 }
+    ensures runs { (asks : Asks) (slot : ℕ) (old new : Lent)
+        → TurnsBehind (own_asks asks) slot made turn old new
+        → Runs (own_asks asks) slot result.made result.next old new }
+{
+    match turn {
+        Ok(Turned::Goes) => Run {
+            made: made + 1,
+            next: None,
+        },
+        _ => Run {
+            made,
+            next: Some(turn),
+        },
+    }
+}
+
 /// Makes the first steps of the topmost frame, a text, at most so many: those of its next tokens, as
 /// far as operands alone do them, and that of the token behind them. The text's frame goes on once
 /// for all of them. The records go into the log of a slot.
@@ -169,10 +192,11 @@ fn run_text<O: Operate, M: Memory>(
     requires slot { slot < SLOTS }
     requires good { IsGood
         (lent (M.heap memory.old) (M.grants memory.old) context.old shared.old) }
+    requires some { 1 ≤ most }
     requires top { first_of context.old.frames ≡ Some (Frame.Text source at) }
     ensures within { result.made ≤ most }
     ensures fewer { IsSome result.next → result.made < most }
-    ensures all { IsNone result.next → result.made ≡ most }
+    ensures more { IsNone result.next → 1 ≤ result.made }
     ensures runs { Runs (own_asks O.asks) slot result.made result.next
         (lent (M.heap memory.old) (M.grants memory.old) context.old shared.old)
         (lent (M.heap memory.new) (M.grants memory.new) context.new shared.new) }
@@ -191,12 +215,7 @@ fn run_text<O: Operate, M: Memory>(
                 place = end;
                 made += 1;
             }
-            Taken::Came(turned) => {
-                return Run {
-                    made,
-                    next: Some(turned),
-                };
-            }
+            Taken::Came(turn) => return with_turn(made, turn),
         }
     }
     replace_top(&mut context.frames, Frame::Text { source, at: place });
@@ -207,7 +226,7 @@ fn run_text<O: Operate, M: Memory>(
 /// those of its next tokens, and of every other frame that of its turn. The records go into the log
 /// of a slot.
 #[inline(never)]
-fn run_turns<O: Operate, M: Memory>(
+pub fn run_turns<O: Operate, M: Memory>(
     most: u32,
     slot: u32,
     text: &mut Vec<u8>,
@@ -240,11 +259,10 @@ fn run_turns<O: Operate, M: Memory>(
                 slot,
                 refused: false,
             };
-            let next = turn_frame(text, operators, context, shared, memory, trial);
-            Run {
-                made: 0,
-                next: Some(next),
-            }
+            with_turn(
+                0,
+                turn_frame(text, operators, context, shared, memory, trial),
+            )
         }
     }
 }
@@ -295,30 +313,32 @@ fn begin_with<M: Memory>(
     }
 }
 
-/// Makes the first steps of the topmost frame, at most so many, and one at least but where it is
-/// told what the first came to: of a procedure those of its first elements, of a text those of its
-/// next tokens, and of everything else one. The records go into the log of a slot.
+/// Makes the first steps of the topmost frame where it goes ahead, at most so many, and one at least
+/// but where it is told what the first came to: of a procedure those of its first elements, and of a
+/// loop one. `None`: it doesn't, and nothing has changed. The records go into the log of a slot.
 #[inline(always)]
-pub fn run_frame<O: Operate, M: Memory>(
+fn run_frame<O: Operate, M: Memory>(
     most: u32,
     slot: u32,
-    text: &mut Vec<u8>,
     operators: &O,
     context: &mut Context,
     shared: &mut Shared,
     memory: &mut M,
-) -> Run
+) -> Option<Run>
     requires slot { slot < SLOTS }
     requires good { IsGood
         (lent (M.heap memory.old) (M.grants memory.old) context.old shared.old) }
     requires some { 1 ≤ most }
     requires framed { context.old.frames ≢ [] }
-    ensures within { result.made ≤ most }
-    ensures fewer { IsSome result.next → result.made < most }
-    ensures more { IsNone result.next → 1 ≤ result.made }
-    ensures runs { Runs (own_asks O.asks) slot result.made result.next
+    ensures left { IsNone result
+        → lent (M.heap memory.new) (M.grants memory.new) context.new shared.new
+        ≡ lent (M.heap memory.old) (M.grants memory.old) context.old shared.old }
+    ensures within { IfSome result (λ run. run.made ≤ most) }
+    ensures fewer { IfSome result (λ run. IsSome run.next → run.made < most) }
+    ensures more { IfSome result (λ run. IsNone run.next → 1 ≤ run.made) }
+    ensures runs { IfSome result (λ run. Runs (own_asks O.asks) slot run.made run.next
         (lent (M.heap memory.old) (M.grants memory.old) context.old shared.old)
-        (lent (M.heap memory.new) (M.grants memory.new) context.new shared.new) }
+        (lent (M.heap memory.new) (M.grants memory.new) context.new shared.new)) }
 {
     let Some(top) = context.frames.top() else {
         unreachable!()
@@ -327,15 +347,52 @@ pub fn run_frame<O: Operate, M: Memory>(
         Begin::Enters { rest, made } => {
             let left = most - made;
             let run = run_entered(rest, left, operators, context, shared, memory, slot);
-            Run {
+            Some(Run {
                 made: made + run.made,
                 next: run.next,
-            }
+            })
         }
-        Begin::Goes => Run {
+        Begin::Goes => Some(Run {
             made: 1,
             next: None,
-        },
-        Begin::Left => run_turns(most, slot, text, operators, context, shared, memory),
+        }),
+        Begin::Left => None,
     }
+}
+
+/// Makes steps of one frame after another as long as they go ahead, at most so many. The records go
+/// into the log of a slot.
+#[inline(always)]
+pub fn run_ahead<O: Operate, M: Memory>(
+    most: u32,
+    slot: u32,
+    operators: &O,
+    context: &mut Context,
+    shared: &mut Shared,
+    memory: &mut M,
+) -> Run
+    requires slot { slot < SLOTS }
+    requires good { IsGood
+        (lent (M.heap memory.old) (M.grants memory.old) context.old shared.old) }
+    ensures within { result.made ≤ most }
+    ensures fewer { IsSome result.next → result.made < most }
+    ensures runs { Runs (own_asks O.asks) slot result.made result.next
+        (lent (M.heap memory.old) (M.grants memory.old) context.old shared.old)
+        (lent (M.heap memory.new) (M.grants memory.new) context.new shared.new) }
+{
+    let mut made = 0;
+    while made < most && context.frames.len() > 0 {
+        let Some(run) = run_frame(most - made, slot, operators, context, shared, memory) else {
+            return Run { made, next: None };
+        };
+        made += run.made;
+        if let Some(turn) = run.next {
+            let run = with_turn(made, turn);
+            if run.next.is_some() {
+                return run;
+            }
+            made = run.made;
+        }
+    }
+    Run { made, next: None }
 }

@@ -3,7 +3,7 @@
 ghost use Rattle.ps_context.specs.Few.{own_few};
 ghost use Rattle.ps_context.specs.Steps.{own_asks};
 
-use crate::runs::{run_frame, turn_frame};
+use crate::runs::{run_ahead, run_turns, turn_frame};
 use ps_acts::lent::{Context, Shared, Trial};
 use ps_control::frames::Cause;
 use ps_frames::unwindings::unwind_turn;
@@ -51,7 +51,7 @@ impl<O: Operate> Interpret for Steps<O> {
         }
     }
 
-    /// Steps of one frame after another.
+    /// Steps of one frame after another: those that go ahead, and then of the one that doesn't.
     #[inline(always)]
     fn run<M: Memory>(
         &mut self,
@@ -64,27 +64,27 @@ impl<O: Operate> Interpret for Steps<O> {
         let Steps { operators, text } = self;
         let mut made = 0;
         while made < most && context.frames.len() > 0 {
-            let run = run_frame(most - made, slot, text, operators, context, shared, memory);
+            let run = run_ahead(most - made, slot, operators, context, shared, memory);
             made += run.made;
-            if let Some(next) = run.next {
-                let turned = match next {
-                    Ok(turned) => turned,
-                    Err(reason) => {
-                        return Run {
-                            made,
-                            next: Some(Err(reason)),
-                        };
-                    }
+            if run.next.is_some() {
+                return Run {
+                    made,
+                    next: run.next,
                 };
-                match turned {
-                    Turned::Goes => made += 1,
-                    _ => {
-                        return Run {
-                            made,
-                            next: Some(Ok(turned)),
-                        };
-                    }
-                }
+            }
+            if made == most {
+                return Run { made, next: None };
+            }
+            if context.frames.len() == 0 {
+                return Run { made, next: None };
+            }
+            let run = run_turns(most - made, slot, text, operators, context, shared, memory);
+            made += run.made;
+            if run.next.is_some() {
+                return Run {
+                    made,
+                    next: run.next,
+                };
             }
         }
         Run { made, next: None }

@@ -18,6 +18,7 @@ returns-in-Enters g c =
     let begins = rw c.in-Enters.is at c.begin_with.ensures.begins in
     let few : c.in-Enters.made ≤ 1 = begins.few in
     record {
+      left = λ none. absurd (true≢false none);
       within = omega (arith, few, c.requires.some, c.run_entered-run.ensures.within);
       fewer = λ some.
           let fewer = c.run_entered-run.ensures.fewer some in
@@ -31,20 +32,10 @@ returns-in-Enters g c =
 
 pub returns-in-Goes : goal.returns-in-Goes
 returns-in-Goes g c = record {
+  left = λ none. absurd (true≢false none);
   within = c.requires.some;
   fewer = λ some. absurd (true≢false (sym some));
   more = λ none. omega arith;
   runs = rw (c.begin_with.ensures.heap, c.begin_with.ensures.grants)
       (rw c.in-Goes.is at c.begin_with.ensures.begins);
 }
-
-pub returns-in-Left : goal.returns-in-Left
-returns-in-Left g c =
-    let same = rw c.in-Left.is at c.begin_with.ensures.begins in
-    record {
-      within = c.run_turns.ensures.within;
-      fewer = c.run_turns.ensures.fewer;
-      more = c.run_turns.ensures.more;
-      runs = rw (c.begin_with.ensures.heap, c.begin_with.ensures.grants, same)
-          at c.run_turns.ensures.runs;
-    }

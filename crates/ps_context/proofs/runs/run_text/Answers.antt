@@ -8,6 +8,7 @@ use Rattle.ps_control.specs.declared.frames.Frame.TheVariants.{Text}
 use Rattle.ps_acts.specs.Lent.{Lent, lent}
 use Rattle.ps_interpreter.specs.OwnSteps.{HasRun}
 use Rattle.ps_interpreter.proofs.Running.{run_none}
+use Rattle.ps_context.proofs.Ahead.{with_within}
 use Rattle.ps_context.proofs.Reading.{read_more, read_behind}
 use Rattle.ps_context.proofs.runs.run_text.Goals as goal
 
@@ -39,19 +40,28 @@ loop-made-preserved g c =
 
 pub returns-in-Came : goal.returns-in-Came
 returns-in-Came g c = record {
-  within = c.loop-made.invariant.within;
-  fewer = λ some. omega (arith, nat_tests, c.loop-made-test.true);
-  all = λ none. absurd (true≢false none);
-  runs = read_behind g.O.Operate.asks c.args.slot c.loop-made.made _
+  within = with_within c.args.most c.loop-made.made c.with_turn.result
+      (omega (arith, nat_tests, c.loop-made-test.true)) c.with_turn.ensures.behind
+      c.with_turn.ensures.more;
+  fewer = λ some. omega (arith, nat_tests, c.loop-made-test.true, c.with_turn.ensures.behind some);
+  more = λ none. omega (arith, c.with_turn.ensures.more none);
+  runs = c.with_turn.ensures.runs g.O.Operate.asks c.args.slot _ _
+      (read_behind g.O.Operate.asks c.args.slot c.loop-made.made _
       (lent (g.M.Memory.heap c.loop-made.memory) (g.M.Memory.grants c.loop-made.memory)
       c.loop-made.context c.loop-made.shared) c.args.source c.loop-made.place
-      c.loop-made.invariant.makes _ _ (rw c.in-Came.is at c.read_token.ensures);
+      c.loop-made.invariant.makes _ _ (rw c.in-Came.is at c.read_token.ensures));
 }
 
 pub returns : goal.returns
 returns g c = record {
   within = c.loop-made.invariant.within;
   fewer = λ some. absurd (true≢false (sym some));
-  all = λ none. omega (arith, nat_tests, c.loop-made.invariant.within, c.loop-made-test.false);
+  more = λ none. omega (
+    arith,
+    nat_tests,
+    c.requires.some,
+    c.loop-made.invariant.within,
+    c.loop-made-test.false,
+  );
   runs = rw c.replace_top.ensures c.loop-made.invariant.makes;
 }

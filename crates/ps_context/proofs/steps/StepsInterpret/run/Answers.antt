@@ -1,51 +1,65 @@
--- Steps of one frame after another.
-use Rattle.std.proofs.Common.{◌+◌, ◌<◌, ◌-◌, arith, Some, None, Ok, Err, refl}
-use Rattle.std.proofs.lemmas.Bool.{true≢false}
-use Rattle.ps_turns.specs.declared.turned.Turned.TheVariants.{Goes}
+-- Steps of frames that go ahead, and then of one that doesn't.
+use Rattle.std.proofs.Common.{◌+◌, arith, sym, ◌∙◌}
 use Rattle.ps_interpreter.proofs.Running.{run_none}
 use Rattle.ps_context.specs.Steps.{own_asks}
-use Rattle.ps_context.proofs.Ahead.{goes_behind, runs_then}
+use Rattle.ps_context.proofs.Ahead.{runs_then, none_runs}
 use Rattle.ps_context.proofs.steps.StepsInterpret.run.Goals as goal
 
 pub loop-made-init : goal.loop-made-init
 loop-made-init g c = record { within = omega arith; makes = run_none _ c.requires.good }
 
-pub returns-in-Err-clause-runs : goal.returns-in-Err-clause-runs
-returns-in-Err-clause-runs g c =
-    runs_then (own_asks g.O.Operate.asks) c.args.slot c.loop-made.made c.run_frame-run.result.made
-    (Some (Err c.in-Err.reason)) _ _ _ c.loop-made.invariant.makes
-    (rw (c.in-Some.is, c.in-Err.is) at c.run_frame-run.ensures.runs)
+pub returns-then-is_some-clause-runs : goal.returns-then-is_some-clause-runs
+returns-then-is_some-clause-runs g c =
+    runs_then (own_asks g.O.Operate.asks) c.args.slot c.loop-made.made c.run_ahead-run.result.made
+    c.run_ahead-run.result.next _ _ _ c.loop-made.invariant.makes c.run_ahead-run.ensures.runs
 
-pub loop-made-preserved-in-Goes : goal.loop-made-preserved-in-Goes
-loop-made-preserved-in-Goes g c =
-    let fewer : c.run_frame-run.result.made < c.args.most - c.loop-made.made =
-    (rw c.in-Some.is at c.run_frame-run.ensures.fewer) refl in
-    record {
-      within = omega (arith, c.loop-made.invariant.within, fewer);
-      makes = goes_behind g.O.Operate.asks c.args.slot
-          (c.loop-made.made + c.run_frame-run.result.made) _ _
-          (runs_then (own_asks g.O.Operate.asks) c.args.slot c.loop-made.made
-          c.run_frame-run.result.made (Some (Ok Goes)) _ _ _ c.loop-made.invariant.makes
-          (rw (c.in-Some.is, c.in-Ok.is, c.in-Goes.is) at c.run_frame-run.ensures.runs));
-    }
+pub returns-then-made-most-clause-runs : goal.returns-then-made-most-clause-runs
+returns-then-made-most-clause-runs g c =
+    none_runs (own_asks g.O.Operate.asks) c.args.slot
+    (c.loop-made.made + c.run_ahead-run.result.made) c.run_ahead-run.result.next _ _
+    (sym c.is_some.ensures ∙ c.if-is_some.false)
+    (runs_then (own_asks g.O.Operate.asks) c.args.slot c.loop-made.made c.run_ahead-run.result.made
+    c.run_ahead-run.result.next _ _ _ c.loop-made.invariant.makes c.run_ahead-run.ensures.runs)
 
-pub returns-in_default-turned : goal.returns-in_default-turned
-returns-in_default-turned g c =
-    let fewer : c.run_frame-run.result.made < c.args.most - c.loop-made.made =
-    (rw c.in-Some.is at c.run_frame-run.ensures.fewer) refl in
-    record {
-      within = omega (arith, c.loop-made.invariant.within, c.run_frame-run.ensures.within);
-      fewer = λ some. omega (arith, c.loop-made.invariant.within, fewer);
-      ended = λ none. absurd (true≢false none);
-      runs = runs_then (own_asks g.O.Operate.asks) c.args.slot c.loop-made.made
-          c.run_frame-run.result.made (Some (Ok c.in-Ok.turned)) _ _ _ c.loop-made.invariant.makes
-          (rw (c.in-Some.is, c.in-Ok.is) at c.run_frame-run.ensures.runs);
-    }
+pub returns-then-len-eq0-clause-runs : goal.returns-then-len-eq0-clause-runs
+returns-then-len-eq0-clause-runs g c =
+    none_runs (own_asks g.O.Operate.asks) c.args.slot
+    (c.loop-made.made + c.run_ahead-run.result.made) c.run_ahead-run.result.next _ _
+    (sym c.is_some.ensures ∙ c.if-is_some.false)
+    (runs_then (own_asks g.O.Operate.asks) c.args.slot c.loop-made.made c.run_ahead-run.result.made
+    c.run_ahead-run.result.next _ _ _ c.loop-made.invariant.makes c.run_ahead-run.ensures.runs)
+
+pub returns-then-is_some-2-clause-runs : goal.returns-then-is_some-2-clause-runs
+returns-then-is_some-2-clause-runs g c =
+    runs_then (own_asks g.O.Operate.asks) c.args.slot
+    (c.loop-made.made + c.run_ahead-run.result.made) c.run_turns-run.result.made
+    c.run_turns-run.result.next _ _ _
+    (none_runs (own_asks g.O.Operate.asks) c.args.slot
+    (c.loop-made.made + c.run_ahead-run.result.made) c.run_ahead-run.result.next _ _
+    (sym c.is_some.ensures ∙ c.if-is_some.false)
+    (runs_then (own_asks g.O.Operate.asks) c.args.slot c.loop-made.made c.run_ahead-run.result.made
+    c.run_ahead-run.result.next _ _ _ c.loop-made.invariant.makes c.run_ahead-run.ensures.runs))
+    c.run_turns-run.ensures.runs
 
 pub loop-made-preserved : goal.loop-made-preserved
 loop-made-preserved g c = record {
-  within = omega (arith, c.loop-made.invariant.within, c.run_frame-run.ensures.within);
-  makes = runs_then (own_asks g.O.Operate.asks) c.args.slot c.loop-made.made
-      c.run_frame-run.result.made None _ _ _ c.loop-made.invariant.makes
-      (rw c.in_default.is at c.run_frame-run.ensures.runs);
+  within = omega (
+    arith,
+    c.loop-made.invariant.within,
+    c.run_ahead-run.ensures.within,
+    c.run_turns-run.ensures.within,
+  );
+  makes = none_runs (own_asks g.O.Operate.asks) c.args.slot
+      ((c.loop-made.made + c.run_ahead-run.result.made) + c.run_turns-run.result.made)
+      c.run_turns-run.result.next _ _
+      (sym c.is_some-in-loop-made.ensures ∙ c.if-is_some-2.false)
+      (runs_then (own_asks g.O.Operate.asks) c.args.slot
+      (c.loop-made.made + c.run_ahead-run.result.made) c.run_turns-run.result.made
+      c.run_turns-run.result.next _ _ _
+      (none_runs (own_asks g.O.Operate.asks) c.args.slot
+      (c.loop-made.made + c.run_ahead-run.result.made) c.run_ahead-run.result.next _ _
+      (sym c.is_some.ensures ∙ c.if-is_some.false)
+      (runs_then (own_asks g.O.Operate.asks) c.args.slot c.loop-made.made
+      c.run_ahead-run.result.made c.run_ahead-run.result.next _ _ _ c.loop-made.invariant.makes
+      c.run_ahead-run.ensures.runs)) c.run_turns-run.ensures.runs);
 }
