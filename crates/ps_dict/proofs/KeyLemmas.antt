@@ -1,6 +1,6 @@
 -- Two words of a memory are the same key exactly where their values are, and where their bits are.
-use Rattle.std.proofs.Common.{◌≡◌, ◌≢◌, ℕ, zero, suc, ◌+◌, ◌*◌, ◌/◌, ◌%◌, ◌^◌, ◌<◌, Bool, true, false, ◌&&◌, List, [], ◌∷◌, length, refl, sym, ap, ◌∙◌, arith, rules, inl, inr, nat_eq, w32, slice_index_or}
-use Rattle.std.specs.Prelude.{ℤ, ◌==◌, FitsSigned}
+use Rattle.std.proofs.Common.{◌≡◌, ◌≢◌, ◌⊎◌, true≢false, ℕ, zero, suc, ◌+◌, ◌*◌, ◌/◌, ◌%◌, ◌^◌, ◌<◌, Bool, true, false, ◌&&◌, List, [], ◌∷◌, length, refl, sym, ap, ◌∙◌, arith, rules, inl, inr, nat_eq, w32, slice_index_or}
+use Rattle.std.specs.Prelude.{ℤ, ◌==◌, not, FitsSigned}
 use Rattle.std.specs.Int.{cast_signed, cast_unsigned}
 use Rattle.std.specs.Ordering.{int_eq}
 use Rattle.std.specs.List.{AllPairs}
@@ -34,6 +34,23 @@ use Rattle.ps_dict.specs.Keys.{same_place, same_content, same_words}
 
 same_test : (a b m n : ℕ) → (a ≡ b → m ≡ n) → (m ≡ n → a ≡ b) → nat_eq m n ≡ nat_eq a b
 same_test a b m n there back = same_from_decides (nat_eq m n) (nat_eq a b) (Decides-eqb m n) ((λ e. there ((Decides-eqb a b).0 e)), λ e. (Decides-eqb a b).1 (back e))
+
+like_test : (m n : ℕ) → m ≡ n → nat_eq m n ≡ true
+like_test m n is = (Decides-eqb m n).1 is
+
+unlike_test : (m n : ℕ) → m ≢ n → nat_eq m n ≡ false
+unlike_test m n other = by (nat_eq m n) (Decides-eqb m n).0
+  where
+    by : (b : Bool) → (b ≡ true → m ≡ n) → b ≡ false
+    by true there = absurd (other (there refl))
+    by false there = refl
+
+test_cases : (m n : ℕ) → (m ≡ n) ⊎ (m ≢ n)
+test_cases m n = by (nat_eq m n) (Decides-eqb m n)
+  where
+    by : (b : Bool) → (b ≡ true → m ≡ n) × (m ≡ n → b ≡ true) → (m ≡ n) ⊎ (m ≢ n)
+    by true there = inl (there.0 refl)
+    by false there = inr (λ is. true≢false (sym (there.1 is)))
 
 -- ---- by the bits
 
@@ -164,6 +181,23 @@ module _ (left right : Word) (first : IsWord left.0) (second : IsWord right.0) w
       rw (low-of left.0 first, low-of right.0 second)
       (same_low (content_in left.0) (content_in right.0) (IsContent-of_word left.0 first) (IsContent-of_word right.0 second)
       (sym (type-of_word left.0 first) ∙ (same ∙ type-of_word right.0 second)) (λ e. plain (type-of_word left.0 first ∙ e)) visible)
+
+  pub unlike-bits : is_body (content_in left.0) ≡ false → left.0 / 2 ^ 60 ≡ right.0 / 2 ^ 60
+      → left.0 % 2 ^ 57 ≢ right.0 % 2 ^ 57 → false ≡ same_words left right
+  unlike-bits visible same other = elim (test_cases (left.0 / 2 ^ 60) 7) [
+    | inl is ↦ unlike-string is
+    | inr not ↦ sym (unlike_test (left.0 % 2 ^ 57) (right.0 % 2 ^ 57) other) ∙ like-bits visible same not
+  ]
+
+  -- the bits are the same: so is the key, but for strings
+  pub alike : is_body (content_in left.0) ≡ false → left.0 / 2 ^ 60 ≡ right.0 / 2 ^ 60
+      → left.0 % 2 ^ 57 ≡ right.0 % 2 ^ 57 → not (nat_eq (left.0 / 2 ^ 60) 7) ≡ same_words left right
+  alike visible same bits = elim (test_cases (left.0 / 2 ^ 60) 7) [
+    | inl is ↦ ap not (like_test (left.0 / 2 ^ 60) 7 is) ∙ unlike-string is
+    | inr other ↦
+        ap not (unlike_test (left.0 / 2 ^ 60) 7 other)
+        ∙ (sym (like_test (left.0 % 2 ^ 57) (right.0 % 2 ^ 57) bits) ∙ like-bits visible same other)
+  ]
 
 -- ---- by the values
 

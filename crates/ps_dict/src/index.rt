@@ -41,8 +41,30 @@ pub fn hash_number<M: Memory>(memory: &mut M, key: Word) -> u64
     }
 }
 
-/// The place at which a key is looked for first, of so many. A name's number is mostly the place
-/// itself.
+/// The remainder of a number by a capacity. Most numbers of names are below it or not far above, or
+/// are looked for in `userdict`, which has 32 first: a division takes several times as long.
+#[inline(always)]
+fn remainder(number: u32, capacity: u32) -> u32
+    requires some { 0 < capacity }
+    ensures answer { result ≡ number % capacity }
+    ensures below { result < capacity }
+{
+    if number < capacity {
+        return number;
+    }
+    if capacity == 32 {
+        return number % 32;
+    }
+    let less = number - capacity;
+    if less < capacity {
+        less
+    } else {
+        number % capacity
+    }
+}
+
+/// The place at which a key is looked for first, of so many: by the number of a name or an integer,
+/// and of every other key by its hash number.
 #[inline(always)]
 pub(crate) fn first_place<M: Memory>(memory: &mut M, key: Word, capacity: u32) -> u32
     requires held { IsValue (M.heap memory.old) key }
@@ -52,14 +74,10 @@ pub(crate) fn first_place<M: Memory>(memory: &mut M, key: Word, capacity: u32) -
     ensures answer { result ≡ hash_of (birth_at (M.heap memory.old)) key % capacity }
     ensures below { result < capacity }
 {
-    let Content::Name(name) = key.content() else {
-        return (hash_number(memory, key) % capacity as u64) as u32;
-    };
-    let number = name as u32;
-    if number < capacity {
-        number
-    } else {
-        number % capacity
+    match key.content() {
+        Content::Name(name) => remainder(name as u32, capacity),
+        Content::Integer(number) => remainder(number.cast_unsigned(), capacity),
+        _ => (hash_number(memory, key) % capacity as u64) as u32,
     }
 }
 

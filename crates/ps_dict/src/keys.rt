@@ -26,8 +26,8 @@ pub fn is_same_key(left: Word, right: Word) -> bool
     if left.0 / TYPE != right.0 / TYPE {
         return false;
     }
-    if left.0 / TYPE == STRING {
+    if left.0 % CONTENT != right.0 % CONTENT {
         return false;
     }
-    left.0 % CONTENT == right.0 % CONTENT
+    left.0 / TYPE != STRING
 }

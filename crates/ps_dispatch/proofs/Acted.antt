@@ -1,18 +1,25 @@
 -- What an operator did to operands alone.
-use Rattle.std.proofs.Common.{◌≡◌, ◌⊎◌, ℕ, ◌<◌, Bool, true, false, List, [], ◌∷◌, length, Result, Ok, Err, refl, sym, subst, inl, inr}
+use Rattle.std.proofs.Common.{◌≡◌, ◌⊎◌, ℕ, ◌<◌, Bool, true, false, true≢false, List, [], ◌∷◌, length, Some, None, Result, Ok, Err, refl, sym, ap, subst, inl, inr}
+use Rattle.std.specs.Prelude.{ℤ, Option, is_some}
 use Rattle.std.specs.Result.{is_ok}
 use Rattle.ps_language.specs.declared.errors.ErrorName.{ErrorName}
 use Rattle.ps_language.specs.declared.operators.Operator.{Operator}
-use Rattle.ps_language.specs.declared.operators.Operator.TheVariants.{Mark, BeginArray, BeginDict}
+use Rattle.ps_language.specs.declared.operators.Operator.TheVariants.{Copy, Mark, BeginArray, BeginDict}
 use Rattle.ps_language.specs.Outcome.{Outcome, leaves, fails}
 use Rattle.ps_language.specs.Control.{scene_effect}
-use Rattle.ps_language.specs.Rows.{Row, operand_row, reading_row, scene_row}
+use Rattle.ps_language.specs.Rows.{Row, changing_row, operand_row, reading_row, scene_row}
+use Rattle.ps_language.specs.RowsSequences.{copy_row}
 use Rattle.ps_language.specs.RowsStack.{mark_row}
 use Rattle.ps_language.specs.Value.{Value, Store}
 use Rattle.ps_language.specs.Effect.{Scene}
+use Rattle.ps_stacks.specs.Tops.{first_of}
+use Rattle.ps_word.specs.declared.values.Content.{Content}
+use Rattle.ps_word.specs.declared.values.Content.TheVariants.{Null, Integer, Boolean, Mark, Name, Operator as OperatorContent, Array, Text, Dictionary, Lock, Condition, Body}
 use Rattle.ps_word.specs.declared.words.Word.{Word}
+use Rattle.ps_word.specs.Format.{content_in}
+use Rattle.ps_word.specs.Readers.{as_dictionary, as_integer}
 use Rattle.ps_mem.specs.Heap.{Heap}
-use Rattle.ps_operands.specs.Does.{Does, Agrees, values_of}
+use Rattle.ps_operands.specs.Does.{Does, Agrees, copy_number_row, values_of}
 use Rattle.ps_operands.specs.Kept.{AreFrom}
 use Rattle.ps_control.specs.declared.ahead.Ahead.{Ahead}
 use Rattle.ps_control.specs.declared.ahead.Ahead.TheVariants.{Enters, Goes as Unentered, Left}
@@ -25,14 +32,19 @@ use Rattle.ps_acts.specs.Acts.{Asked, Acts, nothing_asked}
 use Rattle.ps_ops.specs.Does.{Observes}
 use Rattle.ps_ops.proofs.Ready.{ready_from}
 use Rattle.ps_acts.specs.Lent.{Lent, IsGood, IsShown}
+use Rattle.ps_acts.proofs.Alike.{asked_acts, effect_acts}
 use Rattle.ps_acts.proofs.Lifts.{does_acts, observes_acts, controls_acts, held, ready}
 use Rattle.ps_turns.specs.declared.turned.Turned.TheVariants.{Goes}
 use Rattle.ps_turns.specs.Turns.{IsShownWith, TurnsWith}
 use Rattle.ps_turns.proofs.Composing.{turns_over}
 use Rattle.ps_values.specs.Values.{EntersAlone, GoesAlone, operated_asks, operated_turn}
+use Rattle.ps_sequence_operators.specs.Asks.{copy_asks as sequence_copy_asks}
+use Rattle.ps_sequence_operators.proofs.CopyRows.{copy_counts, copy_counts_asks}
 use Rattle.ps_dispatch.specs.Alone.{ActsAhead, ActsAlone}
+use Rattle.ps_dispatch.specs.Joins.{copy_asks}
 use Rattle.ps_dispatch.specs.Operators.{asked_of, row_now}
 use Rattle.ps_dispatch.specs.Turns.{operator_asks}
+use Rattle.ps_dispatch.proofs.Copied.{copy_other_asks}
 use Rattle.ps_dispatch.proofs.Stepping.{goes_on}
 
 -- ---- by what it came to
@@ -73,6 +85,65 @@ pub marked : {operator : Operator} {acts : Bool} {result : Result Unit ErrorName
 marked old new (inl is) = alone old new mark_row is refl refl
 marked old new (inr (inl is)) = alone old new mark_row is refl refl
 marked old new (inr (inr is)) = alone old new mark_row is refl refl
+
+-- of copy where a number is the topmost operand
+module _ (old new : List Word) where
+  counted : (top : Word) → Some top ≡ first_of old
+      → is_some (as_integer (content_in top.0)) ≡ true
+      → None ≡ as_dictionary (content_in top.0) → (result : Result Unit ErrorName)
+      → Does copy_number_row result old new → AreFrom old new
+      → ActsAlone Copy (is_ok result) old new
+  counted top first number other (Ok _) did from = λ l trial good.
+      let before : Lent = record l { operands = old } in
+      let after : Lent = record l { operands = new } in
+      asked_acts trial (Ok tt) before after copy_asks sequence_copy_asks (changing_row copy_row)
+      (copy_other_asks before top first other)
+      (asked_acts trial (Ok tt) before after sequence_copy_asks nothing_asked
+      (changing_row copy_row) (copy_counts_asks before top first number)
+      (effect_acts trial (Ok tt) before after nothing_asked (changing_row copy_row)
+      (operand_row copy_number_row) (copy_counts before top first number)
+      (does_acts before good trial copy_number_row (Ok tt) new did from)))
+  counted top first number other (Err error) did from =
+      unchanged old new copy_number_row error (copy_number_row (values_of (λ x. 0) [] old))
+      (λ x. 0) [] (did.agrees (λ x. 0) [])
+
+  -- a number is no dictionary
+  undirected : (content : Content) (number : ℤ) → Some number ≡ as_integer content
+      → None ≡ as_dictionary content
+  undirected (Integer _) number is = refl
+  undirected Null number is = refl
+  undirected (Boolean _) number is = refl
+  undirected Mark number is = refl
+  undirected (Name _) number is = refl
+  undirected (OperatorContent _) number is = refl
+  undirected (Array _) number is = refl
+  undirected (Text _) number is = refl
+  undirected (Dictionary _) number is = cc
+  undirected (Lock _) number is = refl
+  undirected (Condition _) number is = refl
+  undirected (Body _) number is = refl
+
+  by_number : (top : Word) → Some top ≡ first_of old → (number : Option ℤ)
+      → number ≡ as_integer (content_in top.0) → is_some number ≡ true
+      → (result : Result Unit ErrorName) → Does copy_number_row result old new → AreFrom old new
+      → ActsAlone Copy (is_ok result) old new
+  by_number top first None is there result did from = absurd (true≢false (sym there))
+  by_number top first (Some number) is there result did from =
+      counted top first (ap is_some (sym is)) (undirected (content_in top.0) number is) result did
+      from
+
+  pub counted_alone : (top : Word) → Some top ≡ first_of old → (number : Option ℤ)
+      → number ≡ as_integer (content_in top.0) → is_some number ≡ true
+      → (acts : Bool) (result : Result Unit ErrorName) → acts ≡ is_ok result
+      → Does copy_number_row result old new → AreFrom old new → ActsAlone Copy acts old new
+  counted_alone top first number is there acts result ok did from =
+      subst (λ (b : Bool). ActsAlone Copy b old new) (sym ok)
+      (by_number top first number is there result did from)
+
+  pub copied_alone : (operator : Operator) (acts : Bool) → operator ≡ Copy
+      → ActsAlone Copy acts old new → ActsAlone operator acts old new
+  copied_alone operator acts same did =
+      subst (λ (o : Operator). ActsAlone o acts old new) (sym same) did
 
 -- ---- operators that read no memory here
 

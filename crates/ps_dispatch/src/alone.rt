@@ -9,6 +9,21 @@ use ps_operands::{Operands, arithmetic, logic, stack_operators};
 use ps_relation_operators::equality::equality_quickly;
 use ps_relation_operators::orders::{Relation, order_quickly};
 
+/// `copy` of so many operands, where it raises no error. Else nothing has changed, and the answer is
+/// no, as it is where an object is copied.
+#[inline]
+fn copy_quickly(operands: &mut Operands) -> bool
+    ensures { ActsAlone Operator.Copy result operands.old operands.new }
+{
+    let Some(top) = operands.top() else {
+        return false;
+    };
+    if top.as_integer().is_none() {
+        return false;
+    }
+    stack_operators::copy_count(operands).is_ok()
+}
+
 /// An operator on operands alone acts, where it raises no error. Else nothing has changed, and the
 /// answer is no, as it is for every other operator.
 #[inline(always)]
@@ -19,6 +34,7 @@ pub fn operate_alone(operator: Operator, operands: &mut Operands) -> bool
         Operator::Pop => stack_operators::pop(operands).is_ok(),
         Operator::Exch => stack_operators::exch(operands).is_ok(),
         Operator::Dup => stack_operators::dup(operands).is_ok(),
+        Operator::Copy => copy_quickly(operands),
         Operator::Index => stack_operators::index(operands).is_ok(),
         Operator::Roll => stack_operators::roll(operands).is_ok(),
         Operator::Clear => stack_operators::clear(operands).is_ok(),

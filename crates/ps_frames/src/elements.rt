@@ -1,10 +1,12 @@
 //! Steps by the elements of a procedure, and by a value that waits (PLRM2, 3.5).
 
-ghost use Rattle.std.specs.Prelude.{◌≡◌, ◌<◌, Some, IfSome, length};
+ghost use Rattle.std.specs.Prelude.{◌≡◌, ◌<◌, ◌∷◌, [], Some, IfSome, length};
 ghost use Rattle.ps_acts.specs.Lent.{lent, IsGood};
 ghost use Rattle.ps_control.specs.Ahead.{HasRoom, OnLeft};
 ghost use Rattle.ps_stacks.specs.Tops.{first_of};
-ghost use Rattle.ps_turns.specs.Turns.{Turns};
+ghost use Rattle.ps_mem.specs.Shows.{IsValue};
+ghost use Rattle.ps_turns.specs.Turns.{Turns, TurnsWith};
+ghost use Rattle.ps_values.specs.Values.{treated_asks, treated_turn};
 ghost use Rattle.ps_frames.specs.Steps.{above, frame_asks, running_turn, GoesAhead, IsElement};
 
 use crate::frames::{advance, drop_top, push_rest, put_back};
@@ -61,14 +63,11 @@ pub fn procedure_turn<O: Operate, M: Memory>(
     }
 }
 
-/// The first element that is left of a procedure is done, as its value is treated; the frame goes
-/// with the last. Raises what the value raises, with the element as the command.
-///
-/// Not made, with nothing changed: as the value.
+/// A value is treated, by a call of its own: what is left of the procedure stays in registers.
 #[inline(never)]
-pub fn element_turn<O: Operate, M: Memory>(
-    rest: Part,
-    element: Element,
+fn treat_apart<O: Operate, M: Memory>(
+    value: Word,
+    command: Word,
     operators: &O,
     context: &mut Context,
     shared: &mut Shared,
@@ -78,16 +77,43 @@ pub fn element_turn<O: Operate, M: Memory>(
     requires slot { trial.slot < SLOTS }
     requires good { IsGood
         (lent (M.heap memory.old) (M.grants memory.old) context.old shared.old) }
-    requires top { first_of context.old.frames ≡ Some (Frame.Procedure rest) }
-    requires element { IsElement O.asks (M.heap memory.old) context.old.dictionaries rest 0
-        element }
-    ensures { Turns (frame_asks O.asks) running_turn trial result
+    requires value { IsValue (M.heap memory.old) value }
+    requires command { IsValue (M.heap memory.old) command }
+    ensures { TurnsWith (value ∷ command ∷ []) [] (treated_asks O.asks value)
+        (treated_turn command value) trial result
         (lent (M.heap memory.old) (M.grants memory.old) context.old shared.old)
         (lent (M.heap memory.new) (M.grants memory.new) context.new shared.new) }
 {
+    treat(value, command, operators, context, shared, memory, trial)
+}
+
+/// The first element of a procedure above the frames is done, as its value is treated; what is left
+/// of the procedure is pushed before. Raises what the value raises, with the element as the command.
+///
+/// Not made, with nothing changed but for the frame, which is pushed whole: as the value.
+#[inline(always)]
+fn element_turn<O: Operate, M: Memory>(
+    rest: Part,
+    element: Element,
+    operators: &O,
+    context: &mut Context,
+    shared: &mut Shared,
+    memory: &mut M,
+    trial: Trial,
+) -> Result<Turned, NotMade>
+    requires slot { trial.slot < SLOTS }
+    requires good { IsGood (above rest
+        (lent (M.heap memory.old) (M.grants memory.old) context.old shared.old)) }
+    requires room { length context.old.frames < 250 }
+    requires element { IsElement O.asks (M.heap memory.old) context.old.dictionaries rest 0
+        element }
+    ensures { Turns (frame_asks O.asks) running_turn trial result
+        (above rest (lent (M.heap memory.old) (M.grants memory.old) context.old shared.old))
+        (lent (M.heap memory.new) (M.grants memory.new) context.new shared.new) }
+{
     let Element { word, value } = element;
-    advance(&mut context.frames, rest, 1);
-    match treat(value, word, operators, context, shared, memory, trial) {
+    push_rest(&mut context.frames, rest);
+    match treat_apart(value, word, operators, context, shared, memory, trial) {
         Ok(turned) => Ok(turned),
         Err(reason) => {
             put_back(&mut context.frames, rest);
@@ -138,8 +164,8 @@ pub fn element_ahead<O: Operate, M: Memory>(
     }
 }
 
-/// The procedure above the frames is pushed, and its first element is done: by its value, where
-/// that is known. Raises what the element raises, with the element as the command.
+/// The first element of a procedure above the frames is done over its frame: by its value, where that
+/// is known. Raises what the element raises, with the element as the command.
 ///
 /// Not made, with nothing changed but for the frame: as the element.
 #[inline(always)]
@@ -162,10 +188,12 @@ pub fn pushed_turn<O: Operate, M: Memory>(
         (above rest (lent (M.heap memory.old) (M.grants memory.old) context.old shared.old))
         (lent (M.heap memory.new) (M.grants memory.new) context.new shared.new) }
 {
-    push_frame(&mut context.frames, Frame::Procedure { rest });
     match first {
         Some(element) => element_turn(rest, element, operators, context, shared, memory, trial),
-        None => procedure_turn(rest, operators, context, shared, memory, trial),
+        None => {
+            push_frame(&mut context.frames, Frame::Procedure { rest });
+            procedure_turn(rest, operators, context, shared, memory, trial)
+        }
     }
 }
 

@@ -1,6 +1,6 @@
 -- Each operator by its name and by what its own contract says.
 use Rattle.std.proofs.Common.{refl}
-use Rattle.ps_dispatch.proofs.Acted.{alone, alone_over, marked}
+use Rattle.ps_dispatch.proofs.Acted.{alone, alone_over, copied_alone, marked}
 use Rattle.ps_dispatch.proofs.alone.operate_alone.Goals as goal
 
 pub returns-in-Pop : goal.returns-in-Pop
@@ -14,6 +14,9 @@ returns-in-Exch c =
 pub returns-in-Dup : goal.returns-in-Dup
 returns-in-Dup c =
     alone _ _ _ c.in-Dup.is refl refl c.is_ok-in-Dup.ensures.value c.dup.ensures.row c.dup.ensures.kept
+
+pub returns-in-Copy : goal.returns-in-Copy
+returns-in-Copy c = copied_alone _ _ _ _ c.in-Copy.is c.copy_quickly.ensures
 
 pub returns-in-Index : goal.returns-in-Index
 returns-in-Index c =

@@ -2,12 +2,6 @@
 use Rattle.std.proofs.Common.{refl}
 use Rattle.ps_frames.proofs.elements.pushed_turn.Goals as goal
 
-pub element_turn-requires-clause-good : goal.element_turn-requires-clause-good
-element_turn-requires-clause-good g c = rw c.push_frame.ensures c.requires.good
-
-pub element_turn-requires-clause-top : goal.element_turn-requires-clause-top
-element_turn-requires-clause-top g c = rw c.push_frame.ensures refl
-
 pub element_turn-requires-clause-element : goal.element_turn-requires-clause-element
 element_turn-requires-clause-element g c = rw c.in-Some.is at c.requires.first
 
@@ -16,9 +10,6 @@ procedure_turn-requires-clause-good g c = rw c.push_frame.ensures c.requires.goo
 
 pub procedure_turn-requires-clause-top : goal.procedure_turn-requires-clause-top
 procedure_turn-requires-clause-top g c = rw c.push_frame.ensures refl
-
-pub returns-in-Some : goal.returns-in-Some
-returns-in-Some g c = rw c.push_frame.ensures at c.element_turn.ensures
 
 pub returns-in-None : goal.returns-in-None
 returns-in-None g c = rw c.push_frame.ensures at c.procedure_turn.ensures
