@@ -1,7 +1,7 @@
 -- What a look into the index of a dictionary's body says of the place of a key.
 use Rattle.std.proofs.Common.{◌≡◌, ℕ, zero, suc, ◌+◌, ◌-◌, ◌*◌, ◌%◌, ◌^◌, ◌<◌, ◌≤◌, true, false, List, [], ◌∷◌, ◌++◌, length, map, take, drop, Option, Some, None, refl, sym, ap, ◌∙◌, arith, subst, inl, inr, nat_lt, rules}
 use Rattle.std.specs.Prelude.{ℤ, pos, slice_get, unsigned_abs, if◌then◌else◌, FitsSigned}
-use Rattle.std.specs.Int.{w32}
+use Rattle.std.specs.Int.{w32, cast_unsigned}
 use Rattle.std.proofs.lemmas.List.{length-map, length-drop}
 use Rattle.std.proofs.lemmas.Bool.{cases_lt}
 use Rattle.std.proofs.lemmas.Bool.Decides.{nat_tests}
@@ -60,6 +60,18 @@ index_word-fits (Some q) number below e =
     let is : pos q ≡ number = cc in
     let fits : FitsSigned w32 (pos q) = search rules in
     subst (FitsSigned w32) is fits
+
+natural-cast : (q : ℕ) → q < 2 ^ 31 → cast_unsigned w32 (pos q) ≡ q
+natural-cast q below = search rules
+
+index_word-natural : (x : Option ℕ) (number : ℤ) → IsBelow (2 ^ 31) x
+    → as_integer (content_in (index_word x).0) ≡ Some number
+    → cast_unsigned w32 number ≡ unsigned_abs number
+index_word-natural None number below e = let clash : None ≡ Some number = sym zero-content ∙ e in cc
+index_word-natural (Some q) number below e =
+    let same : Some (pos q) ≡ Some number = sym (ap as_integer (index_word-content q below)) ∙ e in
+    let is : pos q ≡ number = cc in
+    subst (λ z. cast_unsigned w32 z ≡ unsigned_abs z) is (natural-cast q below)
 
 -- ---- places going round
 
@@ -259,6 +271,11 @@ module _ (h : Heap) (a : ℕ) (known : StandsAs h DictionaryKind a 4) (sound : I
 
         pub number-fits : FitsSigned w32 number
         number-fits = index_word-fits look.0 number look-small
+            (ap (λ (v : Word). as_integer (content_in v.0)) look.2 ∙ e)
+
+        -- its bits say it
+        pub number-natural : cast_unsigned w32 number ≡ unsigned_abs number
+        number-natural = index_word-natural look.0 number look-small
             (ap (λ (v : Word). as_integer (content_in v.0)) look.2 ∙ e)
 
         pub position-within : position < count_at h a

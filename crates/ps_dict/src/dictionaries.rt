@@ -141,7 +141,7 @@ fn near_position<M: Memory>(memory: &mut M, address: u32, capacity: u32, key: Wo
     let place = first_place(memory, key, capacity);
     match memory.load(body, 2 * capacity + place).as_integer() {
         Some(number) => {
-            let position = number.unsigned_abs();
+            let position = number.cast_unsigned();
             let word = memory.load(body, 2 * position);
             if is_same_key(word, key) {
                 return Some(position);

@@ -1,4 +1,4 @@
-use Rattle.std.proofs.Common.{◌≡◌, ◌<◌, ◌*◌, ◌∙◌, ap, sym, arith, subst, Some, w32}
+use Rattle.std.proofs.Common.{◌≡◌, ◌<◌, ◌*◌, ◌∙◌, ap, sym, arith, subst, Some, of_z, w32}
 use Rattle.std.proofs.lemmas.Int.{to_z-of_z}
 use Rattle.std.specs.Prelude.{unsigned_abs, slice_get}
 use Rattle.ps_word.specs.Format.{content_in}
@@ -7,7 +7,7 @@ use Rattle.ps_mem.specs.Heap.{fields_at}
 use Rattle.ps_dict.specs.Places.{body_at, count_at, capacity_at}
 use Rattle.ps_dict.proofs.Reading.{loaded, key-value}
 use Rattle.ps_dict.proofs.Shapes.{count-fits}
-use Rattle.ps_dict.proofs.Probing.{few-places, StillAhead, ahead-first, few-here, look-fits, key-fits, looked-at, start-here, look-free, number-fits, position-within, look-found, first-behind}
+use Rattle.ps_dict.proofs.Probing.{few-places, StillAhead, ahead-first, few-here, look-fits, key-fits, looked-at, start-here, look-free, number-fits, number-natural, position-within, look-found, first-behind}
 use Rattle.ps_dict.proofs.dictionaries.near_position.Goals as goal
 
 pub overflow_add-capacity : goal.overflow_add-capacity
@@ -67,11 +67,13 @@ overflow_mul-position g c =
     c.first_place-place.ensures.below) c.load.ensures.answer in
     let found : as_integer (content_in c.load.result.0) ≡ Some c.in-Some.number =
     sym c.as_integer.ensures ∙ c.in-Some.is in
-    let position : c.unsigned_abs-position.result ≡ unsigned_abs c.in-Some.number =
-    c.unsigned_abs-position.ensures.value
-    ∙ ap unsigned_abs (to_z-of_z w32 c.in-Some.number
+    let position : c.cast_unsigned-position.result ≡ unsigned_abs c.in-Some.number =
+    c.cast_unsigned-position.ensures
+    ∙ (ap (of_z w32) (to_z-of_z w32 c.in-Some.number
     (number-fits h c.args.address c.requires.known c.requires.sound c.args.key
-    0 within c.load.result read c.in-Some.number found)) in
+    0 within c.load.result read c.in-Some.number found))
+    ∙ number-natural h c.args.address c.requires.known c.requires.sound c.args.key
+    0 within c.load.result read c.in-Some.number found) in
     let below = position-within h c.args.address c.requires.known c.requires.sound c.args.key
     0 within c.load.result read c.in-Some.number found in
     let few = few-here (g.M.Memory.heap c.first_place-place.new.memory) h c.args.address c.body-body.result
@@ -103,17 +105,19 @@ load-word-requires g c =
     c.first_place-place.ensures.below) c.load.ensures.answer in
     let found : as_integer (content_in c.load.result.0) ≡ Some c.in-Some.number =
     sym c.as_integer.ensures ∙ c.in-Some.is in
-    let position : c.unsigned_abs-position.result ≡ unsigned_abs c.in-Some.number =
-    c.unsigned_abs-position.ensures.value
-    ∙ ap unsigned_abs (to_z-of_z w32 c.in-Some.number
+    let position : c.cast_unsigned-position.result ≡ unsigned_abs c.in-Some.number =
+    c.cast_unsigned-position.ensures
+    ∙ (ap (of_z w32) (to_z-of_z w32 c.in-Some.number
     (number-fits h c.args.address c.requires.known c.requires.sound c.args.key
-    0 within c.load.result read c.in-Some.number found)) in
+    0 within c.load.result read c.in-Some.number found))
+    ∙ number-natural h c.args.address c.requires.known c.requires.sound c.args.key
+    0 within c.load.result read c.in-Some.number found) in
     let below = position-within h c.args.address c.requires.known c.requires.sound c.args.key
     0 within c.load.result read c.in-Some.number found in
     record {
       place = key-fits (g.M.Memory.heap c.load.new.self) h c.args.address c.body-body.result
           c.args.capacity c.requires.known c.requires.sound (c.load.ensures.heap ∙ same) is capacity
-          c.unsigned_abs-position.result
+          c.cast_unsigned-position.result
           (subst (λ q. q < count_at h c.args.address) (sym position) below);
     }
 
@@ -141,11 +145,13 @@ is_same_key-requires-clause-left g c =
     c.first_place-place.ensures.below) c.load.ensures.answer in
     let found : as_integer (content_in c.load.result.0) ≡ Some c.in-Some.number =
     sym c.as_integer.ensures ∙ c.in-Some.is in
-    let position : c.unsigned_abs-position.result ≡ unsigned_abs c.in-Some.number =
-    c.unsigned_abs-position.ensures.value
-    ∙ ap unsigned_abs (to_z-of_z w32 c.in-Some.number
+    let position : c.cast_unsigned-position.result ≡ unsigned_abs c.in-Some.number =
+    c.cast_unsigned-position.ensures
+    ∙ (ap (of_z w32) (to_z-of_z w32 c.in-Some.number
     (number-fits h c.args.address c.requires.known c.requires.sound c.args.key
-    0 within c.load.result read c.in-Some.number found)) in
+    0 within c.load.result read c.in-Some.number found))
+    ∙ number-natural h c.args.address c.requires.known c.requires.sound c.args.key
+    0 within c.load.result read c.in-Some.number found) in
     let below = position-within h c.args.address c.requires.known c.requires.sound c.args.key
     0 within c.load.result read c.in-Some.number found in
     let key_read = loaded (g.M.Memory.heap c.load.new.self) h c.args.address c.body-body.result
@@ -180,11 +186,13 @@ is_same_key-requires-clause-visible g c =
     c.first_place-place.ensures.below) c.load.ensures.answer in
     let found : as_integer (content_in c.load.result.0) ≡ Some c.in-Some.number =
     sym c.as_integer.ensures ∙ c.in-Some.is in
-    let position : c.unsigned_abs-position.result ≡ unsigned_abs c.in-Some.number =
-    c.unsigned_abs-position.ensures.value
-    ∙ ap unsigned_abs (to_z-of_z w32 c.in-Some.number
+    let position : c.cast_unsigned-position.result ≡ unsigned_abs c.in-Some.number =
+    c.cast_unsigned-position.ensures
+    ∙ (ap (of_z w32) (to_z-of_z w32 c.in-Some.number
     (number-fits h c.args.address c.requires.known c.requires.sound c.args.key
-    0 within c.load.result read c.in-Some.number found)) in
+    0 within c.load.result read c.in-Some.number found))
+    ∙ number-natural h c.args.address c.requires.known c.requires.sound c.args.key
+    0 within c.load.result read c.in-Some.number found) in
     let below = position-within h c.args.address c.requires.known c.requires.sound c.args.key
     0 within c.load.result read c.in-Some.number found in
     let key_read = loaded (g.M.Memory.heap c.load.new.self) h c.args.address c.body-body.result
@@ -219,11 +227,13 @@ returns-then-is_same_key-clause-within g c =
     c.first_place-place.ensures.below) c.load.ensures.answer in
     let found : as_integer (content_in c.load.result.0) ≡ Some c.in-Some.number =
     sym c.as_integer.ensures ∙ c.in-Some.is in
-    let position : c.unsigned_abs-position.result ≡ unsigned_abs c.in-Some.number =
-    c.unsigned_abs-position.ensures.value
-    ∙ ap unsigned_abs (to_z-of_z w32 c.in-Some.number
+    let position : c.cast_unsigned-position.result ≡ unsigned_abs c.in-Some.number =
+    c.cast_unsigned-position.ensures
+    ∙ (ap (of_z w32) (to_z-of_z w32 c.in-Some.number
     (number-fits h c.args.address c.requires.known c.requires.sound c.args.key
-    0 within c.load.result read c.in-Some.number found)) in
+    0 within c.load.result read c.in-Some.number found))
+    ∙ number-natural h c.args.address c.requires.known c.requires.sound c.args.key
+    0 within c.load.result read c.in-Some.number found) in
     let below = position-within h c.args.address c.requires.known c.requires.sound c.args.key
     0 within c.load.result read c.in-Some.number found in
     subst (λ q. q < count_at h c.args.address) (sym position) below
@@ -252,11 +262,13 @@ returns-then-is_same_key-clause-words g c =
     c.first_place-place.ensures.below) c.load.ensures.answer in
     let found : as_integer (content_in c.load.result.0) ≡ Some c.in-Some.number =
     sym c.as_integer.ensures ∙ c.in-Some.is in
-    let position : c.unsigned_abs-position.result ≡ unsigned_abs c.in-Some.number =
-    c.unsigned_abs-position.ensures.value
-    ∙ ap unsigned_abs (to_z-of_z w32 c.in-Some.number
+    let position : c.cast_unsigned-position.result ≡ unsigned_abs c.in-Some.number =
+    c.cast_unsigned-position.ensures
+    ∙ (ap (of_z w32) (to_z-of_z w32 c.in-Some.number
     (number-fits h c.args.address c.requires.known c.requires.sound c.args.key
-    0 within c.load.result read c.in-Some.number found)) in
+    0 within c.load.result read c.in-Some.number found))
+    ∙ number-natural h c.args.address c.requires.known c.requires.sound c.args.key
+    0 within c.load.result read c.in-Some.number found) in
     let below = position-within h c.args.address c.requires.known c.requires.sound c.args.key
     0 within c.load.result read c.in-Some.number found in
     let key_read = loaded (g.M.Memory.heap c.load.new.self) h c.args.address c.body-body.result
