@@ -1,14 +1,13 @@
 -- The hash number of a key by its content, and the birth number that a header says.
-use Rattle.std.proofs.Common.{◌≡◌, ℕ, length, Some, refl, sym, ap, ◌∙◌, subst, w32}
-use Rattle.std.specs.Prelude.{ℤ, FitsSigned, IsSome, IfSome}
-use Rattle.std.specs.Int.{cast_unsigned}
+use Rattle.std.proofs.Common.{◌≡◌, ℕ, length, Some, refl, sym, ap, ◌∙◌, subst}
+use Rattle.std.specs.Prelude.{IsSome, IfSome}
 use Rattle.ps_language.specs.declared.kinds.Kind.{Kind}
 use Rattle.ps_word.specs.declared.words.Word.{Word}
 use Rattle.ps_word.specs.declared.headers.Header.{Header}
 use Rattle.ps_word.specs.declared.values.Content.{Content}
 use Rattle.ps_word.specs.declared.values.Content.TheVariants.{Null, Integer, Boolean, Mark, Name, Operator, Array, Text, Dictionary, Lock, Condition, Body}
 use Rattle.ps_word.specs.Format.{content_in, IsContent}
-use Rattle.ps_word.specs.Readers.{as_integer, as_name}
+use Rattle.ps_word.specs.Readers.{as_name}
 use Rattle.ps_word.proofs.Places.{IsContent-of_word}
 use Rattle.ps_mem.specs.Heap.{Heap, object_at, birth_of, birth_at}
 use Rattle.ps_mem.specs.References.{StandsAs, IsKnown, IsKnownContent}
@@ -63,44 +62,3 @@ pub name_hash : (births : ℕ → ℕ) (key : Word) (number : ℕ)
     → Some number ≡ as_name (content_in key.0) → number ≡ hash_of births key
 unfolding hash_of
 name_hash births key number is = number_hash births (content_in key.0) number is
-
--- an integer's is its 32 bits without a sign
-unsigned_hash : (births : ℕ → ℕ) (content : Content) (number : ℤ) → Some number ≡ as_integer content
-    → cast_unsigned w32 number ≡ hash_of_content births content
-unsigned_hash births (Integer i) number is = let same : number ≡ i = cc in ap (cast_unsigned w32) same
-unsigned_hash births Null number is = cc
-unsigned_hash births (Name _) number is = cc
-unsigned_hash births (Boolean _) number is = cc
-unsigned_hash births Mark number is = cc
-unsigned_hash births (Operator _) number is = cc
-unsigned_hash births (Array _) number is = cc
-unsigned_hash births (Text _) number is = cc
-unsigned_hash births (Dictionary _) number is = cc
-unsigned_hash births (Lock _) number is = cc
-unsigned_hash births (Condition _) number is = cc
-unsigned_hash births (Body _) number is = cc
-
-pub integer_hash : (births : ℕ → ℕ) (key : Word) (number : ℤ)
-    → Some number ≡ as_integer (content_in key.0) → cast_unsigned w32 number ≡ hash_of births key
-unfolding hash_of
-integer_hash births key number is = unsigned_hash births (content_in key.0) number is
-
-fitting : (content : Content) (number : ℤ) → Some number ≡ as_integer content → IsContent content
-    → FitsSigned w32 number
-fitting (Integer i) number is fits = let same : i ≡ number = cc in subst (FitsSigned w32) same fits
-fitting Null number is fits = cc
-fitting (Name _) number is fits = cc
-fitting (Boolean _) number is fits = cc
-fitting Mark number is fits = cc
-fitting (Operator _) number is fits = cc
-fitting (Array _) number is fits = cc
-fitting (Text _) number is fits = cc
-fitting (Dictionary _) number is fits = cc
-fitting (Lock _) number is fits = cc
-fitting (Condition _) number is fits = cc
-fitting (Body _) number is fits = cc
-
-pub integer_fits : (h : Heap) (key : Word) (number : ℤ)
-    → Some number ≡ as_integer (content_in key.0) → IsValue h key → FitsSigned w32 number
-integer_fits h key number is held =
-    fitting (content_in key.0) number is (IsContent-of_word key.0 held.word)
