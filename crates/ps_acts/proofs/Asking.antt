@@ -1,7 +1,7 @@
 -- What the rows ask for that change arrays or make them.
 use Rattle.std.proofs.Common.{◌≡◌, ℕ, Bool, true, false, List, [], ◌∷◌, ◌++◌, Option, Some, None, refl}
 use Rattle.ps_language.specs.declared.errors.ErrorName.{ErrorName}
-use Rattle.ps_language.specs.declared.errors.ErrorName.TheVariants.{StackUnderflow, TypeCheck}
+use Rattle.ps_language.specs.declared.errors.ErrorName.TheVariants.{StackUnderflow}
 use Rattle.ps_language.specs.Value.{Part, Value, Object, Store}
 use Rattle.ps_language.specs.Outcome.{Outcome, leaves, fails, given, given_that, Change}
 use Rattle.ps_language.specs.Objects.{made_between, making, changing}

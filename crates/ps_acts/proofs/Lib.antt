@@ -9,3 +9,4 @@ pub mod Stacked
 pub mod Forming
 pub mod Alike
 pub mod Direct
+pub mod Unframed

@@ -29,7 +29,7 @@ module _ (h : Heap) (names more : List (List ℕ)) (s : Store) where
   frame_same (Monitor lock) within = refl
   frame_same (Bind over at depth) within = refl
 
-  frames_same : (frames : List Frame) → AreFramesWithin h names s frames
+  pub frames_same : (frames : List Frame) → AreFramesWithin h names s frames
       → frames_in h (names ++ more) frames ≡ frames_in h names frames
   frames_same [] within = refl
   frames_same (frame ∷ frames) within =
@@ -48,7 +48,7 @@ module _ (h : Heap) (names more : List (List ℕ)) (s : Store) where
   frame_within (Monitor lock) within = tt
   frame_within (Bind over at depth) within = tt
 
-  frames_within : (frames : List Frame) → AreFramesWithin h names s frames
+  pub frames_within : (frames : List Frame) → AreFramesWithin h names s frames
       → AreFramesWithin h (names ++ more) s frames
   frames_within [] within = tt
   frames_within (frame ∷ frames) within =

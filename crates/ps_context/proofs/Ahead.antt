@@ -21,6 +21,7 @@ use Rattle.ps_control.specs.declared.frames.Source.{Source}
 use Rattle.ps_acts.specs.declared.lent.Trial.{Trial}
 use Rattle.ps_acts.specs.Acts.{Asked}
 use Rattle.ps_acts.specs.Lent.{Lent, IsShown, IsGood}
+use Rattle.ps_acts.specs.Trials.{ordinary}
 use Rattle.ps_turns.specs.declared.turned.Turned.{Turned}
 use Rattle.ps_turns.specs.declared.turned.Turned.TheVariants.{Goes}
 use Rattle.ps_turns.specs.Turns.{Turns, none_asked}
@@ -31,7 +32,7 @@ use Rattle.ps_frames.specs.Steps.{frames_after, rest_frames, running_turn, frame
 use Rattle.ps_frames.proofs.Taking.{rest_some, rest_good, element_made}
 use Rattle.ps_interpreter.specs.declared.interprets.Run.{Run}
 use Rattle.ps_interpreter.specs.Interprets.{asks_in, own_turn}
-use Rattle.ps_interpreter.specs.Makes.{ordinary, TurnsBehind, Runs}
+use Rattle.ps_interpreter.specs.Makes.{TurnsBehind, Runs}
 use Rattle.ps_interpreter.specs.OwnSteps.{HasRun}
 use Rattle.ps_interpreter.proofs.Running.{run_none, run_more, run_then}
 use Rattle.ps_context.specs.Elements.{stacked, DoesFirst}

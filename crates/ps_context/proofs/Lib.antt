@@ -5,3 +5,5 @@ pub mod Reading
 pub mod Scanning
 pub mod Taking
 pub mod WindowLaw
+pub mod Behind
+pub mod Rereading

@@ -15,6 +15,7 @@ use Rattle.ps_control.specs.declared.frames.Frame.{Frame}
 use Rattle.ps_control.specs.Frames.{IsSourceAt, source_of}
 use Rattle.ps_acts.specs.declared.lent.Trial.{Trial}
 use Rattle.ps_acts.specs.Lent.{Lent, IsShown, IsGood}
+use Rattle.ps_acts.specs.Trials.{ordinary}
 use Rattle.ps_turns.specs.declared.turned.Turned.{Turned}
 use Rattle.ps_turns.specs.declared.turned.Turned.TheVariants.{Goes}
 use Rattle.ps_turns.specs.Turns.{Turns, TurnsWith}
@@ -23,7 +24,7 @@ use Rattle.ps_values.specs.Quick.{IsTreated, TreatsAs}
 use Rattle.ps_values.specs.Values.{Asks, GoesIn, among, executed_asks, done_turn, treated_asks, treated_turn}
 use Rattle.ps_frames.specs.Steps.{running_turn}
 use Rattle.ps_interpreter.specs.Interprets.{asks_in, own_turn}
-use Rattle.ps_interpreter.specs.Makes.{ordinary, TurnsBehind}
+use Rattle.ps_interpreter.specs.Makes.{TurnsBehind}
 use Rattle.ps_interpreter.specs.OwnSteps.{HasRun}
 use Rattle.ps_interpreter.proofs.Running.{run_more}
 use Rattle.ps_tokens.specs.Tokens.{token_asks, token_turn}

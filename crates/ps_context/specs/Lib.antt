@@ -3,3 +3,4 @@ pub mod Texts
 pub mod Steps
 pub mod Few
 pub mod Reading
+pub mod Windows

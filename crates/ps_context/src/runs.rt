@@ -1,4 +1,5 @@
-//! Steps of the topmost frame one after another, until one changes the frames (PLRM2, 3.4, 3.5).
+//! Steps one after another: those of frames that go ahead, and those by the tokens of a text (PLRM2,
+//! 3.4, 3.5).
 
 ghost use Rattle.std.specs.Prelude.{◌≡◌, ◌≢◌, ℕ, ◌+◌, ◌-◌, ◌<◌, ◌≤◌, ◌^◌, [], IfSome, IsSome, IsNone, Some, None, length, min};
 ghost use Rattle.ps_stacks.specs.Tops.{first_of};
@@ -7,8 +8,8 @@ ghost use Rattle.ps_turns.specs.Turns.{Turns};
 ghost use Rattle.ps_interpreter.specs.Interprets.{asks_in, own_turn};
 ghost use Rattle.ps_interpreter.specs.Makes.{Runs, TurnsBehind};
 ghost use Rattle.ps_values.specs.Values.{Asks};
-ghost use Rattle.ps_frames.specs.Steps.{above};
-ghost use Rattle.ps_context.specs.Elements.{Begins};
+ghost use Rattle.ps_frames.specs.Steps.{above, IsElement};
+ghost use Rattle.ps_context.specs.Elements.{Begins, ComesBy, came_behind, left_behind};
 ghost use Rattle.ps_context.specs.Steps.{own_asks};
 
 use crate::elements::do_first;
@@ -17,7 +18,7 @@ use ps_acts::lent::{Context, Shared, Trial};
 use ps_control::ahead::Ahead;
 use ps_control::frames::{Frame, Source, push_frame, replace_top};
 use ps_frames::ahead::turn_ahead;
-use ps_frames::elements::{element_ahead, pushed_turn};
+use ps_frames::elements::{Element, element_ahead, element_under, pushed_turn};
 use ps_frames::frames::drop_top;
 use ps_frames::steps::frame_turn;
 use ps_interpreter::interprets::Run;
@@ -25,6 +26,7 @@ use ps_mem::{Memory, SLOTS};
 use ps_ops::failure::NotMade;
 use ps_turns::turned::Turned;
 use ps_values::operates::Operate;
+use ps_values::under::Under;
 use ps_word::values::Part;
 
 /// The turn of a running context's topmost frame: a token of a text, an element of a procedure,
@@ -83,6 +85,82 @@ fn least(budget: u32, length: u16) -> u16
     }
 }
 
+/// What the first element of a procedure above the frames came to.
+#[derive(Clone, Copy, Debug, PartialEq, Eq)]
+pub enum Came {
+    /// It is a step, behind which a procedure is above the frames.
+    Enters,
+    /// It is a step, behind which none is.
+    Goes,
+    /// Its turn over its frame came to this.
+    Turned(Result<Turned, NotMade>),
+}
+
+/// A step by the first element of a procedure, behind which what is left of it is above the frames.
+#[inline(always)]
+fn behind_first(rest: &mut Part) -> Came
+    requires some { 1 ≤ rest.old.length }
+    requires end { rest.old.offset + rest.old.length < 2 ^ 16 }
+    ensures left { rest.new ≡ left_behind rest.old }
+    ensures came { result ≡ came_behind rest.old }
+{
+    *rest = left_of(*rest, 1);
+    if rest.length > 0 {
+        Came::Enters
+    } else {
+        Came::Goes
+    }
+}
+
+/// Does the first element of a procedure above the frames: up to the frame of the procedure that it
+/// enters, or without a frame, where it neither sees nor changes them; else over its frame. What is
+/// above the frames then is left in place of the procedure. The records go into the log of a slot.
+#[inline(always)]
+fn do_next<O: Operate, M: Memory>(
+    rest: &mut Part,
+    first: Option<Element>,
+    operators: &O,
+    context: &mut Context,
+    shared: &mut Shared,
+    memory: &mut M,
+    slot: u32,
+) -> Came
+    requires slot { slot < SLOTS }
+    requires good { IsGood (above rest.old
+        (lent (M.heap memory.old) (M.grants memory.old) context.old shared.old)) }
+    requires room { length context.old.frames < 250 }
+    requires first { IfSome first
+        (IsElement O.asks (M.heap memory.old) context.old.dictionaries rest.old 0) }
+    ensures { ComesBy (own_asks O.asks) slot result rest.new (above rest.old
+        (lent (M.heap memory.old) (M.grants memory.old) context.old shared.old))
+        (lent (M.heap memory.new) (M.grants memory.new) context.new shared.new) }
+{
+    let procedure = *rest;
+    match element_ahead(procedure, first, operators, context, shared, memory) {
+        Ahead::Enters(body) => {
+            *rest = body;
+            return Came::Enters;
+        }
+        Ahead::Goes => return Came::Goes,
+        Ahead::Left => {}
+    }
+    let trial = Trial {
+        slot,
+        refused: false,
+    };
+    match element_under(procedure, first, operators, context, shared, memory, slot) {
+        Under::Acts => behind_first(rest),
+        Under::Fails => {
+            let turn = pushed_turn(procedure, None, operators, context, shared, memory, trial);
+            Came::Turned(turn)
+        }
+        Under::Left => {
+            let turn = pushed_turn(procedure, first, operators, context, shared, memory, trial);
+            Came::Turned(turn)
+        }
+    }
+}
+
 /// Makes the first steps of a procedure above the frames, at most so many: those of its first
 /// elements, as far as operands alone do them, of each procedure that is entered so, and that of
 /// the element behind them. What is left of the procedure is pushed before that, or where no more
@@ -121,28 +199,20 @@ fn run_entered<O: Operate, M: Memory>(
         }
         rest = left_of(rest, first.done);
         if made < most {
-            match element_ahead(rest, first.next, operators, context, shared, memory) {
-                Ahead::Enters(body) => {
-                    made += 1;
-                    rest = body;
-                }
-                Ahead::Goes => {
+            match do_next(
+                &mut rest, first.next, operators, context, shared, memory, slot,
+            ) {
+                Came::Enters => made += 1,
+                Came::Goes => {
                     return Run {
                         made: made + 1,
                         next: None,
                     };
                 }
-                Ahead::Left => {
-                    let trial = Trial {
-                        slot,
-                        refused: false,
-                    };
-                    let next = pushed_turn(
-                        rest, first.next, operators, context, shared, memory, trial,
-                    );
+                Came::Turned(turn) => {
                     return Run {
                         made,
-                        next: Some(next),
+                        next: Some(turn),
                     };
                 }
             }
@@ -176,7 +246,8 @@ fn with_turn(made: u32, turn: Result<Turned, NotMade>) -> Run
 
 /// Makes the first steps of the topmost frame, a text, at most so many: those of its next tokens, as
 /// far as operands alone do them, and that of the token behind them. The text's frame goes on once
-/// for all of them. The records go into the log of a slot.
+/// for all of them, and what was read of a string serves more than one: while operands alone change,
+/// the string doesn't. The records go into the log of a slot.
 #[inline(always)]
 fn run_text<O: Operate, M: Memory>(
     source: Source,
@@ -206,10 +277,12 @@ fn run_text<O: Operate, M: Memory>(
         refused: false,
     };
     let mut place = at;
+    let mut start = 0;
     let mut made = 0;
+    text.clear();
     while made < most {
         match read_token(
-            source, place, text, operators, context, shared, memory, trial,
+            source, place, &mut start, text, operators, context, shared, memory, trial,
         ) {
             Taken::Done(end) => {
                 place = end;

@@ -8,8 +8,9 @@ ghost use Rattle.ps_control.specs.Frames.{IsSourceAt, IsSourceWithin, source_of}
 ghost use Rattle.ps_mem.specs.Heap.{birth_at};
 ghost use Rattle.ps_mem.specs.Shows.{IsSound, Shows};
 ghost use Rattle.ps_context.specs.Texts.{IsScanned, Starves, IsTaken, bytes_scanned};
+ghost use Rattle.ps_context.specs.Windows.{IsWindow};
 
-use crate::windows::scan_string;
+use crate::windows::{scan_read, scan_string};
 use ps_control::frames::Source;
 use ps_mem::Memory;
 use ps_scan::{ScanFault, Token, next_token};
@@ -27,8 +28,9 @@ pub(crate) fn scanned_bytes<'a>(source: Source, program: &'a [u8], list: &'a Vec
     }
 }
 
-/// The next token of a source behind a place. A string is read into the list as it stands now, as
-/// far as the token takes. The memory stays as it is.
+/// The next token of a source behind a place. Where the list doesn't have it, a string is read into
+/// it as it stands now, as far as the token takes, from a place of the string on. The memory stays
+/// as it is.
 ///
 /// Faults as the scanner's. `ScanFault::Memory`: also a growth of the list was refused.
 #[inline(always)]
@@ -36,12 +38,14 @@ pub(crate) fn scan_source<M: Memory>(
     source: Source,
     at: usize,
     program: &[u8],
+    start: &mut usize,
     list: &mut Vec<u8>,
     memory: &mut M,
     alloc: Global,
 ) -> Result<Option<Token>, ScanFault>
     requires sound { IsSound (M.heap memory.old) }
     requires place { IsSourceAt (M.heap memory.old) (length program.now) source at }
+    requires window { IsWindow (M.heap memory.old) source start.old list.old.items }
     ensures heap { M.heap memory.new ≡ M.heap memory.old }
     ensures grants { M.grants memory.new ≡ M.grants memory.old }
     ensures scanned { (names : List (List ℕ)) (s : Store) → Shows (M.heap memory.old) names s
@@ -52,12 +56,16 @@ pub(crate) fn scan_source<M: Memory>(
         outcome }
     ensures token { IsTaken (IsSourceAt (M.heap memory.old) (length program.now) source)
         (bytes_scanned source program.now list.new.items) result }
+    ensures window { IsWindow (M.heap memory.old) source start.new list.new.items }
 {
     match source {
         Source::Program => {
             scanned_is_short();
             next_token(alloc, program, at)
         }
-        Source::Text(part) => scan_string(memory, part, at, list, alloc),
+        Source::Text(part) => match scan_read(part, at, *start, list.as_slice(), alloc) {
+            Some(token) => Ok(Some(token)),
+            None => scan_string(memory, part, at, start, list, alloc),
+        },
     }
 }

@@ -14,6 +14,7 @@ ghost use Rattle.ps_turns.specs.Turns.{Turns};
 ghost use Rattle.ps_frames.specs.Steps.{running_turn};
 ghost use Rattle.ps_context.specs.Reading.{read_to, IsRead, Reads, Takes};
 ghost use Rattle.ps_context.specs.Texts.{IsFaulty, IsScanned, Starves, IsTaken, scan_at, scanned_asks, text_asks};
+ghost use Rattle.ps_context.specs.Windows.{IsWindow, OnDone};
 
 use crate::sources::{scan_source, scanned_bytes};
 use ps_acts::lent::{Context, Dictionaries, Shared, Trial};
@@ -278,8 +279,8 @@ fn treat_token<O: Operate, M: Memory>(
     }
 }
 
-/// What was scanned of a text behind a place is taken: a token is done by operands alone, or the
-/// frame goes on from that place and the turn is made.
+/// What was scanned of a text behind a place is taken: a token is done by operands alone, and the
+/// memory stays as it is; or the frame goes on from that place and the turn is made.
 #[inline(always)]
 fn take_scanned<O: Operate, M: Memory>(
     source: Source,
@@ -304,9 +305,10 @@ fn take_scanned<O: Operate, M: Memory>(
         scanned outcome }
     requires token { IsTaken
         (IsSourceAt (M.heap memory.old) (length shared.old.program.now) source) text.now scanned }
-    ensures { Takes O.asks source at trial result
+    ensures takes { Takes O.asks source at trial result
         (lent (M.heap memory.old) (M.grants memory.old) context.old shared.old)
         (lent (M.heap memory.new) (M.grants memory.new) context.new shared.new) }
+    ensures heap { OnDone result (M.heap memory.new ≡ M.heap memory.old) }
 {
     let dictionaries = &context.dictionaries;
     let operands = &mut context.operands;
@@ -334,12 +336,13 @@ fn take_scanned<O: Operate, M: Memory>(
     }
 }
 
-/// The next token of a text behind a place is taken. A string is read into the list as it stands
-/// now, as far as the token takes.
+/// The next token of a text behind a place is taken. Where the list doesn't have it, a string is
+/// read into it as it stands now, as far as the token takes, from a place of the string on.
 #[inline(always)]
 pub fn read_token<O: Operate, M: Memory>(
     source: Source,
     at: usize,
+    start: &mut usize,
     list: &mut Vec<u8>,
     operators: &O,
     context: &mut Context,
@@ -351,13 +354,16 @@ pub fn read_token<O: Operate, M: Memory>(
     requires framed { 1 ≤ length context.old.frames }
     requires good { IsGood (read_to source at
         (lent (M.heap memory.old) (M.grants memory.old) context.old shared.old)) }
-    ensures { Takes O.asks source at trial result
+    requires window { IsWindow (M.heap memory.old) source start.old list.old.items }
+    ensures takes { Takes O.asks source at trial result
         (lent (M.heap memory.old) (M.grants memory.old) context.old shared.old)
         (lent (M.heap memory.new) (M.grants memory.new) context.new shared.new) }
+    ensures window { OnDone result
+        (IsWindow (M.heap memory.new) source start.new list.new.items) }
 {
     let alloc = *shared.printed.allocator();
     let program = shared.program;
-    let scanned = scan_source(source, at, program, list, memory, alloc);
+    let scanned = scan_source(source, at, program, start, list, memory, alloc);
     let text = scanned_bytes(source, program, list);
     take_scanned(
         source, at, scanned, text, operators, context, shared, memory, trial,
@@ -392,7 +398,9 @@ pub fn text_turn<O: Operate, M: Memory>(
 {
     let alloc = *shared.printed.allocator();
     let program = shared.program;
-    let scanned = scan_source(source, at, program, list, memory, alloc);
+    let mut start = 0;
+    list.clear();
+    let scanned = scan_source(source, at, program, &mut start, list, memory, alloc);
     let text = scanned_bytes(source, program, list);
     scanned_turn(
         source, at, scanned, text, operators, context, shared, memory, trial,

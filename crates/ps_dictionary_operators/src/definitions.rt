@@ -44,6 +44,7 @@ pub fn def<M: Memory>(
     ensures acts { Acts def_asks (looking_row rows.def_row) trial result
         (lent (M.heap memory.old) (M.grants memory.old) context.old shared.old)
         (lent (M.heap memory.new) (M.grants memory.new) context.new shared.new) }
+    ensures frames { context.new.frames ≡ context.old.frames }
 {
     let Some((value, key)) = context.operands.top_two() else {
         return Err(Break::Raises(ErrorName::StackUnderflow));
@@ -89,6 +90,7 @@ pub fn put_into_dictionary<M: Memory>(
     ensures acts { Acts put_asks (naming_row rows.put_row) trial result
         (lent (M.heap memory.old) (M.grants memory.old) context.old shared.old)
         (lent (M.heap memory.new) (M.grants memory.new) context.new shared.new) }
+    ensures frames { context.new.frames ≡ context.old.frames }
 {
     let (value, key, _) = operands;
     if is_null(key) {

@@ -34,6 +34,7 @@ pub fn known<M: Memory>(
     ensures acts { (trial : Trial) → Acts nothing_asked (naming_row rows.known_row) trial result
         (lent (M.heap memory.old) (M.grants memory.old) context.old shared.old)
         (lent (M.heap memory.new) (M.grants memory.new) context.new shared.new) }
+    ensures frames { context.new.frames ≡ context.old.frames }
 {
     let Some((key, dictionary)) = context.operands.top_two() else {
         return Err(Break::Raises(ErrorName::StackUnderflow));
@@ -79,6 +80,7 @@ pub fn get_from_dictionary<M: Memory>(
     ensures acts { (trial : Trial) → Acts nothing_asked (naming_row rows.get_row) trial result
         (lent (M.heap memory.old) (M.grants memory.old) context.old shared.old)
         (lent (M.heap memory.new) (M.grants memory.new) context.new shared.new) }
+    ensures frames { context.new.frames ≡ context.old.frames }
 {
     if is_null(key) {
         return Err(Break::Raises(ErrorName::TypeCheck));
@@ -112,6 +114,7 @@ pub fn load<M: Memory>(
     ensures acts { (trial : Trial) → Acts nothing_asked (looking_row rows.load_row) trial result
         (lent (M.heap memory.old) (M.grants memory.old) context.old shared.old)
         (lent (M.heap memory.new) (M.grants memory.new) context.new shared.new) }
+    ensures frames { context.new.frames ≡ context.old.frames }
 {
     let Some(key) = context.operands.top() else {
         return Err(Break::Raises(ErrorName::StackUnderflow));

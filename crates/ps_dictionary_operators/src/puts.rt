@@ -97,6 +97,7 @@ fn put_planned<M: Memory>(
         (lent (M.heap memory.old) (M.grants memory.old) context.old shared.old)
         (lent (M.heap memory.new) (M.grants memory.new) context.new shared.new) }
     ensures unmade { IfErr result (λ break. (reason : NotMade) × (break ≡ Break.NotMade reason)) }
+    ensures frames { context.new.frames ≡ context.old.frames }
 {
     match asked(memory, slot, plan.records(), plan.words()) {
         Ok(()) => {
@@ -143,6 +144,7 @@ fn put_met<M: Memory>(
         trial result
         (lent (M.heap memory.old) (M.grants memory.old) context.old shared.old)
         (lent (M.heap memory.new) (M.grants memory.new) context.new shared.new) }
+    ensures frames { context.new.frames ≡ context.old.frames }
 {
     let plan = plan_put(memory, entry.address, entry.key);
     if matches!(plan, PutPlan::Full) {
@@ -201,6 +203,7 @@ fn put_unmet<M: Memory>(
         entry.operands) trial result
         (lent (M.heap memory.old) (M.grants memory.old) context.old shared.old)
         (lent (M.heap memory.new) (M.grants memory.new) context.new shared.new) }
+    ensures frames { context.new.frames ≡ context.old.frames }
 {
     if length(memory, entry.address) >= CAPACITY_LIMIT {
         return Err(Break::Raises(ErrorName::LimitCheck));
@@ -251,6 +254,7 @@ pub(crate) fn put_key<M: Memory>(
         entry.operands) trial result
         (lent (M.heap memory.old) (M.grants memory.old) context.old shared.old)
         (lent (M.heap memory.new) (M.grants memory.new) context.new shared.new) }
+    ensures frames { context.new.frames ≡ context.old.frames }
 {
     if !is_writable(access(memory, entry.address)) {
         return Err(Break::Raises(ErrorName::InvalidAccess));

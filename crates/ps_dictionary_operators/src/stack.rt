@@ -35,6 +35,7 @@ pub fn begin<M: Memory>(
     ensures acts { (trial : Trial) → Acts nothing_asked (stacking_row rows.begin_row) trial result
         (lent (M.heap memory.old) (M.grants memory.old) context.old shared.old)
         (lent (M.heap memory.new) (M.grants memory.new) context.new shared.new) }
+    ensures frames { context.new.frames ≡ context.old.frames }
 {
     let Some(word) = context.operands.top() else {
         return Err(Break::Raises(ErrorName::StackUnderflow));
@@ -64,6 +65,7 @@ pub fn end<M: Memory>(
     ensures acts { (trial : Trial) → Acts nothing_asked (stacking_row rows.end_row) trial result
         (lent (M.heap memory.old) (M.grants memory.old) context.old shared.old)
         (lent (M.heap memory.new) (M.grants memory.new) context.new shared.new) }
+    ensures frames { context.new.frames ≡ context.old.frames }
 {
     if context.dictionaries.len() <= 2 {
         return Err(Break::Raises(ErrorName::DictStackUnderflow));

@@ -216,42 +216,38 @@ ahead {operator} {which} row came old new same is none kept did =
 
 -- ---- as a step
 
+-- with nothing in hand
+pub stepped : (operator : Operator) (trial : Trial) (before after : Lent)
+    → Acts (asked_of operator) (row_now operator) trial (Ok tt) before after
+    → TurnsWith [] [] (operated_asks operator_asks operator) (operated_turn operator) trial
+    (Ok Goes) before after
+stepped operator trial before after acts =
+    turns_over IsShown (IsShownWith [] []) (operated_asks operator_asks operator)
+    (operated_asks operator_asks operator) (operated_turn operator) (operated_turn operator) trial
+    (Ok Goes) before after (λ s held. held.shown) (λ s held. refl) (λ s held. refl)
+    (goes_on operator trial before after acts)
+
 pub goes_alone : (operator : Operator) (acts : Bool) (old new : List Word)
     → ActsAlone operator acts old new
     → GoesAlone [] (operated_asks operator_asks operator) (operated_turn operator) acts old new
 goes_alone operator true old new acts = λ l trial good none.
-    let before = record l { operands = old } in
-    let after = record l { operands = new } in
-    turns_over IsShown (IsShownWith [] []) (operated_asks operator_asks operator)
-    (operated_asks operator_asks operator) (operated_turn operator) (operated_turn operator) trial
-    (Ok Goes) before after (λ s held. held.shown) (λ s held. refl) (λ s held. refl)
-    (goes_on operator trial before after (acts l trial good))
+    stepped operator trial (record l { operands = old }) (record l { operands = new })
+    (acts l trial good)
 goes_alone operator false old new same = same
 
-module _ (operator : Operator) (old new : List Word) where
-  stepped : (l : Lent) (trial : Trial) (frames : List Frame)
-      → Acts (asked_of operator) (row_now operator) trial (Ok tt) (record l { operands = old })
-      (record l { operands = new; frames = frames })
-      → TurnsWith [] [] (operated_asks operator_asks operator) (operated_turn operator) trial
-      (Ok Goes) (record l { operands = old }) (record l { operands = new; frames = frames })
-  stepped l trial frames acts =
-      let before : Lent = record l { operands = old } in
-      let after : Lent = record l { operands = new; frames = frames } in
-      turns_over IsShown (IsShownWith [] []) (operated_asks operator_asks operator)
-      (operated_asks operator_asks operator) (operated_turn operator) (operated_turn operator) trial
-      (Ok Goes) before after (λ s held. held.shown) (λ s held. refl) (λ s held. refl)
-      (goes_on operator trial before after acts)
-
-  pub enters_alone : (came : Ahead) → ActsAhead operator came old new
-      → EntersAlone [] (operated_asks operator_asks operator) (operated_turn operator) came old new
-  enters_alone (Enters body) acts = (
-    tt,
-    λ l trial good none room.
-        stepped l trial (Procedure body ∷ l.frames) (acts.1 l trial good room),
-  )
-  enters_alone Unentered acts = (
-    tt,
-    λ l trial good none room.
-        stepped l trial l.frames (acts.1 l trial good room),
-  )
-  enters_alone Left acts = (acts.0, tt)
+pub enters_alone : (operator : Operator) (old new : List Word) (came : Ahead)
+    → ActsAhead operator came old new
+    → EntersAlone [] (operated_asks operator_asks operator) (operated_turn operator) came old new
+enters_alone operator old new (Enters body) acts = (
+  tt,
+  λ l trial good none room.
+      stepped operator trial (record l { operands = old })
+      (record l { operands = new; frames = Procedure body ∷ l.frames }) (acts.1 l trial good room),
+)
+enters_alone operator old new Unentered acts = (
+  tt,
+  λ l trial good none room.
+      stepped operator trial (record l { operands = old }) (record l { operands = new })
+      (acts.1 l trial good room),
+)
+enters_alone operator old new Left acts = (acts.0, tt)

@@ -6,3 +6,4 @@ pub mod Joining
 pub mod Named
 pub mod Stepping
 pub mod Turning
+pub mod Unframed

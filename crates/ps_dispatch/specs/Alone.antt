@@ -1,12 +1,18 @@
--- What an operator does to operands alone, and to frames.
-use Rattle.std.specs.Prelude.{◌≡◌, ◌<◌, Bool, true, false, List, length, Ok}
+-- What an operator does to operands alone, to frames, and whatever frames are above.
+use Rattle.std.specs.Prelude.{◌≡◌, ℕ, ◌<◌, Bool, true, false, List, length, Result, Ok, Err}
 use Rattle.ps_language.specs.declared.operators.Operator.{Operator}
 use Rattle.ps_word.specs.declared.words.Word.{Word}
 use Rattle.ps_control.specs.declared.ahead.Ahead.{Ahead}
+use Rattle.ps_control.specs.declared.frames.Frame.{Frame}
 use Rattle.ps_control.specs.Ahead.{OnDone, OnLeft, frames_ahead}
+use Rattle.ps_acts.specs.declared.breaks.Break.{Break}
 use Rattle.ps_acts.specs.declared.lent.Trial.{Trial}
 use Rattle.ps_acts.specs.Acts.{Acts}
 use Rattle.ps_acts.specs.Lent.{Lent, IsGood}
+use Rattle.ps_acts.specs.Trials.{ordinary}
+use Rattle.ps_acts.specs.Unframed.{under, IsUndone}
+use Rattle.ps_values.specs.declared.under.Under.{Under}
+use Rattle.ps_values.specs.declared.under.Under.TheVariants as variants
 use Rattle.ps_dispatch.specs.Operators.{asked_of, row_now}
 
 -- it acts and raises no error, whatever else is lent and however it is tried; or nothing has
@@ -26,3 +32,18 @@ ActsAhead operator ahead old new = OnLeft ahead (new ≡ old)
     → length l.frames < 250
     → Acts (asked_of operator) (row_now operator) trial (Ok tt) (record l { operands = old })
     (record l { operands = new; frames = frames_ahead ahead l.frames }))
+
+-- in an ordinary step it acts and raises no error, as it would under any more frames; or nothing was
+-- done; or nothing has changed
+abbrev pub ActsUnder : Operator → (slot : ℕ) → Under → (old new : Lent) → Type 0
+ActsUnder operator slot variants.Acts old new =
+    (above : List Frame) → IsGood (under above old)
+    → Acts (asked_of operator) (row_now operator) (ordinary slot) (Ok tt) (under above old)
+    (under above new)
+ActsUnder operator slot variants.Fails old new = IsUndone old new
+ActsUnder operator slot variants.Left old new = new ≡ old
+
+-- what came about is kept, and an error was not raised
+abbrev pub came_under : Result Unit Break → Under
+came_under (Ok _) = variants.Acts
+came_under (Err break) = variants.Fails

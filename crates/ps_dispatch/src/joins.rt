@@ -22,6 +22,7 @@ use ps_sequence_operators::elements::{get_from_sequence, put_into_sequence};
 /// `X k get y`: the element of an array, the byte of a string, or the value of a key. Raises
 /// `stackunderflow`, `typecheck`, `invalidaccess`, `rangecheck`, and `undefined` where a dictionary
 /// doesn't have the key.
+#[inline(always)]
 pub fn get<M: Memory>(
     context: &mut Context,
     shared: &mut Shared,
@@ -32,6 +33,7 @@ pub fn get<M: Memory>(
     ensures acts { (trial : Trial) → Acts nothing_asked (naming_row get_row) trial result
         (lent (M.heap memory.old) (M.grants memory.old) context.old shared.old)
         (lent (M.heap memory.new) (M.grants memory.new) context.new shared.new) }
+    ensures frames { context.new.frames ≡ context.old.frames }
 {
     let Some((key, container)) = context.operands.top_two() else {
         return get_from_sequence(context, shared, memory);
@@ -46,6 +48,7 @@ pub fn get<M: Memory>(
 /// formed. Raises `stackunderflow`, `typecheck`, `invalidaccess`, `rangecheck`, and `limitcheck`
 /// and `VMerror` of a dictionary. Not made where the log takes no record, or for want of room or
 /// memory.
+#[inline(always)]
 pub fn put<M: Memory>(
     context: &mut Context,
     shared: &mut Shared,
@@ -55,9 +58,10 @@ pub fn put<M: Memory>(
     requires slot { trial.slot < SLOTS }
     requires good { IsGood
         (lent (M.heap memory.old) (M.grants memory.old) context.old shared.old) }
-    ensures { Acts put_asks (naming_row put_row) trial result
+    ensures acts { Acts put_asks (naming_row put_row) trial result
         (lent (M.heap memory.old) (M.grants memory.old) context.old shared.old)
         (lent (M.heap memory.new) (M.grants memory.new) context.new shared.new) }
+    ensures frames { context.new.frames ≡ context.old.frames }
 {
     let Some(operands) = context.operands.top_three() else {
         return put_into_sequence(context, shared, memory, trial);

@@ -9,3 +9,4 @@ pub mod joins;
 pub mod laws;
 pub mod operators;
 pub mod turns;
+pub mod under;

@@ -7,6 +7,7 @@ ghost use Rattle.ps_turns.specs.Turns as turns;
 
 use crate::alone::{enter_alone, operate_alone};
 use crate::turns::operated;
+use crate::under;
 use ps_acts::lent::{Context, Shared, Trial};
 use ps_control::ahead::Ahead;
 use ps_language::operators::Operator;
@@ -15,6 +16,7 @@ use ps_operands::Operands;
 use ps_ops::failure::NotMade;
 use ps_turns::turned::Turned;
 use ps_values::operates::Operate;
+use ps_values::under::Under;
 
 /// Whether an operator is left to the world: one on contexts or locks, or one that is shown the
 /// memory.
@@ -56,6 +58,19 @@ impl Operate for Operators {
     #[inline(always)]
     fn enter_quickly(&self, operator: Operator, operands: &mut Operands) -> Ahead {
         enter_alone(operator, operands)
+    }
+
+    /// One that programs call often.
+    #[inline(always)]
+    fn operate_under<M: Memory>(
+        &self,
+        operator: Operator,
+        context: &mut Context,
+        shared: &mut Shared,
+        memory: &mut M,
+        slot: u32,
+    ) -> Under {
+        under::operate_under(operator, context, shared, memory, slot)
     }
 
     /// One that is left to the world is handed up; every other one acts.

@@ -5,7 +5,6 @@ use Rattle.ps_word.specs.declared.words.Word.{Word}
 use Rattle.ps_control.specs.declared.ahead.Ahead.{Ahead}
 use Rattle.ps_control.specs.declared.ahead.Ahead.TheVariants as variants
 use Rattle.ps_control.specs.declared.frames.Frame.TheVariants.{Procedure}
-use Rattle.ps_control.specs.declared.frames.Frame.{Frame}
 use Rattle.ps_acts.specs.declared.lent.Trial.{Trial}
 use Rattle.ps_acts.specs.Lent.{Lent, IsGood}
 use Rattle.ps_turns.specs.declared.turned.Turned.TheVariants.{Goes}
@@ -22,24 +21,20 @@ module _ (asks : Asks) (l : Lent) (rest : Part) (element : Element) (good : IsGo
   abbrev left : Lent
   left = with_frames (rest_frames rest l.frames) (above rest l)
 
-  left_good : IsGood left
+  pub left_good : IsGood left
   left_good = restacked_good (above rest l) l.operands (rest_frames rest l.frames)
       (rest_good (above rest l) rest l.frames refl good) good
 
-  module _ (operands : List Word) (frames : List Frame) (trial : Trial) where
-    abbrev after : Lent
-    after = record l { operands = operands; frames = frames }
-
-    treated_goes : TurnsWith (element.value ∷ element.word ∷ []) []
-        (treated_asks asks element.value) (treated_turn element.word element.value) trial (Ok Goes)
-        left after
-        → Turns (frame_asks asks) running_turn trial (Ok Goes) (above rest l) after
-    treated_goes turns =
-        element_made (above rest l) rest l.frames refl element.word
-        (λ s shown. is.reads l.names s shown.shows) good
-        (λ s shown. is.within l.names s shown.shows) asks trial Goes after
-        (treated_done asks l.heap l.dictionaries element.word element.value is.treats left trial
-        (Ok Goes) after left_good turns)
+  pub treated_goes : (trial : Trial) (after : Lent)
+      → TurnsWith (element.value ∷ element.word ∷ []) [] (treated_asks asks element.value)
+      (treated_turn element.word element.value) trial (Ok Goes) left after
+      → Turns (frame_asks asks) running_turn trial (Ok Goes) (above rest l) after
+  treated_goes trial after turns =
+      element_made (above rest l) rest l.frames refl element.word
+      (λ s shown. is.reads l.names s shown.shows) good
+      (λ s shown. is.within l.names s shown.shows) asks trial Goes after
+      (treated_done asks l.heap l.dictionaries element.word element.value is.treats left trial
+      (Ok Goes) after left_good turns)
 
   pub entered_goes : (came : Ahead) (operands : List Word)
       → EntersAlone (element.value ∷ element.word ∷ []) (treated_asks asks element.value)
@@ -48,9 +43,10 @@ module _ (asks : Asks) (l : Lent) (rest : Part) (element : Element) (good : IsGo
       → GoesAhead asks came (above rest l)
       (record l { operands = operands; frames = rest_frames rest l.frames })
   entered_goes (variants.Enters body) operands alone room = λ trial.
-      treated_goes operands (Procedure body ∷ rest_frames rest l.frames) trial
+      treated_goes trial
+      (record l { operands = operands; frames = Procedure body ∷ rest_frames rest l.frames })
       (alone.1 left trial left_good (is.value_held, (is.held, tt)) room)
   entered_goes variants.Goes operands alone room = λ trial.
-      treated_goes operands (rest_frames rest l.frames) trial
+      treated_goes trial (record l { operands = operands; frames = rest_frames rest l.frames })
       (alone.1 left trial left_good (is.value_held, (is.held, tt)) room)
   entered_goes variants.Left operands alone room = tt

@@ -17,3 +17,4 @@ pub mod Stepping
 pub mod Taking
 pub mod Telling
 pub mod Unchanged
+pub mod Unframed

@@ -26,9 +26,13 @@ use Rattle.ps_control.specs.Turns.{cause_of}
 use Rattle.ps_acts.specs.declared.lent.Trial.{Trial}
 use Rattle.ps_acts.specs.Acts.{Asked, no_rooms}
 use Rattle.ps_acts.specs.Lent.{Lent, scene_of, around_of}
+use Rattle.ps_acts.specs.Trials.{ordinary}
+use Rattle.ps_acts.specs.Unframed.{IsUndone}
 use Rattle.ps_turns.specs.declared.turned.Turned.{Turned}
 use Rattle.ps_turns.specs.declared.turned.Turned.TheVariants.{Goes, Breaks, Ends}
 use Rattle.ps_turns.specs.Turns.{is_told, none_asked, break_turn, Turns}
+use Rattle.ps_values.specs.declared.under.Under.{Under}
+use Rattle.ps_values.specs.declared.under.Under.TheVariants as came
 use Rattle.ps_values.specs.Quick.{TreatsAs}
 use Rattle.ps_values.specs.Values.{Asks, done_asks}
 use Rattle.ps_frames.specs.declared.elements.Element.{Element}
@@ -160,6 +164,15 @@ above rest l = with_frames (Procedure rest ∷ l.frames) l
 abbrev pub GoesAhead : Asks → Ahead → (old new : Lent) → Type 0
 GoesAhead asks ahead old new = OnDone ahead ((trial : Trial)
     → Turns (frame_asks asks) running_turn trial (Ok Goes) old (with_entered ahead new))
+
+-- the ordinary turn of a procedure above the frames goes on, of which what is left is above them; or
+-- nothing was done; or nothing has changed
+abbrev pub DoesUnder : Asks → Part → (slot : ℕ) → Under → (old new : Lent) → Type 0
+DoesUnder asks rest slot came.Acts old new =
+    Turns (frame_asks asks) running_turn (ordinary slot) (Ok Goes) (above rest old)
+    (with_frames (rest_frames rest new.frames) new)
+DoesUnder asks rest slot came.Fails old new = IsUndone old new
+DoesUnder asks rest slot came.Left old new = new ≡ old
 
 -- of bind, in what is lent
 abbrev pub bind_asks : (over : Part) → (at : ℕ) → Lent → Store → Asked

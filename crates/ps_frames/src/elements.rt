@@ -7,7 +7,7 @@ ghost use Rattle.ps_stacks.specs.Tops.{first_of};
 ghost use Rattle.ps_mem.specs.Shows.{IsValue};
 ghost use Rattle.ps_turns.specs.Turns.{Turns, TurnsWith};
 ghost use Rattle.ps_values.specs.Values.{treated_asks, treated_turn};
-ghost use Rattle.ps_frames.specs.Steps.{above, frame_asks, running_turn, GoesAhead, IsElement};
+ghost use Rattle.ps_frames.specs.Steps.{above, frame_asks, running_turn, DoesUnder, GoesAhead, IsElement};
 
 use crate::frames::{advance, drop_top, push_rest, put_back};
 use ps_acts::lent::{Context, Shared, Trial};
@@ -20,6 +20,7 @@ use ps_stacks::FRAME_LIMIT;
 use ps_turns::turned::Turned;
 use ps_values::ahead::treat_ahead;
 use ps_values::operates::Operate;
+use ps_values::under::{Under, treat_under};
 use ps_values::values::{do_element, execute, treat};
 use ps_word::values::Part;
 use ps_word::words::Word;
@@ -161,6 +162,35 @@ pub fn element_ahead<O: Operate, M: Memory>(
             Ahead::Goes
         }
         Ahead::Left => Ahead::Left,
+    }
+}
+
+/// The first element that is left of a procedure above the frames is done, where its value is known,
+/// neither sees nor changes frames, raises no error and is made. No frame is pushed. The records go
+/// into the log of a slot.
+#[inline(always)]
+pub fn element_under<O: Operate, M: Memory>(
+    rest: Part,
+    first: Option<Element>,
+    operators: &O,
+    context: &mut Context,
+    shared: &mut Shared,
+    memory: &mut M,
+    slot: u32,
+) -> Under
+    requires slot { slot < SLOTS }
+    requires good { IsGood (above rest
+        (lent (M.heap memory.old) (M.grants memory.old) context.old shared.old)) }
+    requires first { IfSome first
+        (IsElement O.asks (M.heap memory.old) context.old.dictionaries rest 0) }
+    ensures frames { context.new.frames ≡ context.old.frames }
+    ensures does { DoesUnder O.asks rest slot result
+        (lent (M.heap memory.old) (M.grants memory.old) context.old shared.old)
+        (lent (M.heap memory.new) (M.grants memory.new) context.new shared.new) }
+{
+    match first {
+        Some(element) => treat_under(element.value, operators, context, shared, memory, slot),
+        None => Under::Left,
     }
 }
 

@@ -11,6 +11,7 @@ use Rattle.ps_ops.specs.declared.failure.NotMade.{NotMade as Reason}
 use Rattle.ps_acts.specs.declared.lent.Trial.{Trial}
 use Rattle.ps_acts.specs.Acts.{Asked}
 use Rattle.ps_acts.specs.Lent.{Lent}
+use Rattle.ps_acts.specs.Trials.{ordinary}
 use Rattle.ps_turns.specs.declared.turned.Turned.{Turned}
 use Rattle.ps_turns.specs.declared.turned.Turned.TheVariants.{Goes}
 use Rattle.ps_turns.specs.Turns.{Turns}
@@ -19,7 +20,7 @@ use Rattle.ps_interpreter.specs.declared.courses.Course.TheVariants.{Running, Un
 use Rattle.ps_interpreter.specs.Alone.{alone_step, is_alone_ready, after_alone_moves, all_alone_ready}
 use Rattle.ps_interpreter.specs.Courses.{Held, held, going, has_steps, course_after, HasFrame, IsAtBy, IsAt, IsSteady}
 use Rattle.ps_interpreter.specs.Interprets.{asks_in, own_turn}
-use Rattle.ps_interpreter.specs.Makes.{plain_moves, ordinary, HasMade, HoldsUp, TurnsBehind, StepsBehind, GoesOn}
+use Rattle.ps_interpreter.specs.Makes.{plain_moves, HasMade, HoldsUp, TurnsBehind, StepsBehind, GoesOn}
 use Rattle.ps_interpreter.specs.Needs.{alone_needs, IsHeldUp}
 use Rattle.ps_interpreter.specs.Steps.{Steps}
 use Rattle.ps_interpreter.specs.OwnSteps.{HasRun}

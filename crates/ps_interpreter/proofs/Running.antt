@@ -11,13 +11,14 @@ use Rattle.ps_mem.proofs.KeepsLemmas.{Keeps-then}
 use Rattle.ps_control.specs.declared.frames.Frame.{Frame}
 use Rattle.ps_acts.specs.Acts.{Asked, Lasts}
 use Rattle.ps_acts.specs.Lent.{Lent, IsGood}
+use Rattle.ps_acts.specs.Trials.{ordinary}
 use Rattle.ps_acts.proofs.Meeting.{keeps-same, lasts-same, stays_as, stays_then, at_least-same}
 use Rattle.ps_turns.specs.declared.turned.Turned.TheVariants.{Goes}
 use Rattle.ps_turns.specs.Turns.{Turns, IsTurned}
 use Rattle.ps_interpreter.specs.Alone.{alone_step, is_alone_ready, after_alone_moves, all_alone_ready}
 use Rattle.ps_interpreter.specs.Courses.{going, course_after, IsLentBy, IsAtBy}
 use Rattle.ps_interpreter.specs.Interprets.{asks_in, own_turn}
-use Rattle.ps_interpreter.specs.Makes.{plain_moves, ordinary, HasMade}
+use Rattle.ps_interpreter.specs.Makes.{plain_moves, HasMade}
 use Rattle.ps_interpreter.specs.OwnSteps.{machine_in, own_next, own_after, status_with, ComesTo, HasRun}
 use Rattle.ps_interpreter.proofs.Laws.{first_ready, ready_move, after_more, ready_more}
 use Rattle.ps_interpreter.proofs.Made.{next, came, next_lent, settled_at, steady_after}

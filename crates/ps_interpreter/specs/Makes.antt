@@ -4,9 +4,9 @@ use Rattle.ps_language.specs.Effect.{Around, Scene}
 use Rattle.ps_language.specs.Schedules.{Move, plain_move}
 use Rattle.ps_language.specs.World.{Status, Machine}
 use Rattle.ps_ops.specs.declared.failure.NotMade.{NotMade as Reason}
-use Rattle.ps_acts.specs.declared.lent.Trial.{Trial}
 use Rattle.ps_acts.specs.Acts.{Asked}
 use Rattle.ps_acts.specs.Lent.{Lent}
+use Rattle.ps_acts.specs.Trials.{ordinary}
 use Rattle.ps_turns.specs.declared.turned.Turned.{Turned}
 use Rattle.ps_turns.specs.Turns.{Turns}
 use Rattle.ps_interpreter.specs.Alone.{after_alone_moves, all_alone_ready}
@@ -39,10 +39,6 @@ HoldsUp asks slot made old new reason =
     (after_alone_moves old.lent.program machine (plain_moves made))) slot new.lent reason
 
 -- ---- steps, and what the one behind them came to
-
--- an ordinary step, whose records go into the log of a slot
-abbrev pub ordinary : (slot : ℕ) → Trial
-ordinary slot = record { slot = slot; refused = false }
 
 -- so many own steps were made, and the turn of the frame behind them came to this
 pub record TurnsBehind (asks : Status → Around → Scene → Asked) (slot made : ℕ)

@@ -19,6 +19,7 @@ use ps_strings::{changes as string_changes, strings};
 
 /// `X i get y` but for dictionaries: the element of an array, or the byte of a string. Raises
 /// `stackunderflow`, `typecheck`, `invalidaccess` and `rangecheck`.
+#[inline(always)]
 pub fn get_from_sequence<M: Memory>(
     context: &mut Context,
     shared: &mut Shared,
@@ -30,6 +31,7 @@ pub fn get_from_sequence<M: Memory>(
     ensures acts { (trial : Trial) → Acts nothing_asked (naming_row get_row) trial result
         (lent (M.heap memory.old) (M.grants memory.old) context.old shared.old)
         (lent (M.heap memory.new) (M.grants memory.new) context.new shared.new) }
+    ensures frames { context.new.frames ≡ context.old.frames }
 {
     if is_string_at(&context.operands, 1) {
         made(strings::get(&mut context.operands, memory))
@@ -41,6 +43,7 @@ pub fn get_from_sequence<M: Memory>(
 /// `X i y put` but for dictionaries: an element of an array, or a byte, 0 to 255, of a string.
 /// Raises `stackunderflow`, `typecheck`, `invalidaccess` and `rangecheck`. Not made where the log
 /// takes no record.
+#[inline(always)]
 pub fn put_into_sequence<M: Memory>(
     context: &mut Context,
     shared: &mut Shared,
@@ -51,9 +54,10 @@ pub fn put_into_sequence<M: Memory>(
     requires below { kinds.is_dictionary_at context.old.operands 2 ≡ false }
     requires good { IsGood
         (lent (M.heap memory.old) (M.grants memory.old) context.old shared.old) }
-    ensures { Acts (stores one_stored) (naming_row put_row) trial result
+    ensures acts { Acts (stores one_stored) (naming_row put_row) trial result
         (lent (M.heap memory.old) (M.grants memory.old) context.old shared.old)
         (lent (M.heap memory.new) (M.grants memory.new) context.new shared.new) }
+    ensures frames { context.new.frames ≡ context.old.frames }
 {
     if is_string_at(&context.operands, 2) {
         tried(string_changes::put(&mut context.operands, memory, trial.slot))

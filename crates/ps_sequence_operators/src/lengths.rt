@@ -71,6 +71,7 @@ pub fn length<M: Memory>(
     ensures acts { (trial : Trial) → Acts nothing_asked (reading_row length_row) trial result
         (lent (M.heap memory.old) (M.grants memory.old) context.old shared.old)
         (lent (M.heap memory.new) (M.grants memory.new) context.new shared.new) }
+    ensures frames { context.new.frames ≡ context.old.frames }
 {
     let Some(top) = context.operands.top() else {
         return Err(Break::Raises(ErrorName::StackUnderflow));

@@ -42,8 +42,8 @@ alone_as some words asked other done turn fewer same true old new alone =
     same _ _ trial (alone l trial good (fewer l.heap values))
 alone_as some words asked other done turn fewer same false old new alone = alone
 
-module _ (asks : Asks) (command word : Word) (goes : Bool) (old new : List Word) where
-  treated_by_operator : (l new : Lent) (trial : Trial) (operator : Named)
+module _ (asks : Asks) (command word : Word) where
+  pub treated_by_operator : (l new : Lent) (trial : Trial) (operator : Named)
       → executable_in word.0 ≡ true → content_in word.0 ≡ Operator operator
       → TurnsWith [] [] (operated_asks asks operator) (operated_turn operator) trial (Ok Goes) l new
       → TurnsWith (word ∷ command ∷ []) [] (treated_asks asks word) (treated_turn command word)
@@ -53,6 +53,7 @@ module _ (asks : Asks) (command word : Word) (goes : Bool) (old new : List Word)
       (operator_acts asks command word l trial (Ok Goes) new operator content
       (turns_shown [] [] _ _ trial (Ok Goes) l new (λ s shown. tt) (λ s shown. tt) turns))
 
+module _ (asks : Asks) (command word : Word) (goes : Bool) (old new : List Word) where
   abbrev Pushed : Type 0
   Pushed = GoesAlone (word ∷ command ∷ []) nothing_more (pushed_turn command word) goes old new
 
@@ -69,7 +70,8 @@ module _ (asks : Asks) (command word : Word) (goes : Bool) (old new : List Word)
       → content_in word.0 ≡ Operator operator
       → GoesAlone [] (operated_asks asks operator) (operated_turn operator) goes old new → Treated
   operator_treated operator may content = alone_as _ _ _ _ _ _ (λ heap values. tt)
-      (λ l new trial turns. treated_by_operator l new trial operator may content turns) goes old new
+      (λ l new trial turns.
+      treated_by_operator asks command word l new trial operator may content turns) goes old new
 
 -- ---- as which value an element is treated
 

@@ -23,9 +23,10 @@ use Rattle.ps_acts.specs.Acts.{Asked}
 use Rattle.ps_acts.specs.Lent.{Lent, IsGood}
 use Rattle.ps_turns.specs.declared.turned.Turned.TheVariants.{Goes}
 use Rattle.ps_turns.specs.Turns.{IsShownWith, TurnsWith, nothing_more}
-use Rattle.ps_turns.proofs.Composing.{held_good, goes_over, turns_shown}
+use Rattle.ps_turns.proofs.Composing.{held_good, goes_over}
 use Rattle.ps_values.specs.Values.{EntersAlone, entered_turn, operated_turn, treated_turn, Asks, operated_asks, treated_asks}
-use Rattle.ps_values.proofs.Executing.{operator_acts, array_entered, treated_executable, array_held}
+use Rattle.ps_values.proofs.Alone.{treated_by_operator}
+use Rattle.ps_values.proofs.Executing.{array_entered, treated_executable, array_held}
 use Rattle.ps_values.proofs.Pushing.{goes_as}
 
 -- the same turn, said otherwise
@@ -50,10 +51,7 @@ module _ (asks : Asks) (command word : Word) (may : executable_in word.0 ≡ tru
       old new
   operator_enters operator content came old new = enters_as _ _ _ _ _ _ (λ heap values. tt)
       (λ l new trial turns.
-      treated_executable asks command word l trial (Ok Goes) new may
-      (operator_acts asks command word l trial (Ok Goes) new operator content
-      (turns_shown [] [] _ _ trial (Ok Goes) l new (λ s shown. tt) (λ s shown. tt) turns)))
-      came old new
+      treated_by_operator asks command word l new trial operator may content turns) came old new
 
   module _ (part : Part) (content : content_in word.0 ≡ Array part)
       (access : is_executable part.access ≡ true) (old : List Word) where

@@ -3,3 +3,4 @@ pub mod Entering
 pub mod Executing
 pub mod Few
 pub mod Pushing
+pub mod Unframed

@@ -1,5 +1,5 @@
 -- Executing a value, and doing an element of a procedure, over what is lent (PLRM2, 3.5).
-use Rattle.std.specs.Prelude.{◌≡◌, ◌<◌, Bool, true, false, List, [], length, Ok, if◌then◌else◌}
+use Rattle.std.specs.Prelude.{◌≡◌, ℕ, ◌<◌, Bool, true, false, List, [], length, Ok, if◌then◌else◌}
 use Rattle.ps_language.specs.declared.errors.ErrorName.TheVariants.{InvalidAccess}
 use Rattle.ps_language.specs.declared.operators.Operator.{Operator}
 use Rattle.ps_language.specs.Access.{is_executable}
@@ -22,7 +22,11 @@ use Rattle.ps_control.specs.Frames.{frame_of}
 use Rattle.ps_acts.specs.declared.lent.Trial.{Trial}
 use Rattle.ps_acts.specs.Acts.{Asked}
 use Rattle.ps_acts.specs.Lent.{Lent, scene_of, around_of, IsShown, IsGood}
+use Rattle.ps_acts.specs.Trials.{ordinary}
+use Rattle.ps_acts.specs.Unframed.{under, IsUndone}
 use Rattle.ps_turns.specs.declared.turned.Turned.TheVariants.{Goes}
+use Rattle.ps_values.specs.declared.under.Under.{Under}
+use Rattle.ps_values.specs.declared.under.Under.TheVariants.{Acts, Fails, Left}
 use Rattle.ps_turns.specs.Turns.{TurnsWith, none_asked}
 
 -- ---- what is held
@@ -165,6 +169,18 @@ EntersAlone words asked turn ahead old new = OnLeft ahead (new ≡ old)
     → AreValues l.heap words → length l.frames < 250
     → TurnsWith words [] asked turn trial (Ok Goes) (record l { operands = old })
     (record l { operands = new; frames = frames_ahead ahead l.frames }))
+
+-- ---- whatever frames are above
+
+-- With these values in hand the ordinary turn goes on, and would under any more frames; or nothing
+-- was done; or nothing has changed
+abbrev pub GoesUnder : (words : List Word) → (asked : Lent → Store → Asked)
+    → (turn : Lent → Store → Turn) → (slot : ℕ) → Under → (old new : Lent) → Type 0
+GoesUnder words asked turn slot Acts old new =
+    (above : List Frame) → IsGood (under above old) → AreValues old.heap words
+    → TurnsWith words [] asked turn (ordinary slot) (Ok Goes) (under above old) (under above new)
+GoesUnder words asked turn slot Fails old new = IsUndone old new
+GoesUnder words asked turn slot Left old new = new ≡ old
 
 -- over this heap and by this dictionary stack
 abbrev pub among : Heap → (dictionaries : List Word) → Lent → Lent

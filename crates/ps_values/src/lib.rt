@@ -6,4 +6,5 @@ pub mod enters;
 pub mod operates;
 pub mod pushes;
 pub mod quick;
+pub mod under;
 pub mod values;

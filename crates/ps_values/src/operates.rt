@@ -6,8 +6,9 @@ ghost use Rattle.ps_language.specs.declared.operators.Operator as names;
 ghost use Rattle.ps_acts.specs.Acts.{Asked, AreFew};
 ghost use Rattle.ps_acts.specs.Lent.{lent, IsGood};
 ghost use Rattle.ps_turns.specs.Turns.{Turns};
-ghost use Rattle.ps_values.specs.Values.{EntersAlone, GoesAlone, operated_asks, operated_turn};
+ghost use Rattle.ps_values.specs.Values.{EntersAlone, GoesAlone, GoesUnder, operated_asks, operated_turn};
 
+use crate::under::Under;
 use ps_acts::lent::{Context, Shared, Trial};
 use ps_control::ahead::Ahead;
 use ps_language::operators::Operator;
@@ -32,6 +33,25 @@ pub trait Operate {
     fn enter_quickly(&self, operator: Operator, operands: &mut Operands) -> Ahead
         ensures { EntersAlone [] (operated_asks asks operator) (operated_turn operator) result
             operands.old operands.new };
+
+    /// An operator that neither sees nor changes frames acts, where it raises no error and is made, as
+    /// it would under any more frames. Else nothing was done. Every other operator may be left, and
+    /// nothing has changed. The records go into the log of a slot.
+    fn operate_under<M: Memory>(
+        &self,
+        operator: Operator,
+        context: &mut Context,
+        shared: &mut Shared,
+        memory: &mut M,
+        slot: u32,
+    ) -> Under
+        requires slot { slot < SLOTS }
+        requires good { IsGood
+            (lent (M.heap memory.old) (M.grants memory.old) context.old shared.old) }
+        ensures frames { context.new.frames ≡ context.old.frames }
+        ensures goes { GoesUnder [] (operated_asks asks operator) (operated_turn operator) slot result
+            (lent (M.heap memory.old) (M.grants memory.old) context.old shared.old)
+            (lent (M.heap memory.new) (M.grants memory.new) context.new shared.new) };
 
     /// An operator acts: its effect comes about, or its error is raised with the operator as the
     /// command.

@@ -15,6 +15,7 @@ use Rattle.ps_language.specs.Worlds.{after_move, after_moves, starting_world, wo
 use Rattle.ps_language.proofs.ScheduleLaws.{moves-added, count_of-added, longest-added}
 use Rattle.ps_language.proofs.WorldLaws.{after_moves-append, all_ready-append}
 use Rattle.ps_acts.specs.Acts.{Asked}
+use Rattle.ps_acts.specs.Trials.{ordinary}
 use Rattle.ps_language.specs.Worlds.{kept_pair}
 use Rattle.ps_mem.specs.Heap.{Heap, Grants, Space, standing_words}
 use Rattle.ps_mem.specs.Stands.{IsAddressed}
@@ -24,7 +25,7 @@ use Rattle.ps_world.specs.declared.notes.Note.TheVariants.{Nothing, TurnEnds, Sh
 use Rattle.ps_world.specs.declared.worlds.Calling.{Calling}
 use Rattle.ps_world.specs.Held.{Held, IsAt, IsAtBy}
 use Rattle.ps_world.specs.Notes.{note_of}
-use Rattle.ps_world.specs.Steps.{AllFrom, HasMade, IsQuiet, IsUnready, KeepsOthers, ShowsAt, StepsBehind, ordinary, words_shown}
+use Rattle.ps_world.specs.Steps.{AllFrom, HasMade, IsQuiet, IsUnready, KeepsOthers, ShowsAt, StepsBehind, words_shown}
 use Rattle.ps_language.specs.Step.{stepped}
 use Rattle.ps_vault.specs.Holds as holds
 use Rattle.ps_vault.specs.Holds.{IsHeldUp, wish_in}

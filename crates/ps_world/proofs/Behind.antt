@@ -13,6 +13,7 @@ use Rattle.ps_ops.specs.declared.failure.NotMade.{NotMade as Reason}
 use Rattle.ps_control.specs.declared.frames.Frame.{Frame}
 use Rattle.ps_acts.specs.Acts.{Asked, AreFew}
 use Rattle.ps_acts.specs.Lent.{Lent}
+use Rattle.ps_acts.specs.Trials.{ordinary}
 use Rattle.ps_acts.proofs.Meeting.{keeps-same}
 use Rattle.ps_turns.specs.declared.turned.Turned.{Turned}
 use Rattle.ps_turns.specs.declared.turned.Turned.TheVariants.{Goes, Calls, Breaks, Ends}
@@ -33,7 +34,7 @@ use Rattle.ps_world.specs.declared.notes.Note.{Note}
 use Rattle.ps_world.specs.Finishes.{settled_desk, settled_held, Finishes}
 use Rattle.ps_world.specs.Held.{Held, held, CourseAt, IsSteadyHeld, course_in}
 use Rattle.ps_world.specs.Lending.{LendsDesk, RunsSo, TurnsSo}
-use Rattle.ps_world.specs.Steps.{HasMade, IsCounted, ordinary, ShowsAt, shown_words, StepsBehind, Steps}
+use Rattle.ps_world.specs.Steps.{HasMade, IsCounted, ShowsAt, shown_words, StepsBehind, Steps}
 use Rattle.ps_world.proofs.Calling.{none_left}
 use Rattle.ps_world.proofs.Running.{or_false, run_desk, run_steady, run_world, run_made}
 use Rattle.ps_world.proofs.Telling.{shown_between}

@@ -14,6 +14,7 @@ use Rattle.ps_ops.specs.declared.failure.NotMade.{NotMade as Reason}
 use Rattle.ps_ops.specs.Does.{KeepsLogsWithin, most_records, spent}
 use Rattle.ps_acts.specs.declared.lent.Trial.{Trial}
 use Rattle.ps_acts.specs.Acts.{Asked}
+use Rattle.ps_acts.specs.Trials.{ordinary}
 use Rattle.ps_contexts.specs.Desks.{IsWorld}
 use Rattle.ps_contexts.specs.Moves.{plain_moves}
 use Rattle.ps_world.specs.declared.notes.Note.{Note}
@@ -107,10 +108,6 @@ pub record HasMade (identifier made : ℕ) (old new : Held) : Type 0 where
   pub keeps : Keeps old.desk.heap new.desk.heap
   pub steady : IsSteadyHeld new
   pub program : new.desk.program ≡ old.desk.program
-
--- an ordinary step, whose records go into the log of a slot
-abbrev pub ordinary : (slot : ℕ) → Trial
-ordinary slot = record { slot = slot; refused = false }
 
 -- so many were made, and the step behind them, of the same context, came to this
 pub record StepsBehind (asks : Status → Around → Scene → Asked) (identifier slot made : ℕ)

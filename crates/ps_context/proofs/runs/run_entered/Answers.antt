@@ -1,17 +1,15 @@
 -- Element after element, procedure after procedure.
-use Rattle.std.proofs.Common.{◌+◌, ◌<◌, List, length, arith, sym, ap, subst}
+use Rattle.std.proofs.Common.{◌≡◌, ℕ, ◌+◌, ◌<◌, Some, arith, sym, subst}
 use Rattle.std.proofs.lemmas.Bool.{true≢false}
 use Rattle.std.proofs.lemmas.Bool.Decides.{nat_tests}
-use Rattle.std.specs.Prelude.{IfSome}
-use Rattle.ps_word.specs.declared.words.Word.{Word}
-use Rattle.ps_control.specs.declared.frames.Frame.{Frame}
-use Rattle.ps_acts.specs.Lent.{Lent, lent, IsGood}
-use Rattle.ps_frames.specs.Steps.{above, frame_asks, running_turn, IsElement}
-use Rattle.ps_interpreter.specs.Makes.{ordinary}
+use Rattle.ps_word.specs.declared.values.Part.{Part}
+use Rattle.ps_acts.specs.Lent.{Lent, lent}
+use Rattle.ps_frames.specs.Steps.{above}
+use Rattle.ps_interpreter.specs.Makes.{TurnsBehind}
 use Rattle.ps_interpreter.specs.OwnSteps.{HasRun}
-use Rattle.ps_interpreter.proofs.Running.{run_none}
-use Rattle.ps_turns.specs.Turns.{Turns}
-use Rattle.ps_context.proofs.Ahead.{rest_from, first_known, done_all, done_some, goes_above, turned_above}
+use Rattle.ps_interpreter.proofs.Running.{run_none, run_then}
+use Rattle.ps_context.specs.Steps.{own_asks}
+use Rattle.ps_context.proofs.Ahead.{rest_from, first_known, done_all, done_some, runs_then}
 use Rattle.ps_context.proofs.runs.run_entered.Goals as goal
 
 pub loop-made-init : goal.loop-made-init
@@ -39,14 +37,15 @@ returns-then-first-rest-clause-runs g c =
     c.do_first-first.new.operands c.do_first-first.ensures.does
     (omega (arith, nat_tests, c.if-first-rest.true)))
 
-pub element_ahead-requires-clause-good : goal.element_ahead-requires-clause-good
-element_ahead-requires-clause-good g c =
-    let asks = g.O.Operate.asks in
+pub do_next-requires-clause-good : goal.do_next-requires-clause-good
+do_next-requires-clause-good g c =
     let start : Lent = above c.args.entered (lent (g.M.Memory.heap c.args.memory.now)
     (g.M.Memory.grants c.args.memory.now) c.args.context.now c.args.shared.now) in
     let l : Lent = lent (g.M.Memory.heap c.loop-made.memory) (g.M.Memory.grants c.loop-made.memory)
     c.loop-made.context c.loop-made.shared in
     let first = c.do_first-first.result in
+    let left : Part = rest_from c.loop-made.rest l.frames first.done in
+    let now : Lent = record l { operands = c.do_first-first.new.operands } in
     let some : first.done < c.loop-made.rest.length =
     omega (
       arith,
@@ -55,15 +54,14 @@ element_ahead-requires-clause-good g c =
       c.least-count.ensures,
       c.if-first-rest.false,
     ) in
-    let makes : HasRun (c.loop-made.made + first.done) start
-    (above (rest_from c.loop-made.rest l.frames first.done)
-    (record l { operands = c.do_first-first.new.operands })) =
+    let makes : HasRun (c.loop-made.made + first.done) start (above left now) =
     done_some start l c.loop-made.rest c.loop-made.made c.loop-made.invariant.makes first.done
     c.do_first-first.new.operands c.do_first-first.ensures.does some in
-    rw (c.do_first-first.ensures.heap, c.do_first-first.ensures.grants, c.left_of-rest.ensures) makes.good
+    rw (c.do_first-first.ensures.heap, c.do_first-first.ensures.grants, c.left_of-rest.ensures)
+    makes.good
 
-pub element_ahead-requires-clause-first : goal.element_ahead-requires-clause-first
-element_ahead-requires-clause-first g c =
+pub do_next-requires-clause-first : goal.do_next-requires-clause-first
+do_next-requires-clause-first g c =
     rw (c.do_first-first.ensures.heap, c.left_of-rest.ensures)
     (first_known g.O.Operate.asks (g.M.Memory.heap c.loop-made.memory)
     c.loop-made.context.dictionaries c.loop-made.rest c.loop-made.context.frames
@@ -71,12 +69,13 @@ element_ahead-requires-clause-first g c =
 
 pub loop-made-preserved-in-Enters : goal.loop-made-preserved-in-Enters
 loop-made-preserved-in-Enters g c =
-    let asks = g.O.Operate.asks in
     let start : Lent = above c.args.entered (lent (g.M.Memory.heap c.args.memory.now)
     (g.M.Memory.grants c.args.memory.now) c.args.context.now c.args.shared.now) in
     let l : Lent = lent (g.M.Memory.heap c.loop-made.memory) (g.M.Memory.grants c.loop-made.memory)
     c.loop-made.context c.loop-made.shared in
     let first = c.do_first-first.result in
+    let left : Part = rest_from c.loop-made.rest l.frames first.done in
+    let now : Lent = record l { operands = c.do_first-first.new.operands } in
     let some : first.done < c.loop-made.rest.length =
     omega (
       arith,
@@ -85,33 +84,30 @@ loop-made-preserved-in-Enters g c =
       c.least-count.ensures,
       c.if-first-rest.false,
     ) in
-    let makes : HasRun (c.loop-made.made + first.done) start
-    (above (rest_from c.loop-made.rest l.frames first.done)
-    (record l { operands = c.do_first-first.new.operands })) =
+    let makes : HasRun (c.loop-made.made + first.done) start (above left now) =
     done_some start l c.loop-made.rest c.loop-made.made c.loop-made.invariant.makes first.done
     c.do_first-first.new.operands c.do_first-first.ensures.does some in
+    let came = rw (
+      c.do_first-first.ensures.heap,
+      c.do_first-first.ensures.grants,
+      c.left_of-rest.ensures,
+      c.in-Enters.is,
+    ) at c.do_next.ensures in
     record {
       within = omega (arith, nat_tests, c.if-made-most.true);
-      room = rw c.in-Enters.is at c.element_ahead.ensures.room;
-      makes = rw (c.do_first-first.ensures.heap, c.do_first-first.ensures.grants)
-          (goes_above asks start (record l { operands = c.do_first-first.new.operands })
-          (rest_from c.loop-made.rest l.frames first.done) (c.loop-made.made + first.done) makes _
-          (rw (
-            c.do_first-first.ensures.heap,
-            c.do_first-first.ensures.grants,
-            c.left_of-rest.ensures,
-            c.in-Enters.is,
-          ) at c.element_ahead.ensures.goes));
+      room = came.0;
+      makes = run_then (c.loop-made.made + first.done) 1 start (above left now) _ makes came.1;
     }
 
 pub returns-in-Goes : goal.returns-in-Goes
 returns-in-Goes g c =
-    let asks = g.O.Operate.asks in
     let start : Lent = above c.args.entered (lent (g.M.Memory.heap c.args.memory.now)
     (g.M.Memory.grants c.args.memory.now) c.args.context.now c.args.shared.now) in
     let l : Lent = lent (g.M.Memory.heap c.loop-made.memory) (g.M.Memory.grants c.loop-made.memory)
     c.loop-made.context c.loop-made.shared in
     let first = c.do_first-first.result in
+    let left : Part = rest_from c.loop-made.rest l.frames first.done in
+    let now : Lent = record l { operands = c.do_first-first.new.operands } in
     let some : first.done < c.loop-made.rest.length =
     omega (
       arith,
@@ -120,34 +116,32 @@ returns-in-Goes g c =
       c.least-count.ensures,
       c.if-first-rest.false,
     ) in
-    let makes : HasRun (c.loop-made.made + first.done) start
-    (above (rest_from c.loop-made.rest l.frames first.done)
-    (record l { operands = c.do_first-first.new.operands })) =
+    let makes : HasRun (c.loop-made.made + first.done) start (above left now) =
     done_some start l c.loop-made.rest c.loop-made.made c.loop-made.invariant.makes first.done
     c.do_first-first.new.operands c.do_first-first.ensures.does some in
+    let came = rw (
+      c.do_first-first.ensures.heap,
+      c.do_first-first.ensures.grants,
+      c.left_of-rest.ensures,
+      c.in-Goes.is,
+    ) at c.do_next.ensures in
     record {
       within = omega (arith, nat_tests, c.if-made-most.true);
       fewer = λ some. absurd (true≢false (sym some));
       more = λ none any. omega arith;
-      runs = rw (c.do_first-first.ensures.heap, c.do_first-first.ensures.grants)
-          (goes_above asks start (record l { operands = c.do_first-first.new.operands })
-          (rest_from c.loop-made.rest l.frames first.done) (c.loop-made.made + first.done) makes _
-          (rw (
-            c.do_first-first.ensures.heap,
-            c.do_first-first.ensures.grants,
-            c.left_of-rest.ensures,
-            c.in-Goes.is,
-          ) at c.element_ahead.ensures.goes));
+      runs = run_then (c.loop-made.made + first.done) 1 start (above left now) _ makes came;
     }
 
-pub pushed_turn-next-requires-clause-good : goal.pushed_turn-next-requires-clause-good
-pushed_turn-next-requires-clause-good g c =
+pub returns-in-Turned : goal.returns-in-Turned
+returns-in-Turned g c =
     let asks = g.O.Operate.asks in
     let start : Lent = above c.args.entered (lent (g.M.Memory.heap c.args.memory.now)
     (g.M.Memory.grants c.args.memory.now) c.args.context.now c.args.shared.now) in
     let l : Lent = lent (g.M.Memory.heap c.loop-made.memory) (g.M.Memory.grants c.loop-made.memory)
     c.loop-made.context c.loop-made.shared in
     let first = c.do_first-first.result in
+    let left : Part = rest_from c.loop-made.rest l.frames first.done in
+    let now : Lent = record l { operands = c.do_first-first.new.operands } in
     let some : first.done < c.loop-made.rest.length =
     omega (
       arith,
@@ -156,79 +150,36 @@ pushed_turn-next-requires-clause-good g c =
       c.least-count.ensures,
       c.if-first-rest.false,
     ) in
-    let makes : HasRun (c.loop-made.made + first.done) start
-    (above (rest_from c.loop-made.rest l.frames first.done)
-    (record l { operands = c.do_first-first.new.operands })) =
+    let makes : HasRun (c.loop-made.made + first.done) start (above left now) =
     done_some start l c.loop-made.rest c.loop-made.made c.loop-made.invariant.makes first.done
     c.do_first-first.new.operands c.do_first-first.ensures.does some in
-    subst (λ (m : Lent). IsGood (above c.left_of-rest.result m))
-    (sym (rw c.in-Left.is at c.element_ahead.ensures.left))
-    (rw (c.do_first-first.ensures.heap, c.do_first-first.ensures.grants, c.left_of-rest.ensures)
-    makes.good)
-
-pub pushed_turn-next-requires-clause-room : goal.pushed_turn-next-requires-clause-room
-pushed_turn-next-requires-clause-room g c =
-    subst (λ (frames : List Frame). length frames < 250)
-    (ap (λ (m : Lent). m.frames) (sym (rw c.in-Left.is at c.element_ahead.ensures.left)))
-    c.loop-made.invariant.room
-
-pub pushed_turn-next-requires-clause-first : goal.pushed_turn-next-requires-clause-first
-pushed_turn-next-requires-clause-first g c =
-    subst (λ (dictionaries : List Word). IfSome c.do_first-first.result.next
-    (IsElement g.O.Operate.asks (g.M.Memory.heap c.do_first-first.new.memory) dictionaries
-    c.left_of-rest.result 0))
-    (ap (λ (m : Lent). m.dictionaries) (sym (rw c.in-Left.is at c.element_ahead.ensures.left)))
-    (rw (c.do_first-first.ensures.heap, c.left_of-rest.ensures)
-    (first_known g.O.Operate.asks (g.M.Memory.heap c.loop-made.memory)
-    c.loop-made.context.dictionaries c.loop-made.rest c.loop-made.context.frames
-    c.do_first-first.result.done c.do_first-first.result.next c.do_first-first.ensures.next))
-
-pub returns-in-Left : goal.returns-in-Left
-returns-in-Left g c =
-    let asks = g.O.Operate.asks in
-    let start : Lent = above c.args.entered (lent (g.M.Memory.heap c.args.memory.now)
-    (g.M.Memory.grants c.args.memory.now) c.args.context.now c.args.shared.now) in
-    let l : Lent = lent (g.M.Memory.heap c.loop-made.memory) (g.M.Memory.grants c.loop-made.memory)
-    c.loop-made.context c.loop-made.shared in
-    let first = c.do_first-first.result in
-    let some : first.done < c.loop-made.rest.length =
-    omega (
-      arith,
-      nat_tests,
-      c.do_first-first.ensures.within,
-      c.least-count.ensures,
-      c.if-first-rest.false,
-    ) in
-    let makes : HasRun (c.loop-made.made + first.done) start
-    (above (rest_from c.loop-made.rest l.frames first.done)
-    (record l { operands = c.do_first-first.new.operands })) =
-    done_some start l c.loop-made.rest c.loop-made.made c.loop-made.invariant.makes first.done
-    c.do_first-first.new.operands c.do_first-first.ensures.does some in
-    let turns = subst (λ (m : Lent). Turns (frame_asks asks) running_turn (ordinary c.args.slot)
-    c.pushed_turn-next.result (above c.left_of-rest.result m)
-    (lent (g.M.Memory.heap c.pushed_turn-next.new.memory)
-    (g.M.Memory.grants c.pushed_turn-next.new.memory) c.pushed_turn-next.new.context
-    c.pushed_turn-next.new.shared))
-    (rw c.in-Left.is at c.element_ahead.ensures.left) c.pushed_turn-next.ensures in
+    let came = rw (
+      c.do_first-first.ensures.heap,
+      c.do_first-first.ensures.grants,
+      c.left_of-rest.ensures,
+      c.in-Turned.is,
+    ) at c.do_next.ensures in
+    let same : (c.loop-made.made + first.done) + 0 ≡ c.loop-made.made + first.done = omega arith in
     record {
       within = omega (arith, nat_tests, c.if-made-most.true);
       fewer = λ some. omega (arith, nat_tests, c.if-made-most.true);
       more = λ none. absurd (true≢false none);
-      runs = turned_above asks start (record l { operands = c.do_first-first.new.operands })
-          (rest_from c.loop-made.rest l.frames first.done) (c.loop-made.made + first.done) makes
-          c.args.slot c.pushed_turn-next.result _
-          (rw (c.do_first-first.ensures.heap, c.do_first-first.ensures.grants, c.left_of-rest.ensures)
-          at turns);
+      runs = subst (λ (n : ℕ). TurnsBehind (own_asks asks) c.args.slot n c.in-Turned.turn start
+          (lent (g.M.Memory.heap c.do_next.new.memory) (g.M.Memory.grants c.do_next.new.memory)
+          c.do_next.new.context c.do_next.new.shared)) same
+          (runs_then (own_asks asks) c.args.slot (c.loop-made.made + first.done) 0
+          (Some c.in-Turned.turn) start (above left now) _ makes came);
     }
 
 pub loop-made-preserved : goal.loop-made-preserved
 loop-made-preserved g c =
-    let asks = g.O.Operate.asks in
     let start : Lent = above c.args.entered (lent (g.M.Memory.heap c.args.memory.now)
     (g.M.Memory.grants c.args.memory.now) c.args.context.now c.args.shared.now) in
     let l : Lent = lent (g.M.Memory.heap c.loop-made.memory) (g.M.Memory.grants c.loop-made.memory)
     c.loop-made.context c.loop-made.shared in
     let first = c.do_first-first.result in
+    let left : Part = rest_from c.loop-made.rest l.frames first.done in
+    let now : Lent = record l { operands = c.do_first-first.new.operands } in
     let some : first.done < c.loop-made.rest.length =
     omega (
       arith,
@@ -237,9 +188,7 @@ loop-made-preserved g c =
       c.least-count.ensures,
       c.if-first-rest.false,
     ) in
-    let makes : HasRun (c.loop-made.made + first.done) start
-    (above (rest_from c.loop-made.rest l.frames first.done)
-    (record l { operands = c.do_first-first.new.operands })) =
+    let makes : HasRun (c.loop-made.made + first.done) start (above left now) =
     done_some start l c.loop-made.rest c.loop-made.made c.loop-made.invariant.makes first.done
     c.do_first-first.new.operands c.do_first-first.ensures.does some in
     record {

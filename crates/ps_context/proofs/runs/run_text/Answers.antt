@@ -10,6 +10,7 @@ use Rattle.ps_interpreter.specs.OwnSteps.{HasRun}
 use Rattle.ps_interpreter.proofs.Running.{run_none}
 use Rattle.ps_context.proofs.Ahead.{with_within}
 use Rattle.ps_context.proofs.Reading.{read_more, read_behind}
+use Rattle.ps_context.proofs.Rereading.{no_window}
 use Rattle.ps_context.proofs.runs.run_text.Goals as goal
 
 pub loop-made-init : goal.loop-made-init
@@ -21,17 +22,20 @@ loop-made-init g c =
     record {
       within = omega arith;
       framed = subst (λ (frames : List Frame). 1 ≤ length frames) (sym top) (omega arith);
+      window = no_window (g.M.Memory.heap c.args.memory.now) c.args.source c.clear.new.self.items
+          c.clear.ensures.items;
       makes = subst (λ (frames : List Frame). HasRun 0 l (record l { frames = frames })) top
           (run_none l c.requires.good);
     }
 
 pub loop-made-preserved : goal.loop-made-preserved
 loop-made-preserved g c =
-    let takes = rw c.in-Done.is at c.read_token.ensures in
+    let takes = rw c.in-Done.is at c.read_token.ensures.takes in
     record {
       within = omega (arith, nat_tests, c.loop-made-test.true);
       framed = subst (λ (frames : List Frame). 1 ≤ length frames) (sym takes.0)
           c.loop-made.invariant.framed;
+      window = rw c.in-Done.is at c.read_token.ensures.window;
       makes = read_more g.O.Operate.asks c.args.slot c.loop-made.made _
           (lent (g.M.Memory.heap c.loop-made.memory) (g.M.Memory.grants c.loop-made.memory)
           c.loop-made.context c.loop-made.shared) c.args.source c.loop-made.place
@@ -49,7 +53,7 @@ returns-in-Came g c = record {
       (read_behind g.O.Operate.asks c.args.slot c.loop-made.made _
       (lent (g.M.Memory.heap c.loop-made.memory) (g.M.Memory.grants c.loop-made.memory)
       c.loop-made.context c.loop-made.shared) c.args.source c.loop-made.place
-      c.loop-made.invariant.makes _ _ (rw c.in-Came.is at c.read_token.ensures));
+      c.loop-made.invariant.makes _ _ (rw c.in-Came.is at c.read_token.ensures.takes));
 }
 
 pub returns : goal.returns

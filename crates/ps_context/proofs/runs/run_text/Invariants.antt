@@ -2,6 +2,7 @@ use Rattle.std.proofs.Common.{◌-◌, ◌≤◌, length}
 use Rattle.ps_acts.specs.Lent.{lent}
 use Rattle.ps_interpreter.specs.OwnSteps.{HasRun}
 use Rattle.ps_context.specs.Reading.{read_to}
+use Rattle.ps_context.specs.Windows.{IsWindow}
 use Rattle.ps_context.proofs.runs.run_text.Given as goal
 
 -- so many were made, and the text was read up to a place
@@ -9,6 +10,7 @@ abbrev pub invariant-loop-made : goal.invariant-loop-made
 invariant-loop-made g l = record {
   within : l.made ≤ l.most;
   framed : 1 ≤ length l.context.frames;
+  window : IsWindow (g.M.Memory.heap l.memory) l.source l.start l.text.items;
   makes : HasRun l.made
       (lent (g.M.Memory.heap l.fn.memory) (g.M.Memory.grants l.fn.memory) l.fn.context l.fn.shared)
       (read_to l.source l.place (lent (g.M.Memory.heap l.memory) (g.M.Memory.grants l.memory)

@@ -1,5 +1,6 @@
 -- By the source.
-use Rattle.std.proofs.Common.{ℕ, ◌≤◌, List, length, arith, sym, subst}
+use Rattle.std.proofs.Common.{ℕ, ◌≤◌, List, Some, Ok, length, arith, sym, subst}
+use Rattle.ps_language.specs.Access.{bytes}
 use Rattle.ps_language.specs.Scan.{scan}
 use Rattle.ps_language.specs.StepFrames.{source_bytes}
 use Rattle.ps_language.specs.Value.{Store}
@@ -9,6 +10,7 @@ use Rattle.ps_control.specs.declared.frames.Source.{Source}
 use Rattle.ps_control.specs.declared.frames.Source.TheVariants.{Text as TextOf}
 use Rattle.ps_control.specs.Frames.{IsSourceAt, IsSourceWithin, source_of}
 use Rattle.ps_context.specs.Texts.{IsScanned, Starves, IsTaken, bytes_scanned}
+use Rattle.ps_context.specs.Windows.{IsWindow}
 use Rattle.ps_context.proofs.Scanning.{taken, taken_at}
 use Rattle.ps_context.proofs.sources.scan_source.Goals as goal
 
@@ -21,8 +23,8 @@ returns-in-Program-clause-token g c =
     (taken program c.args.at (length program) c.next_token.result (omega arith)
     c.next_token.ensures.answer c.next_token.ensures.place)
 
-pub returns-in-Text-clause-scanned : goal.returns-in-Text-clause-scanned
-returns-in-Text-clause-scanned g c =
+pub returns-in-None-clause-scanned : goal.returns-in-None-clause-scanned
+returns-in-None-clause-scanned g c =
     let heap = g.M.Memory.heap c.args.memory.now in
     subst (λ (source : Source). (names : List (List ℕ)) (s : Store) → Shows heap names s
     → IsSourceWithin (birth_at heap) s source
@@ -33,8 +35,8 @@ returns-in-Text-clause-scanned g c =
     outcome) (sym c.in-Text.is)
     c.scan_string.ensures.scanned
 
-pub returns-in-Text-clause-token : goal.returns-in-Text-clause-token
-returns-in-Text-clause-token g c =
+pub returns-in-None-clause-token : goal.returns-in-None-clause-token
+returns-in-None-clause-token g c =
     let heap = g.M.Memory.heap c.args.memory.now in
     let size = length c.args.program.now in
     let held = subst (λ (source : Source). IsSourceAt heap size source c.args.at) c.in-Text.is
@@ -45,3 +47,23 @@ returns-in-Text-clause-token g c =
     (taken_at c.scan_string.new.list.items (λ end. end ≤ c.in-Text.part.length)
     (IsSourceAt heap size (TextOf c.in-Text.part)) c.scan_string.result
     (λ end below. (held.0, below)) c.scan_string.ensures.token)
+
+pub returns-in-Some-clause-scanned : goal.returns-in-Some-clause-scanned
+returns-in-Some-clause-scanned g c =
+    let heap = g.M.Memory.heap c.args.memory.now in
+    let part = c.in-Text.part in
+    let window = subst (λ (source : Source). IsWindow heap source c.args.start.now
+    c.args.list.now.items) c.in-Text.is c.requires.window in
+    subst (λ (source : Source). (names : List (List ℕ)) (s : Store) → Shows heap names s
+    → IsSourceWithin (birth_at heap) s source
+    → let whose = source_of (birth_at heap) source in
+    let outcome = scan (source_bytes c.args.program.now s whose) c.args.at in
+    IsScanned (Starves whose outcome)
+    (bytes_scanned source c.args.program.now c.args.list.now.items) (Ok (Some c.in-Some.token))
+    outcome) (sym c.in-Text.is)
+    (λ names s shows within.
+    let fits = window.1 in
+    rw (c.as_slice.ensures.value, c.in-Some.is) at
+    (c.scan_read.ensures.scanned (bytes s (birth_at heap part.address)) within
+    (rw c.as_slice.ensures.value
+    (window.0 names s shows (omega (arith, fits, within))))))

@@ -17,8 +17,8 @@ treat_token-requires-clause-read g c =
     c.args.scanned c.requires.scanned c.requires.token c.token_ahead.new.operands c.in-Treats.word
     c.in-Treats.value c.in-Treats.end reads)
 
-pub returns-in-Done : goal.returns-in-Done
-returns-in-Done g c =
+pub returns-in-Done-clause-takes : goal.returns-in-Done-clause-takes
+returns-in-Done-clause-takes g c =
     let l : Lent = lent (g.M.Memory.heap c.args.memory.now) (g.M.Memory.grants c.args.memory.now)
     c.args.context.now c.args.shared.now in
     rw (c.token_ahead.ensures.heap, c.token_ahead.ensures.grants) (
@@ -28,8 +28,8 @@ returns-in-Done g c =
           c.in-Done.end (rw c.in-Done.is at c.token_ahead.ensures.reads),
     )
 
-pub returns-in-Treats : goal.returns-in-Treats
-returns-in-Treats g c =
+pub returns-in-Treats-clause-takes : goal.returns-in-Treats-clause-takes
+returns-in-Treats-clause-takes g c =
     let l : Lent = lent (g.M.Memory.heap c.args.memory.now) (g.M.Memory.grants c.args.memory.now)
     c.args.context.now c.args.shared.now in
     let same = treated_same g.O.Operate.asks l.heap l.dictionaries l.names c.args.text.now

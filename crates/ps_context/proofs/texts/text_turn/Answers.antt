@@ -4,6 +4,7 @@ use Rattle.ps_ops.proofs.Operands.{first_split}
 use Rattle.ps_control.specs.declared.frames.Frame.TheVariants.{Text}
 use Rattle.ps_control.specs.Frames.{AreFramesWithin}
 use Rattle.ps_acts.specs.Lent.{Lent, lent}
+use Rattle.ps_context.proofs.Rereading.{no_window}
 use Rattle.ps_context.proofs.texts.text_turn.Goals as goal
 
 pub scanned_turn-requires-clause-scanned : goal.scanned_turn-requires-clause-scanned
@@ -25,3 +26,8 @@ pub scanned_turn-requires-clause-token : goal.scanned_turn-requires-clause-token
 scanned_turn-requires-clause-token g c =
     rw (c.scan_source-scanned.ensures.heap, c.scanned_bytes-text.ensures)
     c.scan_source-scanned.ensures.token
+
+pub scan_source-scanned-requires-clause-window : goal.scan_source-scanned-requires-clause-window
+scan_source-scanned-requires-clause-window g c =
+    no_window (g.M.Memory.heap c.args.memory.now) c.args.source c.clear.new.self.items
+    c.clear.ensures.items

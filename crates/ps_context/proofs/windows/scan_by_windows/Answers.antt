@@ -19,3 +19,12 @@ returns-in-Ok-Some-clause-scanned g c = λ names s shows within.
 pub returns-clause-scanned : goal.returns-clause-scanned
 returns-clause-scanned g c =
     rw c.loop-size.invariant.heap at c.scan_part-2.ensures.scanned
+
+pub returns-in-Ok-Some-clause-read : goal.returns-in-Ok-Some-clause-read
+returns-in-Ok-Some-clause-read g c = rw c.loop-size.invariant.heap at c.scan_part.ensures.read
+
+pub returns-in-Err-Memory-clause-read : goal.returns-in-Err-Memory-clause-read
+returns-in-Err-Memory-clause-read g c = rw c.loop-size.invariant.heap at c.scan_part.ensures.read
+
+pub returns-clause-read : goal.returns-clause-read
+returns-clause-read g c = rw c.loop-size.invariant.heap at c.scan_part-2.ensures.read

@@ -48,3 +48,15 @@ returns-in-Err-clause-scanned g c = λ names s shows within.
     (subst (λ (outcome : Scan). IsScanned ⊤ text (Err c.in-Err.fault) outcome)
     (fronted all part.offset part.length c.args.at _ low near within)
     (scanned names s shows (omega (arith, low, near, within)))))
+
+pub returns-in-Ok-Some-clause-read : goal.returns-in-Ok-Some-clause-read
+returns-in-Ok-Some-clause-read g c =
+    rw c.rest_of-rest.ensures (rw c.rest_of-rest.ensures at c.scan_by_windows.ensures.read)
+
+pub returns-in-Ok-None-clause-read : goal.returns-in-Ok-None-clause-read
+returns-in-Ok-None-clause-read g c =
+    rw c.rest_of-rest.ensures (rw c.rest_of-rest.ensures at c.scan_by_windows.ensures.read)
+
+pub returns-in-Err-clause-read : goal.returns-in-Err-clause-read
+returns-in-Err-clause-read g c =
+    rw c.rest_of-rest.ensures (rw c.rest_of-rest.ensures at c.scan_by_windows.ensures.read)

@@ -9,27 +9,23 @@ use Rattle.ps_acts.proofs.Alike.{effect_acts, asked_acts}
 use Rattle.ps_dictionary_operators.proofs.Defining.{def_wrong, def_unreadable, def_is, def_asked}
 use Rattle.ps_dictionary_operators.proofs.definitions.def.Goals as goal
 
-pub returns-in_default-as_dictionary : goal.returns-in_default-as_dictionary
-returns-in_default-as_dictionary g c =
+pub returns-in_default-as_dictionary-clause-acts : goal.returns-in_default-as_dictionary-clause-acts
+returns-in_default-as_dictionary-clause-acts g c =
     let held = second_held (IsValue (g.M.Memory.heap c.args.memory.now)) _
     c.requires.good.operands _ _ c.in-Some.ensures in
-    record {
-      acts = raised_acts _ _ _ _ c.requires.good TypeCheck
-          (def_wrong _ _ _ c.in-Some.ensures (c.is_null.ensures _ _ held ∙ c.if-is_null.false)
-          _ c.in-Some-top.ensures c.in_default-as_dictionary.ensures);
-    }
+    raised_acts _ _ _ _ c.requires.good TypeCheck
+    (def_wrong _ _ _ c.in-Some.ensures (c.is_null.ensures _ _ held ∙ c.if-is_null.false)
+    _ c.in-Some-top.ensures c.in_default-as_dictionary.ensures)
 
-pub returns-then-not-is_readable_key : goal.returns-then-not-is_readable_key
-returns-then-not-is_readable_key g c =
+pub returns-then-not-is_readable_key-clause-acts : goal.returns-then-not-is_readable_key-clause-acts
+returns-then-not-is_readable_key-clause-acts g c =
     let held = second_held (IsValue (g.M.Memory.heap c.args.memory.now)) _
     c.requires.good.operands _ _ c.in-Some.ensures in
-    record {
-      acts = raised_acts _ _ _ _ c.requires.good InvalidAccess
-          (def_unreadable _ _ _ c.in-Some.ensures
-          (c.is_null.ensures _ _ held ∙ c.if-is_null.false) _ c.in-Some-top.ensures _
-          c.in-Some-as_dictionary.ensures
-          (c.is_readable_key.ensures _ _ ∙ c.if-not-is_readable_key.true));
-    }
+    raised_acts _ _ _ _ c.requires.good InvalidAccess
+    (def_unreadable _ _ _ c.in-Some.ensures
+    (c.is_null.ensures _ _ held ∙ c.if-is_null.false) _ c.in-Some-top.ensures _
+    c.in-Some-as_dictionary.ensures
+    (c.is_readable_key.ensures _ _ ∙ c.if-not-is_readable_key.true))
 
 pub put_key-requires-clause-known : goal.put_key-requires-clause-known
 put_key-requires-clause-known g c = rw c.read_key-read.ensures.heap
@@ -37,19 +33,17 @@ put_key-requires-clause-known g c = rw c.read_key-read.ensures.heap
     (first_held (IsValue (g.M.Memory.heap c.args.memory.now)) _ c.requires.good.dictionaries _
     c.in-Some-top.ensures) _ c.in-Some-as_dictionary.ensures)
 
-pub returns : goal.returns
-returns g c =
+pub returns-clause-acts : goal.returns-clause-acts
+returns-clause-acts g c =
     let held = second_held (IsValue (g.M.Memory.heap c.args.memory.now)) _
     c.requires.good.operands _ _ c.in-Some.ensures in
     let some = c.is_null.ensures _ _ held ∙ c.if-is_null.false in
     let acts = rw (c.read_key-read.ensures.heap, c.read_key-read.ensures.grants)
     at c.put_key.ensures in
-    record {
-      acts = effect_acts _ _ _ _ _ _ _
-          (def_is _ _ _ c.in-Some.ensures some _ c.in-Some-top.ensures _
-          c.in-Some-as_dictionary.ensures
-          (c.is_readable_key.ensures _ _ ∙ c.if-not-is_readable_key.false))
-          (asked_acts _ _ _ _ _ _ _
-          (def_asked _ _ _ c.in-Some.ensures some _ c.in-Some-top.ensures _
-          c.in-Some-as_dictionary.ensures) acts.acts);
-    }
+    effect_acts _ _ _ _ _ _ _
+    (def_is _ _ _ c.in-Some.ensures some _ c.in-Some-top.ensures _
+    c.in-Some-as_dictionary.ensures
+    (c.is_readable_key.ensures _ _ ∙ c.if-not-is_readable_key.false))
+    (asked_acts _ _ _ _ _ _ _
+    (def_asked _ _ _ c.in-Some.ensures some _ c.in-Some-top.ensures _
+    c.in-Some-as_dictionary.ensures) acts.acts)

@@ -10,26 +10,22 @@ use Rattle.ps_acts.proofs.Alike.{effect_acts, asked_acts}
 use Rattle.ps_dictionary_operators.proofs.Defining.{put_null, put_unreadable, put_puts, put_asked_is}
 use Rattle.ps_dictionary_operators.proofs.definitions.put_into_dictionary.Goals as goal
 
-pub returns-then-is_null : goal.returns-then-is_null
-returns-then-is_null g c =
+pub returns-then-is_null-clause-acts : goal.returns-then-is_null-clause-acts
+returns-then-is_null-clause-acts g c =
     let held = second_of_three_held (IsValue (g.M.Memory.heap c.args.memory.now)) _
     c.requires.good.operands _ _ _ c.requires.operands in
-    record {
-      acts = raised_acts _ _ _ _ c.requires.good TypeCheck
-          (put_null _ _ _ _ _ c.requires.operands c.requires.address
-          (c.is_null.ensures _ _ held ∙ c.if-is_null.true));
-    }
+    raised_acts _ _ _ _ c.requires.good TypeCheck
+    (put_null _ _ _ _ _ c.requires.operands c.requires.address
+    (c.is_null.ensures _ _ held ∙ c.if-is_null.true))
 
-pub returns-then-not-is_readable_key : goal.returns-then-not-is_readable_key
-returns-then-not-is_readable_key g c =
+pub returns-then-not-is_readable_key-clause-acts : goal.returns-then-not-is_readable_key-clause-acts
+returns-then-not-is_readable_key-clause-acts g c =
     let held = second_of_three_held (IsValue (g.M.Memory.heap c.args.memory.now)) _
     c.requires.good.operands _ _ _ c.requires.operands in
-    record {
-      acts = raised_acts _ _ _ _ c.requires.good InvalidAccess
-          (put_unreadable _ _ _ _ _ c.requires.operands c.requires.address
-          (c.is_null.ensures _ _ held ∙ c.if-is_null.false)
-          (c.is_readable_key.ensures _ _ ∙ c.if-not-is_readable_key.true));
-    }
+    raised_acts _ _ _ _ c.requires.good InvalidAccess
+    (put_unreadable _ _ _ _ _ c.requires.operands c.requires.address
+    (c.is_null.ensures _ _ held ∙ c.if-is_null.false)
+    (c.is_readable_key.ensures _ _ ∙ c.if-not-is_readable_key.true))
 
 pub put_key-requires-clause-known : goal.put_key-requires-clause-known
 put_key-requires-clause-known g c = rw c.read_key-read.ensures.heap
@@ -37,17 +33,15 @@ put_key-requires-clause-known g c = rw c.read_key-read.ensures.heap
     (third_held (IsValue (g.M.Memory.heap c.args.memory.now)) _ c.requires.good.operands _ _ _
     c.requires.operands) _ c.requires.address)
 
-pub returns : goal.returns
-returns g c =
+pub returns-clause-acts : goal.returns-clause-acts
+returns-clause-acts g c =
     let held = second_of_three_held (IsValue (g.M.Memory.heap c.args.memory.now)) _
     c.requires.good.operands _ _ _ c.requires.operands in
     let acts = rw (c.read_key-read.ensures.heap, c.read_key-read.ensures.grants)
     at c.put_key.ensures in
-    record {
-      acts = effect_acts _ _ _ _ _ _ _
-          (put_puts _ _ _ _ _ c.requires.operands c.requires.address
-          (c.is_null.ensures _ _ held ∙ c.if-is_null.false)
-          (c.is_readable_key.ensures _ _ ∙ c.if-not-is_readable_key.false))
-          (asked_acts _ _ _ _ _ _ _
-          (put_asked_is _ _ _ _ _ c.requires.operands c.requires.address) acts.acts);
-    }
+    effect_acts _ _ _ _ _ _ _
+    (put_puts _ _ _ _ _ c.requires.operands c.requires.address
+    (c.is_null.ensures _ _ held ∙ c.if-is_null.false)
+    (c.is_readable_key.ensures _ _ ∙ c.if-not-is_readable_key.false))
+    (asked_acts _ _ _ _ _ _ _
+    (put_asked_is _ _ _ _ _ c.requires.operands c.requires.address) acts.acts)

@@ -9,26 +9,22 @@ use Rattle.ps_acts.proofs.Stacked.{stacked_acts}
 use Rattle.ps_dictionary_operators.proofs.Finding.{get_null, get_unreadable, get_hidden, get_undefined, get_stacks, word_there}
 use Rattle.ps_dictionary_operators.proofs.finds.get_from_dictionary.Goals as goal
 
-pub returns-then-is_null : goal.returns-then-is_null
-returns-then-is_null g c =
+pub returns-then-is_null-clause-acts : goal.returns-then-is_null-clause-acts
+returns-then-is_null-clause-acts g c =
     let held = first_of_two_held (IsValue (g.M.Memory.heap c.args.memory.now)) _
     c.requires.good.operands _ _ c.requires.operands in
-    record {
-      acts = λ trial. raised_acts _ trial _ _ c.requires.good TypeCheck
-          (get_null _ _ _ _ c.requires.operands c.requires.address
-          (c.is_null.ensures _ _ held ∙ c.if-is_null.true));
-    }
+    λ trial. raised_acts _ trial _ _ c.requires.good TypeCheck
+    (get_null _ _ _ _ c.requires.operands c.requires.address
+    (c.is_null.ensures _ _ held ∙ c.if-is_null.true))
 
-pub returns-then-not-is_readable_key : goal.returns-then-not-is_readable_key
-returns-then-not-is_readable_key g c =
+pub returns-then-not-is_readable_key-clause-acts : goal.returns-then-not-is_readable_key-clause-acts
+returns-then-not-is_readable_key-clause-acts g c =
     let held = first_of_two_held (IsValue (g.M.Memory.heap c.args.memory.now)) _
     c.requires.good.operands _ _ c.requires.operands in
-    record {
-      acts = λ trial. raised_acts _ trial _ _ c.requires.good InvalidAccess
-          (get_unreadable _ _ _ _ c.requires.operands c.requires.address
-          (c.is_null.ensures _ _ held ∙ c.if-is_null.false)
-          (c.is_readable_key.ensures _ _ ∙ c.if-not-is_readable_key.true));
-    }
+    λ trial. raised_acts _ trial _ _ c.requires.good InvalidAccess
+    (get_unreadable _ _ _ _ c.requires.operands c.requires.address
+    (c.is_null.ensures _ _ held ∙ c.if-is_null.false)
+    (c.is_readable_key.ensures _ _ ∙ c.if-not-is_readable_key.true))
 
 pub access-requires-clause-known : goal.access-requires-clause-known
 access-requires-clause-known g c =
@@ -36,18 +32,16 @@ access-requires-clause-known g c =
     (second_held (IsValue (g.M.Memory.heap c.args.memory.now)) _ c.requires.good.operands _ _
     c.requires.operands) _ c.requires.address
 
-pub returns-then-not-is_readable : goal.returns-then-not-is_readable
-returns-then-not-is_readable g c =
+pub returns-then-not-is_readable-clause-acts : goal.returns-then-not-is_readable-clause-acts
+returns-then-not-is_readable-clause-acts g c =
     let held = first_of_two_held (IsValue (g.M.Memory.heap c.args.memory.now)) _
     c.requires.good.operands _ _ c.requires.operands in
     rw (c.access.ensures.heap, c.access.ensures.grants)
-    (record {
-      acts = λ trial. raised_acts _ trial _ _ c.requires.good InvalidAccess
-          (get_hidden _ _ _ _ c.requires.operands c.requires.address
-          (c.is_null.ensures _ _ held ∙ c.if-is_null.false)
-          (c.is_readable_key.ensures _ _ ∙ c.if-not-is_readable_key.false) _
-          c.access.ensures.value (sym c.is_readable.ensures ∙ c.if-not-is_readable.true));
-    })
+    (λ trial. raised_acts _ trial _ _ c.requires.good InvalidAccess
+    (get_hidden _ _ _ _ c.requires.operands c.requires.address
+    (c.is_null.ensures _ _ held ∙ c.if-is_null.false)
+    (c.is_readable_key.ensures _ _ ∙ c.if-not-is_readable_key.false) _
+    c.access.ensures.value (sym c.is_readable.ensures ∙ c.if-not-is_readable.true)))
 
 pub find_in-requires-clause-known : goal.find_in-requires-clause-known
 find_in-requires-clause-known g c = rw (c.read_key-sought.ensures.heap, c.access.ensures.heap)
@@ -55,8 +49,8 @@ find_in-requires-clause-known g c = rw (c.read_key-sought.ensures.heap, c.access
     (second_held (IsValue (g.M.Memory.heap c.args.memory.now)) _ c.requires.good.operands _ _
     c.requires.operands) _ c.requires.address)
 
-pub returns-in-Some : goal.returns-in-Some
-returns-in-Some g c =
+pub returns-in-Some-clause-acts : goal.returns-in-Some-clause-acts
+returns-in-Some-clause-acts g c =
     let heap = g.M.Memory.heap c.args.memory.now in
     let ops = c.args.context.now.operands in
     let held = first_of_two_held (IsValue heap) _ c.requires.good.operands _ _
@@ -79,20 +73,18 @@ returns-in-Some g c =
       c.access.ensures.heap,
       c.access.ensures.grants,
     )
-    (record {
-      acts = λ trial. stacked_acts _ _ (c.in-Some.value ∷ drop 2 ops) _ _ trial c.requires.good
-          (value_held, rest_held (IsValue heap) _ c.requires.good.operands 2)
-          c.requires.good.dictionaries
-          (get_stacks _ _ _ _ c.requires.operands c.requires.address
-          (c.is_null.ensures _ _ held ∙ c.if-is_null.false)
-          (c.is_readable_key.ensures _ _ ∙ c.if-not-is_readable_key.false) _
-          c.access.ensures.value (sym c.is_readable.ensures ∙ c.if-not-is_readable.false)
-          c.requires.good _ key _ c.word.ensures (Some c.in-Some.value) found_there _ refl there.0
-          there.1 within_there);
-    })
+    (λ trial. stacked_acts _ _ (c.in-Some.value ∷ drop 2 ops) _ _ trial c.requires.good
+    (value_held, rest_held (IsValue heap) _ c.requires.good.operands 2)
+    c.requires.good.dictionaries
+    (get_stacks _ _ _ _ c.requires.operands c.requires.address
+    (c.is_null.ensures _ _ held ∙ c.if-is_null.false)
+    (c.is_readable_key.ensures _ _ ∙ c.if-not-is_readable_key.false) _
+    c.access.ensures.value (sym c.is_readable.ensures ∙ c.if-not-is_readable.false)
+    c.requires.good _ key _ c.word.ensures (Some c.in-Some.value) found_there _ refl there.0
+    there.1 within_there))
 
-pub returns-in-None : goal.returns-in-None
-returns-in-None g c =
+pub returns-in-None-clause-acts : goal.returns-in-None-clause-acts
+returns-in-None-clause-acts g c =
     let heap = g.M.Memory.heap c.args.memory.now in
     let held = first_of_two_held (IsValue heap) _ c.requires.good.operands _ _
     c.requires.operands in
@@ -108,11 +100,9 @@ returns-in-None g c =
       c.access.ensures.heap,
       c.access.ensures.grants,
     )
-    (record {
-      acts = λ trial. raised_acts _ trial _ _ c.requires.good Undefined
-          (get_undefined _ _ _ _ c.requires.operands c.requires.address
-          (c.is_null.ensures _ _ held ∙ c.if-is_null.false)
-          (c.is_readable_key.ensures _ _ ∙ c.if-not-is_readable_key.false) _
-          c.access.ensures.value (sym c.is_readable.ensures ∙ c.if-not-is_readable.false)
-          c.requires.good _ key _ c.word.ensures None found_there refl);
-    })
+    (λ trial. raised_acts _ trial _ _ c.requires.good Undefined
+    (get_undefined _ _ _ _ c.requires.operands c.requires.address
+    (c.is_null.ensures _ _ held ∙ c.if-is_null.false)
+    (c.is_readable_key.ensures _ _ ∙ c.if-not-is_readable_key.false) _
+    c.access.ensures.value (sym c.is_readable.ensures ∙ c.if-not-is_readable.false)
+    c.requires.good _ key _ c.word.ensures None found_there refl))

@@ -8,8 +8,8 @@ use Rattle.ps_acts.proofs.Stacked.{stacked_acts}
 use Rattle.ps_dictionary_operators.proofs.Finding.{load_hidden, load_undefined, load_stacks, word_there}
 use Rattle.ps_dictionary_operators.proofs.finds.load.Goals as goal
 
-pub returns-in-Ok-Some : goal.returns-in-Ok-Some
-returns-in-Ok-Some g c =
+pub returns-in-Ok-Some-clause-acts : goal.returns-in-Ok-Some-clause-acts
+returns-in-Ok-Some-clause-acts g c =
     let heap = g.M.Memory.heap c.args.memory.now in
     let held = first_held (IsValue heap) _ c.requires.good.operands _ c.in-Some.ensures in
     let looked = rw c.in-Ok-Some.field-0-is at c.in-Ok-Some.ensures.value in
@@ -27,18 +27,16 @@ returns-in-Ok-Some g c =
       c.read_key-sought.ensures.heap,
       c.read_key-sought.ensures.grants,
     )
-    (record {
-      acts = λ trial. stacked_acts _ _ _ _ _ trial c.requires.good
-          (value_held.1, rest_held (IsValue heap) _ c.requires.good.operands 1)
-          c.requires.good.dictionaries
-          (load_stacks _ _ c.in-Some.ensures (c.is_null.ensures _ _ held ∙ c.if-is_null.false)
-          (c.is_readable_key.ensures _ _ ∙ c.if-not-is_readable_key.false) c.requires.good _
-          c.read_key-sought.ensures.key _ c.word.ensures _ looked_there _ refl there.0 there.1
-          (λ names s shows inside. (within_there names s shows inside).1));
-    })
+    (λ trial. stacked_acts _ _ _ _ _ trial c.requires.good
+    (value_held.1, rest_held (IsValue heap) _ c.requires.good.operands 1)
+    c.requires.good.dictionaries
+    (load_stacks _ _ c.in-Some.ensures (c.is_null.ensures _ _ held ∙ c.if-is_null.false)
+    (c.is_readable_key.ensures _ _ ∙ c.if-not-is_readable_key.false) c.requires.good _
+    c.read_key-sought.ensures.key _ c.word.ensures _ looked_there _ refl there.0 there.1
+    (λ names s shows inside. (within_there names s shows inside).1)))
 
-pub returns-in-Ok-None : goal.returns-in-Ok-None
-returns-in-Ok-None g c =
+pub returns-in-Ok-None-clause-acts : goal.returns-in-Ok-None-clause-acts
+returns-in-Ok-None-clause-acts g c =
     let heap = g.M.Memory.heap c.args.memory.now in
     let held = first_held (IsValue heap) _ c.requires.good.operands _ c.in-Some.ensures in
     let looked = rw c.in-Ok-None.field-0-is at c.in-Ok-None.ensures.value in
@@ -49,15 +47,13 @@ returns-in-Ok-None g c =
       c.read_key-sought.ensures.heap,
       c.read_key-sought.ensures.grants,
     )
-    (record {
-      acts = λ trial. raised_acts _ trial _ _ c.requires.good Undefined
-          (load_undefined _ _ c.in-Some.ensures (c.is_null.ensures _ _ held ∙ c.if-is_null.false)
-          (c.is_readable_key.ensures _ _ ∙ c.if-not-is_readable_key.false) c.requires.good _
-          c.read_key-sought.ensures.key _ c.word.ensures _ looked_there refl);
-    })
+    (λ trial. raised_acts _ trial _ _ c.requires.good Undefined
+    (load_undefined _ _ c.in-Some.ensures (c.is_null.ensures _ _ held ∙ c.if-is_null.false)
+    (c.is_readable_key.ensures _ _ ∙ c.if-not-is_readable_key.false) c.requires.good _
+    c.read_key-sought.ensures.key _ c.word.ensures _ looked_there refl))
 
-pub returns-in-Err : goal.returns-in-Err
-returns-in-Err g c =
+pub returns-in-Err-clause-acts : goal.returns-in-Err-clause-acts
+returns-in-Err-clause-acts g c =
     let heap = g.M.Memory.heap c.args.memory.now in
     let held = first_held (IsValue heap) _ c.requires.good.operands _ c.in-Some.ensures in
     let looked = c.in-Err.ensures.value in
@@ -68,9 +64,7 @@ returns-in-Err g c =
       c.read_key-sought.ensures.heap,
       c.read_key-sought.ensures.grants,
     )
-    (record {
-      acts = λ trial. raised_acts _ trial _ _ c.requires.good _
-          (load_hidden _ _ c.in-Some.ensures (c.is_null.ensures _ _ held ∙ c.if-is_null.false)
-          (c.is_readable_key.ensures _ _ ∙ c.if-not-is_readable_key.false) c.requires.good _
-          c.read_key-sought.ensures.key _ c.word.ensures _ looked_there _ refl);
-    })
+    (λ trial. raised_acts _ trial _ _ c.requires.good _
+    (load_hidden _ _ c.in-Some.ensures (c.is_null.ensures _ _ held ∙ c.if-is_null.false)
+    (c.is_readable_key.ensures _ _ ∙ c.if-not-is_readable_key.false) c.requires.good _
+    c.read_key-sought.ensures.key _ c.word.ensures _ looked_there _ refl))

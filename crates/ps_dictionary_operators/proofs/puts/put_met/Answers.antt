@@ -12,50 +12,44 @@ use Rattle.ps_dictionary_operators.proofs.Putting.{left_scene, effect_is, lackin
 use Rattle.ps_dictionary_operators.proofs.puts.put_met.Goals as goal
 use Rattle.ps_dictionary_operators.proofs.puts.put_met.Goals.{in-Full, in_default}
 
-pub returns-then-matches : goal.returns-then-matches
-returns-then-matches g c =
+pub returns-then-matches-clause-acts : goal.returns-then-matches-clause-acts
+returns-then-matches-clause-acts g c =
     let heap = g.M.Memory.heap c.args.memory.now in
     let full : c.plan_put-plan.result ≡ Full = elim c.match-matches.branch [
       | in-Full w ↦ w.in-Full.is
       | in_default w ↦ absurd (true≢false (sym c.if-matches.true ∙ w.matches-is))
     ] in
     rw (c.plan_put-plan.ensures.heap, c.plan_put-plan.ensures.grants)
-    (record {
-      acts = λ inside. raised_acts _ _ _ _ c.requires.good LimitCheck λ store shown.
-          full_raises (lent heap (g.M.Memory.grants c.args.memory.now) c.args.context.now
-          c.args.shared.now) c.args.entry.address c.args.entry.key c.args.entry.value
-          c.args.entry.operands store
-          ((c.plan_put-plan.ensures.full c.args.shared.now.names store shown.shows c.requires.good.names
-          (inside store shown).0
-          (value_of (birth_at heap) c.args.shared.now.names c.args.entry.value)).0 full);
-    })
+    (λ inside. raised_acts _ _ _ _ c.requires.good LimitCheck λ store shown.
+    full_raises (lent heap (g.M.Memory.grants c.args.memory.now) c.args.context.now
+    c.args.shared.now) c.args.entry.address c.args.entry.key c.args.entry.value
+    c.args.entry.operands store
+    ((c.plan_put-plan.ensures.full c.args.shared.now.names store shown.shows c.requires.good.names
+    (inside store shown).0
+    (value_of (birth_at heap) c.args.shared.now.names c.args.entry.value)).0 full))
 
-pub returns-then-is_refused : goal.returns-then-is_refused
-returns-then-is_refused g c =
+pub returns-then-is_refused-clause-acts : goal.returns-then-is_refused-clause-acts
+returns-then-is_refused-clause-acts g c =
     let possible : c.plan_put-plan.result ≢ Full = search rules in
     let yes = c.is_refused.ensures.yes c.if-is_refused.true in
     rw (c.plan_put-plan.ensures.heap, c.plan_put-plan.ensures.grants)
-    (record {
-      acts = λ inside. refused_acts _ _ _ (sym (append-nil _)) _ _ _ _ c.requires.good
-          (logs-same 0 _ _) (inl refl) λ store shown. record {
-            scene = left_scene _ c.requires.good _ c.args.entry.key c.args.entry.value
-                c.args.entry.operands _ c.requires.known c.requires.key
-                c.plan_put-plan.ensures.words possible c.args.trial inside store shown;
-            output = _;
-            is = effect_is _ c.requires.good _ c.args.entry.key c.args.entry.value
-                c.args.entry.operands _ c.requires.known c.requires.key
-                c.plan_put-plan.ensures.words possible c.args.trial inside store shown;
-            names_are = refl;
-            lacking = lacking _ c.requires.good _ c.args.entry.key c.args.entry.value
-                c.args.entry.operands _ c.requires.known c.requires.key
-                c.plan_put-plan.ensures.words possible c.args.trial inside store shown yes.0 yes.1;
-          };
+    (λ inside. refused_acts _ _ _ (sym (append-nil _)) _ _ _ _ c.requires.good
+    (logs-same 0 _ _) (inl refl) λ store shown. record {
+      scene = left_scene _ c.requires.good _ c.args.entry.key c.args.entry.value
+          c.args.entry.operands _ c.requires.known c.requires.key
+          c.plan_put-plan.ensures.words possible c.args.trial inside store shown;
+      output = _;
+      is = effect_is _ c.requires.good _ c.args.entry.key c.args.entry.value
+          c.args.entry.operands _ c.requires.known c.requires.key
+          c.plan_put-plan.ensures.words possible c.args.trial inside store shown;
+      names_are = refl;
+      lacking = lacking _ c.requires.good _ c.args.entry.key c.args.entry.value
+          c.args.entry.operands _ c.requires.known c.requires.key
+          c.plan_put-plan.ensures.words possible c.args.trial inside store shown yes.0 yes.1;
     })
 
-pub returns : goal.returns
-returns g c =
+pub returns-clause-acts : goal.returns-clause-acts
+returns-clause-acts g c =
     let acts = rw (c.plan_put-plan.ensures.heap, c.plan_put-plan.ensures.grants)
     at c.put_planned.ensures.acts in
-    record {
-      acts = λ inside. acts c.args.trial refl (c.is_refused.ensures.no c.if-is_refused.false) inside;
-    }
+    λ inside. acts c.args.trial refl (c.is_refused.ensures.no c.if-is_refused.false) inside

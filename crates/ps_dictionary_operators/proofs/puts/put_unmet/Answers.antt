@@ -9,31 +9,27 @@ use Rattle.ps_acts.proofs.Acting.{raised_acts}
 use Rattle.ps_dictionary_operators.proofs.Unmet.{unmet_full, unmet_fault, unmet_good, unmet_put, unmet_unmade, unmet_refused, formed_as, plan_possible, inside_formed}
 use Rattle.ps_dictionary_operators.proofs.puts.put_unmet.Goals as goal
 
-pub returns-then-length-ge-CAPACITY_LIMIT : goal.returns-then-length-ge-CAPACITY_LIMIT
-returns-then-length-ge-CAPACITY_LIMIT g c =
+pub returns-then-length-ge-CAPACITY_LIMIT-clause-acts : goal.returns-then-length-ge-CAPACITY_LIMIT-clause-acts
+returns-then-length-ge-CAPACITY_LIMIT-clause-acts g c =
     let many = c.if-length-ge-CAPACITY_LIMIT.true in
     let words = c.length.ensures.words in
     rw (c.length.ensures.heap, c.length.ensures.grants)
-    (record {
-      acts = raised_acts _ _ _ _ c.requires.good LimitCheck λ store shown.
-          unmet_full _ c.requires.good c.args.entry.address c.args.entry.key c.args.entry.value
-          c.args.entry.operands c.requires.known _ c.requires.key c.requires.unmet
-          (λ s there. c.requires.inside _ s there.operands) store shown (omega (arith, many, words));
-    })
+    (raised_acts _ _ _ _ c.requires.good LimitCheck λ store shown.
+    unmet_full _ c.requires.good c.args.entry.address c.args.entry.key c.args.entry.value
+    c.args.entry.operands c.requires.known _ c.requires.key c.requires.unmet
+    (λ s there. c.requires.inside _ s there.operands) store shown (omega (arith, many, words)))
 
-pub returns-in_err-form_key : goal.returns-in_err-form_key
-returns-in_err-form_key g c =
+pub returns-in_err-form_key-clause-acts : goal.returns-in_err-form_key-clause-acts
+returns-in_err-form_key-clause-acts g c =
     let few = c.if-length-ge-CAPACITY_LIMIT.false in
     let words = c.length.ensures.words in
     let p = err_from_is_err_and c.from_residual.result c.from_residual.ensures.1 in
     rw (p.1, p.2, c.length.ensures.heap, c.length.ensures.grants)
-    (record {
-      acts = unmet_fault _ c.requires.good c.args.entry.address c.args.entry.key
-          c.args.entry.value c.args.entry.operands c.requires.known _ c.requires.key
-          c.requires.unmet (λ s there. c.requires.inside _ s there.operands) c.args.trial
-          (omega (arith, few, words)) _ c.in_err-form_key.ensures.did _
-          (c.in_err-form_key.ensures.unmade _ refl);
-    })
+    (unmet_fault _ c.requires.good c.args.entry.address c.args.entry.key
+    c.args.entry.value c.args.entry.operands c.requires.known _ c.requires.key
+    c.requires.unmet (λ s there. c.requires.inside _ s there.operands) c.args.trial
+    (omega (arith, few, words)) _ c.in_err-form_key.ensures.did _
+    (c.in_err-form_key.ensures.unmade _ refl))
 
 pub plan_put-plan-requires-clause-held : goal.plan_put-plan-requires-clause-held
 plan_put-plan-requires-clause-held g c =
@@ -74,8 +70,8 @@ put_planned-requires-clause-possible g c = λ full.
     (g.M.Memory.grants c.args.memory.now) c.args.context.now c.args.shared.now)
     c.args.entry.address c.name_word-key.result (omega (arith, few, words)) (sym plan ∙ full)
 
-pub returns-then-is_refused : goal.returns-then-is_refused
-returns-then-is_refused g c =
+pub returns-then-is_refused-clause-acts : goal.returns-then-is_refused-clause-acts
+returns-then-is_refused-clause-acts g c =
     let few = c.if-length-ge-CAPACITY_LIMIT.false in
     let words = c.length.ensures.words in
     let heap = g.M.Memory.heap c.args.memory.now in
@@ -99,19 +95,17 @@ returns-then-is_refused g c =
     ) at c.refuse.ensures.refused in
     let logs = rw (c.plan_put-plan.ensures.grants, c.length.ensures.grants) at c.refuse.ensures.logs in
     rw (c.refuse.ensures.heap, c.plan_put-plan.ensures.heap, c.length.ensures.heap)
-    (record {
-      acts = unmet_refused l c.requires.good c.args.entry.address c.args.entry.key
-          c.args.entry.value c.args.entry.operands c.requires.known _ c.requires.key
-          c.requires.unmet (λ s there. c.requires.inside _ s there.operands)
-          c.name_word-key.result _ named (λ s there. (c.requires.inside _ s there.operands).1)
-          c.args.trial made.1
-          (name_held _ _ _ c.name_word-key.ensures.value heap c.name_word-key.ensures.word)
-          c.plan_put-plan.result plan possible yes.0 yes.1 _ logs _ c.len-count.result
-          c.len-count.ensures.count c.refuse.result refused;
-    })
+    (unmet_refused l c.requires.good c.args.entry.address c.args.entry.key
+    c.args.entry.value c.args.entry.operands c.requires.known _ c.requires.key
+    c.requires.unmet (λ s there. c.requires.inside _ s there.operands)
+    c.name_word-key.result _ named (λ s there. (c.requires.inside _ s there.operands).1)
+    c.args.trial made.1
+    (name_held _ _ _ c.name_word-key.ensures.value heap c.name_word-key.ensures.word)
+    c.plan_put-plan.result plan possible yes.0 yes.1 _ logs _ c.len-count.result
+    c.len-count.ensures.count c.refuse.result refused)
 
-pub returns-in-Ok : goal.returns-in-Ok
-returns-in-Ok g c =
+pub returns-in-Ok-clause-acts : goal.returns-in-Ok-clause-acts
+returns-in-Ok-clause-acts g c =
     let heap = g.M.Memory.heap c.args.memory.now in
     let made = c.in_ok-form_key.ensures.made refl in
     let l = lent heap (g.M.Memory.grants c.args.memory.now) c.args.context.now
@@ -126,21 +120,19 @@ returns-in-Ok g c =
       c.length.ensures.heap,
       c.length.ensures.grants,
     ) at c.in-Ok.ensures.acts in
-    record {
-      acts = unmet_put l c.requires.good c.args.entry.address c.args.entry.key
-          c.args.entry.value c.args.entry.operands c.requires.known _ c.requires.key
-          c.requires.unmet (λ s there. c.requires.inside _ s there.operands)
-          c.name_word-key.result _ named (λ s there. (c.requires.inside _ s there.operands).1)
-          c.args.trial _
-          (acts c.args.trial refl (c.is_refused.ensures.no c.if-is_refused.false)
-          (inside_formed l c.requires.good c.args.entry.address c.args.entry.key
-          c.args.entry.value c.args.entry.operands c.requires.known _ c.requires.key
-          c.requires.unmet (λ s there. c.requires.inside _ s there.operands)
-          c.name_word-key.result _ named (λ s there. (c.requires.inside _ s there.operands).1)));
-    }
+    unmet_put l c.requires.good c.args.entry.address c.args.entry.key
+    c.args.entry.value c.args.entry.operands c.requires.known _ c.requires.key
+    c.requires.unmet (λ s there. c.requires.inside _ s there.operands)
+    c.name_word-key.result _ named (λ s there. (c.requires.inside _ s there.operands).1)
+    c.args.trial _
+    (acts c.args.trial refl (c.is_refused.ensures.no c.if-is_refused.false)
+    (inside_formed l c.requires.good c.args.entry.address c.args.entry.key
+    c.args.entry.value c.args.entry.operands c.requires.known _ c.requires.key
+    c.requires.unmet (λ s there. c.requires.inside _ s there.operands)
+    c.name_word-key.result _ named (λ s there. (c.requires.inside _ s there.operands).1)))
 
-pub returns-in-Err : goal.returns-in-Err
-returns-in-Err g c =
+pub returns-in-Err-clause-acts : goal.returns-in-Err-clause-acts
+returns-in-Err-clause-acts g c =
     let heap = g.M.Memory.heap c.args.memory.now in
     let made = c.in_ok-form_key.ensures.made refl in
     let l = lent heap (g.M.Memory.grants c.args.memory.now) c.args.context.now
@@ -155,16 +147,14 @@ returns-in-Err g c =
       c.length.ensures.heap,
       c.length.ensures.grants,
     ) at c.in-Err.ensures.acts in
-    record {
-      acts = unmet_unmade l c.requires.good c.args.entry.address c.args.entry.key
-          c.args.entry.value c.args.entry.operands c.requires.known _ c.requires.key
-          c.requires.unmet (λ s there. c.requires.inside _ s there.operands)
-          c.name_word-key.result _ named (λ s there. (c.requires.inside _ s there.operands).1)
-          c.args.trial _ c.in-Err.fault c.in-Err.ensures.unmade
-          (acts c.args.trial refl (c.is_refused.ensures.no c.if-is_refused.false)
-          (inside_formed l c.requires.good c.args.entry.address c.args.entry.key
-          c.args.entry.value c.args.entry.operands c.requires.known _ c.requires.key
-          c.requires.unmet (λ s there. c.requires.inside _ s there.operands)
-          c.name_word-key.result _ named (λ s there. (c.requires.inside _ s there.operands).1)))
-          _ c.len-count.result c.len-count.ensures.count c.truncate.ensures;
-    }
+    unmet_unmade l c.requires.good c.args.entry.address c.args.entry.key
+    c.args.entry.value c.args.entry.operands c.requires.known _ c.requires.key
+    c.requires.unmet (λ s there. c.requires.inside _ s there.operands)
+    c.name_word-key.result _ named (λ s there. (c.requires.inside _ s there.operands).1)
+    c.args.trial _ c.in-Err.fault c.in-Err.ensures.unmade
+    (acts c.args.trial refl (c.is_refused.ensures.no c.if-is_refused.false)
+    (inside_formed l c.requires.good c.args.entry.address c.args.entry.key
+    c.args.entry.value c.args.entry.operands c.requires.known _ c.requires.key
+    c.requires.unmet (λ s there. c.requires.inside _ s there.operands)
+    c.name_word-key.result _ named (λ s there. (c.requires.inside _ s there.operands).1)))
+    _ c.len-count.result c.len-count.ensures.count c.truncate.ensures

@@ -9,16 +9,12 @@ use Rattle.ps_acts.proofs.Stacked.{stacked_acts}
 use Rattle.ps_dictionary_operators.proofs.Stacking.{end_few, end_stacks}
 use Rattle.ps_dictionary_operators.proofs.stack.end.Goals as goal
 
-pub returns-then-len-le2 : goal.returns-then-len-le2
-returns-then-len-le2 g c = record {
-  acts = λ trial. raised_acts _ trial _ _ c.requires.good DictStackUnderflow
-      (end_few _ (omega (arith, nat_tests, c.len.ensures.count, c.if-len-le2.true)));
-}
+pub returns-then-len-le2-clause-acts : goal.returns-then-len-le2-clause-acts
+returns-then-len-le2-clause-acts g c = λ trial. raised_acts _ trial _ _ c.requires.good DictStackUnderflow
+    (end_few _ (omega (arith, nat_tests, c.len.ensures.count, c.if-len-le2.true)))
 
-pub returns : goal.returns
-returns g c = rw (c.discard.ensures)
-    (record {
-      acts = λ trial. stacked_acts _ _ _ _ _ trial c.requires.good c.requires.good.operands
-          (rest_held (IsValue (g.M.Memory.heap c.args.memory.now)) _ c.requires.good.dictionaries 1)
-          (end_stacks _ (omega (arith, nat_tests, c.len.ensures.count, c.if-len-le2.false)));
-    })
+pub returns-clause-acts : goal.returns-clause-acts
+returns-clause-acts g c = rw (c.discard.ensures)
+    (λ trial. stacked_acts _ _ _ _ _ trial c.requires.good c.requires.good.operands
+    (rest_held (IsValue (g.M.Memory.heap c.args.memory.now)) _ c.requires.good.dictionaries 1)
+    (end_stacks _ (omega (arith, nat_tests, c.len.ensures.count, c.if-len-le2.false))))

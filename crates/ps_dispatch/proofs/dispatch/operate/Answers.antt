@@ -212,7 +212,7 @@ returns-in-EndArray g c = named c.in-EndArray.is c.tried-in-EndArray.ensures
     c.end_array.ensures.does c.end_array.ensures.ready c.end_array.ensures.spends)
 
 pub returns-in-Put : goal.returns-in-Put
-returns-in-Put g c = named c.in-Put.is refl c.put.ensures
+returns-in-Put g c = named c.in-Put.is refl c.put.ensures.acts
 
 pub returns-in-Exit : goal.returns-in-Exit
 returns-in-Exit g c = named c.in-Exit.is refl

@@ -1,0 +1,132 @@
+-- What a procedure's first element came to, without its frame or over it.
+use Rattle.std.proofs.Common.{◌≡◌, ℕ, ◌<◌, Bool, true, false, List, ◌∷◌, length, Ok, refl, sym, subst}
+use Rattle.std.specs.Prelude.{Result, nat_lt, if◌then◌else◌}
+use Rattle.ps_language.specs.World.{Machine, running}
+use Rattle.ps_word.specs.declared.values.Part.{Part}
+use Rattle.ps_ops.specs.declared.failure.NotMade.{NotMade as Reason}
+use Rattle.ps_control.specs.declared.frames.Frame.{Frame}
+use Rattle.ps_control.specs.declared.frames.Frame.TheVariants.{Procedure}
+use Rattle.ps_control.specs.Frames.{AreFrames}
+use Rattle.ps_acts.specs.Lent.{Lent, IsGood}
+use Rattle.ps_acts.specs.Trials.{ordinary}
+use Rattle.ps_acts.specs.Unframed.{IsUndone}
+use Rattle.ps_acts.proofs.Kept.{frames-good}
+use Rattle.ps_acts.proofs.Meeting.{lasts-same}
+use Rattle.ps_turns.specs.declared.turned.Turned.{Turned}
+use Rattle.ps_turns.specs.declared.turned.Turned.TheVariants.{Goes}
+use Rattle.ps_turns.specs.Turns.{Turns}
+use Rattle.ps_values.specs.Values.{Asks}
+use Rattle.ps_frames.specs.Steps.{above, frame_asks, rest_frames, running_turn, with_frames}
+use Rattle.ps_interpreter.specs.Courses.{IsLentBy}
+use Rattle.ps_interpreter.specs.Makes.{TurnsBehind}
+use Rattle.ps_interpreter.specs.OwnSteps.{own_after, HasRun}
+use Rattle.ps_interpreter.proofs.Running.{run_none}
+use Rattle.ps_context.specs.declared.runs.Came.TheVariants as came
+use Rattle.ps_context.specs.Elements.{came_behind, left_behind, ComesBy}
+use Rattle.ps_context.specs.Steps.{own_asks}
+use Rattle.ps_context.proofs.Ahead.{goes_behind, turned_above}
+
+-- a turn of a procedure above the frames that goes on is a step
+pub step_above : (asks : Asks) (slot : ℕ) (rest : Part) (l new : Lent) → IsGood (above rest l)
+    → Turns (frame_asks asks) running_turn (ordinary slot) (Ok Goes) (above rest l) new
+    → HasRun 1 (above rest l) new
+step_above asks slot rest l new good turns =
+    goes_behind asks slot 0 (above rest l) new
+    (turned_above asks (above rest l) l rest 0 (run_none (above rest l) good) slot (Ok Goes) new
+    turns)
+
+-- what is left of the procedure is above the frames, or all of it was done
+pub comes_behind : (asks : Asks) (slot : ℕ) (rest : Part) (l new : Lent) → IsGood (above rest l)
+    → length new.frames < 250
+    → Turns (frame_asks asks) running_turn (ordinary slot) (Ok Goes) (above rest l)
+    (with_frames (rest_frames rest new.frames) new)
+    → ComesBy (own_asks asks) slot (came_behind rest) (left_behind rest) (above rest l) new
+comes_behind asks slot rest l new good room turns =
+    by (nat_lt 1 rest.length) (step_above asks slot rest l _ good turns)
+  where
+    by : (some : Bool)
+        → HasRun 1 (above rest l)
+        (with_frames (if some then Procedure (left_behind rest) ∷ new.frames else new.frames)
+        new)
+        → ComesBy (own_asks asks) slot (if some then came.Enters else came.Goes) (left_behind rest)
+        (above rest l) new
+    by true run = (room, run)
+    by false run = run
+
+-- ---- where nothing was done
+
+module _ (l new : Lent) (rest : Part) (undone : IsUndone l new) (same : new.frames ≡ l.frames)
+    (good : IsGood (above rest l)) where
+  pub undone_good : IsGood (above rest new)
+  undone_good = record {
+    sound = undone.good.sound;
+    operands = undone.good.operands;
+    dictionaries = undone.good.dictionaries;
+    frames = subst (λ (fs : List Frame). AreFrames new.heap (length new.program)
+        (Procedure rest ∷ fs)) (sym same)
+        (subst (λ (program : List ℕ). AreFrames new.heap (length program)
+        (Procedure rest ∷ l.frames)) (sym undone.stays.program)
+        (frames-good l.heap new.heap undone.keeps (length l.program) (Procedure rest ∷ l.frames)
+        good.frames));
+    error_stands = undone.good.error_stands;
+    names = undone.good.names;
+    first = undone.good.first;
+    empty = undone.good.empty;
+  }
+
+  abbrev unchanged : Lent
+  unchanged = record l { grants = new.grants; room = new.room; scratch = new.scratch }
+
+  still_lent : (machine : Machine)
+      → IsLentBy (above rest l) running machine.error_lines machine
+      → IsLentBy (above rest new) running machine.error_lines machine
+  still_lent machine lent =
+      subst (λ (m : Lent). IsLentBy (above rest m) running machine.error_lines machine)
+      (sym (undone.same machine.store (record {
+        shows = lent.shown.shows;
+        operands = lent.shown.operands;
+        dictionaries = lent.shown.dictionaries;
+        frames = lent.shown.frames.1;
+      })))
+      (record {
+        shown = record {
+          shows = lent.shown.shows;
+          operands = lent.shown.operands;
+          dictionaries = lent.shown.dictionaries;
+          frames = lent.shown.frames;
+        };
+        scene = lent.scene;
+        is_so = lent.is_so;
+        error_dictionary = lent.error_dictionary;
+        printed = lent.printed;
+        error_lines = lent.error_lines;
+      })
+
+  run_undone : HasRun 0 (above rest l) (above rest new)
+  unfolding own_after
+  run_undone = record {
+    comes = λ machine lent. record {
+      next = machine;
+      steps = refl;
+      lent = still_lent machine lent;
+      lasts = lasts-same machine.store;
+      detached = refl;
+    };
+    good = undone_good;
+    keeps = undone.keeps;
+    stays = record {
+      program = undone.stays.program;
+      error_dictionary = undone.stays.error_dictionary;
+      formed = undone.stays.formed;
+      names = undone.stays.names;
+      capacity = undone.stays.capacity;
+      scratch = undone.stays.scratch;
+    };
+  }
+
+  -- the turn over its frame is told
+  pub undone_turned : (asks : Asks) (slot : ℕ) (turn : Result Turned Reason) (after : Lent)
+      → Turns (frame_asks asks) running_turn (ordinary slot) turn (above rest new) after
+      → TurnsBehind (own_asks asks) slot 0 turn (above rest l) after
+  undone_turned asks slot turn after turns =
+      turned_above asks (above rest l) new rest 0 run_undone slot turn after turns

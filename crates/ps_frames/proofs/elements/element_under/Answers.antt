@@ -1,0 +1,12 @@
+-- The value is treated without the frame of its procedure.
+use Rattle.ps_frames.proofs.Unframed.{good_below, does_under}
+use Rattle.ps_frames.proofs.elements.element_under.Goals as goal
+
+pub treat_under-requires-clause-good : goal.treat_under-requires-clause-good
+treat_under-requires-clause-good g c = good_below _ c.args.rest c.requires.good
+
+pub returns-in-Some-clause-does : goal.returns-in-Some-clause-does
+returns-in-Some-clause-does g c =
+    does_under g.O.Operate.asks _ _ c.args.rest c.in-Some.element c.requires.good
+    (rw c.in-Some.is at c.requires.first) c.args.slot c.treat_under.result
+    c.treat_under.ensures.goes
