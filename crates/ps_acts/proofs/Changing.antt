@@ -1,5 +1,5 @@
 -- Operators that change objects or make them.
-use Rattle.std.proofs.Common.{◌≡◌, ℕ, ◌-◌, ◌<◌, ◌≤◌, arith, Bool, true, false, List, [], ◌∷◌, length, Option, Some, None, Result, Ok, Err, refl, sym, ap, subst, ◌∙◌, append-nil, inl, inr}
+use Rattle.std.proofs.Common.{◌≡◌, ℕ, ◌-◌, ◌≤◌, arith, Bool, true, false, List, [], ◌∷◌, length, Option, Some, None, Result, Ok, Err, refl, sym, ap, subst, ◌∙◌, append-nil, inl, inr}
 use Rattle.std.proofs.lemmas.Bool.Decides.{eqb_tells, nat_tests}
 use Rattle.std.specs.Prelude.{OnErr, min, nat_le, slice_get, if◌then◌else◌}
 use Rattle.ps_language.specs.declared.errors.ErrorName.{ErrorName}
@@ -28,18 +28,17 @@ use Rattle.ps_mem.proofs.Lists.{slice_get-set_other}
 use Rattle.ps_mem.proofs.NewShows.{longer}
 use Rattle.ps_mem.proofs.StoreShows.{array-shown}
 use Rattle.ps_seq.proofs.ArrayLemmas.{birth-array}
-use Rattle.ps_ops.specs.declared.failure.NotMade.{NotMade as Reason}
-use Rattle.ps_ops.specs.declared.failure.NotMade.TheVariants.{LogFull, LogClosed, NeedSpace, Memory}
 use Rattle.ps_ops.specs.declared.failure.Failure.{Failure}
 use Rattle.ps_ops.specs.declared.failure.Failure.TheVariants.{Error, NotMade}
-use Rattle.ps_ops.specs.Does.{values_in, Agrees, KeepsLogsWithin, most_records, spent, IsRecordReason, Changes, refusing, IsRoomReason, Makes}
+use Rattle.ps_ops.specs.Does.{values_in, ChangesAs, KeepsLogsWithin, most_records, spent, IsRecordReason, Changes, refusing, IsRoomReason, Makes}
 use Rattle.ps_acts.proofs.Asking.{Leaving, IsUnasked, IsMade}
 use Rattle.ps_control.specs.declared.frames.Frame.{Frame}
 use Rattle.ps_acts.specs.declared.lent.Trial.{Trial}
 use Rattle.ps_acts.specs.Breaks.{tried}
 use Rattle.ps_acts.specs.Lent.{Lent, scene_of, IsShown, IsGood}
-use Rattle.ps_acts.specs.Acts.{Asked, Needs, needs_as, nothing_asked, stores, IsReason, Lasts, IsLeft, ActsAs, Meets, Acts, over}
+use Rattle.ps_acts.specs.Acts.{Asked, needs_as, nothing_asked, stores, Lasts, IsLeft, ActsAs, Meets, Acts, over}
 use Rattle.ps_acts.proofs.Meeting.{lasts-same, logs_more, stays_as, at_least-same, lacks_nothing, made_meets, wanting_meets}
+use Rattle.ps_acts.proofs.Reasons.{record_reason, room_reason}
 use Rattle.ps_acts.proofs.Lifts.{changed_good, changed_left}
 
 -- ---- no string is shorter after what a row leaves
@@ -176,16 +175,6 @@ module _ (l : Lent) (good : IsGood l) (trial : Trial) (new : Heap) (left : Grant
   abbrev Logs : ℕ → Type 0
   Logs most = KeepsLogsWithin most l.grants left trial.slot
 
-  record_reason : (reason : Reason) (count : ℕ) (needs : Needs) → needs.records ≡ min 1 count
-      → IsRecordReason reason count trial.slot l.grants left
-      → IsReason needs trial.slot l (over l new left after) reason
-  record_reason LogFull count needs is why =
-      (why.0, subst (λ (n : ℕ). left.records trial.slot < n) (sym is) why.1)
-  record_reason LogClosed count needs is why =
-      let some = why.0 in (omega (arith, some, is), why.1)
-  record_reason (NeedSpace words) count needs is why = absurd why
-  record_reason Memory count needs is why = absurd why
-
   one_record : (n : ℕ) → min 1 n ≤ most_records
   one_record n = grind (arith, nat_tests)
 
@@ -196,9 +185,9 @@ module _ (l : Lent) (good : IsGood l) (trial : Trial) (new : Heap) (left : Grant
     changed_as : (result : Result Unit Failure) (outcome : Outcome Change) (store : Store)
         → IsShown l store → Leaving (IsUnasked store) outcome → RowLasts store outcome
         → Logs (spent (tried result) (asks (scene_of l store)).records)
-        → Agrees (λ reason change. IsRecordReason reason
-        (count (values_in l.heap l.names l.operands))
-        trial.slot l.grants left) result outcome l.names l.heap new l.operands after
+        → ChangesAs (λ reason change. IsRecordReason reason
+        (min 1 (count (values_in l.heap l.names l.operands))) trial.slot l.grants left) result
+        outcome l.names l.heap new l.operands after
         → Meets asks (change_effect (scene_of l store) outcome) trial (tried result)
         (scene_of l store) l (over l new left after)
     changed_as (Ok _) (leaves change) store shown none lasts logs did =
@@ -209,12 +198,12 @@ module _ (l : Lent) (good : IsGood l) (trial : Trial) (new : Heap) (left : Grant
     changed_as (Ok _) (fails raised) store shown none lasts logs did = absurd did
     changed_as (Err (Error error)) (leaves change) store shown none lasts logs did = absurd did
     changed_as (Err (Error error)) (fails raised) store shown none lasts logs did =
-        record { did = (did.0, λ i. over l (did.1 i) left (did.2 i)); logs = logs }
+        record { did = (did.0, λ i. over l (did.1.0 i) left (did.1.1 i)); logs = logs }
     changed_as (Err (NotMade reason)) (leaves change) store shown none lasts logs did =
         wanting_meets asks trial (scene_of l store) l (over l new left after) _ []
         (lacks_nothing trial.refused store change.store none.such) reason
-        (record_reason reason (count (values_in l.heap l.names l.operands)) _ refl did.0)
-        (λ i. over l (did.1 i) left (did.2 i)) logs
+        (record_reason _ trial.slot l (over l new left after) _ refl reason did.0)
+        (λ i. over l (did.1.0 i) left (did.1.1 i)) logs
     changed_as (Err (NotMade reason)) (fails raised) store shown none lasts logs did = absurd did
 
     pub changes_acts : (row : Store → List Value → Outcome Change) (result : Result Unit Failure)
@@ -240,15 +229,6 @@ module _ (l : Lent) (good : IsGood l) (trial : Trial) (new : Heap) (left : Grant
     }
 
   -- ---- operators that make objects
-
-  room_reason : (reason : Reason) (needs : Needs) → 1 ≤ needs.words
-      → IsRoomReason reason l.heap needs.words needs.births
-      → IsReason needs trial.slot l (over l new left after) reason
-  room_reason LogFull needs some why = absurd why
-  room_reason LogClosed needs some why = absurd why
-  room_reason (NeedSpace words) needs some why =
-      let same = why.0 in (same, omega (arith, same, some), why.1)
-  room_reason Memory needs some why = inr (inr (inl (some, why)))
 
   -- nothing but what was granted
   same_left : new ≡ l.heap → after ≡ l.operands → (store : Store) → IsShown l store
@@ -278,7 +258,7 @@ module _ (l : Lent) (good : IsGood l) (trial : Trial) (new : Heap) (left : Grant
         (subst (λ (n : ℕ). 1 ≤ n) (sym (made-new store made.object)) (size_positive made.object))
 
     made_as : (lacking : Bool) (result : Result Unit Failure)
-        → Agrees (λ reason c. IsRoomReason reason l.heap (made_between store c.store)
+        → ChangesAs (λ reason c. IsRoomReason reason l.heap (made_between store c.store)
         (length c.store - length store)) result
         (if lacking then fails VmError else leaves change) l.names l.heap new l.operands after
         → ActsAs (needs_as (nothing_asked (scene_of l store)) (scene_of l store) (makes made_scene []) lacking) trial.slot
@@ -287,8 +267,8 @@ module _ (l : Lent) (good : IsGood l) (trial : Trial) (new : Heap) (left : Grant
     made_as true (Err (Error error)) did = (
       did.0,
       record {
-        is = λ i. over l (did.1 i) left (did.2 i);
-        left = same_left did.1 did.2 store shown;
+        is = λ i. over l (did.1.0 i) left (did.1.1 i);
+        left = same_left did.1.0 did.1.1 store shown;
         may_note = inl refl;
       },
     )
@@ -299,12 +279,14 @@ module _ (l : Lent) (good : IsGood l) (trial : Trial) (new : Heap) (left : Grant
       sym (append-nil l.printed),
     )
     made_as false (Err (Error error)) did = absurd did
-    made_as false (Err (NotMade reason)) did =
-        (room_reason reason _ asks_some did.0, λ i. over l (did.1 i) left (did.2 i))
+    made_as false (Err (NotMade reason)) did = (
+      room_reason _ trial.slot l (over l new left after) _ _ refl refl asks_some reason did.0,
+      λ i. over l (did.1.0 i) left (did.1.1 i),
+    )
 
   makes_as : (result : Result Unit Failure) (outcome : Outcome Change) (store : Store)
       → IsShown l store → Leaving (IsMade store) outcome → Logs (spent (tried result) 0)
-      → Agrees (λ reason c. IsRoomReason reason l.heap (made_between store c.store)
+      → ChangesAs (λ reason c. IsRoomReason reason l.heap (made_between store c.store)
       (length c.store - length store)) result (refusing trial.refused store outcome) l.names l.heap
       new l.operands after
       → Meets nothing_asked (change_effect (scene_of l store) outcome) trial (tried result)
@@ -316,7 +298,7 @@ module _ (l : Lent) (good : IsGood l) (trial : Trial) (new : Heap) (left : Grant
   }
   makes_as (Ok _) (fails raised) store shown made logs did = absurd did
   makes_as (Err (Error error)) (fails raised) store shown made logs did =
-      record { did = (did.0, λ i. over l (did.1 i) left (did.2 i)); logs = logs }
+      record { did = (did.0, λ i. over l (did.1.0 i) left (did.1.1 i)); logs = logs }
   makes_as (Err (NotMade reason)) (fails raised) store shown made logs did = absurd did
 
   pub makes_acts : (row : Store → List Value → Outcome Change) (result : Result Unit Failure)

@@ -1,6 +1,7 @@
 pub mod Asking
 pub mod Kept
 pub mod Meeting
+pub mod Reasons
 pub mod Lifts
 pub mod Changing
 pub mod Acting

@@ -13,7 +13,7 @@ use Rattle.ps_mem.specs.Heap.{Heap, Grants, birth_at}
 use Rattle.ps_mem.specs.Keeps.{Keeps}
 use Rattle.ps_mem.specs.Shows.{IsReady, IsWithin, AreWithin, Shows}
 use Rattle.ps_mem.proofs.KeepsLemmas.{AreValues-kept, AreWithin-kept, values_of-kept, stands-kept, known_values}
-use Rattle.ps_operands.specs.Does.{Does, Agrees}
+use Rattle.ps_operands.specs.Does.{Does, DoesAs}
 use Rattle.ps_operands.specs.Kept.{AreFrom}
 use Rattle.ps_operands.proofs.Sources.{have_from}
 use Rattle.ps_ops.specs.Does.{values_in, ObservesAs, Observes}
@@ -104,7 +104,7 @@ module _ (l : Lent) (good : IsGood l) (new : Heap) (left : Grants) (after : List
 -- operators on operands alone read no store
 does_agrees : (result : Result Unit ErrorName) (outcome : Outcome (List Value))
     (names : List (List ℕ)) (store : Store) (h : Heap) (before after : List Word)
-    → Agrees result outcome (birth_at h) names before after → AreFrom before after
+    → DoesAs result outcome (birth_at h) names before after → AreFrom before after
     → AreWithin h names store before → ObservesAs result outcome names store h before after
 does_agrees (Ok _) (leaves left) names store h before after did from within = (
   did,

@@ -13,7 +13,7 @@ use Rattle.ps_word.specs.declared.words.Word.{Word}
 use Rattle.ps_mem.specs.Heap.{birth_at}
 use Rattle.ps_mem.specs.Meaning.{value_of}
 use Rattle.ps_mem.specs.Shows.{IsValue, AreValues, IsWithin, AreWithin}
-use Rattle.ps_operands.specs.Does.{Agrees, Pushes}
+use Rattle.ps_operands.specs.Does.{DoesAs, Pushes}
 use Rattle.ps_ops.specs.Does.{values_in}
 use Rattle.ps_acts.specs.declared.breaks.Break.TheVariants.{Raises}
 use Rattle.ps_acts.specs.declared.lent.Trial.{Trial}
@@ -76,7 +76,7 @@ module _ (row : Row) (l : Lent) where
       pub within : IsWithin (birth_at l.heap) l.names store w
 
     pushed_is : (store : Store) (outcome : Outcome (List Value))
-        → Agrees (Ok tt) outcome (birth_at l.heap) l.names l.operands (w ∷ l.operands)
+        → DoesAs (Ok tt) outcome (birth_at l.heap) l.names l.operands (w ∷ l.operands)
         → operands_effect (scene_of l store) outcome
         ≡ quiet (record (scene_of l store) { operands = values_in l.heap l.names (w ∷ l.operands) })
     pushed_is store (leaves left) did =
@@ -84,7 +84,7 @@ module _ (row : Row) (l : Lent) where
     pushed_is store (fails error) did = absurd did
 
     full_is : (error : ErrorName) (store : Store) (outcome : Outcome (List Value))
-        (after : List Word) → Agrees (Err error) outcome (birth_at l.heap) l.names l.operands after
+        (after : List Word) → DoesAs (Err error) outcome (birth_at l.heap) l.names l.operands after
         → operands_effect (scene_of l store) outcome ≡ raises error
     full_is error store (leaves left) after did = absurd did
     full_is error store (fails raised) after did = ap raises (sym did.0)
@@ -99,7 +99,7 @@ module _ (row : Row) (l : Lent) where
         (stacked_acts (w ∷ l.operands) l.dictionaries asks trial good (held, good.operands)
         good.dictionaries λ store shown. record {
           is = (each store shown).is ∙ pushed_is store _
-              (subst (Agrees (Ok tt) _ (birth_at l.heap) l.names l.operands) pushed
+              (subst (DoesAs (Ok tt) _ (birth_at l.heap) l.names l.operands) pushed
               (pushes.agrees (birth_at l.heap) l.names));
           operands_within = ((each store shown).within, shown.operands);
           dictionaries_within = shown.dictionaries;

@@ -1,5 +1,5 @@
 -- An operator that neither sees nor changes frames acts alike under more of them.
-use Rattle.std.proofs.Common.{◌≡◌, ℕ, arith, Bool, true, false, true≢false, List, [], ◌∷◌, ◌++◌, length, Ok, Err, refl, sym, ap, subst, ◌∙◌}
+use Rattle.std.proofs.Common.{◌≡◌, ℕ, Bool, true, false, true≢false, List, [], ◌∷◌, ◌++◌, length, Ok, Err, refl, sym, ap, subst, ◌∙◌}
 use Rattle.std.specs.List.{AllByRecursion}
 use Rattle.ps_language.specs.Acts.{operands_effect, change_effect, naming_effect, stacks_effect, printing_effect, effect_of}
 use Rattle.ps_language.specs.Effect.{Around, Scene, Effect, makes, unwinds, raises, calls}
@@ -20,7 +20,7 @@ use Rattle.ps_acts.specs.Lent.{Lent, scene_of, around_of, IsShown, IsGood}
 use Rattle.ps_acts.specs.Trials.{ordinary}
 use Rattle.ps_acts.specs.Unframed.{is_unframed, under, IsUndone}
 use Rattle.ps_acts.proofs.Kept.{frames-good, frames-same, frames-within}
-use Rattle.ps_acts.proofs.Meeting.{keeps-same, at_least-same, stays_as, meets_by}
+use Rattle.ps_acts.proofs.Meeting.{meets_by}
 use Rattle.ps_acts.proofs.Naming.{frames_same, frames_within}
 
 -- ---- effects
@@ -232,7 +232,7 @@ undone_as needs slot before (NotMade reason) (raises raised) l new did = absurd 
 undone_as needs slot before (NotMade reason) (calls deed) l new did = absurd did
 
 pub undone : (asks : Scene → Asked) (row : Row) (slot : ℕ) (break : Break) (l new : Lent)
-    → Acts asks row (ordinary slot) (Err break) l new → IsUndone l new
+    → Acts asks row (ordinary slot) (Err break) l new → IsUndone slot l new
 undone asks row slot break l new acts = record {
   same = λ store shown.
       undone_as _ slot (scene_of l store) break (effect_in row l store) l new
@@ -240,13 +240,5 @@ undone asks row slot break l new acts = record {
   good = acts.good;
   keeps = acts.keeps;
   stays = acts.stays;
-}
-
--- by nothing at all
-pub undone_here : (l : Lent) → IsGood l → IsUndone l l
-undone_here l good = record {
-  same = λ store shown. refl;
-  good = good;
-  keeps = keeps-same l.heap;
-  stays = stays_as l l refl refl refl (omega arith) (at_least-same _);
+  logs = acts.logs;
 }

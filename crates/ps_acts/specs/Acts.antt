@@ -8,11 +8,10 @@ use Rattle.ps_language.specs.Effect.{Around, Scene, Effect, makes, unwinds, rais
 use Rattle.ps_language.specs.Rows.{Row}
 use Rattle.ps_language.specs.Acts.{effect_of}
 use Rattle.ps_word.specs.declared.words.Word.{Word}
-use Rattle.ps_mem.specs.Heap.{Heap, Grants, has_room}
+use Rattle.ps_mem.specs.Heap.{Heap, Grants}
 use Rattle.ps_mem.specs.Keeps.{Keeps}
 use Rattle.ps_ops.specs.declared.failure.NotMade.{NotMade as Reason}
-use Rattle.ps_ops.specs.declared.failure.NotMade.TheVariants.{LogFull, LogClosed, NeedSpace, Memory}
-use Rattle.ps_ops.specs.Does.{KeepsLogsWithin, most_records, spent}
+use Rattle.ps_ops.specs.Does.{KeepsLogsWithin, most_records, spent, records_asked, words_asked, IsReasonFor}
 use Rattle.ps_control.specs.Turns.{cause_of}
 use Rattle.ps_acts.specs.declared.breaks.Break.{Break}
 use Rattle.ps_acts.specs.declared.breaks.Break.TheVariants.{Unwinds, Raises, NotMade}
@@ -101,21 +100,20 @@ abbrev pub LacksRooms : (has needs : Rooms) → Type 0
 LacksRooms has needs =
     (has.text < needs.text) ⊎ ((has.sought < needs.sought) ⊎ (has.words < needs.words))
 
--- LogFull: the log is open and takes fewer records than are asked for. LogClosed: it is closed, and
--- one at least is asked for. NeedSpace: the words have no room. Memory: the output has less room
--- than its bytes, or a name is formed, or an object is made in a memory that grows, or a list that
--- is read into is too small
-abbrev pub IsReason : Needs → (slot : ℕ) → (old new : Lent) → Reason → Type 0
-IsReason needs slot old new LogFull =
-    (old.grants.closed slot ≡ false) × (new.grants.records slot < needs.records)
-IsReason needs slot old new LogClosed = (1 ≤ needs.records) × IsTrue (old.grants.closed slot)
-IsReason needs slot old new (NeedSpace words) =
-    (words ≡ needs.words) × (1 ≤ words) × (has_room old.heap needs.words needs.births ≡ false)
-IsReason needs slot old new Memory =
+-- the output has less room than its bytes, or a name is formed, or an object is made in a memory
+-- that grows, or a list that is read into is too small
+abbrev pub IsShort : Needs → (old : Lent) → Type 0
+IsShort needs old =
     (old.room < needs.bytes)
     ⊎ ((1 ≤ needs.names)
     ⊎ (((1 ≤ needs.words) × IsTrue old.heap.space.grows)
     ⊎ LacksRooms (rooms_of old.scratch) needs.scratch))
+
+-- by the records and words that are asked for, or memory is short
+abbrev pub IsReason : Needs → (slot : ℕ) → (old new : Lent) → Reason → Type 0
+IsReason needs slot old new reason =
+    IsReasonFor (records_asked needs.records slot old.grants new.grants)
+    (words_asked needs.words needs.births old.heap) (IsShort needs old) reason
 
 -- ---- what is left
 

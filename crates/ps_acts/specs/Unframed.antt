@@ -1,8 +1,9 @@
 -- Operators that neither see nor change frames, and what an operator left that did nothing.
-use Rattle.std.specs.Prelude.{◌++◌, Bool, true, false, List}
+use Rattle.std.specs.Prelude.{◌++◌, ℕ, Bool, true, false, List}
 use Rattle.ps_language.specs.Value.{Store}
 use Rattle.ps_language.specs.Rows.{Row, scene_row, world_row}
 use Rattle.ps_mem.specs.Keeps.{Keeps}
+use Rattle.ps_ops.specs.Does.{KeepsLogsWithin}
 use Rattle.ps_control.specs.declared.frames.Frame.{Frame}
 use Rattle.ps_acts.specs.Acts.{IsSame, Stays}
 use Rattle.ps_acts.specs.Lent.{Lent, IsShown, IsGood}
@@ -18,9 +19,10 @@ abbrev pub under : List Frame → Lent → Lent
 under above l = record l { frames = above ++ l.frames }
 
 -- for every store that is shown nothing has changed but what was granted, and how much room the
--- output and the lists have
-pub record IsUndone (old new : Lent) : Type 0 where
+-- output and the lists have; no record was put
+pub record IsUndone (slot : ℕ) (old new : Lent) : Type 0 where
   pub same : (store : Store) → IsShown old store → IsSame old new
   pub good : IsGood new
   pub keeps : Keeps old.heap new.heap
   pub stays : Stays old new
+  pub logs : KeepsLogsWithin 0 old.grants new.grants slot

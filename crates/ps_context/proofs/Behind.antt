@@ -16,13 +16,13 @@ use Rattle.ps_turns.specs.declared.turned.Turned.{Turned}
 use Rattle.ps_turns.specs.declared.turned.Turned.TheVariants.{Goes}
 use Rattle.ps_turns.specs.Turns.{Turns}
 use Rattle.ps_values.specs.Values.{Asks}
-use Rattle.ps_frames.specs.Steps.{above, frame_asks, rest_frames, running_turn, with_frames}
+use Rattle.ps_frames.specs.Steps.{above, frame_asks, part_behind, rest_frames, running_turn, with_frames}
 use Rattle.ps_interpreter.specs.Courses.{IsLentBy}
 use Rattle.ps_interpreter.specs.Makes.{TurnsBehind}
 use Rattle.ps_interpreter.specs.OwnSteps.{own_after, HasRun}
 use Rattle.ps_interpreter.proofs.Running.{run_none}
 use Rattle.ps_context.specs.declared.runs.Came.TheVariants as came
-use Rattle.ps_context.specs.Elements.{came_behind, left_behind, ComesBy}
+use Rattle.ps_context.specs.Elements.{came_behind, ComesBy}
 use Rattle.ps_context.specs.Steps.{own_asks}
 use Rattle.ps_context.proofs.Ahead.{goes_behind, turned_above}
 
@@ -40,23 +40,23 @@ pub comes_behind : (asks : Asks) (slot : ℕ) (rest : Part) (l new : Lent) → I
     → length new.frames < 250
     → Turns (frame_asks asks) running_turn (ordinary slot) (Ok Goes) (above rest l)
     (with_frames (rest_frames rest new.frames) new)
-    → ComesBy (own_asks asks) slot (came_behind rest) (left_behind rest) (above rest l) new
+    → ComesBy (own_asks asks) slot (came_behind rest) (part_behind 1 rest) (above rest l) new
 comes_behind asks slot rest l new good room turns =
     by (nat_lt 1 rest.length) (step_above asks slot rest l _ good turns)
   where
     by : (some : Bool)
         → HasRun 1 (above rest l)
-        (with_frames (if some then Procedure (left_behind rest) ∷ new.frames else new.frames)
+        (with_frames (if some then Procedure (part_behind 1 rest) ∷ new.frames else new.frames)
         new)
-        → ComesBy (own_asks asks) slot (if some then came.Enters else came.Goes) (left_behind rest)
-        (above rest l) new
+        → ComesBy (own_asks asks) slot (if some then came.Enters else came.Goes)
+        (part_behind 1 rest) (above rest l) new
     by true run = (room, run)
     by false run = run
 
 -- ---- where nothing was done
 
-module _ (l new : Lent) (rest : Part) (undone : IsUndone l new) (same : new.frames ≡ l.frames)
-    (good : IsGood (above rest l)) where
+module _ (l new : Lent) (rest : Part) {slot : ℕ} (undone : IsUndone slot l new)
+    (same : new.frames ≡ l.frames) (good : IsGood (above rest l)) where
   pub undone_good : IsGood (above rest new)
   undone_good = record {
     sound = undone.good.sound;

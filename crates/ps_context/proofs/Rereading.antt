@@ -9,7 +9,7 @@ use Rattle.ps_mem.specs.Heap.{Heap, birth_at}
 use Rattle.ps_control.specs.declared.frames.Source.{Source}
 use Rattle.ps_control.specs.declared.frames.Source.TheVariants.{Program, Text}
 use Rattle.ps_context.specs.declared.texts.Taken.{Taken}
-use Rattle.ps_context.specs.declared.texts.Taken.TheVariants.{Done, Came}
+use Rattle.ps_context.specs.declared.texts.Taken.TheVariants.{Done, Turned}
 use Rattle.ps_context.specs.Windows.{AreRead, IsWindow, OnDone}
 use Rattle.ps_context.proofs.Scanning.{window_scanned, fronted, rest_scanned, token_further}
 
@@ -66,4 +66,4 @@ module _ (all : List ℕ) (offset count at start : ℕ) (low : at ≤ count)
 -- what follows of what was done by operands alone
 pub done_then : {P Q : Type 0} (taken : Taken) → OnDone taken P → (P → Q) → OnDone taken Q
 done_then (Done end) holds follows = follows holds
-done_then (Came turn) holds follows = tt
+done_then (Turned turn) holds follows = tt

@@ -1,5 +1,5 @@
 -- Elements of a procedure that operands alone do (PLRM2, 3.5).
-use Rattle.std.specs.Prelude.{◌≡◌, ℕ, ◌+◌, ◌-◌, ◌≤◌, ◌<◌, List, ◌∷◌, length, nat_lt, if◌then◌else◌}
+use Rattle.std.specs.Prelude.{◌≡◌, ℕ, ◌-◌, ◌≤◌, ◌<◌, List, ◌∷◌, length, nat_lt, if◌then◌else◌}
 use Rattle.ps_language.specs.Effect.{Around, Scene}
 use Rattle.ps_language.specs.World.{Status}
 use Rattle.ps_word.specs.declared.values.Part.{Part}
@@ -46,10 +46,7 @@ Begins (Enters rest made) old new = BeginsWith rest made old new
 Begins Goes old new = HasRun 1 old new
 Begins Left old new = new ≡ old
 
--- a step by a procedure's first element, behind which what is left of it is above the frames
-abbrev pub left_behind : Part → Part
-left_behind rest = record rest { offset = rest.offset + 1; length = rest.length - 1 }
-
+-- a step by a procedure's first element: what is left of it is above the frames, or nothing is
 abbrev pub came_behind : Part → Came
 came_behind rest = if nat_lt 1 rest.length then came.Enters else came.Goes
 

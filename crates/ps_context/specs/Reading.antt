@@ -24,7 +24,7 @@ use Rattle.ps_tokens.specs.Words.{IsDoneAs}
 use Rattle.ps_context.specs.declared.texts.Read.{Read}
 use Rattle.ps_context.specs.declared.texts.Read.TheVariants.{Done, Treats, Left}
 use Rattle.ps_context.specs.declared.texts.Taken.{Taken}
-use Rattle.ps_context.specs.declared.texts.Taken.TheVariants.{Done as Further, Came}
+use Rattle.ps_context.specs.declared.texts.Taken.TheVariants.{Done as Further, Turned}
 use Rattle.ps_context.specs.Texts.{scan_at, text_asks}
 
 -- the text that is the topmost frame was read up to a place
@@ -71,6 +71,6 @@ abbrev pub Takes : Asks → Source → (at : ℕ) → Trial → Taken → (old n
 Takes asks source at trial (Further end) old new = (new.frames ≡ old.frames)
     × Turns (text_asks asks source at (drop 1 old.frames)) running_turn trial (Ok Goes)
     (read_to source at old) (read_to source end new)
-Takes asks source at trial (Came result) old new =
+Takes asks source at trial (Turned result) old new =
     Turns (text_asks asks source at (drop 1 old.frames)) running_turn trial result
     (read_to source at old) new

@@ -7,7 +7,7 @@ use Rattle.ps_mem.specs.Shows.{Shows}
 use Rattle.ps_control.specs.declared.frames.Source.{Source}
 use Rattle.ps_control.specs.declared.frames.Source.TheVariants.{Program, Text}
 use Rattle.ps_context.specs.declared.texts.Taken.{Taken}
-use Rattle.ps_context.specs.declared.texts.Taken.TheVariants.{Done, Came}
+use Rattle.ps_context.specs.declared.texts.Taken.TheVariants.{Done, Turned}
 
 -- in every store that the memory shows the list is so many bytes of a string, from a place on
 abbrev pub AreRead : Heap → (address start : ℕ) → List ℕ → Type 0
@@ -24,4 +24,4 @@ IsWindow h (Text part) start list = AreRead h part.address start list
 -- of what was done by operands alone
 abbrev pub OnDone : Taken → Type 0 → Type 0
 OnDone (Done end) holds = holds
-OnDone (Came turn) holds = ⊤
+OnDone (Turned turn) holds = ⊤

@@ -8,8 +8,8 @@ ghost use Rattle.ps_turns.specs.Turns.{Turns};
 ghost use Rattle.ps_interpreter.specs.Interprets.{asks_in, own_turn};
 ghost use Rattle.ps_interpreter.specs.Makes.{Runs, TurnsBehind};
 ghost use Rattle.ps_values.specs.Values.{Asks};
-ghost use Rattle.ps_frames.specs.Steps.{above, IsElement};
-ghost use Rattle.ps_context.specs.Elements.{Begins, ComesBy, came_behind, left_behind};
+ghost use Rattle.ps_frames.specs.Steps.{above, part_behind, IsElement};
+ghost use Rattle.ps_context.specs.Elements.{Begins, ComesBy, came_behind};
 ghost use Rattle.ps_context.specs.Steps.{own_asks};
 
 use crate::elements::do_first;
@@ -64,7 +64,7 @@ pub fn turn_frame<O: Operate, M: Memory>(
 fn left_of(rest: Part, count: u16) -> Part
     requires within { count ≤ rest.length }
     requires end { rest.offset + rest.length < 2 ^ 16 }
-    ensures { result ≡ record rest { offset = rest.offset + count; length = rest.length - count } }
+    ensures { result ≡ part_behind count rest }
 {
     Part {
         offset: rest.offset + count,
@@ -101,7 +101,7 @@ pub enum Came {
 fn behind_first(rest: &mut Part) -> Came
     requires some { 1 ≤ rest.old.length }
     requires end { rest.old.offset + rest.old.length < 2 ^ 16 }
-    ensures left { rest.new ≡ left_behind rest.old }
+    ensures left { rest.new ≡ part_behind 1 rest.old }
     ensures came { result ≡ came_behind rest.old }
 {
     *rest = left_of(*rest, 1);
@@ -149,7 +149,7 @@ fn do_next<O: Operate, M: Memory>(
         refused: false,
     };
     match element_under(procedure, first, operators, context, shared, memory, slot) {
-        Under::Acts => behind_first(rest),
+        Under::Done => behind_first(rest),
         Under::Fails => {
             let turn = pushed_turn(procedure, None, operators, context, shared, memory, trial);
             Came::Turned(turn)
@@ -288,7 +288,7 @@ fn run_text<O: Operate, M: Memory>(
                 place = end;
                 made += 1;
             }
-            Taken::Came(turn) => return with_turn(made, turn),
+            Taken::Turned(turn) => return with_turn(made, turn),
         }
     }
     replace_top(&mut context.frames, Frame::Text { source, at: place });

@@ -189,7 +189,7 @@ pub enum Taken {
     /// It was done by operands alone, and ends at this place.
     Done(usize),
     /// The turn came to this.
-    Came(Result<Turned, NotMade>),
+    Turned(Result<Turned, NotMade>),
 }
 
 /// What a token that was scanned came to by operands alone.
@@ -323,13 +323,13 @@ fn take_scanned<O: Operate, M: Memory>(
         memory,
     ) {
         Read::Done(end) => Taken::Done(end),
-        Read::Treats { word, value, end } => Taken::Came(treat_token(
+        Read::Treats { word, value, end } => Taken::Turned(treat_token(
             source, at, end, word, value, operators, context, shared, memory, trial,
         )),
         Read::Left => {
             let top = Frame::Text { source, at };
             replace_top(&mut context.frames, top);
-            Taken::Came(scanned_turn(
+            Taken::Turned(scanned_turn(
                 source, at, scanned, text, operators, context, shared, memory, trial,
             ))
         }

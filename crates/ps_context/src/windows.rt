@@ -81,7 +81,7 @@ fn scan_by_windows<M: Memory>(
     requires known { StandsAs (M.heap memory.old) Kind.Text part.address (words_for
         (part.offset + part.length)) }
     requires within { at ≤ part.length }
-    requires near { at ≤ 64 }
+    requires near { at ≤ FIRST_WINDOW }
     ensures heap { M.heap memory.new ≡ M.heap memory.old }
     ensures grants { M.grants memory.new ≡ M.grants memory.old }
     ensures scanned { (names : List (List ℕ)) (s : Store) → Shows (M.heap memory.old) names s

@@ -1,5 +1,5 @@
 -- What `fork` leaves to its caller, and the context that it makes.
-use Rattle.std.proofs.Common.{◌≡◌, ℕ, zero, suc, ◌+◌, ◌-◌, ◌<◌, ◌≤◌, ◌==◌, ◌^◌, ◌++◌, arith, Bool, true, false, List, [], ◌∷◌, take, drop, length, map, Option, Some, None, Ok, Err, inl, inr, add-one, refl, sym, ap, subst, ◌∙◌, append-nil}
+use Rattle.std.proofs.Common.{◌≡◌, ℕ, zero, suc, ◌+◌, ◌-◌, ◌<◌, ◌≤◌, ◌==◌, ◌^◌, ◌++◌, arith, Bool, true, false, List, [], ◌∷◌, take, drop, length, map, Option, Some, None, Ok, Err, inl, add-one, refl, sym, ap, subst, ◌∙◌, append-nil}
 use Rattle.std.specs.Prelude.{option_map, if◌then◌else◌}
 use Rattle.std.specs.List.{AllByRecursion}
 use Rattle.std.proofs.lemmas.List.{length-append, drop-map}
@@ -30,7 +30,6 @@ use Rattle.ps_mem.proofs.NewShows.{longer}
 use Rattle.ps_operands.specs.Marks.{IsMarkAt}
 use Rattle.ps_operands.specs.Plain.{IsPlain}
 use Rattle.ps_ops.specs.declared.failure.NotMade.{NotMade as Reason}
-use Rattle.ps_ops.specs.declared.failure.NotMade.TheVariants.{LogFull, LogClosed, NeedSpace, Memory}
 use Rattle.ps_ops.specs.Does.{values_in, IsRoomReason, KeepsLogsWithin, most_records}
 use Rattle.ps_ops.proofs.Held.{rest_held}
 use Rattle.ps_ops.proofs.Operands.{first_split, map-take}
@@ -40,7 +39,8 @@ use Rattle.ps_control.specs.Frames.{frame_of, IsHeld, AreFrames, IsFrameWithin}
 use Rattle.ps_acts.specs.declared.breaks.Break.TheVariants.{Raises}
 use Rattle.ps_acts.specs.declared.lent.Trial.{Trial}
 use Rattle.ps_acts.specs.Lent.{Lent, scene_of, IsShown, IsGood}
-use Rattle.ps_acts.specs.Acts.{Needs, nothing_asked, IsReason, effect_in, Acts}
+use Rattle.ps_acts.specs.Acts.{nothing_asked, effect_in, Acts}
+use Rattle.ps_acts.proofs.Reasons.{room_reason}
 use Rattle.ps_acts.proofs.Acting.{Made, Wants, left_acts}
 use Rattle.ps_acts.proofs.Forming.{refused_acts}
 use Rattle.ps_acts.proofs.Kept.{frames-good, frames-same}
@@ -151,16 +151,6 @@ lacking_room refused store is = rw (is, made_words store) refl
 having_room : (refused : Bool) (store : Store) → refused ≡ false
     → lacks_room refused store (after_fork store) ≡ false
 having_room refused store is = rw is refl
-
-room_reason : (reason : Reason) (needs : Needs) (slot : ℕ) (l new : Lent) → needs.words ≡ 32
-    → needs.births ≡ 1 → IsRoomReason reason l.heap 32 1 → IsReason needs slot l new reason
-room_reason LogFull needs slot l new words births why = absurd why
-room_reason LogClosed needs slot l new words births why = absurd why
-room_reason (NeedSpace asked) needs slot l new words births why =
-    let same = why.0 in
-    (same ∙ sym words, omega (arith, same), rw (words, births) why.1)
-room_reason Memory needs slot l new words births why =
-    inr (inr (inl (omega (arith, words), why)))
 
 -- ---- the frames of a new context
 
@@ -297,8 +287,8 @@ module _ (l : Lent) (top : Word) (one : Some top ≡ first_of l.operands) (body 
               output = [];
               is = fork_is store;
               enough = having_room trial.refused store unrefused;
-              why = room_reason reason _ trial.slot l (record l { grants = grants })
-                  (made_words store) (made_births store) why;
+              why = room_reason _ trial.slot l (record l { grants = grants }) 32 1 (made_words store)
+                  (made_births store) (omega arith) reason why;
             }
 
             -- a $error stands, and its identifier is pushed

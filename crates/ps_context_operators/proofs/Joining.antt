@@ -11,7 +11,7 @@ use Rattle.ps_word.specs.declared.words.Word.{Word}
 use Rattle.ps_mem.specs.Heap.{birth_at}
 use Rattle.ps_mem.specs.Meaning.{value_of}
 use Rattle.ps_mem.specs.Shows.{IsValue, AreValues, IsWithin, AreWithin}
-use Rattle.ps_operands.specs.Does.{Agrees}
+use Rattle.ps_operands.specs.Does.{DoesAs}
 use Rattle.ps_operands.specs.Kept.{AreFrom}
 use Rattle.ps_operands.specs.Plain.{IsPlain}
 use Rattle.ps_operands.proofs.Sources.{from_same, from_plain, from_append, from_drop, from_take, have_from}
@@ -61,7 +61,7 @@ module _ (l : Lent) (good : IsGood l) (trial : Trial) (taken after : List Word)
 
   joined_as : (result : Result Unit ErrorName) (outcome : Outcome (List Value)) (store : Store)
       → IsShown l store → AreWithin l.heap l.names store after
-      → Agrees result outcome (birth_at l.heap) l.names l.operands after
+      → DoesAs result outcome (birth_at l.heap) l.names l.operands after
       → Meets nothing_asked (operands_effect (scene_of l store) outcome) trial (made result)
       (scene_of l store) l joined
   joined_as (Ok _) (leaves operands) store shown within did =
@@ -82,7 +82,7 @@ module _ (l : Lent) (good : IsGood l) (trial : Trial) (taken after : List Word)
   framed_as (Err error) = refl
 
   pub joins_acts : (result : Result Unit ErrorName)
-      → ((births : ℕ → ℕ) (names : List (List ℕ)) → Agrees result
+      → ((births : ℕ → ℕ) (names : List (List ℕ)) → DoesAs result
       (join_part (map (value_of births names) taken) (map (value_of births names) l.operands))
       births names l.operands after)
       → ActsWhere (λ store. AreWithin l.heap l.names store taken) nothing_asked

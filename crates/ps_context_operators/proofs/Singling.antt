@@ -54,7 +54,7 @@ module _ (single : Single) (h : Heap) (old : List Word) where
       → Makes (new_part (object_of single)) refused (Err (Error StackOverflow)) h h old old
   single_full many refused = record {
     meets = λ names s shows within.
-        rw (filled (value_of (birth_at h) names) old many) (refl, refl, refl);
+        rw (filled (value_of (birth_at h) names) old many) (refl, (refl, refl));
   }
 
   module _ (few : length old < 500) where

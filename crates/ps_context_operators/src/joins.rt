@@ -3,7 +3,7 @@
 ghost use Rattle.std.specs.Prelude.{◌≡◌, ◌++◌, ℕ, List, map};
 ghost use Rattle.ps_mem.specs.Meaning.{value_of};
 ghost use Rattle.ps_mem.specs.Shows.{AreValues, AreWithin};
-ghost use Rattle.ps_operands.specs.Does.{Agrees};
+ghost use Rattle.ps_operands.specs.Does.{DoesAs};
 ghost use Rattle.ps_operands.specs.Kept.{AreFrom};
 ghost use Rattle.ps_ops.specs.Does.{values_in};
 ghost use Rattle.ps_acts.specs.Acts.{nothing_asked};
@@ -23,7 +23,7 @@ use ps_stacks::OPERAND_LIMIT;
 /// Puts a mark and these operands in the place of an identifier. Raises `stackunderflow`,
 /// `typecheck` and `stackoverflow`.
 fn take_operands(operands: &mut Operands, taken: &Operands) -> Result<(), ErrorName>
-    ensures row { (births : ℕ → ℕ) (names : List (List ℕ)) → Agrees result
+    ensures row { (births : ℕ → ℕ) (names : List (List ℕ)) → DoesAs result
         (rows.join_part (map (value_of births names) taken.now)
         (map (value_of births names) operands.old)) births names operands.old operands.new }
     ensures kept { AreFrom (taken.now ++ operands.old) operands.new }

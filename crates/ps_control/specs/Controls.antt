@@ -1,17 +1,18 @@
 -- When what an operator of control did to operands and frames is its row.
-use Rattle.std.specs.Prelude.{◌≡◌, ◌==◌, ℕ, List, ◌∷◌, drop, Option, Some, Result, Ok, Err, if◌then◌else◌}
+use Rattle.std.specs.Prelude.{◌≡◌, ◌==◌, ℕ, List, ◌∷◌, drop, Option, Some, Result, if◌then◌else◌}
 use Rattle.ps_language.specs.declared.errors.ErrorName.{ErrorName}
 use Rattle.ps_language.specs.Value.{Value, Store}
 use Rattle.ps_language.specs.declared.access.Access.{Access}
 use Rattle.ps_language.specs.Access.{access_of}
 use Rattle.ps_language.specs.Effect.{Scene}
-use Rattle.ps_language.specs.Outcome.{Outcome, leaves, fails}
+use Rattle.ps_language.specs.Outcome.{Outcome}
 use Rattle.ps_language.specs.Control.{with_operands, with_frame, entered}
 use Rattle.ps_stacks.specs.Tops.{first_two_of}
 use Rattle.ps_word.specs.declared.words.Word.{Word}
 use Rattle.ps_word.specs.declared.values.Part.{Part}
 use Rattle.ps_mem.specs.Heap.{Heap, birth_at}
 use Rattle.ps_mem.specs.Meaning.{value_of, part_of}
+use Rattle.ps_operands.specs.Does.{AgreesMade}
 use Rattle.ps_ops.specs.Does.{values_in}
 use Rattle.ps_mem.specs.Shows.{IsReady, AreWithin, Shows}
 use Rattle.ps_control.specs.declared.frames.Frame.{Frame}
@@ -45,12 +46,9 @@ scene_of h names store dictionaries stacks =
 -- the scene that the row leaves, or its error with the stacks as they were
 abbrev pub ControlsAs : Result Unit ErrorName → Outcome Scene → Heap → (names : List (List ℕ))
     → Store → (dictionaries : List Value) → (before after : Stacks) → Type 0
-ControlsAs (Ok _) (leaves scene) h names store dictionaries before after =
-    (scene_of h names store dictionaries after ≡ scene) × IsWithinBoth h names store after
-ControlsAs (Ok _) (fails raised) h names store dictionaries before after = ⊥
-ControlsAs (Err error) (fails raised) h names store dictionaries before after = (error ≡ raised)
-    × (after ≡ before)
-ControlsAs (Err error) (leaves scene) h names store dictionaries before after = ⊥
+ControlsAs result outcome h names store dictionaries before after =
+    AgreesMade (λ scene. (scene_of h names store dictionaries after ≡ scene)
+    × IsWithinBoth h names store after) (after ≡ before) result outcome
 
 -- for every store that the memory shows and every dictionary stack, the operator did what its row
 -- says, and what was held is held

@@ -58,7 +58,7 @@ pub text_reason : (reason : Reason) (count text_room words_room slot : ℕ) (ask
     → IsCopyReason reason text_room words_room count slot asked left
 text_reason LogFull count text_room words_room slot asked left why = why
 text_reason LogClosed count text_room words_room slot asked left why = why
-text_reason (NeedSpace words) count text_room words_room slot asked left why = absurd why
+text_reason (NeedSpace words) count text_room words_room slot asked left why = why
 text_reason Memory count text_room words_room slot asked left why = inr why
 
 module _ (l : Lent) (good : IsGood l) (trial : Trial) (target word : Word)

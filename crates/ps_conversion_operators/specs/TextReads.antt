@@ -1,10 +1,9 @@
 -- When a text was read as far as it may be, and why one is not written.
-use Rattle.std.specs.Prelude.{◌≡◌, ℕ, ◌+◌, ◌<◌, ◌≤◌, List, Result, Ok, Err, length}
+use Rattle.std.specs.Prelude.{◌≡◌, ℕ, ◌+◌, ◌<◌, ◌≤◌, min, List, Result, Ok, Err, length}
 use Rattle.ps_mem.specs.Heap.{Grants}
 use Rattle.ps_mem.specs.References.{words_for}
 use Rattle.ps_ops.specs.declared.failure.NotMade.{NotMade}
-use Rattle.ps_ops.specs.declared.failure.NotMade.TheVariants.{LogFull, LogClosed, NeedSpace, Memory}
-use Rattle.ps_ops.specs.Does.{IsRecordReason}
+use Rattle.ps_ops.specs.Does.{records_asked, no_words, IsReasonFor}
 use Rattle.ps_conversion_operators.specs.declared.texts.TextFault.{TextFault}
 use Rattle.ps_conversion_operators.specs.declared.texts.TextFault.TheVariants.{TooLong, Memory as NoMemory}
 
@@ -16,8 +15,6 @@ ReadsText (Err NoMemory) most room read text = (length text ≤ most) × (room <
 
 -- words_room: how many words fit the list of those that have the bytes
 abbrev pub IsTextReason : NotMade → (count words_room slot : ℕ) → (asked left : Grants) → Type 0
-IsTextReason LogFull count words_room slot asked left = IsRecordReason LogFull count slot asked left
-IsTextReason LogClosed count words_room slot asked left =
-    IsRecordReason LogClosed count slot asked left
-IsTextReason (NeedSpace words) count words_room slot asked left = ⊥
-IsTextReason Memory count words_room slot asked left = words_room < words_for (count + 7)
+IsTextReason reason count words_room slot asked left =
+    IsReasonFor (records_asked (min 1 count) slot asked left) no_words
+    (words_room < words_for (count + 7)) reason

@@ -58,6 +58,7 @@ fn count_with(count: u32, words: &[Word]) -> Word
 /// Puts new pairs, given by their words, key before value, behind those of a dictionary that has
 /// room for them: in a cycle one record for each position in the index, one for the pairs, and one
 /// for their number.
+#[inline(never)]
 pub(crate) fn append_pairs<M: Memory>(memory: &mut M, slot: u32, address: u32, words: &[Word])
     requires granted { length words.now / 2 + 2 ≤ (M.grants memory.old).records slot }
     requires some { 1 ≤ length words.now }

@@ -57,6 +57,7 @@ pub fn set_access<M: Memory>(memory: &mut M, slot: u32, address: u32, access: Ac
 }
 
 /// Another value at a place of a dictionary, with one record in a cycle.
+#[inline(always)]
 pub(crate) fn replace_value<M: Memory>(
     memory: &mut M,
     slot: u32,
@@ -90,6 +91,7 @@ pub(crate) fn replace_value<M: Memory>(
 
 /// A pair more in a new body of this capacity, which the dictionary gets by one store of its
 /// fields, with one record in a cycle.
+#[inline(never)]
 fn grow_with<M: Memory>(
     memory: &mut M,
     slot: u32,
@@ -139,6 +141,7 @@ fn grow_with<M: Memory>(
 /// place and its object, and a new one goes last
 /// (PLRM2, 3.3.9 and 8: put, def, store). The plan's records are granted in the slot, and its
 /// words.
+#[inline(always)]
 pub fn put<M: Memory>(
     memory: &mut M,
     slot: u32,

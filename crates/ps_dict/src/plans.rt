@@ -37,6 +37,7 @@ pub enum PutPlan {
 
 impl PutPlan {
     /// How many records the put asks for.
+    #[inline(always)]
     pub fn records(self) -> u32
         ensures { result ≡ puts.records_of self }
     {
@@ -48,6 +49,7 @@ impl PutPlan {
     }
 
     /// How many words of room the put asks for: those of a new body with its header.
+    #[inline(always)]
     pub fn words(self) -> u32
         requires { (capacity : ℕ) → self ≡ PutPlan.Grow capacity → capacity ≤ capacity_limit }
         ensures { result ≡ puts.words_of self }
@@ -71,6 +73,7 @@ pub(crate) fn next_capacity(capacity: u32, count: u32) -> u32
 }
 
 /// What a put of a key will do. `Full` exactly where the pairs would be too many.
+#[inline(always)]
 pub fn plan_put<M: Memory>(memory: &mut M, address: u32, key: Word) -> PutPlan
     requires sound { IsSound (M.heap memory.old) }
     requires known { StandsAs (M.heap memory.old) Kind.Dictionary address 4 }
@@ -99,6 +102,7 @@ pub fn plan_put<M: Memory>(memory: &mut M, address: u32, key: Word) -> PutPlan
 }
 
 /// By the place of the key, the number of pairs and the capacity.
+#[inline(always)]
 fn plan_of(place: Option<u32>, count: u32, capacity: u32) -> PutPlan
     requires { count ≤ capacity }
     ensures plan { result ≡ puts.plan_from place count capacity }

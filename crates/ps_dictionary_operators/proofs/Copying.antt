@@ -19,7 +19,7 @@ use Rattle.ps_stacks.specs.Tops.{first_two_of}
 use Rattle.ps_word.specs.declared.words.Word.{Word}
 use Rattle.ps_word.specs.Format.{content_in}
 use Rattle.ps_word.specs.Readers as words
-use Rattle.ps_mem.specs.Heap.{Heap, Grants, birth_at, has_room}
+use Rattle.ps_mem.specs.Heap.{Heap, Grants, birth_at}
 use Rattle.ps_mem.specs.Keeps.{Keeps}
 use Rattle.ps_mem.specs.References.{StandsAs}
 use Rattle.ps_mem.specs.Meaning.{value_of}
@@ -33,7 +33,7 @@ use Rattle.ps_dict.proofs.Changing.{with-lengths}
 use Rattle.ps_dict.proofs.Copying.{planned-shown, planned-full, room-shown}
 use Rattle.ps_dict.proofs.Shapes.{there, count-fits, count-shown, capacity-shown}
 use Rattle.ps_ops.specs.declared.failure.NotMade.{NotMade as Reason}
-use Rattle.ps_ops.specs.declared.failure.NotMade.TheVariants.{LogFull, LogClosed, NeedSpace, Memory}
+use Rattle.ps_ops.specs.declared.failure.NotMade.TheVariants.{Memory}
 use Rattle.ps_ops.specs.Does.{KeepsLogsWithin, most_records, values_in}
 use Rattle.ps_ops.proofs.Held.{rest_held, first_of_two_held, second_held}
 use Rattle.ps_ops.proofs.Operands.{first_two_split}
@@ -52,7 +52,7 @@ use Rattle.ps_dictionary_operators.specs.Asks.{copy_asks, merge_asked}
 use Rattle.ps_dictionary_operators.specs.Puts.{IsLack}
 use Rattle.ps_dictionary_operators.proofs.Finding.{what_is}
 use Rattle.ps_dictionary_operators.proofs.Growths.{merge_growth}
-use Rattle.ps_dictionary_operators.proofs.Putting.{enough_room, lacks_some, logs_changed}
+use Rattle.ps_dictionary_operators.proofs.Putting.{enough_room, lacks_some, lack_reason, logs_changed}
 
 few_records : (plan : MergePlan) → records_of plan ≤ most_records
 few_records Keep = omega arith
@@ -243,23 +243,9 @@ module _ (l : Lent) (good : IsGood l) (y x : Word) (two : Some (y, x) ≡ first_
               → IsLack (records_of plan) (words_of plan) trial.slot l.heap l.grants new reason
               → IsReason (needs_between (copy_asks (scene_of l store)) (scene_of l store)
               left_scene []) trial.slot l (record l { grants = new; scratch = scratch }) reason
-          lack_is new scratch LogFull why =
-              (why.0, subst (λ (n : ℕ). new.records trial.slot < n) (sym records_are) why.1)
-          lack_is new scratch LogClosed why =
-              let same = records_are in let some = why.0 in (omega (arith, same, some), why.1)
-          lack_is new scratch (NeedSpace asked) why =
-              let same = words_are in
-              let some = why.1 in (
-                why.0 ∙ sym words_are,
-                omega (arith, why.0, some),
-                subst (λ (n : ℕ). has_room l.heap (made_between store left_store) n ≡ false)
-                    (sym births_same)
-                    (subst (λ (n : ℕ). has_room l.heap n 0 ≡ false) (sym words_are) why.2),
-              )
-          lack_is new scratch Memory why =
-              let same = words_are in
-              let some = why.0 in
-              inr (inr (inl (omega (arith, same, some), why.1)))
+          lack_is new scratch reason =
+              lack_reason _ trial.slot l (record l { grants = new; scratch = scratch })
+              (records_of plan) (words_of plan) records_are words_are births_same reason
 
         -- ---- a refused step that would make a new body
 

@@ -15,7 +15,7 @@ use Rattle.ps_language.specs.RowsDictionaries.{end_dict_row, keys_among, pairs_a
 use Rattle.ps_language.specs.Value.{Value, Object, dictionary_value, dictionary_object, Store}
 use Rattle.ps_language.proofs.AskedLemmas.{made-new}
 use Rattle.ps_word.specs.declared.words.Word.{Word}
-use Rattle.ps_mem.specs.Heap.{Heap, Grants, birth_at, has_room}
+use Rattle.ps_mem.specs.Heap.{Heap, Grants, birth_at}
 use Rattle.ps_mem.specs.Index.{pairs_of_words}
 use Rattle.ps_mem.specs.Keeps.{Keeps}
 use Rattle.ps_mem.specs.Meaning.{value_of}
@@ -24,8 +24,7 @@ use Rattle.ps_mem.proofs.KeepsLemmas.{AreWithin-kept, values_of-kept, known_valu
 use Rattle.ps_mem.proofs.NewShows.{longer}
 use Rattle.ps_operands.specs.Marks.{IsMarkAt}
 use Rattle.ps_ops.specs.declared.failure.NotMade.{NotMade as Reason}
-use Rattle.ps_ops.specs.declared.failure.NotMade.TheVariants.{LogFull, LogClosed, NeedSpace, Memory}
-use Rattle.ps_ops.specs.Does.{IsLeft as IsLeftBy, IsRoomReason, KeepsLogsWithin, values_in}
+use Rattle.ps_ops.specs.Does.{IsLeft as IsLeftBy, KeepsLogsWithin, values_in}
 use Rattle.ps_ops.proofs.Held.{rest_held}
 use Rattle.ps_ops.proofs.Tops.{top_elements, top_within}
 use Rattle.ps_acts.specs.declared.breaks.Break.TheVariants.{NotMade}
@@ -33,6 +32,7 @@ use Rattle.ps_acts.specs.declared.lent.Scratch.{Scratch}
 use Rattle.ps_acts.specs.declared.lent.Trial.{Trial}
 use Rattle.ps_acts.specs.Lent.{Lent, IsEmpty, rooms_of, scene_of, IsShown, IsGood}
 use Rattle.ps_acts.specs.Acts.{IsAtLeast, IsReason, Needs, needs_between, IsLeft, over, Acts}
+use Rattle.ps_acts.proofs.Reasons.{room_reason}
 use Rattle.ps_acts.proofs.Acting.{Made, left_acts, wanting_acts}
 use Rattle.ps_acts.proofs.Forming.{formed_good, formed_left, cut_names}
 use Rattle.ps_acts.proofs.Lifts.{changed_good, changed_left}
@@ -159,25 +159,15 @@ tested_pairs true true true (Some ps) (Some ns) pairs names is = ap found_in is
 module _ (needs : Needs) (slot : ℕ) (l new : Lent) (depth : ℕ)
     (scratch_is : needs.scratch.words ≡ depth) (words_are : needs.words ≡ 8 + 3 * (depth / 2))
     (births_are : needs.births ≡ 1) where
-  room_why : (reason : Reason) → IsRoomReason reason l.heap (8 + 3 * (depth / 2)) 1
-      → IsReason needs slot l new reason
-  room_why LogFull why = absurd why
-  room_why LogClosed why = absurd why
-  room_why (NeedSpace words) why =
-      let asked = why.0 in (
-        asked ∙ sym words_are,
-        omega (arith, asked),
-        (λ i. has_room l.heap (words_are i) (births_are i)) ∙ why.1,
-      )
-  room_why Memory why = inr (inr (inl (omega (arith, words_are), why)))
-
   lack_why : (reason : Reason) → LacksPairs reason l.heap (rooms_of l.scratch).words depth
       → IsReason needs slot l new reason
   lack_why reason (inl short) =
       let less = short.1 in
       subst (λ (r : Reason). IsReason needs slot l new r) (sym short.0)
       (inr (inr (inr (inr (inr (omega (arith, less, scratch_is)))))))
-  lack_why reason (inr why) = room_why reason why
+  lack_why reason (inr why) =
+      room_reason needs slot l new (8 + 3 * (depth / 2)) 1 words_are births_are (omega arith) reason
+      why
 
 -- ---- as the row says
 

@@ -1,5 +1,5 @@
 -- What a put leaves, and what it lacks.
-use Rattle.std.proofs.Common.{◌≡◌, ◌≢◌, ℕ, zero, suc, ◌-◌, ◌≤◌, ◌<◌, arith, Bool, true, false, [], drop, length, Option, Some, None, Ok, Err, refl, sym, ap, subst, ◌∙◌, inl, inr, append-nil}
+use Rattle.std.proofs.Common.{◌≡◌, ◌≢◌, ℕ, zero, suc, ◌-◌, ◌≤◌, ◌<◌, arith, Bool, true, false, [], drop, length, Option, Some, None, Ok, Err, refl, sym, ap, subst, ◌∙◌, append-nil}
 use Rattle.std.specs.Prelude.{IsTrue, not, ◌&&◌, ◌==◌}
 use Rattle.std.proofs.lemmas.Bool.Decides.{nat_tests}
 use Rattle.std.proofs.lemmas.List.{drop-map, length-set}
@@ -12,7 +12,7 @@ use Rattle.ps_language.specs.declared.errors.ErrorName.TheVariants.{LimitCheck}
 use Rattle.ps_language.specs.Objects.{made_between, lacks_room}
 use Rattle.ps_language.proofs.AskedLemmas.{made-set}
 use Rattle.ps_word.specs.declared.words.Word.{Word}
-use Rattle.ps_mem.specs.Heap.{Heap, Grants, birth_at, has_room}
+use Rattle.ps_mem.specs.Heap.{Heap, Grants, birth_at}
 use Rattle.ps_mem.specs.Keeps.{Keeps}
 use Rattle.ps_mem.specs.References.{StandsAs}
 use Rattle.ps_mem.specs.Meaning.{value_of}
@@ -26,13 +26,13 @@ use Rattle.ps_dict.proofs.Planning.{full-iff, plan-shown}
 use Rattle.ps_dict.proofs.Probing.{few-places}
 use Rattle.ps_dict.proofs.Shapes.{there, count-fits, count-shown, capacity-shown}
 use Rattle.ps_ops.specs.declared.failure.NotMade.{NotMade as Reason}
-use Rattle.ps_ops.specs.declared.failure.NotMade.TheVariants.{LogFull, LogClosed, NeedSpace, Memory}
-use Rattle.ps_ops.specs.Does.{KeepsLogsWithin, most_records, values_in}
+use Rattle.ps_ops.specs.Does.{KeepsLogsWithin, most_records, values_in, records_asked, words_asked}
 use Rattle.ps_ops.proofs.Held.{rest_held}
 use Rattle.ps_acts.specs.declared.breaks.Break.TheVariants.{NotMade}
 use Rattle.ps_acts.specs.declared.lent.Trial.{Trial}
 use Rattle.ps_acts.specs.Lent.{Lent, Rooms, scene_of, IsShown, IsGood}
-use Rattle.ps_acts.specs.Acts.{effect_in, needs_between, needs_of_refused, IsReason, Lasts, Acts, over}
+use Rattle.ps_acts.specs.Acts.{Needs, effect_in, needs_between, needs_of_refused, IsReason, Lasts, Acts, over}
+use Rattle.ps_acts.proofs.Reasons.{reason_as, as_many, as_large, grows_as, none_asked}
 use Rattle.ps_acts.proofs.Acting.{left_acts, wanting_acts}
 use Rattle.ps_acts.proofs.Lifts.{changed_good, changed_left}
 use Rattle.ps_acts.proofs.Meeting.{at_least-same, logs_more, stays_as}
@@ -85,12 +85,20 @@ pub note_lack : (l : Lent) (trial : Trial) (grants : Grants) (scratch : Rooms) (
     → (reason : Reason) → IsLack most_records 0 trial.slot l.heap l.grants grants reason
     → IsReason (needs_of_refused scratch n) trial.slot l (record l { grants = grants }) reason
 note_lack l trial grants scratch zero some reason why = absurd (omega (arith, some))
-note_lack l trial grants scratch (suc n) some LogFull why = why
-note_lack l trial grants scratch (suc n) some LogClosed why = why
-note_lack l trial grants scratch (suc n) some (NeedSpace words) why =
-    let none = why.1 in absurd (omega (arith, none))
-note_lack l trial grants scratch (suc n) some Memory why =
-    let none = why.0 in absurd (omega (arith, none))
+note_lack l trial grants scratch (suc n) some reason why =
+    reason_as (needs_of_refused scratch (suc n)) trial.slot l (record l { grants = grants })
+    (records_asked most_records trial.slot l.grants grants) (words_asked 0 0 l.heap) _
+    (λ asked. refl) none_asked (λ none. none_asked none.0) reason why
+
+-- of a change of so many records and words
+pub lack_reason : (needs : Needs) (slot : ℕ) (l new : Lent) (records words : ℕ)
+    → needs.records ≡ records → needs.words ≡ words → needs.births ≡ 0 → (reason : Reason)
+    → IsLack records words slot l.heap l.grants new.grants reason → IsReason needs slot l new reason
+lack_reason needs slot l new records words records_are words_are born =
+    reason_as needs slot l new (records_asked records slot l.grants new.grants)
+    (words_asked words 0 l.heap) _ (λ asked. as_many needs slot l new records records_are)
+    (λ asked. as_large needs slot l new words 0 words_are born)
+    (grows_as needs slot l new words words_are)
 
 -- ---- a pair is put
 
@@ -190,23 +198,9 @@ module _ (l : Lent) (good : IsGood l) (a : ℕ) (k x : Word) (count : ℕ) (plan
           → IsLack (records_of plan) (words_of plan) trial.slot l.heap l.grants new reason
           → IsReason (needs_between (putting_asks (birth_at l.heap) a k (scene_of l store))
           (scene_of l store) left_scene []) trial.slot l (record l { grants = new }) reason
-      lack_is new LogFull why =
-          (why.0, subst (λ (n : ℕ). new.records trial.slot < n) (sym records_are) why.1)
-      lack_is new LogClosed why =
-          let same = records_are in let some = why.0 in (omega (arith, same, some), why.1)
-      lack_is new (NeedSpace words) why =
-          let same = words_are in
-          let some = why.1 in (
-            why.0 ∙ sym words_are,
-            omega (arith, why.0, some),
-            subst (λ (n : ℕ). has_room l.heap (made_between store left_store) n ≡ false)
-                (sym births_same)
-                (subst (λ (n : ℕ). has_room l.heap n 0 ≡ false) (sym words_are) why.2),
-          )
-      lack_is new Memory why =
-          let same = words_are in
-          let some = why.0 in
-          inr (inr (inl (omega (arith, same, some), why.1)))
+      lack_is new reason =
+          lack_reason _ trial.slot l (record l { grants = new }) (records_of plan) (words_of plan)
+          records_are words_are births_same reason
 
     pub lacking_acts : (IsTrue trial.refused → words_of plan ≡ 0) → (grants : Grants) → KeepsLogsWithin 0 l.grants grants trial.slot
         → (reason : Reason)

@@ -34,8 +34,8 @@ use Rattle.ps_dict.proofs.Entering.{with-same}
 use Rattle.ps_dict.proofs.Removing.{without-absent}
 use Rattle.ps_dict.proofs.Shapes.{there, count-shown, capacity-shown}
 use Rattle.ps_ops.specs.declared.failure.NotMade.{NotMade as Reason}
-use Rattle.ps_ops.specs.declared.failure.NotMade.TheVariants.{LogFull, LogClosed, NeedSpace, Memory}
-use Rattle.ps_ops.specs.Does.{KeepsLogsWithin, most_records, values_in}
+use Rattle.ps_ops.specs.declared.failure.NotMade.TheVariants.{Memory}
+use Rattle.ps_ops.specs.Does.{KeepsLogsWithin, most_records, values_in, records_asked, words_asked}
 use Rattle.ps_ops.proofs.Held.{rest_held, first_of_two_held}
 use Rattle.ps_ops.proofs.Operands.{first_two_split}
 use Rattle.ps_types.proofs.Accesses.{dictionary_has}
@@ -44,6 +44,7 @@ use Rattle.ps_acts.specs.declared.lent.Trial.{Trial}
 use Rattle.ps_acts.specs.declared.lent.Scratch.{Scratch}
 use Rattle.ps_acts.specs.Lent.{Lent, rooms_of, IsEmpty, scene_of, IsShown, IsGood}
 use Rattle.ps_acts.specs.Acts.{IsAtLeast, nothing_asked, needs_between, IsReason, effect_in, Acts}
+use Rattle.ps_acts.proofs.Reasons.{reason_as, as_many, none_asked}
 use Rattle.ps_acts.proofs.Acting.{wanting_acts}
 use Rattle.ps_acts.proofs.Direct.{store_acts, words_acts}
 use Rattle.ps_acts.proofs.Meeting.{at_least-same, lacks_nothing, logs_more}
@@ -184,17 +185,15 @@ module _ (l : Lent) (good : IsGood l) (a : ℕ) (k : Word)
             → IsReason (needs_between (removing_asks (birth_at l.heap) a k (scene_of l store))
             (scene_of l store) (left_scene store shown) []) trial.slot l
             (record l { grants = grants }) reason
-        by LogFull why store shown = (
-          why.0,
-          subst (λ (n : ℕ). grants.records trial.slot < n) (sym (records_are store shown)) why.1,
-        )
-        by LogClosed why store shown =
-            let same = records_are store shown in
-            let some = why.0 in
-            (omega (arith, same, some), why.1)
-        by (NeedSpace words) why store shown =
-            let none = why.1 in absurd (omega (arith, none))
-        by Memory why store shown = let none = why.0 in absurd (omega (arith, none))
+        by reason why store shown =
+            let records = removal_records (count_at l.heap a) place in
+            let new : Lent = record l { grants = grants } in
+            let needs = needs_between (removing_asks (birth_at l.heap) a k (scene_of l store))
+            (scene_of l store) (left_scene store shown) [] in
+            reason_as needs trial.slot l new (records_asked records trial.slot l.grants grants)
+            (words_asked 0 0 l.heap) _
+            (λ asked. as_many needs trial.slot l new records (records_are store shown)) none_asked
+            (λ none. none_asked none.0) reason why
 
     pub removed_acts : (new : Heap) (mid left : Grants) (scratch : Scratch) → IsSound new
         → Keeps l.heap new → KeepsLogsWithin 0 l.grants mid trial.slot

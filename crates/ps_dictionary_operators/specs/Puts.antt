@@ -1,5 +1,5 @@
 -- What putting a pair into a dictionary does, and what it may lack.
-use Rattle.std.specs.Prelude.{◌≡◌, ◌<◌, ◌≤◌, ℕ, false, IsTrue, Some, List, drop, take}
+use Rattle.std.specs.Prelude.{◌≡◌, ◌≤◌, ℕ, false, IsTrue, Some, List, drop, take}
 use Rattle.ps_language.specs.declared.errors.ErrorName.TheVariants.{InvalidAccess, LimitCheck, VmError}
 use Rattle.ps_language.specs.Access.{dictionary_at, is_writable, with_dictionary}
 use Rattle.ps_language.specs.Dictionaries.{holding, put_pair}
@@ -9,12 +9,11 @@ use Rattle.ps_language.specs.Outcome.{given, given_that, unnamed}
 use Rattle.ps_language.specs.Rows.{Row, naming_row}
 use Rattle.ps_language.specs.RowsDictionaries.{put_into}
 use Rattle.ps_word.specs.declared.words.Word.{Word}
-use Rattle.ps_mem.specs.Heap.{Heap, Grants, has_room}
+use Rattle.ps_mem.specs.Heap.{Heap, Grants}
 use Rattle.ps_mem.specs.Meaning.{value_of}
 use Rattle.ps_dict.specs.Puts.{planned, records_of}
-use Rattle.ps_ops.specs.Does.{most_records}
+use Rattle.ps_ops.specs.Does.{most_records, records_asked, words_asked, IsReasonFor}
 use Rattle.ps_ops.specs.declared.failure.NotMade.{NotMade as Reason}
-use Rattle.ps_ops.specs.declared.failure.NotMade.TheVariants.{LogFull, LogClosed, NeedSpace, Memory}
 use Rattle.ps_acts.specs.declared.breaks.Break.{Break}
 use Rattle.ps_acts.specs.declared.breaks.Break.TheVariants.{Unwinds, Raises, NotMade}
 use Rattle.ps_acts.specs.Acts.{Asked, no_rooms}
@@ -61,12 +60,9 @@ putting_key_asks births address key scene =
 
 -- of so many records and words
 abbrev pub IsLack : (records words slot : ℕ) → Heap → (old new : Grants) → Reason → Type 0
-IsLack records words slot h old new LogFull =
-    (old.closed slot ≡ false) × (new.records slot < records)
-IsLack records words slot h old new LogClosed = (1 ≤ records) × IsTrue (old.closed slot)
-IsLack records words slot h old new (NeedSpace asked) =
-    (asked ≡ words) × (1 ≤ words) × (has_room h words 0 ≡ false)
-IsLack records words slot h old new Memory = (1 ≤ words) × IsTrue h.space.grows
+IsLack records words slot h old new reason =
+    IsReasonFor (records_asked records slot old new) (words_asked words 0 h)
+    ((1 ≤ words) × IsTrue h.space.grows) reason
 
 -- A refused step that formed a name may be noted; or it is not made, for want of the records of its
 -- note, and the names are cut to so many

@@ -41,6 +41,7 @@ pub(crate) struct Entry {
 }
 
 /// Asks for so many records and words of a body.
+#[inline(always)]
 pub(crate) fn asked<M: Memory>(
     memory: &mut M,
     slot: u32,
@@ -67,6 +68,7 @@ pub(crate) fn asked<M: Memory>(
 }
 
 /// Puts a pair as it was planned. Not made for want of records, or of room for a new body.
+#[inline(always)]
 fn put_planned<M: Memory>(
     context: &mut Context,
     shared: &mut Shared,
@@ -121,6 +123,7 @@ fn is_refused(trial: Trial, plan: PutPlan) -> bool
 
 /// Puts a pair. Raises `limitcheck` where the pairs would be too many, and `VMerror` in a refused
 /// step that would make a new body. Not made as `put_planned`.
+#[inline(always)]
 fn put_met<M: Memory>(
     context: &mut Context,
     shared: &mut Shared,
@@ -178,6 +181,7 @@ pub(crate) fn refuse<M: Memory>(names: &mut Names, memory: &mut M, slot: u32, co
 ///
 /// Raises `limitcheck`, and `VMerror` as `put_met`. Not made as `put_planned`, or for want of
 /// memory for the name; it is not formed then.
+#[inline(never)]
 fn put_unmet<M: Memory>(
     context: &mut Context,
     shared: &mut Shared,
@@ -230,6 +234,7 @@ fn put_unmet<M: Memory>(
 /// Raises `invalidaccess` where the dictionary may not be written, `limitcheck` of a name and where
 /// the pairs would be too many, and `VMerror` in a refused step that would make a new body. Not
 /// made for want of memory for a name, of records, or of room for a new body.
+#[inline(always)]
 pub(crate) fn put_key<M: Memory>(
     context: &mut Context,
     shared: &mut Shared,

@@ -19,7 +19,7 @@ use Rattle.ps_word.specs.declared.words.Word.{Word}
 use Rattle.ps_word.specs.Format.{content_in}
 use Rattle.ps_word.specs.Readers.{as_dictionary, as_integer}
 use Rattle.ps_mem.specs.Heap.{Heap}
-use Rattle.ps_operands.specs.Does.{Does, Agrees, copy_number_row, values_of}
+use Rattle.ps_operands.specs.Does.{Does, DoesAs, copy_number_row, values_of}
 use Rattle.ps_operands.specs.Kept.{AreFrom}
 use Rattle.ps_control.specs.declared.ahead.Ahead.{Ahead}
 use Rattle.ps_control.specs.declared.ahead.Ahead.TheVariants.{Enters, Goes as Unentered, Left}
@@ -51,7 +51,7 @@ use Rattle.ps_dispatch.proofs.Stepping.{goes_on}
 
 module _ (old new : List Word) (row : List Value → Outcome (List Value)) where
   unchanged : (error : ErrorName) (outcome : Outcome (List Value)) (births : ℕ → ℕ)
-      (names : List (List ℕ)) → Agrees (Err error) outcome births names old new → new ≡ old
+      (names : List (List ℕ)) → DoesAs (Err error) outcome births names old new → new ≡ old
   unchanged error (leaves left) births names did = absurd did
   unchanged error (fails raised) births names did = did.1
 

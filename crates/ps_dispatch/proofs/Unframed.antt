@@ -46,7 +46,7 @@ module _ (l new : Lent) (slot : ℕ) (same : new.frames ≡ l.frames) where
 pub goes_under : (operator : Operator) (slot : ℕ) (came : Under) (old new : Lent)
     → ActsUnder operator slot came old new
     → GoesUnder [] (operated_asks operator_asks operator) (operated_turn operator) slot came old new
-goes_under operator slot variants.Acts old new acts = λ above good none.
+goes_under operator slot variants.Done old new acts = λ above good none.
     stepped operator (ordinary slot) (under above old) (under above new) (acts above good)
 goes_under operator slot variants.Fails old new undone = undone
 goes_under operator slot variants.Left old new same = same

@@ -36,14 +36,14 @@ ActsAhead operator ahead old new = OnLeft ahead (new ≡ old)
 -- in an ordinary step it acts and raises no error, as it would under any more frames; or nothing was
 -- done; or nothing has changed
 abbrev pub ActsUnder : Operator → (slot : ℕ) → Under → (old new : Lent) → Type 0
-ActsUnder operator slot variants.Acts old new =
+ActsUnder operator slot variants.Done old new =
     (above : List Frame) → IsGood (under above old)
     → Acts (asked_of operator) (row_now operator) (ordinary slot) (Ok tt) (under above old)
     (under above new)
-ActsUnder operator slot variants.Fails old new = IsUndone old new
+ActsUnder operator slot variants.Fails old new = IsUndone slot old new
 ActsUnder operator slot variants.Left old new = new ≡ old
 
 -- what came about is kept, and an error was not raised
 abbrev pub came_under : Result Unit Break → Under
-came_under (Ok _) = variants.Acts
+came_under (Ok _) = variants.Done
 came_under (Err break) = variants.Fails

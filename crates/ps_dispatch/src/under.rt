@@ -24,7 +24,7 @@ fn came(outcome: Result<(), Break>) -> Under
     ensures { result ≡ came_under outcome }
 {
     match outcome {
-        Ok(()) => Under::Acts,
+        Ok(()) => Under::Done,
         Err(_) => Under::Fails,
     }
 }

@@ -15,23 +15,19 @@ use Rattle.ps_values.specs.declared.under.Under.{Under}
 use Rattle.ps_values.specs.declared.under.Under.TheVariants as came
 use Rattle.ps_values.specs.Values.{Asks, GoesUnder, treated_asks, treated_turn}
 use Rattle.ps_frames.specs.declared.elements.Element.{Element}
-use Rattle.ps_frames.specs.Steps.{above, rest_frames, with_frames, DoesUnder, IsElement}
+use Rattle.ps_frames.specs.Steps.{above, part_behind, rest_frames, with_frames, DoesUnder, IsElement}
 use Rattle.ps_frames.proofs.Entered.{left_good, treated_goes}
 use Rattle.ps_frames.proofs.Framing.{below_good}
 
 -- what is above the frames once the first element was taken
-abbrev left_frame : Part → Frame
-left_frame rest =
-    Procedure (record rest { offset = rest.offset + 1; length = rest.length - 1 })
-
 abbrev rest_above : Part → List Frame
-rest_above rest = if nat_lt 1 rest.length then left_frame rest ∷ [] else []
+rest_above rest = if nat_lt 1 rest.length then Procedure (part_behind 1 rest) ∷ [] else []
 
 above_is : (rest : Part) (below : List Frame) → rest_above rest ++ below ≡ rest_frames rest below
 above_is rest below = by (nat_lt 1 rest.length)
   where
-    by : (some : Bool) → (if some then left_frame rest ∷ [] else []) ++ below
-        ≡ (if some then left_frame rest ∷ below else below)
+    by : (some : Bool) → (if some then Procedure (part_behind 1 rest) ∷ [] else []) ++ below
+        ≡ (if some then Procedure (part_behind 1 rest) ∷ below else below)
     by true = refl
     by false = refl
 
@@ -46,7 +42,7 @@ pub does_under : (asks : Asks) (l new : Lent) (rest : Part) (element : Element)
     → ((command : Word) → GoesUnder (element.value ∷ command ∷ []) (treated_asks asks element.value)
     (treated_turn command element.value) slot came l new)
     → DoesUnder asks rest slot came l new
-does_under asks l new rest element good is slot came.Acts goes =
+does_under asks l new rest element good is slot came.Done goes =
     let left : Lent = with_frames (rest_frames rest l.frames) l in
     let after : Lent = with_frames (rest_frames rest new.frames) new in
     let held : IsGood left = left_good asks l rest element good is in

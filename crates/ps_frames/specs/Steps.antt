@@ -85,12 +85,15 @@ untold cause (frame ∷ frames) = Breaks cause
 
 -- ---- frames
 
+-- what is left of a procedure behind so many elements
+abbrev pub part_behind : (count : ℕ) → Part → Part
+part_behind count rest =
+    record rest { offset = rest.offset + count; length = rest.length - count }
+
 -- once so many elements of a procedure were taken: the last takes the frame with it
 abbrev pub frames_after : (count : ℕ) → Part → (below : List Frame) → List Frame
 frames_after count rest below =
-    if nat_lt count rest.length then
-    Procedure (record rest { offset = rest.offset + count; length = rest.length - count }) ∷ below
-    else below
+    if nat_lt count rest.length then Procedure (part_behind count rest) ∷ below else below
 
 -- once the first was
 abbrev pub rest_frames : Part → (below : List Frame) → List Frame
@@ -168,10 +171,10 @@ GoesAhead asks ahead old new = OnDone ahead ((trial : Trial)
 -- the ordinary turn of a procedure above the frames goes on, of which what is left is above them; or
 -- nothing was done; or nothing has changed
 abbrev pub DoesUnder : Asks → Part → (slot : ℕ) → Under → (old new : Lent) → Type 0
-DoesUnder asks rest slot came.Acts old new =
+DoesUnder asks rest slot came.Done old new =
     Turns (frame_asks asks) running_turn (ordinary slot) (Ok Goes) (above rest old)
     (with_frames (rest_frames rest new.frames) new)
-DoesUnder asks rest slot came.Fails old new = IsUndone old new
+DoesUnder asks rest slot came.Fails old new = IsUndone slot old new
 DoesUnder asks rest slot came.Left old new = new ≡ old
 
 -- of bind, in what is lent

@@ -58,7 +58,7 @@ pub fn is_null(word: Word) -> bool
 }
 
 /// Whether a key may be read: a string's access says so, and nothing else is read.
-#[inline]
+#[inline(always)]
 pub fn is_readable_key(word: Word) -> bool
     ensures { (births : ℕ → ℕ) (names : List (List ℕ))
         → language.may_read_text (value_of births names word) ≡ result }
@@ -70,7 +70,7 @@ pub fn is_readable_key(word: Word) -> bool
 }
 
 /// A key under the names met. The memory stays as it is, and none is taken.
-#[inline]
+#[inline(always)]
 pub fn read_key<M: Memory>(memory: &mut M, names: &Names, word: Word) -> Key
     requires sound { IsSound (M.heap memory.old) }
     requires held { IsValue (M.heap memory.old) word }
@@ -86,6 +86,7 @@ pub fn read_key<M: Memory>(memory: &mut M, names: &Names, word: Word) -> Key
 }
 
 /// The same of a string.
+#[inline(never)]
 fn text_key<M: Memory>(memory: &mut M, names: &Names, part: Part) -> Key
     requires sound { IsSound (M.heap memory.old) }
     requires known { StandsAs (M.heap memory.old) Kind.Text part.address (words_for

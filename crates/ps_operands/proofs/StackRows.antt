@@ -16,7 +16,7 @@ use Rattle.ps_word.specs.declared.words.Word.{Word}
 use Rattle.ps_word.specs.Format.{content_in}
 use Rattle.ps_word.specs.Readers as words
 use Rattle.ps_mem.specs.Meaning.{value_of}
-use Rattle.ps_operands.specs.Does.{values_of, Agrees, Does, Pushes, copy_number_row}
+use Rattle.ps_operands.specs.Does.{values_of, DoesAs, Does, Pushes, copy_number_row}
 use Rattle.ps_operands.proofs.Meanings.{as_integer-word}
 use Rattle.ps_operands.proofs.Doing.{does_leaves, does_fails, does_same}
 
@@ -223,7 +223,7 @@ full operands births names h = let same = length-map operands (value_of births n
 pub push_value : (value : Value) (w : Word) (result : Result Unit ErrorName) (old new : List Word)
     → ((births : ℕ → ℕ) (names : List (List ℕ)) → value_of births names w ≡ value) → Pushes w result old new → Does (push value) result old new
 push_value value w result old new is pushes = record {
-  agrees = λ births names. subst (λ (v : Value). Agrees result (push v (values_of births names old)) births names old new) (is births names) (pushes.agrees births names);
+  agrees = λ births names. subst (λ (v : Value). DoesAs result (push v (values_of births names old)) births names old new) (is births names) (pushes.agrees births names);
 }
 
 pub dup_done : (w : Word) (result : Result Unit ErrorName) (old new : List Word) → Some w ≡ tops.first_of old → Pushes w result old new → Does dup_row result old new

@@ -18,24 +18,52 @@ abbrev pub outcome_of : {A : Type 0} → Result A ErrorName → Outcome A
 outcome_of (Ok left) = leaves left
 outcome_of (Err error) = fails error
 
+-- ---- what an operator came to, by its row
+
+-- it is done, or an error was raised, or it was not made for a reason
+pub data Conclusion (R : Type 0) : Type 0 where
+  did : Conclusion R
+  raised : (error : ErrorName) → Conclusion R
+  unmade : (reason : R) → Conclusion R
+
+abbrev pub concluded : {R : Type 0} → Result Unit ErrorName → Conclusion R
+concluded (Ok _) = did
+concluded (Err error) = raised error
+
+-- Where the row leaves something, it is left; where the row fails, its error was raised; where it
+-- was not made, the row leaves something and there is a reason. After an error and where it was not
+-- made all is as it was
+abbrev pub Agrees : {A R : Type 0} → (IsLeft : A → Type 0) → (IsReason : R → A → Type 0)
+    → (same : Type 0) → Conclusion R → Outcome A → Type 0
+Agrees IsLeft IsReason same did (leaves left) = IsLeft left
+Agrees IsLeft IsReason same (raised error) (fails expected) = (error ≡ expected) × same
+Agrees IsLeft IsReason same (unmade reason) (leaves left) = IsReason reason left × same
+Agrees IsLeft IsReason same conclusion outcome = ⊥
+
+-- of an operator that is always made
+abbrev pub AgreesMade : {A : Type 0} → (IsLeft : A → Type 0) → (same : Type 0)
+    → Result Unit ErrorName → Outcome A → Type 0
+AgreesMade IsLeft same result outcome =
+    Agrees IsLeft (λ (reason : ⊥) left. ⊥) same (concluded result) outcome
+
+-- ---- on operands alone
+
 -- the operands that the row leaves, or its error with the operands as they were
-abbrev pub Agrees : Result Unit ErrorName → Outcome (List Value) → (births : ℕ → ℕ)
+abbrev pub DoesAs : Result Unit ErrorName → Outcome (List Value) → (births : ℕ → ℕ)
     → (names : List (List ℕ)) → (old new : List Word) → Type 0
-Agrees (Ok _) (leaves left) births names old new = values_of births names new ≡ left
-Agrees (Err error) (fails raised) births names old new = (error ≡ raised) × (new ≡ old)
-Agrees (Ok _) (fails raised) births names old new = ⊥
-Agrees (Err error) (leaves left) births names old new = ⊥
+DoesAs result outcome births names old new =
+    AgreesMade (λ left. values_of births names new ≡ left) (new ≡ old) result outcome
 
 -- an operator that came to this result did what its row says, whatever the memory
 pub record Does (row : List Value
     → Outcome (List Value)) (result : Result Unit ErrorName) (old new : List Word) : Type 0 where
   pub agrees : (births : ℕ → ℕ) (names : List (List ℕ))
-      → Agrees result (row (values_of births names old)) births names old new
+      → DoesAs result (row (values_of births names old)) births names old new
 
 -- an operator that pushes a word came to this result
 pub record Pushes (w : Word) (result : Result Unit ErrorName) (old new : List Word) : Type 0 where
   pub agrees : (births : ℕ → ℕ) (names : List (List ℕ))
-      → Agrees result (push (value_of births names w) (values_of births names old)) births names old
+      → DoesAs result (push (value_of births names w) (values_of births names old)) births names old
       new
 
 -- what was read is what the row reads, whatever the memory

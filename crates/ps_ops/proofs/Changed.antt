@@ -1,6 +1,6 @@
 -- What the operators that change arrays leave.
 use Rattle.std.proofs.Common.{◌≡◌, ℕ, ◌+◌, ◌≤◌, List, [], map, length, Ok, sym, ap, subst, arith, ◌∙◌, inl, inr}
-use Rattle.std.specs.Prelude.{slice_get}
+use Rattle.std.specs.Prelude.{min, slice_get}
 use Rattle.std.proofs.lemmas.Bool.Decides.{eqb_tells}
 use Rattle.ps_language.specs.declared.kinds.Kind.TheVariants.{Array as ArrayKind}
 use Rattle.ps_language.specs.Value.{Value, Store, array_object}
@@ -18,7 +18,7 @@ use Rattle.ps_mem.proofs.Lists.{slice_get-set_other}
 use Rattle.ps_mem.proofs.KeepsLemmas.{AreValues-kept, AreWithin-kept, known_values}
 use Rattle.ps_mem.proofs.StoreShows.{array-shown}
 use Rattle.ps_seq.proofs.ArrayLemmas.{birth-array}
-use Rattle.ps_ops.specs.Does.{values_in, Agrees, IsRecordReason, Changes}
+use Rattle.ps_ops.specs.Does.{values_in, ChangesAs, IsRecordReason, Changes}
 
 -- ---- bytes are as many as they were
 
@@ -55,7 +55,7 @@ pub does_changes : (row : Store → List Value → Outcome Change) (stores : Lis
 does_changes row stores slot asked left h now old new part n place stands keeps births values changes = record {
   meets = λ names s shows within.
       let c = changes names s shows within in
-      subst (λ outcome. Agrees (λ reason change. IsRecordReason reason (stores (values_in h names old)) slot asked left) (Ok tt) outcome names h now old new) (sym c.is) (record {
+      subst (λ outcome. ChangesAs (λ reason change. IsRecordReason reason (min 1 (stores (values_in h names old))) slot asked left) (Ok tt) outcome names h now old new) (sym c.is) (record {
         operands = ap (λ b. map (value_of b names) new) births;
         store = c.shows;
         within = within_changed h part n stands names s shows now keeps place c.items new values c.within;

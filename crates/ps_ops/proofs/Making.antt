@@ -1,5 +1,5 @@
 -- What an operator leaves that makes an object of any kind: made, refused, or without room.
-use Rattle.std.proofs.Common.{◌≡◌, ℕ, ◌+◌, ◌-◌, ◌≤◌, List, [], ◌∷◌, ◌++◌, length, Bool, true, false, Ok, Err, refl, sym, ap, subst, arith, ◌∙◌}
+use Rattle.std.proofs.Common.{◌≡◌, ℕ, ◌+◌, ◌-◌, List, [], ◌∷◌, ◌++◌, length, Bool, true, false, Ok, Err, refl, sym, ap, subst, arith, ◌∙◌}
 use Rattle.std.specs.Prelude.{◌==◌, not, if◌then◌else◌}
 use Rattle.std.proofs.lemmas.Bool.Decides.{nat_tests}
 use Rattle.std.proofs.lemmas.List.{length-append}
@@ -20,7 +20,7 @@ use Rattle.ps_mem.specs.Meaning.{value_of, part_of}
 use Rattle.ps_mem.specs.Shows.{IsValue, AreValues, IsSound, IsReady, IsWithin, AreWithin, Shows}
 use Rattle.ps_mem.proofs.KeepsLemmas.{AreValues-kept, AreWithin-kept, values_of-kept, known_values}
 use Rattle.ps_mem.proofs.NewShows.{longer}
-use Rattle.ps_ops.specs.Does.{values_in, IsLeft, refusing, IsRoomReason, Agrees, Makes}
+use Rattle.ps_ops.specs.Does.{values_in, IsLeft, refusing, IsRoomReason, ChangesAs, Makes}
 
 -- ---- a reference to all of a new object
 
@@ -92,10 +92,10 @@ module _ (h now : Heap) (old new rest : List Word) (keeps : Keeps h now) (values
                 (longer s (m.object ∷ [])) rest (known_values h rest values) m.within,
           );
         } in
-        subst (λ outcome. Agrees (λ reason change. IsRoomReason reason h
+        subst (λ outcome. ChangesAs (λ reason change. IsRoomReason reason h
         (made_between s change.store) (length change.store - length s)) (Ok tt)
         (refusing refused s outcome) names h now old new) (sym m.is)
-        (subst (λ r. Agrees (λ reason change. IsRoomReason reason h (made_between s change.store)
+        (subst (λ r. ChangesAs (λ reason change. IsRoomReason reason h (made_between s change.store)
         (length change.store - length s)) (Ok tt)
         (refusing r s (making m.object (values_in h names rest) s)) names h now old new)
         (sym made) left);
@@ -137,11 +137,11 @@ pub refused_makes : (row : Store → List Value → Outcome Change) (refused : B
 refused_makes row refused h words old is makes = record {
   meets = λ names s shows within.
       let m = makes names s in
-      subst (λ (outcome : Outcome Change). Agrees
+      subst (λ (outcome : Outcome Change). ChangesAs
       (λ reason change. IsRoomReason reason h (made_between s change.store)
       (length change.store - length s)) (Err (Error VmError)) outcome names h h old old)
       (sym (ap (λ (r : Bool). refusing r s (row s (values_in h names old))) is
-      ∙ (ap (refusing true s) m.is ∙ lacks_making m.object m.rest s))) (refl, refl, refl);
+      ∙ (ap (refusing true s) m.is ∙ lacks_making m.object m.rest s))) (refl, (refl, refl));
 }
 
 pub unmade_makes : (row : Store → List Value → Outcome Change) (refused : Bool) (h now : Heap)
@@ -157,9 +157,9 @@ unmade_makes row refused h now words old why is same reason makes = record {
       = subst (λ (n : ℕ). IsRoomReason why h n (length (s ++ m.object ∷ []) - length s))
       (sym (made-new s m.object ∙ m.size))
       (subst (λ (n : ℕ). IsRoomReason why h words n) (sym (made_births m.object s)) reason) in
-      subst (λ (outcome : Outcome Change). Agrees
+      subst (λ (outcome : Outcome Change). ChangesAs
       (λ reason change. IsRoomReason reason h (made_between s change.store)
       (length change.store - length s)) (Err (NotMade why)) outcome names h now old old)
       (sym (ap (λ (r : Bool). refusing r s (row s (values_in h names old))) is
-      ∙ ap (refusing false s) m.is)) (asked, same, refl);
+      ∙ ap (refusing false s) m.is)) (asked, (same, refl));
 }

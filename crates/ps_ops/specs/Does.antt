@@ -1,11 +1,12 @@
 -- When what an operator did to operands and memory is its row.
-use Rattle.std.specs.Prelude.{◌≡◌, ◌≢◌, ℕ, ◌+◌, ◌-◌, ◌<◌, ◌≤◌, min, Bool, false, IsTrue, List, length, map, Result, Ok, Err, if◌then◌else◌}
+use Rattle.std.specs.Prelude.{◌≡◌, ◌≢◌, ℕ, ◌+◌, ◌-◌, ◌<◌, ◌≤◌, min, Bool, true, false, IsTrue, List, length, map, Result, Ok, Err, if◌then◌else◌}
 use Rattle.ps_language.specs.declared.errors.ErrorName.{ErrorName}
 use Rattle.ps_language.specs.declared.errors.ErrorName.TheVariants.{VmError}
 use Rattle.ps_language.specs.Value.{Value, Store}
 use Rattle.ps_language.specs.Objects.{lacks_room, made_between}
 use Rattle.ps_language.specs.Outcome.{Outcome, leaves, fails, Change}
 use Rattle.ps_word.specs.declared.words.Word.{Word}
+use Rattle.ps_operands.specs.Does.{Conclusion, did, raised, unmade, Agrees, AgreesMade}
 use Rattle.ps_mem.specs.Heap.{Heap, Grants, birth_at, has_room}
 use Rattle.ps_mem.specs.Meaning.{value_of}
 use Rattle.ps_mem.specs.Shows.{AreWithin, Shows}
@@ -23,12 +24,9 @@ values_in h names words = map (value_of (birth_at h) names) words
 -- the operands that the row leaves, or its error with the operands as they were
 abbrev pub ObservesAs : Result Unit ErrorName → Outcome (List Value) → List (List ℕ) → Store → Heap
     → (before after : List Word) → Type 0
-ObservesAs (Ok _) (leaves operands) names store h before after =
-    (values_in h names after ≡ operands) × AreWithin h names store after
-ObservesAs (Ok _) (fails raised) names store h before after = ⊥
-ObservesAs (Err error) (fails raised) names store h before after = (error ≡ raised)
-    × (after ≡ before)
-ObservesAs (Err error) (leaves operands) names store h before after = ⊥
+ObservesAs result outcome names store h before after =
+    AgreesMade (λ operands. (values_in h names after ≡ operands) × AreWithin h names store after)
+    (after ≡ before) result outcome
 
 -- for every store that the memory shows, the operator did what its row says
 pub record Observes (row : Store → List Value → Outcome (List Value))
@@ -46,18 +44,18 @@ pub record IsLeft (change : Change) (names : List (List ℕ)) (h : Heap) (words 
     pub store : Shows h names change.store
     pub within : AreWithin h names change.store words
 
--- where the row fails, its error; where a step is not made, a reason for it; after either all is as
--- it was
-abbrev pub Agrees : (IsReason : NotMade → Change → Type 0) → Result Unit Failure → Outcome Change
-    → List (List ℕ) → (old new : Heap) → (before after : List Word) → Type 0
-Agrees IsReason (Ok _) (leaves change) names old new before after = IsLeft change names new after
-Agrees IsReason (Ok _) (fails raised) names old new before after = ⊥
-Agrees IsReason (Err (Error error)) (fails raised) names old new before after = (error ≡ raised)
-    × (new ≡ old) × (after ≡ before)
-Agrees IsReason (Err (Error error)) (leaves change) names old new before after = ⊥
-Agrees IsReason (Err (NotMadeOf reason)) (leaves change) names old new before after =
-    IsReason reason change × (new ≡ old) × (after ≡ before)
-Agrees IsReason (Err (NotMadeOf reason)) (fails raised) names old new before after = ⊥
+abbrev pub concluded_of : Result Unit Failure → Conclusion NotMade
+concluded_of (Ok _) = did
+concluded_of (Err (Error error)) = raised error
+concluded_of (Err (NotMadeOf reason)) = unmade reason
+
+-- what the row leaves, or its error with memory and operands as they were, or a reason with both as
+-- they were
+abbrev pub ChangesAs : (IsReason : NotMade → Change → Type 0) → Result Unit Failure
+    → Outcome Change → List (List ℕ) → (old new : Heap) → (before after : List Word) → Type 0
+ChangesAs IsReason result outcome names old new before after =
+    Agrees (λ change. IsLeft change names new after) IsReason ((new ≡ old) × (after ≡ before))
+    (concluded_of result) outcome
 
 -- the logs of other slots are as they were, no cycle and no log was closed or opened; at most so
 -- many records were put into its own log, and at most so many used up
@@ -83,16 +81,54 @@ abbrev pub spent : {A E : Type 0} → Result A E → (most : ℕ) → ℕ
 spent (Ok _) most = most
 spent (Err _) most = 0
 
--- ---- those that store elements
+-- ---- why a step is not made
 
--- why a step that stores so many elements is not made: it puts a record, for which the log is
--- closed, or is not and has no free place
-abbrev pub IsRecordReason : NotMade → (count slot : ℕ) → (asked left : Grants) → Type 0
-IsRecordReason LogFull count slot asked left = (asked.closed slot ≡ false)
-    × (left.records slot < min 1 count)
-IsRecordReason LogClosed count slot asked left = (1 ≤ count) × IsTrue (asked.closed slot)
-IsRecordReason (NeedSpace words) count slot asked left = ⊥
-IsRecordReason Memory count slot asked left = ⊥
+-- records that are asked for, of a log that is closed or takes so many
+pub record RecordsAsked : Type 0 where
+  pub records : ℕ
+  pub closed : Bool
+  pub free : ℕ
+
+-- words that are asked for, and whether they have room
+pub record WordsAsked : Type 0 where
+  pub words : ℕ
+  pub fit : Bool
+
+-- asked, left: what was granted before and what is after
+abbrev pub records_asked : (records slot : ℕ) → (asked left : Grants) → RecordsAsked
+records_asked records slot asked left =
+    record { records = records; closed = asked.closed slot; free = left.records slot }
+
+abbrev pub words_asked : (words births : ℕ) → Heap → WordsAsked
+words_asked words births h = record { words = words; fit = has_room h words births }
+
+abbrev pub no_records : RecordsAsked
+no_records = record { records = 0; closed = false; free = 0 }
+
+abbrev pub no_words : WordsAsked
+no_words = record { words = 0; fit = true }
+
+-- LogFull: the log is open and takes fewer records than are asked for. LogClosed: it is closed, and
+-- one at least is asked for. NeedSpace: the words have no room. Memory: what was needed of it is
+-- short
+abbrev pub IsReasonFor : RecordsAsked → WordsAsked → (short : Type 0) → NotMade → Type 0
+IsReasonFor asked words short LogFull = (asked.closed ≡ false) × (asked.free < asked.records)
+IsReasonFor asked words short LogClosed = (1 ≤ asked.records) × IsTrue asked.closed
+IsReasonFor asked words short (NeedSpace room) =
+    (room ≡ words.words) × (1 ≤ room) × (words.fit ≡ false)
+IsReasonFor asked words short Memory = short
+
+-- of a step that only puts records
+abbrev pub IsRecordReason : NotMade → (records slot : ℕ) → (asked left : Grants) → Type 0
+IsRecordReason reason records slot asked left =
+    IsReasonFor (records_asked records slot asked left) no_words ⊥ reason
+
+-- of one that only makes objects: of so many words
+abbrev pub IsRoomReason : NotMade → Heap → (words births : ℕ) → Type 0
+IsRoomReason reason h words births =
+    IsReasonFor no_records (words_asked words births h) (IsTrue h.space.grows) reason
+
+-- ---- those that store elements
 
 -- for every store that the memory shows, the operator did what its row says; stores: how many
 -- elements the row stores; asked, left: what was granted before and what is after
@@ -101,8 +137,9 @@ pub record Changes (row : Store → List Value → Outcome Change) (stores : Lis
     (before after : List Word) : Type 0 where
   pub meets : (names : List (List ℕ)) (store : Store) → Shows old names store
       → AreWithin old names store before →
-      Agrees (λ reason change. IsRecordReason reason (stores (values_in old names before)) slot
-      asked left) result (row store (values_in old names before)) names old new before after
+      ChangesAs (λ reason change. IsRecordReason reason
+      (min 1 (stores (values_in old names before))) slot asked left) result
+      (row store (values_in old names before)) names old new before after
 
 -- ---- those that make objects
 
@@ -112,19 +149,12 @@ refusing refused store (leaves change) =
     if lacks_room refused store change.store then fails VmError else leaves change
 refusing refused store (fails error) = fails error
 
--- why room is not granted
-abbrev pub IsRoomReason : NotMade → Heap → (words births : ℕ) → Type 0
-IsRoomReason LogFull h words births = ⊥
-IsRoomReason LogClosed h words births = ⊥
-IsRoomReason (NeedSpace asked) h words births = (asked ≡ words) × (has_room h words births ≡ false)
-IsRoomReason Memory h words births = IsTrue h.space.grows
-
 -- for every store that the memory shows, the operator did what its row says
 pub record Makes (row : Store → List Value → Outcome Change) (refused : Bool)
     (result : Result Unit Failure) (old new : Heap) (before after : List Word) : Type 0 where
   pub meets : (names : List (List ℕ)) (store : Store) → Shows old names store
       → AreWithin old names store before →
-      Agrees (λ reason change. IsRoomReason reason old (made_between store change.store)
+      ChangesAs (λ reason change. IsRoomReason reason old (made_between store change.store)
       (length change.store - length store)) result
       (refusing refused store (row store (values_in old names before))) names old new before
       after

@@ -20,9 +20,10 @@ use ps_seq::arrays::{make_array, new_array};
 /// The most elements of an array.
 pub const SEQUENCE_LIMIT: usize = 65_535;
 
-/// Asks for room for new objects. `NeedSpace`, of the words asked: they don't fit. `Memory`: a
-/// growth was refused.
+/// Asks for room for new objects, which have words. `NeedSpace`, of the words asked: they don't
+/// fit. `Memory`: a growth was refused.
 pub fn granted<M: Memory>(memory: &mut M, words: u32, births: u32) -> Result<(), NotMade>
+    requires some { 1 ≤ words }
     ensures heap { M.heap memory.new ≡ M.heap memory.old }
     ensures kept { M.grants memory.new
         ≡ record (M.grants memory.old) {

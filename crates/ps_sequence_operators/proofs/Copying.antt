@@ -1,6 +1,6 @@
 -- An operator that copies what the first of a pair holds into the second acts, or is not made.
 use Rattle.std.proofs.Common.{◌≡◌, ℕ, ◌+◌, ◌≤◌, arith, List, [], Some, Ok, Err, refl, sym, ap, subst, ◌∙◌, inl, inr}
-use Rattle.std.specs.Prelude.{min, ◌<◌}
+use Rattle.std.specs.Prelude.{min, ◌<◌, ◌⊎◌, vec_capacity}
 use Rattle.std.proofs.lemmas.Bool.Decides.{nat_tests}
 use Rattle.ps_language.specs.Value.{Part as PartValue, Value, Store}
 use Rattle.ps_language.specs.Access.{bytes, part_bytes}
@@ -15,14 +15,15 @@ use Rattle.ps_mem.specs.Keeps.{Keeps}
 use Rattle.ps_mem.specs.Meaning.{value_of, part_of}
 use Rattle.ps_mem.specs.Shows.{IsSound, IsValue, IsWithin, AreValues, AreWithin, Shows}
 use Rattle.ps_seq.proofs.CompareLemmas.{length_part}
+use Rattle.ps_mem.specs.References.{words_for}
 use Rattle.ps_ops.specs.declared.failure.NotMade.{NotMade as Reason}
-use Rattle.ps_ops.specs.declared.failure.NotMade.TheVariants.{LogFull, LogClosed, NeedSpace, Memory}
-use Rattle.ps_ops.specs.Does.{values_in, KeepsLogsWithin, most_records}
+use Rattle.ps_ops.specs.Does.{values_in, KeepsLogsWithin, most_records, records_asked, no_words}
 use Rattle.ps_acts.specs.declared.breaks.Break.TheVariants.{NotMade}
 use Rattle.ps_acts.specs.declared.lent.Trial.{Trial}
 use Rattle.ps_acts.specs.declared.lent.Scratch.{Scratch}
 use Rattle.ps_acts.specs.Lent.{Lent, rooms_of, IsEmpty, scene_of, IsShown, IsGood}
-use Rattle.ps_acts.specs.Acts.{Asked, Needs, IsReason, IsAtLeast, Lasts, effect_in, Acts}
+use Rattle.ps_acts.specs.Acts.{Asked, Needs, IsShort, IsReason, IsAtLeast, Lasts, effect_in, Acts}
+use Rattle.ps_acts.proofs.Reasons.{reason_as, as_many, none_asked, record_reason}
 use Rattle.ps_acts.proofs.Meeting.{lacks_nothing, logs_more}
 use Rattle.ps_acts.proofs.Acting.{wanting_acts}
 use Rattle.ps_acts.proofs.Changing.{elements_last, array_bytes}
@@ -67,27 +68,24 @@ records_of Arrays count = refl
 records_of Strings count = refl
 
 module _ (l new : Lent) (slot : ℕ) (needs : Needs) where
-  record_reason : (reason : Reason) (count : ℕ) → needs.records ≡ min 1 count
-      → IsStoreReason Arrays count l.scratch slot l.grants new.grants reason
-      → IsReason needs slot l new reason
-  record_reason LogFull count is why =
-      (why.0, subst (λ (n : ℕ). new.grants.records slot < n) (sym is) why.1)
-  record_reason LogClosed count is why = let some = why.0 in (omega (arith, some, is), why.1)
-  record_reason (NeedSpace words) count is why = absurd why
-  record_reason Memory count is why = absurd why
+  short_of : (count : ℕ) → needs.scratch ≡ (asked_for Strings count).scratch
+      → (vec_capacity l.scratch.text < count)
+      ⊎ (vec_capacity l.scratch.words < words_for (count + 7))
+      → IsShort needs l
+  short_of count rooms (inl text) = inr (inr (inr (rw rooms (inl text))))
+  short_of count rooms (inr words) = inr (inr (inr (rw rooms (inr (inr words)))))
 
   pub store_reason : (of : Sequence) (reason : Reason) (count : ℕ)
       → needs.records ≡ (asked_for of count).records
       → needs.scratch ≡ (asked_for of count).scratch
       → IsStoreReason of count l.scratch slot l.grants new.grants reason
       → IsReason needs slot l new reason
-  store_reason Arrays reason count is rooms why = record_reason reason count is why
-  store_reason Strings LogFull count is rooms why = record_reason LogFull count is why
-  store_reason Strings LogClosed count is rooms why = record_reason LogClosed count is why
-  store_reason Strings (NeedSpace words) count is rooms why = absurd why
-  store_reason Strings Memory count is rooms (inl text) = inr (inr (inr (rw rooms (inl text))))
-  store_reason Strings Memory count is rooms (inr words) =
-      inr (inr (inr (rw rooms (inr (inr words)))))
+  store_reason Arrays reason count is rooms why =
+      record_reason needs slot l new (min 1 count) is reason why
+  store_reason Strings reason count is rooms why =
+      reason_as needs slot l new (records_asked (min 1 count) slot l.grants new.grants) no_words _
+      (λ some. as_many needs slot l new (min 1 count) is) none_asked (short_of count rooms) reason
+      why
 
 -- ---- an operator whose row leaves these values and what was written
 

@@ -9,10 +9,9 @@ use Rattle.ps_language.specs.RowsSequences.{search_row}
 use Rattle.ps_word.specs.declared.words.Word.{Word}
 use Rattle.ps_mem.specs.Heap.{Heap, Grants}
 use Rattle.ps_mem.specs.Shows.{IsReady}
-use Rattle.ps_ops.specs.declared.failure.NotMade.TheVariants.{LogFull, LogClosed, NeedSpace, Memory}
 use Rattle.ps_ops.specs.declared.failure.Failure.{Failure}
 use Rattle.ps_ops.specs.declared.failure.Failure.TheVariants.{Error, NotMade}
-use Rattle.ps_ops.specs.Does.{values_in}
+use Rattle.ps_ops.specs.Does.{values_in, no_records, no_words}
 use Rattle.ps_strings.specs.Searches.{LacksRoom, SearchesAs, Searches}
 use Rattle.ps_acts.specs.declared.lent.Trial.{Trial}
 use Rattle.ps_acts.specs.declared.lent.Scratch.{Scratch}
@@ -20,6 +19,7 @@ use Rattle.ps_acts.specs.Breaks.{tried}
 use Rattle.ps_acts.specs.Lent.{Lent, rooms_of, IsEmpty, scene_of, IsShown, IsGood}
 use Rattle.ps_acts.specs.Acts.{IsAtLeast, IsLeft, LacksRooms, Meets, Acts}
 use Rattle.ps_acts.proofs.Meeting.{keeps-same, lasts-same, logs-same, stays_as, lacks_for_same, made_meets, wanting_meets}
+use Rattle.ps_acts.proofs.Reasons.{none_asked, reason_as}
 use Rattle.ps_acts.proofs.Lifts.{changed_good, changed_left}
 use Rattle.ps_acts.proofs.Changing.{tried_framed}
 use Rattle.ps_sequence_operators.specs.Asks.{search_asked, search_asks}
@@ -75,16 +75,15 @@ module _ (l : Lent) (good : IsGood l) (trial : Trial) (after : List Word) (scrat
     );
     logs = logs-same 0 l.grants trial.slot;
   }
-  searched_as (Err (NotMade Memory)) (leaves operands) store shown did =
+  searched_as (Err (NotMade reason)) (leaves operands) store shown did =
       wanting_meets search_asks trial (scene_of l store) l new
       (record (scene_of l store) { operands = operands }) [] (lacks_for_same trial.refused store)
-      Memory (inr (inr (inr (lacks_rooms l.scratch _ did.0))))
+      reason
+      (reason_as _ trial.slot l new no_records no_words Lacks none_asked none_asked
+      (λ lacks. inr (inr (inr (lacks_rooms l.scratch _ lacks)))) reason did.0)
       (ap (λ (ws : List Word). record l { operands = ws; scratch = scratch }) did.1)
       (logs-same 0 l.grants trial.slot)
-  searched_as (Err (NotMade Memory)) (fails raised) store shown did = absurd did
-  searched_as (Err (NotMade LogFull)) outcome store shown did = absurd did
-  searched_as (Err (NotMade LogClosed)) outcome store shown did = absurd did
-  searched_as (Err (NotMade (NeedSpace words))) outcome store shown did = absurd did
+  searched_as (Err (NotMade reason)) (fails raised) store shown did = absurd did
 
   searched_here : (result : Result Unit Failure)
       → Searches search_row (vec_capacity l.scratch.text) (vec_capacity l.scratch.sought) result

@@ -26,7 +26,7 @@ asked_for Strings count = record {
 abbrev pub IsStoreReason : Sequence → (count : ℕ) → Scratch → (slot : ℕ) → (asked left : Grants)
     → NotMade → Type 0
 IsStoreReason Arrays count scratch slot asked left reason =
-    IsRecordReason reason count slot asked left
+    IsRecordReason reason (min 1 count) slot asked left
 IsStoreReason Strings count scratch slot asked left reason =
     IsCopyReason reason (vec_capacity scratch.text) (vec_capacity scratch.words) count slot asked
     left

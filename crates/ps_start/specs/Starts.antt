@@ -1,15 +1,15 @@
 -- When what stands is what stands at the start of a run (PLRM2, 3.7, 7.1).
-use Rattle.std.specs.Prelude.{◌≡◌, ℕ, ◌<◌, ◌^◌, List, false}
+use Rattle.std.specs.Prelude.{◌≡◌, ℕ, ◌<◌, ◌^◌, List}
 use Rattle.ps_language.specs.declared.kinds.Kind.TheVariants.{Dictionary}
 use Rattle.ps_language.specs.World.{Machine}
 use Rattle.ps_language.specs.Machines as machines
 use Rattle.ps_language.specs.Step.{machine_of}
 use Rattle.ps_language.specs.Worlds.{first_names, first_store, first_context, starting_world, systemdict, userdict, first_error_dictionary}
-use Rattle.ps_mem.specs.Heap.{Heap, birth_at, empty_heap, has_room}
+use Rattle.ps_mem.specs.Heap.{Heap, birth_at, empty_heap}
 use Rattle.ps_mem.specs.References.{StandsAs}
 use Rattle.ps_mem.specs.Shows.{IsSound, Shows}
 use Rattle.ps_ops.specs.declared.failure.NotMade.{NotMade}
-use Rattle.ps_ops.specs.declared.failure.NotMade.TheVariants.{NeedSpace, Memory}
+use Rattle.ps_ops.specs.Does.{no_records, words_asked, IsReasonFor}
 use Rattle.ps_acts.specs.Lent.{Lent, scene_of, around_of, IsShown, IsGood}
 use Rattle.ps_start.specs.declared.dictionaries.FirstDictionaries.{FirstDictionaries}
 
@@ -33,9 +33,7 @@ pub record AreFirst (h : Heap) (made : FirstDictionaries) : Type 0 where
 
 -- why nothing was made: the first objects have no room, or a growth was refused
 abbrev pub IsStartReason : NotMade → Heap → Type 0
-IsStartReason (NeedSpace words) h = (words ≡ 528) × (has_room h 528 3 ≡ false)
-IsStartReason Memory h = Unit {0}
-IsStartReason reason h = ⊥
+IsStartReason reason h = IsReasonFor no_records (words_asked 528 3 h) (Unit {0}) reason
 
 -- the first context of a program before its first step, with what it shares
 abbrev pub first_machine : (program : List ℕ) → Machine

@@ -21,7 +21,7 @@ use Rattle.ps_mem.proofs.Lists.{slice_get-set_other, slice_get-set_same, length-
 use Rattle.ps_mem.proofs.KeepsLemmas.{AreWithin-kept, known_values}
 use Rattle.ps_seq.proofs.TextLemmas.{text_at}
 use Rattle.ps_ops.specs.declared.failure.NotMade.{NotMade}
-use Rattle.ps_ops.specs.Does.{values_in, Agrees, IsRecordReason, Changes}
+use Rattle.ps_ops.specs.Does.{values_in, ChangesAs, IsRecordReason, Changes}
 use Rattle.ps_ops.proofs.Operands.{first_three_split}
 use Rattle.ps_ops.proofs.Held.{third_held, rest_held}
 use Rattle.ps_strings.specs.StringRows.{string_put_row}
@@ -74,9 +74,9 @@ pub agrees_changes : (row : Store → List Value → Outcome Change)
     (n place : ℕ) → StandsAs h TextKind part.address n → Keeps h now → birth_at now ≡ birth_at h
     → AreValues h new → (names : List (List ℕ)) (s : Store) → Shows h names s
     → ChangesBytes row h now part place old new names s
-    → Agrees IsReason (Ok tt) (row s (values_in h names old)) names h now old new
+    → ChangesAs IsReason (Ok tt) (row s (values_in h names old)) names h now old new
 agrees_changes row IsReason h now old new part n place stands keeps births values names s shows c =
-    subst (λ outcome. Agrees IsReason (Ok tt) outcome names h now old new) (sym c.is) (record {
+    subst (λ outcome. ChangesAs IsReason (Ok tt) outcome names h now old new) (sym c.is) (record {
       operands = ap (λ b. map (value_of b names) new) births;
       store = c.shows;
       within = within_changed h part n stands names s shows now keeps place c.items new c.inside

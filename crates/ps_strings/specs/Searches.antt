@@ -1,7 +1,7 @@
 -- When what a search did is its row, or it was not made for want of memory.
-use Rattle.std.specs.Prelude.{◌≡◌, ◌⊎◌, ℕ, ◌+◌, ◌-◌, ◌<◌, true, List, ◌∷◌, drop, Result, Ok, Err}
+use Rattle.std.specs.Prelude.{◌≡◌, ◌⊎◌, ℕ, ◌+◌, ◌-◌, ◌<◌, true, List, ◌∷◌, drop, Result}
 use Rattle.ps_language.specs.Value.{Value, Store}
-use Rattle.ps_language.specs.Outcome.{Outcome, leaves}
+use Rattle.ps_language.specs.Outcome.{Outcome}
 use Rattle.ps_language.specs.Readers.{as_string, boolean, part_at, with_part}
 use Rattle.ps_language.specs.ArrayRows.{count_in}
 use Rattle.ps_word.specs.declared.words.Word.{Word}
@@ -10,10 +10,9 @@ use Rattle.ps_mem.specs.Heap.{Heap}
 use Rattle.ps_mem.specs.Meaning.{value_of, part_of}
 use Rattle.ps_operands.specs.Plain.{IsPlain}
 use Rattle.ps_mem.specs.Shows.{IsValue, IsWithin, AreWithin, Shows}
-use Rattle.ps_ops.specs.declared.failure.NotMade.TheVariants.{Memory}
 use Rattle.ps_ops.specs.declared.failure.Failure.{Failure}
-use Rattle.ps_ops.specs.declared.failure.Failure.TheVariants.{Error, NotMade as NotMadeOf}
-use Rattle.ps_ops.specs.Does.{values_in, ObservesAs}
+use Rattle.ps_operands.specs.Does.{Agrees}
+use Rattle.ps_ops.specs.Does.{values_in, concluded_of, no_records, no_words, IsReasonFor}
 
 -- a list into which bytes are read is too small for them: that of the string searched, or that of
 -- the one sought, which is topmost
@@ -23,15 +22,12 @@ LacksRoom room sought_room (y ∷ x ∷ rest) = (room < count_in (as_string x)) 
 LacksRoom room sought_room _ = ⊥
 
 -- the row; or a lack of memory where it leaves something, with the operands as they were
-abbrev pub SearchesAs : (Lacks : Type 0) → Result Unit Failure → Outcome (List Value) → List
-    (List ℕ) → Store → Heap → (before after : List Word) → Type 0
-SearchesAs Lacks (Ok _) outcome names store h before after = ObservesAs
-    (Ok tt) outcome names store h before after
-SearchesAs Lacks (Err (Error error)) outcome names store h before after = ObservesAs
-    (Err error) outcome names store h before after
-SearchesAs Lacks (Err (NotMadeOf Memory)) (leaves operands) names store h before after = Lacks
-    × (after ≡ before)
-SearchesAs Lacks (Err (NotMadeOf reason)) outcome names store h before after = ⊥
+abbrev pub SearchesAs : (Lacks : Type 0) → Result Unit Failure → Outcome (List Value)
+    → List (List ℕ) → Store → Heap → (before after : List Word) → Type 0
+SearchesAs Lacks result outcome names store h before after =
+    Agrees (λ operands. (values_in h names after ≡ operands) × AreWithin h names store after)
+    (λ reason operands. IsReasonFor no_records no_words Lacks reason) (after ≡ before)
+    (concluded_of result) outcome
 
 -- for every store that the memory shows; room, sought_room: of the two lists into which the bytes
 -- are read

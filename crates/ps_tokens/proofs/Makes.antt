@@ -1,5 +1,5 @@
 -- New objects that go onto the operand stack: made, or without room.
-use Rattle.std.proofs.Common.{◌≡◌, ℕ, ◌≤◌, ◌-◌, arith, Bool, true, false, List, [], length, Ok, Err, refl, sym, ap, subst, ◌∙◌, inl, inr, append-nil}
+use Rattle.std.proofs.Common.{◌≡◌, ℕ, ◌≤◌, ◌-◌, arith, Bool, true, false, List, [], length, Ok, Err, refl, sym, ap, subst, ◌∙◌, append-nil}
 use Rattle.std.specs.Prelude.{◌==◌, ◌&&◌, not}
 use Rattle.std.proofs.lemmas.Bool.Decides.{nat_tests}
 use Rattle.ps_language.specs.Effect.{Scene}
@@ -13,12 +13,12 @@ use Rattle.ps_mem.specs.Heap.{Heap, Grants, birth_at}
 use Rattle.ps_mem.specs.Keeps.{Keeps}
 use Rattle.ps_mem.specs.Shows.{IsSound, AreValues, AreWithin, Shows}
 use Rattle.ps_ops.specs.declared.failure.NotMade.{NotMade as Reason}
-use Rattle.ps_ops.specs.declared.failure.NotMade.TheVariants.{LogFull, LogClosed, NeedSpace, Memory}
 use Rattle.ps_ops.specs.Does.{values_in, KeepsLogsWithin, IsRoomReason}
 use Rattle.ps_acts.specs.declared.lent.Trial.{Trial}
 use Rattle.ps_acts.specs.declared.lent.Scratch.{Scratch}
 use Rattle.ps_acts.specs.Lent.{Lent, rooms_of, IsEmpty, scene_of, IsShown, IsGood}
-use Rattle.ps_acts.specs.Acts.{Asked, Needs, needs_between, IsReason, IsAtLeast, Lasts}
+use Rattle.ps_acts.specs.Acts.{Asked, needs_between, IsReason, IsAtLeast, Lasts}
+use Rattle.ps_acts.proofs.Reasons.{room_reason}
 use Rattle.ps_acts.proofs.Lifts.{changed_good, changed_left}
 use Rattle.ps_acts.proofs.Meeting.{logs_more, stays_as}
 use Rattle.ps_turns.specs.declared.turned.Turned.TheVariants.{Goes}
@@ -40,14 +40,6 @@ pub has_made : (refused : Bool) (s after : Store) → refused ≡ false
     → lacks_room refused s after ≡ false
 has_made refused s after is = rw is refl
 
-room_reason : (needs : Needs) (slot : ℕ) (old new : Lent) (reason : Reason) → 1 ≤ needs.words
-    → IsRoomReason reason old.heap needs.words needs.births → IsReason needs slot old new reason
-room_reason needs slot old new LogFull some why = absurd why
-room_reason needs slot old new LogClosed some why = absurd why
-room_reason needs slot old new (NeedSpace words) some why =
-    let same = why.0 in (same, omega (arith, same, some), why.1)
-room_reason needs slot old new Memory some why = inr (inr (inl (some, why)))
-
 module _ (asks : Lent → Store → Asked) (turn : Lent → Store → Turn) (trial : Trial) (l : Lent)
     (good : IsGood l) (refused : trial.refused ≡ false) where
   -- the turn would leave what asks for so much room
@@ -68,14 +60,11 @@ module _ (asks : Lent → Store → Asked) (turn : Lent → Store → Turn) (tri
       let w = wants s shown in
       let birth = birth_at l.heap l.error_dictionary in
       let needed = needs_between (asks l s) (scene_of l s) w.scene [] in
-      let asked : IsRoomReason reason l.heap needed.words needed.births =
-      subst (λ (n : ℕ). IsRoomReason reason l.heap n needed.births) (sym w.words_are)
-      (subst (λ (n : ℕ). IsRoomReason reason l.heap words n) (sym w.births_are) why) in
-      let sure : 1 ≤ needed.words = subst (λ (n : ℕ). 1 ≤ n) (sym w.words_are) some in
       subst (λ (t : Turn). IsReason (turn_needs trial.refused (asks l s) birth (scene_of l s) t)
       trial.slot l (record l { grants = grants }) reason) (sym w.is)
       (rw (has_made trial.refused s w.scene.store refused)
-      (room_reason needed trial.slot l (record l { grants = grants }) reason sure asked))
+      (room_reason needed trial.slot l (record l { grants = grants }) words births w.words_are
+      w.births_are some reason why))
 
   -- ---- made
 

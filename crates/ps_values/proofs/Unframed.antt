@@ -8,7 +8,7 @@ use Rattle.ps_acts.specs.Lent.{Lent}
 use Rattle.ps_acts.specs.Trials.{ordinary}
 use Rattle.ps_acts.specs.Unframed.{under}
 use Rattle.ps_values.specs.declared.under.Under.{Under}
-use Rattle.ps_values.specs.declared.under.Under.TheVariants.{Acts, Fails, Left}
+use Rattle.ps_values.specs.declared.under.Under.TheVariants.{Done, Fails, Left}
 use Rattle.ps_values.specs.Values.{GoesUnder, operated_turn, treated_turn, Asks, operated_asks, treated_asks}
 use Rattle.ps_values.proofs.Alone.{treated_by_operator}
 
@@ -18,7 +18,7 @@ pub operator_under : (asks : Asks) (command word : Word) → executable_in word.
     → GoesUnder [] (operated_asks asks operator) (operated_turn operator) slot came old new
     → GoesUnder (word ∷ command ∷ []) (treated_asks asks word) (treated_turn command word) slot came
     old new
-operator_under asks command word may operator content slot Acts old new goes = λ above good values.
+operator_under asks command word may operator content slot Done old new goes = λ above good values.
     treated_by_operator asks command word (under above old) (under above new) (ordinary slot)
     operator may content (goes above good tt)
 operator_under asks command word may operator content slot Fails old new undone = undone

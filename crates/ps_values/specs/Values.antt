@@ -26,7 +26,7 @@ use Rattle.ps_acts.specs.Trials.{ordinary}
 use Rattle.ps_acts.specs.Unframed.{under, IsUndone}
 use Rattle.ps_turns.specs.declared.turned.Turned.TheVariants.{Goes}
 use Rattle.ps_values.specs.declared.under.Under.{Under}
-use Rattle.ps_values.specs.declared.under.Under.TheVariants.{Acts, Fails, Left}
+use Rattle.ps_values.specs.declared.under.Under.TheVariants.{Done, Fails, Left}
 use Rattle.ps_turns.specs.Turns.{TurnsWith, none_asked}
 
 -- ---- what is held
@@ -176,10 +176,10 @@ EntersAlone words asked turn ahead old new = OnLeft ahead (new ≡ old)
 -- was done; or nothing has changed
 abbrev pub GoesUnder : (words : List Word) → (asked : Lent → Store → Asked)
     → (turn : Lent → Store → Turn) → (slot : ℕ) → Under → (old new : Lent) → Type 0
-GoesUnder words asked turn slot Acts old new =
+GoesUnder words asked turn slot Done old new =
     (above : List Frame) → IsGood (under above old) → AreValues old.heap words
     → TurnsWith words [] asked turn (ordinary slot) (Ok Goes) (under above old) (under above new)
-GoesUnder words asked turn slot Fails old new = IsUndone old new
+GoesUnder words asked turn slot Fails old new = IsUndone slot old new
 GoesUnder words asked turn slot Left old new = new ≡ old
 
 -- over this heap and by this dictionary stack

@@ -15,7 +15,7 @@ use ps_word::words::Word;
 #[derive(Clone, Copy, Debug, PartialEq, Eq)]
 pub enum Under {
     /// It acted and raised no error, as it would under any more frames.
-    Acts,
+    Done,
     /// It would raise an error, or it can't be made: nothing was done.
     Fails,
     /// It may see or change frames. Nothing has changed.

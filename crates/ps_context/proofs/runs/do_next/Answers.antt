@@ -57,8 +57,8 @@ pushed_turn-turn-requires-clause-good g c =
     c.element_under.new.shared) c.args.rest.now
     (rw c.in-Fails.is at c.element_under.ensures.does) c.element_under.ensures.frames good
 
-pub returns-in-Acts : goal.returns-in-Acts
-returns-in-Acts g c =
+pub returns-in-Done : goal.returns-in-Done
+returns-in-Done g c =
     let asks = g.O.Operate.asks in
     let l : Lent = lent (g.M.Memory.heap c.args.memory.now)
     (g.M.Memory.grants c.args.memory.now) c.args.context.now c.args.shared.now in
@@ -77,7 +77,7 @@ returns-in-Acts g c =
     c.behind_first.new.rest (above c.args.rest.now m) after) same
     (rw (c.behind_first.ensures.came, c.behind_first.ensures.left)
     (comes_behind asks c.args.slot c.args.rest.now mid after good room
-    (rw c.in-Acts.is at c.element_under.ensures.does)))
+    (rw c.in-Done.is at c.element_under.ensures.does)))
 
 pub returns-in-Fails : goal.returns-in-Fails
 returns-in-Fails g c =

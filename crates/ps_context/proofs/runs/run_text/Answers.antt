@@ -42,8 +42,8 @@ loop-made-preserved g c =
           c.loop-made.invariant.makes _ takes.1;
     }
 
-pub returns-in-Came : goal.returns-in-Came
-returns-in-Came g c = record {
+pub returns-in-Turned : goal.returns-in-Turned
+returns-in-Turned g c = record {
   within = with_within c.args.most c.loop-made.made c.with_turn.result
       (omega (arith, nat_tests, c.loop-made-test.true)) c.with_turn.ensures.behind
       c.with_turn.ensures.more;
@@ -53,7 +53,7 @@ returns-in-Came g c = record {
       (read_behind g.O.Operate.asks c.args.slot c.loop-made.made _
       (lent (g.M.Memory.heap c.loop-made.memory) (g.M.Memory.grants c.loop-made.memory)
       c.loop-made.context c.loop-made.shared) c.args.source c.loop-made.place
-      c.loop-made.invariant.makes _ _ (rw c.in-Came.is at c.read_token.ensures.takes));
+      c.loop-made.invariant.makes _ _ (rw c.in-Turned.is at c.read_token.ensures.takes));
 }
 
 pub returns : goal.returns

@@ -1,5 +1,6 @@
 -- The text at the front of the string, or why not.
 use Rattle.std.proofs.Common.{ℕ, ◌≤◌, arith, List, length, sym, subst, ◌∙◌, inl}
+use Rattle.std.specs.Prelude.{vec_capacity}
 use Rattle.ps_language.specs.declared.errors.ErrorName.TheVariants.{RangeCheck}
 use Rattle.ps_mem.specs.Heap.{birth_at}
 use Rattle.ps_mem.specs.Shows.{IsValue, IsWithin}
@@ -81,7 +82,9 @@ returns-in-Err g c =
     (g.M.Memory.grants c.write_text.new.memory) c.in-Err.reason)
     (c.in-Ok.ensures.reads store shown.shows (second_held (IsWithin (birth_at h) _ store) _
     shown.operands _ _ c.in-Some.ensures))
-    (text_reason c.in-Err.reason (length read) _ _ _ _ _ reason)))
+    (text_reason c.in-Err.reason (length read) (vec_capacity c.args.shared.now.scratch.text)
+    (vec_capacity c.args.shared.now.scratch.words) c.args.trial.slot
+    (g.M.Memory.grants c.args.memory.now) (g.M.Memory.grants c.write_text.new.memory) reason)))
 
 pub returns : goal.returns
 returns g c =

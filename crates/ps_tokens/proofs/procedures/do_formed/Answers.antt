@@ -33,6 +33,11 @@ returns-then-trial g c =
     (λ s shown. formed_lacks l content c.null.result (c.null.ensures.value _ _) c.args.trial _ _
     c.if-trial.true s) c.raise.ensures
 
+pub granted-requires : goal.granted-requires
+granted-requires g c =
+    let words = c.in-Some.ensures.words c.args.text.now in
+    record { some = omega (arith, words) }
+
 pub returns-in-Err : goal.returns-in-Err
 returns-in-Err g c =
     let l : Lent = (lent (g.M.Memory.heap c.args.memory.now) (g.M.Memory.grants c.args.memory.now)
