@@ -18,7 +18,7 @@ ghost use Rattle.ps_keys.specs.Lookups.{IsSought};
 ghost use Rattle.ps_dictionary_operators.specs.Asks.{def_asks, put_asks, store_asks};
 ghost use Rattle.ps_dictionary_operators.specs.Places.{IsPlaced};
 
-use crate::puts::{Entry, put_key};
+use crate::puts::{Entry, put_entry, put_key};
 use ps_acts::breaks::Break;
 use ps_acts::lent::{Context, Dictionaries, Shared, Trial};
 use ps_keys::keys::{is_null, is_readable_key, read_key};
@@ -61,14 +61,13 @@ pub fn def<M: Memory>(
     if !is_readable_key(key) {
         return Err(Break::Raises(ErrorName::InvalidAccess));
     }
-    let read = read_key(memory, &shared.names, key);
     let entry = Entry {
         address,
         key,
         value,
         operands: 2,
     };
-    put_key(context, shared, memory, trial, entry, &read)
+    put_entry(context, shared, memory, trial, entry)
 }
 
 /// `D k x put` into a dictionary, given by its word and its address.
@@ -99,14 +98,13 @@ pub fn put_into_dictionary<M: Memory>(
     if !is_readable_key(key) {
         return Err(Break::Raises(ErrorName::InvalidAccess));
     }
-    let read = read_key(memory, &shared.names, key);
     let entry = Entry {
         address,
         key,
         value,
         operands: 3,
     };
-    put_key(context, shared, memory, trial, entry, &read)
+    put_entry(context, shared, memory, trial, entry)
 }
 
 /// Where `store` puts a key: the dictionary where it was found, else the current one. Raises

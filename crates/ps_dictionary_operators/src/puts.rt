@@ -20,7 +20,7 @@ use ps_acts::lent::{Context, Shared, Trial};
 use ps_dict::changes::put;
 use ps_dict::dictionaries::{access, length};
 use ps_dict::plans::{CAPACITY_LIMIT, PutPlan, plan_put};
-use ps_keys::keys::{Key, form_key, name_word};
+use ps_keys::keys::{Key, form_key, name_word, read_key};
 use ps_language::errors::ErrorName;
 use ps_language::kinds::Kind;
 use ps_mem::{Memory, SLOTS};
@@ -29,6 +29,7 @@ use ps_ops::arrays::is_writable;
 use ps_ops::changes::{MOST_RECORDS, permitted};
 use ps_ops::failure::NotMade;
 use ps_ops::makes::granted;
+use ps_strings::readers::string_of;
 use ps_word::words::Word;
 
 /// A pair that is put into the dictionary at an address, and how many operands go.
@@ -267,5 +268,81 @@ pub(crate) fn put_key<M: Memory>(
     match read.word() {
         Some(key) => put_met(context, shared, memory, trial, Entry { key, ..entry }),
         None => put_unmet(context, shared, memory, trial, entry, read),
+    }
+}
+
+/// Puts a pair whose key is no string.
+///
+/// Raises `invalidaccess` where the dictionary may not be written, `limitcheck` and `VMerror` as
+/// `put_met`. Not made as `put_planned`.
+#[inline(always)]
+fn put_word<M: Memory>(
+    context: &mut Context,
+    shared: &mut Shared,
+    memory: &mut M,
+    trial: Trial,
+    entry: Entry,
+) -> Result<(), Break>
+    requires slot { trial.slot < SLOTS }
+    requires good { IsGood
+        (lent (M.heap memory.old) (M.grants memory.old) context.old shared.old) }
+    requires known { StandsAs (M.heap memory.old) Kind.Dictionary entry.address 4 }
+    requires key { IsKeyOf (M.heap memory.old) shared.old.names entry.key (Key.Met entry.key) }
+    requires value { IsValue (M.heap memory.old) entry.value }
+    requires operands { entry.operands ≤ length context.old.operands }
+    requires inside { (names : List (List ℕ)) (store : Store)
+        → AreWithin (M.heap memory.old) names store context.old.operands
+        → IsWithin (birth_at (M.heap memory.old)) names store entry.key
+        × IsWithin (birth_at (M.heap memory.old)) names store entry.value }
+    ensures acts { Acts (putting_key_asks (birth_at (M.heap memory.old)) entry.address entry.key)
+        (putting_where_writable (birth_at (M.heap memory.old)) entry.address entry.key entry.value
+        entry.operands) trial result
+        (lent (M.heap memory.old) (M.grants memory.old) context.old shared.old)
+        (lent (M.heap memory.new) (M.grants memory.new) context.new shared.new) }
+    ensures frames { context.new.frames ≡ context.old.frames }
+{
+    if is_writable(access(memory, entry.address)) {
+        put_met(context, shared, memory, trial, entry)
+    } else {
+        Err(Break::Raises(ErrorName::InvalidAccess))
+    }
+}
+
+/// Puts a pair whose key is read first: a string stands for the name of its characters.
+///
+/// Raises and is not made as `put_key`.
+#[inline(always)]
+pub(crate) fn put_entry<M: Memory>(
+    context: &mut Context,
+    shared: &mut Shared,
+    memory: &mut M,
+    trial: Trial,
+    entry: Entry,
+) -> Result<(), Break>
+    requires slot { trial.slot < SLOTS }
+    requires good { IsGood
+        (lent (M.heap memory.old) (M.grants memory.old) context.old shared.old) }
+    requires known { StandsAs (M.heap memory.old) Kind.Dictionary entry.address 4 }
+    requires key { IsValue (M.heap memory.old) entry.key }
+    requires value { IsValue (M.heap memory.old) entry.value }
+    requires operands { entry.operands ≤ length context.old.operands }
+    requires inside { (names : List (List ℕ)) (store : Store)
+        → AreWithin (M.heap memory.old) names store context.old.operands
+        → IsWithin (birth_at (M.heap memory.old)) names store entry.key
+        × IsWithin (birth_at (M.heap memory.old)) names store entry.value }
+    ensures acts { Acts (putting_key_asks (birth_at (M.heap memory.old)) entry.address entry.key)
+        (putting_where_writable (birth_at (M.heap memory.old)) entry.address entry.key entry.value
+        entry.operands) trial result
+        (lent (M.heap memory.old) (M.grants memory.old) context.old shared.old)
+        (lent (M.heap memory.new) (M.grants memory.new) context.new shared.new) }
+    ensures frames { context.new.frames ≡ context.old.frames }
+{
+    let _count = shared.names.len();
+    match string_of(entry.key) {
+        None => put_word(context, shared, memory, trial, entry),
+        Some(_) => {
+            let read = read_key(memory, &shared.names, entry.key);
+            put_key(context, shared, memory, trial, entry, &read)
+        }
     }
 }

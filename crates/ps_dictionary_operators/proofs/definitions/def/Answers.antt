@@ -27,8 +27,8 @@ returns-then-not-is_readable_key-clause-acts g c =
     c.in-Some-as_dictionary.ensures
     (c.is_readable_key.ensures _ _ ∙ c.if-not-is_readable_key.true))
 
-pub put_key-requires-clause-known : goal.put_key-requires-clause-known
-put_key-requires-clause-known g c = rw c.read_key-read.ensures.heap
+pub put_entry-requires-clause-known : goal.put_entry-requires-clause-known
+put_entry-requires-clause-known g c =
     (dictionary_stands (g.M.Memory.heap c.args.memory.now) _
     (first_held (IsValue (g.M.Memory.heap c.args.memory.now)) _ c.requires.good.dictionaries _
     c.in-Some-top.ensures) _ c.in-Some-as_dictionary.ensures)
@@ -38,12 +38,10 @@ returns-clause-acts g c =
     let held = second_held (IsValue (g.M.Memory.heap c.args.memory.now)) _
     c.requires.good.operands _ _ c.in-Some.ensures in
     let some = c.is_null.ensures _ _ held ∙ c.if-is_null.false in
-    let acts = rw (c.read_key-read.ensures.heap, c.read_key-read.ensures.grants)
-    at c.put_key.ensures in
     effect_acts _ _ _ _ _ _ _
     (def_is _ _ _ c.in-Some.ensures some _ c.in-Some-top.ensures _
     c.in-Some-as_dictionary.ensures
     (c.is_readable_key.ensures _ _ ∙ c.if-not-is_readable_key.false))
     (asked_acts _ _ _ _ _ _ _
     (def_asked _ _ _ c.in-Some.ensures some _ c.in-Some-top.ensures _
-    c.in-Some-as_dictionary.ensures) acts.acts)
+    c.in-Some-as_dictionary.ensures) c.put_entry.ensures.acts)

@@ -27,8 +27,8 @@ returns-then-not-is_readable_key-clause-acts g c =
     (c.is_null.ensures _ _ held ∙ c.if-is_null.false)
     (c.is_readable_key.ensures _ _ ∙ c.if-not-is_readable_key.true))
 
-pub put_key-requires-clause-known : goal.put_key-requires-clause-known
-put_key-requires-clause-known g c = rw c.read_key-read.ensures.heap
+pub put_entry-requires-clause-known : goal.put_entry-requires-clause-known
+put_entry-requires-clause-known g c =
     (dictionary_stands (g.M.Memory.heap c.args.memory.now) _
     (third_held (IsValue (g.M.Memory.heap c.args.memory.now)) _ c.requires.good.operands _ _ _
     c.requires.operands) _ c.requires.address)
@@ -37,11 +37,9 @@ pub returns-clause-acts : goal.returns-clause-acts
 returns-clause-acts g c =
     let held = second_of_three_held (IsValue (g.M.Memory.heap c.args.memory.now)) _
     c.requires.good.operands _ _ _ c.requires.operands in
-    let acts = rw (c.read_key-read.ensures.heap, c.read_key-read.ensures.grants)
-    at c.put_key.ensures in
     effect_acts _ _ _ _ _ _ _
     (put_puts _ _ _ _ _ c.requires.operands c.requires.address
     (c.is_null.ensures _ _ held ∙ c.if-is_null.false)
     (c.is_readable_key.ensures _ _ ∙ c.if-not-is_readable_key.false))
     (asked_acts _ _ _ _ _ _ _
-    (put_asked_is _ _ _ _ _ c.requires.operands c.requires.address) acts.acts)
+    (put_asked_is _ _ _ _ _ c.requires.operands c.requires.address) c.put_entry.ensures.acts)
