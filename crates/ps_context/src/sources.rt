@@ -1,19 +1,20 @@
 //! The next token of a source: of the program, or of a string that is executed (PLRM2, 3.2).
 
-ghost use Rattle.std.specs.Prelude.{◌≡◌, ℕ, ◌≤◌, List, length};
+ghost use Rattle.std.specs.Prelude.{◌≡◌, ℕ, ◌<◌, ◌≤◌, List, Some, IfSome, length};
 ghost use Rattle.ps_language.specs.Scan.{scan};
 ghost use Rattle.ps_language.specs.StepFrames.{source_bytes};
 ghost use Rattle.ps_language.specs.Value.{Store};
 ghost use Rattle.ps_control.specs.Frames.{IsSourceAt, IsSourceWithin, source_of};
 ghost use Rattle.ps_mem.specs.Heap.{birth_at};
 ghost use Rattle.ps_mem.specs.Shows.{IsSound, Shows};
+ghost use Rattle.ps_scan.specs.Shown.{scan_of};
 ghost use Rattle.ps_context.specs.Texts.{IsScanned, Starves, IsTaken, bytes_scanned};
 ghost use Rattle.ps_context.specs.Windows.{IsWindow};
 
 use crate::windows::{scan_read, scan_string};
 use ps_control::frames::Source;
 use ps_mem::Memory;
-use ps_scan::{ScanFault, Token, next_token};
+use ps_scan::{ScanFault, Token, next_token, next_word};
 use ps_tokens::laws::scanned_is_short;
 use std::alloc::Global;
 
@@ -67,5 +68,21 @@ pub(crate) fn scan_source<M: Memory>(
             Some(token) => Ok(Some(token)),
             None => scan_string(memory, part, at, start, list, alloc),
         },
+    }
+}
+
+/// The next token of the program behind a place, where it is a number or an executable name.
+/// `None`: it is another, or nothing is left, or the source is a string.
+#[inline(always)]
+pub(crate) fn scan_word(source: Source, at: usize, program: &[u8]) -> Option<Token>
+    requires place { source ≡ Source.Program → at ≤ length program.now }
+    ensures source { IfSome result (λ token. source ≡ Source.Program) }
+    ensures scanned { IfSome result
+        (λ token. scan program.now at ≡ scan_of program.now (Some token)) }
+    ensures token { IfSome result (λ t. (at < t.end) × (t.end ≤ length program.now)) }
+{
+    match source {
+        Source::Program => next_word(program, at),
+        Source::Text(_) => None,
     }
 }

@@ -12,11 +12,11 @@ ghost use Rattle.ps_stacks.specs.Tops.{first_of};
 ghost use Rattle.ps_tokens.specs.Short.{IsShort};
 ghost use Rattle.ps_turns.specs.Turns.{Turns};
 ghost use Rattle.ps_frames.specs.Steps.{running_turn};
-ghost use Rattle.ps_context.specs.Reading.{read_to, IsRead, Reads, Takes};
+ghost use Rattle.ps_context.specs.Reading.{read_to, IsRead, Reads, ReadsWord, Takes};
 ghost use Rattle.ps_context.specs.Texts.{IsFaulty, IsScanned, Starves, IsTaken, scan_at, scanned_asks, text_asks};
 ghost use Rattle.ps_context.specs.Windows.{IsWindow, OnDone};
 
-use crate::sources::{scan_source, scanned_bytes};
+use crate::sources::{scan_source, scan_word, scanned_bytes};
 use ps_acts::lent::{Context, Dictionaries, Shared, Trial};
 use ps_control::frames::{Frame, Source, replace_top};
 use ps_frames::frames::drop_top;
@@ -26,6 +26,7 @@ use ps_names::Names;
 use ps_operands::{Operands, plain};
 use ps_ops::failure::NotMade;
 use ps_scan::{ScanFault, Token, TokenKind};
+use ps_tokens::laws::scanned_is_short;
 use ps_tokens::tokens::do_token;
 use ps_tokens::words::word_of;
 use ps_turns::raises::raise;
@@ -336,10 +337,48 @@ fn take_scanned<O: Operate, M: Memory>(
     }
 }
 
+/// Does the next token of the program behind a place by operands alone, where it is a number or an
+/// executable name, and that raises no error and forms no name. Else it tells as which value the
+/// token is treated, where its name was met and looked up. The memory stays as it is.
+#[inline(always)]
+fn word_ahead<O: Operate, M: Memory>(
+    source: Source,
+    at: usize,
+    program: &[u8],
+    operators: &O,
+    dictionaries: &Dictionaries,
+    names: &Names,
+    operands: &mut Operands,
+    memory: &mut M,
+) -> Read
+    requires sound { IsSound (M.heap memory.old) }
+    requires dictionaries { AreValues (M.heap memory.old) dictionaries.now }
+    requires place { source ≡ Source.Program → at ≤ length program.now }
+    ensures heap { M.heap memory.new ≡ M.heap memory.old }
+    ensures grants { M.grants memory.new ≡ M.grants memory.old }
+    ensures reads { ReadsWord O.asks (M.heap memory.old) dictionaries.now names.now program.now
+        source at result operands.old operands.new }
+{
+    let Some(token) = scan_word(source, at, program) else {
+        return Read::Left;
+    };
+    scanned_is_short();
+    let scanned = Ok(Some(token));
+    token_ahead(
+        &scanned,
+        program,
+        operators,
+        dictionaries,
+        names,
+        operands,
+        memory,
+    )
+}
+
 /// The next token of a text behind a place is taken. Where the list doesn't have it, a string is
 /// read into it as it stands now, as far as the token takes, from a place of the string on.
 #[inline(always)]
-pub fn read_token<O: Operate, M: Memory>(
+fn take_next<O: Operate, M: Memory>(
     source: Source,
     at: usize,
     start: &mut usize,
@@ -368,6 +407,55 @@ pub fn read_token<O: Operate, M: Memory>(
     take_scanned(
         source, at, scanned, text, operators, context, shared, memory, trial,
     )
+}
+
+/// The next token of a text behind a place is taken, a number or a name of the program in line. Where the list doesn't have it, a string is
+/// read into it as it stands now, as far as the token takes, from a place of the string on.
+#[inline(always)]
+pub fn read_token<O: Operate, M: Memory>(
+    source: Source,
+    at: usize,
+    start: &mut usize,
+    list: &mut Vec<u8>,
+    operators: &O,
+    context: &mut Context,
+    shared: &mut Shared,
+    memory: &mut M,
+    trial: Trial,
+) -> Taken
+    requires slot { trial.slot < SLOTS }
+    requires framed { 1 ≤ length context.old.frames }
+    requires good { IsGood (read_to source at
+        (lent (M.heap memory.old) (M.grants memory.old) context.old shared.old)) }
+    requires window { IsWindow (M.heap memory.old) source start.old list.old.items }
+    ensures takes { Takes O.asks source at trial result
+        (lent (M.heap memory.old) (M.grants memory.old) context.old shared.old)
+        (lent (M.heap memory.new) (M.grants memory.new) context.new shared.new) }
+    ensures window { OnDone result
+        (IsWindow (M.heap memory.new) source start.new list.new.items) }
+{
+    let program = shared.program;
+    let dictionaries = &context.dictionaries;
+    let operands = &mut context.operands;
+    let names = &shared.names;
+    match word_ahead(
+        source,
+        at,
+        program,
+        operators,
+        dictionaries,
+        names,
+        operands,
+        memory,
+    ) {
+        Read::Done(end) => Taken::Done(end),
+        Read::Treats { word, value, end } => Taken::Turned(treat_token(
+            source, at, end, word, value, operators, context, shared, memory, trial,
+        )),
+        Read::Left => take_next(
+            source, at, start, list, operators, context, shared, memory, trial,
+        ),
+    }
 }
 
 /// A step by the topmost frame, a text: its next token is taken and done; with none left the frame

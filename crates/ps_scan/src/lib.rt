@@ -16,5 +16,5 @@ mod words;
 
 pub use firsts::{NumberFault, first_number};
 pub use law::scanner_is_grammar;
-pub use scanner::next_token;
+pub use scanner::{next_token, next_word};
 pub use tokens::{NAME_LIMIT, NESTING_LIMIT, SEQUENCE_LIMIT, ScanFault, Span, Token, TokenKind};
