@@ -1,7 +1,6 @@
 -- A token of a text is done by operands alone.
-use Rattle.std.proofs.Common.{◌≡◌, ℕ, ◌+◌, ◌<◌, ◌≤◌, arith, true, List, [], ◌∷◌, drop, length, Option, Some, None, Result, Ok, Err, refl, sym, subst, ◌∙◌}
+use Rattle.std.proofs.Common.{◌≡◌, ℕ, ◌+◌, true, List, [], ◌∷◌, drop, length, Option, Some, None, Result, Ok, Err, refl, sym, subst, ◌∙◌}
 use Rattle.ps_language.specs.Token as language
-use Rattle.ps_language.specs.Scan.{scan}
 use Rattle.ps_language.specs.Token.{found}
 use Rattle.ps_language.specs.Value.{Store}
 use Rattle.ps_word.specs.declared.words.Word.{Word}
@@ -10,9 +9,8 @@ use Rattle.ps_mem.specs.Shows.{IsWithin}
 use Rattle.ps_ops.specs.declared.failure.NotMade.{NotMade as Reason}
 use Rattle.ps_scan.specs.declared.tokens.ScanFault.{ScanFault as Fault}
 use Rattle.ps_scan.specs.declared.tokens.Token.{Token}
-use Rattle.ps_scan.specs.Shown.{scan_of, token_of}
+use Rattle.ps_scan.specs.Shown.{token_of}
 use Rattle.ps_control.specs.declared.frames.Source.{Source}
-use Rattle.ps_control.specs.declared.frames.Source.TheVariants.{Program}
 use Rattle.ps_control.specs.declared.frames.Frame.{Frame}
 use Rattle.ps_control.specs.Frames.{IsSourceAt, source_of}
 use Rattle.ps_acts.specs.declared.lent.Trial.{Trial}
@@ -31,12 +29,11 @@ use Rattle.ps_interpreter.specs.OwnSteps.{HasRun}
 use Rattle.ps_interpreter.proofs.Running.{run_more}
 use Rattle.ps_tokens.specs.Tokens.{token_asks, token_turn}
 use Rattle.ps_tokens.specs.Words.{IsDoneAs}
-use Rattle.ps_context.specs.declared.texts.Read.{Read}
-use Rattle.ps_context.specs.declared.texts.Read.TheVariants.{Done, Treats, Left}
-use Rattle.ps_context.specs.Reading.{read_to, DoesToken, Reads, ReadsToken, ReadsWord, IsRead}
+use Rattle.ps_context.specs.declared.tokens.Read.{Read}
+use Rattle.ps_context.specs.declared.tokens.Read.TheVariants.{Done, Treats, Left}
+use Rattle.ps_context.specs.Reading.{read_to, DoesToken, Reads, ReadsWord, IsRead}
 use Rattle.ps_context.specs.Steps.{own_asks}
-use Rattle.ps_context.specs.Texts.{scan_at, scanned_asks, text_asks, IsScanned, Starves, IsTaken}
-use Rattle.ps_context.proofs.Scanning.{taken}
+use Rattle.ps_context.specs.Texts.{scan_at, scanned_asks, text_asks, bytes_scanned, IsScanned, Starves, IsTaken, Scans}
 use Rattle.ps_context.proofs.Ahead.{turned_behind}
 use Rattle.ps_context.proofs.Listing.{listed_turns}
 use Rattle.ps_context.proofs.Scanning.{source_records, source_rooms}
@@ -205,53 +202,23 @@ treated_same asks heap dictionaries names text word value end (Ok None) old new 
 treated_same asks heap dictionaries names text word value end (Err fault) old new reads =
     absurd reads
 
--- ---- a number or a name of the program
+-- ---- a number or a name
 
 pub word_reads : (asks : Asks) (heap : Heap) (dictionaries : List Word) (names : List (List ℕ))
-    (program : List ℕ) (source : Source) (at : ℕ) (token : Token) → source ≡ Program
-    → scan program at ≡ scan_of program (Some token) → at < token.end
-    → token.end ≤ length program → (read : Read) (old new : List Word)
-    → Reads asks heap dictionaries names program read (Ok (Some token)) old new
-    → ReadsWord asks heap dictionaries names program source at read old new
-word_reads asks heap dictionaries names program source at token is scanned further within Left old new
-    reads = reads
-word_reads asks heap dictionaries names program source at token is scanned further within (Done end)
-    old new reads = record {
-      token = token;
-      source_is = is;
-      scanned = scanned;
-      further = further;
-      within = within;
-      reads = reads;
-    }
-word_reads asks heap dictionaries names program source at token is scanned further within
-    (Treats word value end) old new reads = record {
-      token = token;
-      source_is = is;
-      scanned = scanned;
-      further = further;
-      within = within;
-      reads = reads;
-    }
-
-module _ (asks : Asks) (source : Source) (at : ℕ) (l : Lent) (read : Read) (new : List Word)
-    (t : ReadsToken asks l.heap l.dictionaries l.names l.program source at read l.operands new)
-  where
-    pub word_scanned : (s : Store) → IsShown (read_to source at l) s
-        → let outcome = scan_at source at l s in
-        IsScanned (Starves (source_of (birth_at l.heap) source) outcome) l.program
-        (Ok (Some t.token)) outcome
-    word_scanned s shown =
-        subst (λ (src : Source). scan_at src at l s ≡ scan_of l.program (Some t.token))
-        (sym t.source_is) t.scanned
-
-    pub word_held : IsTaken (IsSourceAt l.heap (length l.program) source) l.program
-        (Ok (Some t.token))
-    word_held =
-        subst (λ (src : Source). IsTaken (IsSourceAt l.heap (length l.program) src) l.program
-        (Ok (Some t.token))) (sym t.source_is)
-        (taken l.program at (length l.program) (Ok (Some t.token)) (omega arith) t.scanned
-        (t.further, t.within))
+    (program list : List ℕ) (source : Source) (at : ℕ) (token : Token)
+    → Scans heap source at program list (Ok (Some token))
+    → IsTaken (IsSourceAt heap (length program) source) (bytes_scanned source program list)
+    (Ok (Some token)) → (read : Read) (old new : List Word)
+    → Reads asks heap dictionaries names (bytes_scanned source program list) read (Ok (Some token))
+    old new
+    → ReadsWord asks heap dictionaries names program list source at read old new
+word_reads asks heap dictionaries names program list source at token scanned held Left old new reads =
+    reads
+word_reads asks heap dictionaries names program list source at token scanned held (Done end) old new
+    reads = record { token = token; scanned = scanned; held = held; reads = reads }
+word_reads asks heap dictionaries names program list source at token scanned held
+    (Treats word value end) old new reads =
+    record { token = token; scanned = scanned; held = held; reads = reads }
 
 -- ---- steps
 

@@ -14,11 +14,14 @@ use Rattle.ps_language.specs.Value.{Store}
 use Rattle.ps_language.specs.World as world
 use Rattle.ps_language.proofs.ScanSteps.{scan_shifted}
 use Rattle.ps_word.specs.declared.words.Word.{Word}
-use Rattle.ps_mem.specs.Heap.{birth_at}
+use Rattle.ps_mem.specs.Heap.{Heap, birth_at}
 use Rattle.ps_ops.specs.declared.failure.NotMade.TheVariants.{Memory}
+use Rattle.ps_word.specs.declared.values.Part.{Part}
 use Rattle.ps_control.specs.declared.frames.Source.{Source}
+use Rattle.ps_control.specs.declared.frames.Source.TheVariants.{Text as TextOf}
 use Rattle.ps_control.specs.declared.frames.Frame.{Frame}
 use Rattle.ps_control.specs.declared.frames.Frame.TheVariants.{Text}
+use Rattle.ps_control.specs.Frames.{IsSourceAt}
 use Rattle.ps_acts.specs.declared.lent.Trial.{Trial}
 use Rattle.ps_acts.specs.Acts.{Asked, IsReason, IsAtLeast}
 use Rattle.ps_acts.specs.Lent.{Lent, scene_of}
@@ -28,6 +31,7 @@ use Rattle.ps_scan.specs.declared.tokens.ScanFault.TheVariants.{Syntax, Limit, M
 use Rattle.ps_scan.specs.declared.tokens.Token.{Token}
 use Rattle.ps_scan.specs.Shown.{TakesMemory, IsFaultBy, scan_of, token_of}
 use Rattle.ps_seq.proofs.CompareLemmas.{length_part}
+use Rattle.ps_tokens.specs.Short.{IsShort}
 use Rattle.ps_tokens.proofs.ShortLaw.{scanned_is_short}
 use Rattle.ps_turns.specs.Turns.{error_turn, needs_in}
 use Rattle.ps_turns.proofs.Composing.{restacked}
@@ -151,6 +155,23 @@ module _ (text : List ℕ) where
   taken_at Holds More (Ok None) more is = tt
   taken_at Holds More (Ok (Some token)) more is = (more token.end is.0, is.1)
   taken_at Holds More (Err fault) more is = tt
+
+-- a number or a name
+pub word_taken : (text : List ℕ) (at : ℕ) (result : Option Token)
+    → IfSome result (λ token. scan text at ≡ scan_of text (Some token))
+    → IfSome result (λ t. (at < t.end) × (t.end ≤ length text))
+    → IfSome result (λ token. IsTaken (λ end. end ≤ length text) text (Ok (Some token)))
+word_taken text at (Some token) answer place =
+    taken text at (length text) (Ok (Some token)) (omega arith) answer place
+word_taken text at None answer place = tt
+
+-- one of a part of a string
+pub word_held : (h : Heap) (size : ℕ) (part : Part) (at : ℕ)
+    → IsSourceAt h size (TextOf part) at → (list : List ℕ) (result : Option Token)
+    → IfSome result (λ t. (t.end ≤ part.length) × IsShort (token_of list t.kind))
+    → IfSome result (λ t. IsTaken (IsSourceAt h size (TextOf part)) list (Ok (Some t)))
+word_held h size part at held list (Some token) is = ((held.0, is.0), is.1)
+word_held h size part at held list None is = tt
 
 -- a text that was read and scanned
 module _ (text slice : List ℕ) (is : slice ≡ text) (result : Result (Option Token) Fault)

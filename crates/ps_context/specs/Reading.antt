@@ -1,7 +1,6 @@
 -- The tokens of a text, one after another (PLRM2, 3.2, 3.5).
-use Rattle.std.specs.Prelude.{◌≡◌, ℕ, ◌<◌, ◌≤◌, List, ◌∷◌, drop, length, Option, Some, Result, Ok}
+use Rattle.std.specs.Prelude.{◌≡◌, ℕ, List, ◌∷◌, drop, length, Option, Some, Result, Ok}
 use Rattle.ps_language.specs.Token as language
-use Rattle.ps_language.specs.Scan.{scan}
 use Rattle.ps_language.specs.Token.{found}
 use Rattle.ps_language.specs.Value.{Store}
 use Rattle.ps_word.specs.declared.words.Word.{Word}
@@ -9,9 +8,8 @@ use Rattle.ps_mem.specs.Heap.{Heap}
 use Rattle.ps_mem.specs.Shows.{IsValue}
 use Rattle.ps_scan.specs.declared.tokens.ScanFault.{ScanFault as Fault}
 use Rattle.ps_scan.specs.declared.tokens.Token.{Token}
-use Rattle.ps_scan.specs.Shown.{scan_of, token_of}
+use Rattle.ps_scan.specs.Shown.{token_of}
 use Rattle.ps_control.specs.declared.frames.Source.{Source}
-use Rattle.ps_control.specs.declared.frames.Source.TheVariants.{Program}
 use Rattle.ps_control.specs.declared.frames.Frame.TheVariants.{Text}
 use Rattle.ps_control.specs.Frames.{IsSourceAt}
 use Rattle.ps_acts.specs.declared.lent.Trial.{Trial}
@@ -23,11 +21,11 @@ use Rattle.ps_values.specs.Values.{Asks, among}
 use Rattle.ps_frames.specs.Steps.{running_turn, with_frames}
 use Rattle.ps_tokens.specs.Tokens.{token_asks, token_turn}
 use Rattle.ps_tokens.specs.Words.{IsDoneAs}
-use Rattle.ps_context.specs.declared.texts.Read.{Read}
-use Rattle.ps_context.specs.declared.texts.Read.TheVariants.{Done, Treats, Left}
+use Rattle.ps_context.specs.declared.tokens.Read.{Read}
+use Rattle.ps_context.specs.declared.tokens.Read.TheVariants.{Done, Treats, Left}
 use Rattle.ps_context.specs.declared.texts.Taken.{Taken}
 use Rattle.ps_context.specs.declared.texts.Taken.TheVariants.{Done as Further, Turned}
-use Rattle.ps_context.specs.Texts.{scan_at, text_asks}
+use Rattle.ps_context.specs.Texts.{scan_at, text_asks, bytes_scanned, Scans, IsTaken}
 
 -- the text that is the topmost frame was read up to a place
 abbrev pub read_to : Source → (at : ℕ) → Lent → Lent
@@ -77,22 +75,23 @@ Takes asks source at trial (Turned result) old new =
     Turns (text_asks asks source at (drop 1 old.frames)) running_turn trial result
     (read_to source at old) new
 
--- ---- a number or a name of the program
+-- ---- a number or a name
 
--- behind a place of the source, which is the program, this token was scanned, which came to that
+-- behind a place of the source, the program or a string of which that list was read, this token was
+-- scanned, which came to that
 pub record ReadsToken (asks : Asks) (heap : Heap) (dictionaries : List Word)
-    (names : List (List ℕ)) (program : List ℕ) (source : Source) (at : ℕ) (read : Read)
+    (names : List (List ℕ)) (program list : List ℕ) (source : Source) (at : ℕ) (read : Read)
     (old new : List Word) : Type 0 where
   pub token : Token
-  pub source_is : source ≡ Program
-  pub scanned : scan program at ≡ scan_of program (Some token)
-  pub further : at < token.end
-  pub within : token.end ≤ length program
-  pub reads : Reads asks heap dictionaries names program read (Ok (Some token)) old new
+  pub scanned : Scans heap source at program list (Ok (Some token))
+  pub held : IsTaken (IsSourceAt heap (length program) source) (bytes_scanned source program list)
+      (Ok (Some token))
+  pub reads : Reads asks heap dictionaries names (bytes_scanned source program list) read
+      (Ok (Some token)) old new
 
 -- or nothing has changed
 abbrev pub ReadsWord : Asks → Heap → (dictionaries : List Word) → (names : List (List ℕ))
-    → (program : List ℕ) → Source → (at : ℕ) → Read → (old new : List Word) → Type 0
-ReadsWord asks heap dictionaries names program source at Left old new = new ≡ old
-ReadsWord asks heap dictionaries names program source at read old new =
-    ReadsToken asks heap dictionaries names program source at read old new
+    → (program list : List ℕ) → Source → (at : ℕ) → Read → (old new : List Word) → Type 0
+ReadsWord asks heap dictionaries names program list source at Left old new = new ≡ old
+ReadsWord asks heap dictionaries names program list source at read old new =
+    ReadsToken asks heap dictionaries names program list source at read old new

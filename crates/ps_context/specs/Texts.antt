@@ -8,7 +8,8 @@ use Rattle.ps_language.specs.StepFrames.{source_bytes}
 use Rattle.ps_language.specs.Token.{string_token, procedure_token, Scan, found, faulty, syntax_fault, limit_fault}
 use Rattle.ps_language.specs.Value.{Store}
 use Rattle.ps_language.specs.World as world
-use Rattle.ps_mem.specs.Heap.{birth_at}
+use Rattle.ps_mem.specs.Heap.{Heap, birth_at}
+use Rattle.ps_mem.specs.Shows.{Shows}
 use Rattle.ps_scan.specs.declared.tokens.ScanFault.{ScanFault as Fault}
 use Rattle.ps_scan.specs.declared.tokens.ScanFault.TheVariants.{Syntax, Limit, Memory}
 use Rattle.ps_scan.specs.declared.tokens.Token.{Token}
@@ -16,7 +17,7 @@ use Rattle.ps_scan.specs.Shown.{TakesMemory, scan_of, token_of}
 use Rattle.ps_control.specs.declared.frames.Source.{Source}
 use Rattle.ps_control.specs.declared.frames.Source.TheVariants.{Program, Text as TextOf}
 use Rattle.ps_control.specs.declared.frames.Frame.{Frame}
-use Rattle.ps_control.specs.Frames.{source_of, frames_in}
+use Rattle.ps_control.specs.Frames.{IsSourceWithin, source_of, frames_in}
 use Rattle.ps_acts.specs.Acts.{Asked}
 use Rattle.ps_acts.specs.Lent.{Lent, around_of, scene_of}
 use Rattle.ps_turns.specs.Turns.{none_asked}
@@ -58,6 +59,17 @@ IsScanned starved text (Err fault) outcome = IsFaulty starved fault outcome
 abbrev pub Starves : world.Source → Scan → Type 0
 Starves world.from_program outcome = TakesMemory outcome
 Starves (world.from_string part) outcome = ⊤
+
+-- in every store that the memory shows, what stands behind a place of a source is what was scanned
+-- of the program, or of what was read of a string
+abbrev pub Scans : Heap → Source → (at : ℕ) → (program list : List ℕ)
+    → Result (Option Token) Fault → Type 0
+Scans h source at program list result =
+    (names : List (List ℕ)) (s : Store) → Shows h names s
+    → IsSourceWithin (birth_at h) s source
+    → let whose = source_of (birth_at h) source in
+    let outcome = scan (source_bytes program s whose) at in
+    IsScanned (Starves whose outcome) (bytes_scanned source program list) result outcome
 
 -- a token that was scanned ends at a place that holds, and is within its limits
 abbrev pub IsTaken : (Holds : ℕ → Type 0) (text : List ℕ) → Result (Option Token) Fault → Type 0

@@ -8,4 +8,5 @@ mod runs;
 mod sources;
 pub mod steps;
 pub mod texts;
+mod tokens;
 mod windows;

@@ -13,6 +13,7 @@ ghost use Rattle.ps_context.specs.Elements.{Begins, ComesBy, came_behind};
 ghost use Rattle.ps_context.specs.Steps.{own_asks};
 
 use crate::elements::do_first;
+use crate::sources::read_source;
 use crate::texts::{Taken, read_token, text_turn};
 use ps_acts::lent::{Context, Shared, Trial};
 use ps_control::ahead::Ahead;
@@ -141,7 +142,7 @@ fn do_next<O: Operate, M: Memory>(
             *rest = body;
             return Came::Enters;
         }
-        Ahead::Goes => return Came::Goes,
+        Ahead::Goes => return behind_first(rest),
         Ahead::Left => {}
     }
     let trial = Trial {
@@ -279,7 +280,7 @@ fn run_text<O: Operate, M: Memory>(
     let mut place = at;
     let mut start = 0;
     let mut made = 0;
-    text.clear();
+    read_source(source, at, shared.program, &mut start, text, memory);
     while made < most {
         match read_token(
             source, place, &mut start, text, operators, context, shared, memory, trial,

@@ -1,17 +1,12 @@
 //! The next token of a source: of the program, or of a string that is executed (PLRM2, 3.2).
 
-ghost use Rattle.std.specs.Prelude.{◌≡◌, ℕ, ◌<◌, ◌≤◌, List, Some, IfSome, length};
-ghost use Rattle.ps_language.specs.Scan.{scan};
-ghost use Rattle.ps_language.specs.StepFrames.{source_bytes};
-ghost use Rattle.ps_language.specs.Value.{Store};
-ghost use Rattle.ps_control.specs.Frames.{IsSourceAt, IsSourceWithin, source_of};
-ghost use Rattle.ps_mem.specs.Heap.{birth_at};
-ghost use Rattle.ps_mem.specs.Shows.{IsSound, Shows};
-ghost use Rattle.ps_scan.specs.Shown.{scan_of};
-ghost use Rattle.ps_context.specs.Texts.{IsScanned, Starves, IsTaken, bytes_scanned};
+ghost use Rattle.std.specs.Prelude.{◌≡◌, Some, Ok, IfSome, length};
+ghost use Rattle.ps_control.specs.Frames.{IsSourceAt};
+ghost use Rattle.ps_mem.specs.Shows.{IsSound};
+ghost use Rattle.ps_context.specs.Texts.{IsTaken, Scans, bytes_scanned};
 ghost use Rattle.ps_context.specs.Windows.{IsWindow};
 
-use crate::windows::{scan_read, scan_string};
+use crate::windows::{read_window, scan_read, scan_string, word_read};
 use ps_control::frames::Source;
 use ps_mem::Memory;
 use ps_scan::{ScanFault, Token, next_token, next_word};
@@ -26,6 +21,29 @@ pub(crate) fn scanned_bytes<'a>(source: Source, program: &'a [u8], list: &'a Vec
     match source {
         Source::Program => program,
         Source::Text(_) => list.as_slice(),
+    }
+}
+
+/// What is left of a source behind a place is read into a list, where it is a string: its first
+/// words, as they stand now. The memory stays as it is.
+#[inline(always)]
+pub(crate) fn read_source<M: Memory>(
+    source: Source,
+    at: usize,
+    program: &[u8],
+    start: &mut usize,
+    list: &mut Vec<u8>,
+    memory: &mut M,
+)
+    requires sound { IsSound (M.heap memory.old) }
+    requires place { IsSourceAt (M.heap memory.old) (length program.now) source at }
+    ensures heap { M.heap memory.new ≡ M.heap memory.old }
+    ensures grants { M.grants memory.new ≡ M.grants memory.old }
+    ensures window { IsWindow (M.heap memory.old) source start.new list.new.items }
+{
+    match source {
+        Source::Program => {}
+        Source::Text(part) => read_window(memory, part, at, start, list),
     }
 }
 
@@ -49,12 +67,7 @@ pub(crate) fn scan_source<M: Memory>(
     requires window { IsWindow (M.heap memory.old) source start.old list.old.items }
     ensures heap { M.heap memory.new ≡ M.heap memory.old }
     ensures grants { M.grants memory.new ≡ M.grants memory.old }
-    ensures scanned { (names : List (List ℕ)) (s : Store) → Shows (M.heap memory.old) names s
-        → IsSourceWithin (birth_at (M.heap memory.old)) s source
-        → let whose = source_of (birth_at (M.heap memory.old)) source in
-        let outcome = scan (source_bytes program.now s whose) at in
-        IsScanned (Starves whose outcome) (bytes_scanned source program.now list.new.items) result
-        outcome }
+    ensures scanned { Scans (M.heap memory.old) source at program.now list.new.items result }
     ensures token { IsTaken (IsSourceAt (M.heap memory.old) (length program.now) source)
         (bytes_scanned source program.now list.new.items) result }
     ensures window { IsWindow (M.heap memory.old) source start.new list.new.items }
@@ -71,18 +84,29 @@ pub(crate) fn scan_source<M: Memory>(
     }
 }
 
-/// The next token of the program behind a place, where it is a number or an executable name.
-/// `None`: it is another, or nothing is left, or the source is a string.
+/// The next token of a source behind a place, where it is a number or an executable name: of the
+/// program, or of what was read of a string. `None`: it is another, or nothing is left, or the list
+/// doesn't have it.
 #[inline(always)]
-pub(crate) fn scan_word(source: Source, at: usize, program: &[u8]) -> Option<Token>
-    requires place { source ≡ Source.Program → at ≤ length program.now }
-    ensures source { IfSome result (λ token. source ≡ Source.Program) }
-    ensures scanned { IfSome result
-        (λ token. scan program.now at ≡ scan_of program.now (Some token)) }
-    ensures token { IfSome result (λ t. (at < t.end) × (t.end ≤ length program.now)) }
+pub(crate) fn scan_word<M: Memory>(
+    source: Source,
+    at: usize,
+    program: &[u8],
+    start: usize,
+    list: &Vec<u8>,
+    memory: &M,
+) -> Option<Token>
+    requires place { IsSourceAt (M.heap memory.now) (length program.now) source at }
+    requires window { IsWindow (M.heap memory.now) source start list.now.items }
+    ensures scanned { IfSome result (λ token.
+        Scans (M.heap memory.now) source at program.now list.now.items (Ok (Some token))) }
+    ensures token { IfSome result (λ token.
+        IsTaken (IsSourceAt (M.heap memory.now) (length program.now) source)
+        (bytes_scanned source program.now list.now.items) (Ok (Some token))) }
 {
+    scanned_is_short();
     match source {
         Source::Program => next_word(program, at),
-        Source::Text(_) => None,
+        Source::Text(part) => word_read(part, at, start, list.as_slice()),
     }
 }

@@ -6,33 +6,29 @@ ghost use Rattle.ps_acts.specs.Lent.{lent, IsGood, IsShown};
 ghost use Rattle.ps_control.specs.Frames.{IsSourceAt, source_of};
 ghost use Rattle.ps_mem.specs.Heap.{birth_at};
 ghost use Rattle.ps_language.specs.Value.{Store};
-ghost use Rattle.ps_mem.specs.Shows.{AreValues, IsSound};
 ghost use Rattle.ps_scan.specs.Shown.{token_of};
 ghost use Rattle.ps_stacks.specs.Tops.{first_of};
 ghost use Rattle.ps_tokens.specs.Short.{IsShort};
 ghost use Rattle.ps_turns.specs.Turns.{Turns};
 ghost use Rattle.ps_frames.specs.Steps.{running_turn};
-ghost use Rattle.ps_context.specs.Reading.{read_to, IsRead, Reads, ReadsWord, Takes};
+ghost use Rattle.ps_context.specs.Reading.{read_to, IsRead, Takes};
 ghost use Rattle.ps_context.specs.Texts.{IsFaulty, IsScanned, Starves, IsTaken, scan_at, scanned_asks, text_asks};
 ghost use Rattle.ps_context.specs.Windows.{IsWindow, OnDone};
 
-use crate::sources::{scan_source, scan_word, scanned_bytes};
-use ps_acts::lent::{Context, Dictionaries, Shared, Trial};
+use crate::sources::{scan_source, scanned_bytes};
+use crate::tokens::{Read, token_ahead, word_ahead};
+use ps_acts::lent::{Context, Shared, Trial};
 use ps_control::frames::{Frame, Source, replace_top};
 use ps_frames::frames::drop_top;
 use ps_language::errors::ErrorName;
 use ps_mem::{Memory, SLOTS};
-use ps_names::Names;
-use ps_operands::{Operands, plain};
+use ps_operands::plain;
 use ps_ops::failure::NotMade;
 use ps_scan::{ScanFault, Token, TokenKind};
-use ps_tokens::laws::scanned_is_short;
 use ps_tokens::tokens::do_token;
-use ps_tokens::words::word_of;
 use ps_turns::raises::raise;
 use ps_turns::turned::Turned;
 use ps_values::operates::Operate;
-use ps_values::quick::{Quick, do_quickly};
 use ps_values::values::treat;
 use ps_word::words::Word;
 
@@ -193,53 +189,6 @@ pub enum Taken {
     Turned(Result<Turned, NotMade>),
 }
 
-/// What a token that was scanned came to by operands alone.
-#[derive(Clone, Copy, Debug, PartialEq, Eq)]
-pub enum Read {
-    /// It is done, and ends at this place.
-    Done(usize),
-    /// Nothing has changed. It is done as its word, which is treated as this value, and ends at
-    /// this place.
-    Treats { word: Word, value: Word, end: usize },
-    /// Nothing has changed, and no more is known.
-    Left,
-}
-
-/// Does a token that was scanned by operands alone, where that raises no error and forms no name.
-/// Else it tells as which value the token is treated, where its name was met and looked up. The
-/// memory stays as it is.
-#[inline(always)]
-fn token_ahead<O: Operate, M: Memory>(
-    scanned: &Result<Option<Token>, ScanFault>,
-    text: &[u8],
-    operators: &O,
-    dictionaries: &Dictionaries,
-    names: &Names,
-    operands: &mut Operands,
-    memory: &mut M,
-) -> Read
-    requires sound { IsSound (M.heap memory.old) }
-    requires dictionaries { AreValues (M.heap memory.old) dictionaries.now }
-    requires short { IsTaken (λ end. ⊤) text.now scanned.now }
-    ensures heap { M.heap memory.new ≡ M.heap memory.old }
-    ensures grants { M.grants memory.new ≡ M.grants memory.old }
-    ensures reads { Reads O.asks (M.heap memory.old) dictionaries.now names.now text.now result
-        scanned.now operands.old operands.new }
-{
-    let Ok(Some(token)) = scanned else {
-        return Read::Left;
-    };
-    let Some(word) = word_of(&token.kind, text, names) else {
-        return Read::Left;
-    };
-    let end = token.end;
-    match do_quickly(word, operators, dictionaries, operands, memory) {
-        Quick::Done => Read::Done(end),
-        Quick::Treats(value) => Read::Treats { word, value, end },
-        Quick::Left => Read::Left,
-    }
-}
-
 /// A token is done as its value is treated, and the frame of the text goes on behind it. Raises what
 /// the value raises, with the token's word as the command.
 ///
@@ -337,44 +286,6 @@ fn take_scanned<O: Operate, M: Memory>(
     }
 }
 
-/// Does the next token of the program behind a place by operands alone, where it is a number or an
-/// executable name, and that raises no error and forms no name. Else it tells as which value the
-/// token is treated, where its name was met and looked up. The memory stays as it is.
-#[inline(always)]
-fn word_ahead<O: Operate, M: Memory>(
-    source: Source,
-    at: usize,
-    program: &[u8],
-    operators: &O,
-    dictionaries: &Dictionaries,
-    names: &Names,
-    operands: &mut Operands,
-    memory: &mut M,
-) -> Read
-    requires sound { IsSound (M.heap memory.old) }
-    requires dictionaries { AreValues (M.heap memory.old) dictionaries.now }
-    requires place { source ≡ Source.Program → at ≤ length program.now }
-    ensures heap { M.heap memory.new ≡ M.heap memory.old }
-    ensures grants { M.grants memory.new ≡ M.grants memory.old }
-    ensures reads { ReadsWord O.asks (M.heap memory.old) dictionaries.now names.now program.now
-        source at result operands.old operands.new }
-{
-    let Some(token) = scan_word(source, at, program) else {
-        return Read::Left;
-    };
-    scanned_is_short();
-    let scanned = Ok(Some(token));
-    token_ahead(
-        &scanned,
-        program,
-        operators,
-        dictionaries,
-        names,
-        operands,
-        memory,
-    )
-}
-
 /// The next token of a text behind a place is taken. Where the list doesn't have it, a string is
 /// read into it as it stands now, as far as the token takes, from a place of the string on.
 #[inline(always)]
@@ -409,8 +320,8 @@ fn take_next<O: Operate, M: Memory>(
     )
 }
 
-/// The next token of a text behind a place is taken, a number or a name of the program in line. Where the list doesn't have it, a string is
-/// read into it as it stands now, as far as the token takes, from a place of the string on.
+/// The next token of a text behind a place is taken, as `take_next` does, but a number or an
+/// executable name is scanned in line.
 #[inline(always)]
 pub fn read_token<O: Operate, M: Memory>(
     source: Source,
@@ -442,6 +353,8 @@ pub fn read_token<O: Operate, M: Memory>(
         source,
         at,
         program,
+        *start,
+        list,
         operators,
         dictionaries,
         names,

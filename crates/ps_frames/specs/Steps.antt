@@ -21,6 +21,7 @@ use Rattle.ps_control.specs.declared.frames.Cause.{Cause}
 use Rattle.ps_control.specs.declared.frames.Frame.{Frame}
 use Rattle.ps_control.specs.declared.frames.Frame.TheVariants.{Text, Procedure}
 use Rattle.ps_control.specs.declared.ahead.Ahead.{Ahead}
+use Rattle.ps_control.specs.declared.ahead.Ahead.TheVariants as ahead
 use Rattle.ps_control.specs.Ahead.{OnDone, frames_ahead}
 use Rattle.ps_control.specs.Turns.{cause_of}
 use Rattle.ps_acts.specs.declared.lent.Trial.{Trial}
@@ -32,7 +33,7 @@ use Rattle.ps_turns.specs.declared.turned.Turned.{Turned}
 use Rattle.ps_turns.specs.declared.turned.Turned.TheVariants.{Goes, Breaks, Ends}
 use Rattle.ps_turns.specs.Turns.{is_told, none_asked, break_turn, Turns}
 use Rattle.ps_values.specs.declared.under.Under.{Under}
-use Rattle.ps_values.specs.declared.under.Under.TheVariants as came
+use Rattle.ps_values.specs.declared.under.Under.TheVariants as under
 use Rattle.ps_values.specs.Quick.{TreatsAs}
 use Rattle.ps_values.specs.Values.{Asks, done_asks}
 use Rattle.ps_frames.specs.declared.elements.Element.{Element}
@@ -156,7 +157,7 @@ module _ (asks : Asks) where
 
 -- once the frame is pushed of the procedure that is entered
 abbrev pub with_entered : Ahead → Lent → Lent
-with_entered ahead l = with_frames (frames_ahead ahead l.frames) l
+with_entered came l = with_frames (frames_ahead came l.frames) l
 
 -- a procedure above the frames
 abbrev pub above : Part → Lent → Lent
@@ -165,17 +166,25 @@ above rest l = with_frames (Procedure rest ∷ l.frames) l
 -- the turn of the topmost frame goes on, however it is tried, once the frame is pushed of the
 -- procedure that it enters
 abbrev pub GoesAhead : Asks → Ahead → (old new : Lent) → Type 0
-GoesAhead asks ahead old new = OnDone ahead ((trial : Trial)
-    → Turns (frame_asks asks) running_turn trial (Ok Goes) old (with_entered ahead new))
+GoesAhead asks came old new = OnDone came ((trial : Trial)
+    → Turns (frame_asks asks) running_turn trial (Ok Goes) old (with_entered came new))
+
+-- the same of a procedure above the frames. Where its first element enters another, that is to be
+-- above the frames, and else what is left of it
+abbrev pub ElementAhead : Asks → Part → Ahead → (old new : Lent) → Type 0
+ElementAhead asks rest ahead.Goes old new = (trial : Trial)
+    → Turns (frame_asks asks) running_turn trial (Ok Goes) (above rest old)
+    (with_frames (rest_frames rest new.frames) new)
+ElementAhead asks rest came old new = GoesAhead asks came (above rest old) new
 
 -- the ordinary turn of a procedure above the frames goes on, of which what is left is above them; or
 -- nothing was done; or nothing has changed
 abbrev pub DoesUnder : Asks → Part → (slot : ℕ) → Under → (old new : Lent) → Type 0
-DoesUnder asks rest slot came.Done old new =
+DoesUnder asks rest slot under.Done old new =
     Turns (frame_asks asks) running_turn (ordinary slot) (Ok Goes) (above rest old)
     (with_frames (rest_frames rest new.frames) new)
-DoesUnder asks rest slot came.Fails old new = IsUndone slot old new
-DoesUnder asks rest slot came.Left old new = new ≡ old
+DoesUnder asks rest slot under.Fails old new = IsUndone slot old new
+DoesUnder asks rest slot under.Left old new = new ≡ old
 
 -- of bind, in what is lent
 abbrev pub bind_asks : (over : Part) → (at : ℕ) → Lent → Store → Asked

@@ -2,12 +2,12 @@
 
 ghost use Rattle.std.specs.Prelude.{◌≡◌, ◌<◌, ◌∷◌, [], Some, IfSome, length};
 ghost use Rattle.ps_acts.specs.Lent.{lent, IsGood};
-ghost use Rattle.ps_control.specs.Ahead.{HasRoom, OnLeft};
+ghost use Rattle.ps_control.specs.Ahead.{OnLeft};
 ghost use Rattle.ps_stacks.specs.Tops.{first_of};
 ghost use Rattle.ps_mem.specs.Shows.{IsValue};
 ghost use Rattle.ps_turns.specs.Turns.{Turns, TurnsWith};
 ghost use Rattle.ps_values.specs.Values.{treated_asks, treated_turn};
-ghost use Rattle.ps_frames.specs.Steps.{above, frame_asks, running_turn, DoesUnder, GoesAhead, IsElement};
+ghost use Rattle.ps_frames.specs.Steps.{above, frame_asks, running_turn, DoesUnder, ElementAhead, IsElement};
 
 use crate::frames::{advance, drop_top, push_rest, put_back};
 use ps_acts::lent::{Context, Shared, Trial};
@@ -124,7 +124,8 @@ fn element_turn<O: Operate, M: Memory>(
 }
 
 /// The first element that is left of a procedure above the frames is done, where its value is known,
-/// enters another procedure and raises no error, up to the frame of that. Else nothing has changed.
+/// may enter another procedure and raises no error: what is left is pushed, up to the frame of the
+/// procedure that it enters. Where it enters none, no frame is pushed. Else nothing has changed.
 #[inline(always)]
 pub fn element_ahead<O: Operate, M: Memory>(
     rest: Part,
@@ -136,12 +137,13 @@ pub fn element_ahead<O: Operate, M: Memory>(
 ) -> Ahead
     requires good { IsGood (above rest
         (lent (M.heap memory.now) (M.grants memory.now) context.old shared.now)) }
+    requires room { length context.old.frames < 250 }
     requires first { IfSome first
         (IsElement O.asks (M.heap memory.now) context.old.dictionaries rest 0) }
-    ensures goes { GoesAhead O.asks result
-        (above rest (lent (M.heap memory.now) (M.grants memory.now) context.old shared.now))
+    ensures goes { ElementAhead O.asks rest result
+        (lent (M.heap memory.now) (M.grants memory.now) context.old shared.now)
         (lent (M.heap memory.now) (M.grants memory.now) context.new shared.now) }
-    ensures room { HasRoom result context.new.frames }
+    ensures room { length context.new.frames < 250 }
     ensures left { OnLeft result
         (lent (M.heap memory.now) (M.grants memory.now) context.new shared.now
         ≡ lent (M.heap memory.now) (M.grants memory.now) context.old shared.now) }
@@ -157,10 +159,7 @@ pub fn element_ahead<O: Operate, M: Memory>(
             push_rest(&mut context.frames, rest);
             Ahead::Enters(body)
         }
-        Ahead::Goes => {
-            push_rest(&mut context.frames, rest);
-            Ahead::Goes
-        }
+        Ahead::Goes => Ahead::Goes,
         Ahead::Left => Ahead::Left,
     }
 }

@@ -1,4 +1,4 @@
-//! Which of the names that every run knows a text may be.
+//! Which name a text may be: one that every run knows, or one that was met later.
 //!
 //! It is a guess alone. Whoever asks compares the texts, so nothing that is answered depends on it.
 
@@ -6,9 +6,12 @@ ghost use Rattle.std.specs.Prelude.{◌<◌};
 
 use crate::names::NameId;
 
+/// How many marks there are.
+const MARKS: usize = 256;
+
 /// The number of a first name by its mark. Where some share a mark it is one of them, and else 0.
 /// The factors of the mark were sought so that few names share one, and none that is common.
-static NUMBERS: [u8; 256] = [
+static NUMBERS: [u8; MARKS] = [
     103, 0, 70, 0, 0, 0, 57, 14, 0, 37, 0, 4, 102, 0, 12, 0, 81, 0, 0, 0, 44, 0, 111, 62, 61, 0,
     13, 0, 0, 0, 9, 24, 0, 27, 114, 0, 105, 5, 84, 0, 0, 0, 113, 0, 104, 0, 68, 0, 0, 26, 112, 0,
     34, 0, 73, 0, 94, 0, 16, 0, 0, 0, 95, 50, 110, 43, 0, 0, 0, 72, 0, 0, 54, 0, 0, 99, 0, 8, 86,
@@ -40,4 +43,31 @@ fn mark_of(text: &[u8]) -> usize
 #[inline(always)]
 pub(crate) fn guess(text: &[u8]) -> NameId {
     NameId(u16::from(NUMBERS[mark_of(text)]))
+}
+
+/// The numbers of the names that were met last, by their marks.
+#[derive(Clone, Copy, Debug)]
+pub(crate) struct Lately {
+    numbers: [u16; MARKS],
+}
+
+impl Lately {
+    /// None was met.
+    pub(crate) fn none() -> Lately {
+        Lately {
+            numbers: [0; MARKS],
+        }
+    }
+
+    /// The number that a text has, if of those with its mark it is the one that was met last; else
+    /// any.
+    #[inline(always)]
+    pub(crate) fn guess(&self, text: &[u8]) -> NameId {
+        NameId(self.numbers[mark_of(text)])
+    }
+
+    /// A text was met as a name of this number.
+    pub(crate) fn note(&mut self, text: &[u8], id: NameId) {
+        self.numbers[mark_of(text)] = id.0;
+    }
 }

@@ -9,7 +9,7 @@ ghost use Rattle.ps_language.specs.Limits.{name_limit, names_limit};
 ghost use Rattle.ps_names.specs.Names.{place_of, AreNames};
 
 use crate::first::{FIRST_COUNT, first_name};
-use crate::guesses::guess;
+use crate::guesses::{Lately, guess};
 use indexmap::IndexSet;
 use std::alloc::{AllocError, Global};
 use std::hash::RandomState;
@@ -47,6 +47,7 @@ pub enum NamesFault {
 #[derive(Drop)]
 pub struct Names {
     texts: IndexSet<Vec<u8>, RandomState>,
+    lately: Lately,
 }
 
 impl Model for Names {
@@ -69,6 +70,7 @@ impl Names {
     {
         Names {
             texts: IndexSet::with_hasher(alloc, keys),
+            lately: Lately::none(),
         }
     }
 
@@ -103,7 +105,7 @@ impl Names {
     }
 
     /// The number of a text, if it stands. It takes no memory. A text that every run knows isn't
-    /// hashed.
+    /// hashed, nor mostly one that was met since.
     #[inline]
     pub fn find(&self, text: &[u8]) -> Option<NameId>
         ensures place { option_map (λ id. id.0) result ≡ place_of text.now self.now }
@@ -111,6 +113,10 @@ impl Names {
         ensures stands { IfSome result (λ id. slice_get self.now id.0 ≡ Some text.now) }
     {
         let id = guess(text);
+        if self.is_at(id, text) {
+            return Some(id);
+        }
+        let id = self.lately.guess(text);
         if self.is_at(id, text) {
             return Some(id);
         }
@@ -170,15 +176,11 @@ impl Names {
         ensures fault { OnErr result (self.new ≡ self.old) }
     {
         let place = self.len();
-        let id = guess(text);
-        if self.is_at(id, text) {
+        if let Some(id) = self.find(text) {
             return Ok(id);
         }
         if text.len() > NAME_LIMIT {
             return Err(NamesFault::TooLong);
-        }
-        if let Some(id) = self.search(text) {
-            return Ok(id);
         }
         if place >= NAMES_LIMIT {
             return Err(NamesFault::Full);
@@ -198,11 +200,14 @@ impl Names {
         ensures added { OnOk result (self.new ≡ self.old ++ text.now ∷ []) }
         ensures err { OnErr result (self.new ≡ self.old) }
     {
+        let place = self.texts.len();
         let mut owned = Vec::with_capacity(*self.texts.allocator(), text.len())?;
         owned.extend_from_slice(text)?;
         self.texts.insert(owned)?;
+        self.lately.note(text, NameId(place as u16));
         Ok(())
     }
+
     /// Takes back all but so many names, those that were met first.
     pub fn truncate(&mut self, count: usize)
         ensures { self.new ≡ take count self.old }

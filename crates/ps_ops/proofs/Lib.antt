@@ -9,5 +9,6 @@ pub mod Making
 pub mod Reading
 pub mod Operands
 pub mod PutLemmas
+pub mod ReasonLaws
 pub mod Ready
 pub mod Tops

@@ -210,9 +210,25 @@ fn rotate_from<T: Copy>(items: &mut [T], start: usize, places: usize)
     turn(&mut items[start..], places);
 }
 
-/// Moves the last items of a group in front of the others: the whole is reversed, then each part.
-/// Groups are short, so that this costs less than a copy of one part.
+/// Moves the last items of a group in front of the others: one item past all others in one loop,
+/// more by reversals. Groups are short, so that this costs less than a copy of one part.
 fn turn<T: Copy>(group: &mut [T], places: usize)
+    requires within { places ≤ length group.old }
+    ensures { let kept = length group.old - places in
+        group.new ≡ drop kept group.old ++ take kept group.old }
+{
+    if places == 1 {
+        last_to_front(group);
+    } else if group.len() - places == 1 {
+        first_to_end(group);
+    } else {
+        turn_by_reversals(group, places);
+    }
+}
+
+/// Moves the last items of a group in front of the others: the whole is reversed, then each part.
+#[inline(never)]
+fn turn_by_reversals<T: Copy>(group: &mut [T], places: usize)
     requires within { places ≤ length group.old }
     ensures { let kept = length group.old - places in
         group.new ≡ drop kept group.old ++ take kept group.old }
@@ -221,4 +237,33 @@ fn turn<T: Copy>(group: &mut [T], places: usize)
     let (moved, others) = group.split_at_mut(places);
     moved.reverse();
     others.reverse();
+}
+
+/// Moves each item of a group one place upward, and the last in front of them.
+fn last_to_front<T: Copy>(group: &mut [T])
+    requires some { 1 ≤ length group.old }
+    ensures { let kept = length group.old - 1 in
+        group.new ≡ drop kept group.old ++ take kept group.old }
+{
+    let mut carried = group[group.len() - 1];
+    for place in 0..group.len() {
+        let item = group[place];
+        group[place] = carried;
+        carried = item;
+    }
+}
+
+/// Moves each item of a group one place downward, and the first behind them.
+fn first_to_end<T: Copy>(group: &mut [T])
+    requires some { 1 ≤ length group.old }
+    ensures { group.new ≡ drop 1 group.old ++ take 1 group.old }
+{
+    let mut carried = group[0];
+    let mut place = group.len();
+    while place > 0 {
+        place -= 1;
+        let item = group[place];
+        group[place] = carried;
+        carried = item;
+    }
 }

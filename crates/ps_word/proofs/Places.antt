@@ -3,10 +3,14 @@ use Rattle.std.proofs.Common.{◌≡◌, ◌≢◌, ℕ, ◌+◌, ◌*◌, ◌/�
 use Rattle.std.proofs.lemmas.Bool.Decides.{nat_tests}
 use native.Mathlib.Decide.{ℕ_discrete}
 use Rattle.ps_word.specs.declared.values.Content.{Content}
-use Rattle.ps_word.specs.declared.values.Content.TheVariants.{Null}
+use Rattle.std.specs.Prelude.{slice_index_or}
+use Rattle.ps_language.specs.declared.operators.Operator.{Operator as OperatorName}
+use Rattle.ps_language.specs.declared.operators.Operator.TheVariants.{Pop}
+use Rattle.ps_language.specs.OperatorList.{every_operator}
+use Rattle.ps_word.specs.declared.values.Content.TheVariants.{Null, Operator}
 use Rattle.ps_word.specs.Format.{type_number, bit_of, content_bits, packed, IsContent, is_body, address_in, content_of, content_in, executable_in, IsWord}
 use Rattle.ps_word.specs.Readers.{is_null, is_mark, as_integer, as_boolean, as_name, as_operator, as_array, as_text, as_dictionary, as_lock, as_condition, as_body, as_part, address_of, kind_of, is_reference}
-use Rattle.ps_word.proofs.Packing.{content_bits-below, type-of_sum, low-of_sum}
+use Rattle.ps_word.proofs.Packing.{operator_number-below, content_bits-below, type-of_sum, low-of_sum}
 
 -- ---- by the type
 
@@ -196,3 +200,16 @@ is_null-at w word =
     zero_type : (c : Content) → nat_eq (type_number c) 0 ≡ is_null c
     zero_type Null = refl
     zero_type _ = refl
+
+-- the number of an operator that a word of the layout has
+pub operator_low : (w : ℕ) → IsWord w → w / 2 ^ 60 ≡ 5 → w % 2 ^ 8 < 99
+unfolding packed
+operator_low w word is =
+    let operator : OperatorName = slice_index_or every_operator (w % 2 ^ 8) Pop in
+    let content : content_in w ≡ Operator operator = content_in-at w 5 is in
+    let exact : type_number (Operator operator) * 2 ^ 60 + bit_of (executable_in w) * 2 ^ 59
+    + content_bits (Operator operator) ≡ w =
+    subst (λ (c : Content). type_number c * 2 ^ 60 + bit_of (executable_in w) * 2 ^ 59
+    + content_bits c ≡ w) content word.exact in
+    let below = operator_number-below operator in
+    omega (arith, exact, below)

@@ -1,7 +1,7 @@
 //! The operators by their numbers.
 #![tactic(auto)]
 
-ghost use Rattle.std.specs.Prelude.{◌≡◌, slice_index_or};
+ghost use Rattle.std.specs.Prelude.{◌≡◌, ◌<◌, slice_index_or};
 ghost use Rattle.ps_language.specs.declared.operators.Operator.TheVariants.{Pop};
 ghost use Rattle.ps_language.specs.OperatorList.{every_operator};
 ghost use Rattle.ps_word.specs.OperatorNumbers.{operator_number};
@@ -19,6 +19,19 @@ pub fn number_of(operator: Operator) -> u8
 /// The operator of this number, and `pop` where the number is over 98.
 #[inline]
 pub fn operator_of(number: u8) -> Operator
+    ensures { result ≡ slice_index_or every_operator number Pop }
+{
+    if number < 99 {
+        operator_at(number)
+    } else {
+        Operator::Pop
+    }
+}
+
+/// The operator of a number that one has: no test is made of it.
+#[inline]
+pub fn operator_at(number: u8) -> Operator
+    requires some { number < 99 }
     ensures { result ≡ slice_index_or every_operator number Pop }
 {
     match number {
@@ -121,6 +134,6 @@ pub fn operator_of(number: u8) -> Operator
         96 => Operator::Yield,
         97 => Operator::VmStatus,
         98 => Operator::VmReclaim,
-        _ => Operator::Pop,
+        _ => unreachable!(),
     }
 }

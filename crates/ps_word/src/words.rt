@@ -1,7 +1,7 @@
 //! Packed words: made of values, read back, and read and changed in place.
 #![tactic(auto)]
 
-ghost use Rattle.std.specs.Prelude.{◌≡◌, ◌↔◌, ◌<◌, ◌%◌, ◌^◌, ◌&&◌, true, false, IsSome, IsTrue, IfSome, is_some};
+ghost use Rattle.std.specs.Prelude.{◌≡◌, ◌↔◌, ◌<◌, ◌%◌, ◌^◌, ◌&&◌, true, false, None, IsSome, IsTrue, IfSome, is_some};
 ghost use Rattle.ps_word.specs.Format as layout;
 ghost use Rattle.ps_word.specs.Format.{value_in, content_in, IsWord, IsInFormat, IsContent};
 ghost use Rattle.ps_word.specs.Readers as readers;
@@ -9,7 +9,7 @@ ghost use Rattle.ps_word.specs.Readers as readers;
 use crate::bits::{
     ACCESS, ADDRESS, EXECUTABLE, OFFSET, REFERENCE, TYPE, content_bits, type_number,
 };
-use crate::operators::operator_of;
+use crate::operators::{operator_at, operator_of};
 use crate::values::{Content, Part, Value, access_number, access_of};
 use ps_language::access::Access;
 use ps_language::kinds::Kind;
@@ -166,6 +166,22 @@ impl Word {
             10 => Content::Condition(self.low_address()),
             11 => Content::Body(self.low_address()),
             _ => Content::Null,
+        }
+    }
+
+    /// The operator of a word of the layout, where it is one and executable: by one test of both.
+    #[inline(always)]
+    pub fn executable_operator(self) -> Option<Operator>
+        requires word { IsWord self.0 }
+        ensures operator { IfSome result (λ operator. (layout.executable_in self.0 ≡ true)
+            × (content_in self.0 ≡ Content.Operator operator)) }
+        ensures other { result ≡ None → layout.executable_in self.0 ≡ true
+            → readers.as_operator (content_in self.0) ≡ None }
+    {
+        if self.0 / EXECUTABLE == 11 {
+            Some(operator_at((self.0 % (1 << 8)) as u8))
+        } else {
+            None
         }
     }
 

@@ -18,7 +18,7 @@ pub returns-in-Enters : goal.returns-in-Enters
 returns-in-Enters g c =
     let l : Lent = lent (g.M.Memory.heap c.args.memory.now)
     (g.M.Memory.grants c.args.memory.now) c.args.context.now c.args.shared.now in (
-      rw c.in-Enters.is at c.element_ahead.ensures.room,
+      c.element_ahead.ensures.room,
       goes_above g.O.Operate.asks (above c.args.rest.now l) l c.args.rest.now 0
           (run_none (above c.args.rest.now l) c.requires.good) _
           (rw c.in-Enters.is at c.element_ahead.ensures.goes),
@@ -28,9 +28,12 @@ pub returns-in-Goes : goal.returns-in-Goes
 returns-in-Goes g c =
     let l : Lent = lent (g.M.Memory.heap c.args.memory.now)
     (g.M.Memory.grants c.args.memory.now) c.args.context.now c.args.shared.now in
-    goes_above g.O.Operate.asks (above c.args.rest.now l) l c.args.rest.now 0
-    (run_none (above c.args.rest.now l) c.requires.good) _
-    (rw c.in-Goes.is at c.element_ahead.ensures.goes)
+    let mid : Lent = lent (g.M.Memory.heap c.args.memory.now)
+    (g.M.Memory.grants c.args.memory.now) c.element_ahead.new.context c.args.shared.now in
+    rw (c.behind_first.ensures.came, c.behind_first.ensures.left)
+    (comes_behind g.O.Operate.asks c.args.slot c.args.rest.now l mid c.requires.good
+    c.element_ahead.ensures.room
+    ((rw c.in-Goes.is at c.element_ahead.ensures.goes) (ordinary c.args.slot)))
 
 pub element_under-requires-clause-good : goal.element_under-requires-clause-good
 element_under-requires-clause-good g c =
@@ -73,9 +76,9 @@ returns-in-Done g c =
     let room : length after.frames < 250 =
     subst (λ (frames : List Frame). length frames < 250)
     (sym (c.element_under.ensures.frames ∙ ap (λ (m : Lent). m.frames) same)) c.requires.room in
-    subst (λ (m : Lent). ComesBy (own_asks asks) c.args.slot c.behind_first.result
-    c.behind_first.new.rest (above c.args.rest.now m) after) same
-    (rw (c.behind_first.ensures.came, c.behind_first.ensures.left)
+    subst (λ (m : Lent). ComesBy (own_asks asks) c.args.slot c.behind_first-in-Done.result
+    c.behind_first-in-Done.new.rest (above c.args.rest.now m) after) same
+    (rw (c.behind_first-in-Done.ensures.came, c.behind_first-in-Done.ensures.left)
     (comes_behind asks c.args.slot c.args.rest.now mid after good room
     (rw c.in-Done.is at c.element_under.ensures.does)))
 

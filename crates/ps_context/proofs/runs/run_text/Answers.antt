@@ -10,7 +10,6 @@ use Rattle.ps_interpreter.specs.OwnSteps.{HasRun}
 use Rattle.ps_interpreter.proofs.Running.{run_none}
 use Rattle.ps_context.proofs.Ahead.{with_within}
 use Rattle.ps_context.proofs.Reading.{read_more, read_behind}
-use Rattle.ps_context.proofs.Rereading.{no_window}
 use Rattle.ps_context.proofs.runs.run_text.Goals as goal
 
 pub loop-made-init : goal.loop-made-init
@@ -19,14 +18,13 @@ loop-made-init g c =
     c.args.context.now c.args.shared.now in
     let top : l.frames ≡ Text c.args.source c.args.at ∷ drop 1 l.frames =
     first_split _ _ (sym c.requires.top) in
-    record {
+    rw (c.read_source.ensures.heap, c.read_source.ensures.grants) (record {
       within = omega arith;
       framed = subst (λ (frames : List Frame). 1 ≤ length frames) (sym top) (omega arith);
-      window = no_window (g.M.Memory.heap c.args.memory.now) c.args.source c.clear.new.self.items
-          c.clear.ensures.items;
+      window = c.read_source.ensures.window;
       makes = subst (λ (frames : List Frame). HasRun 0 l (record l { frames = frames })) top
           (run_none l c.requires.good);
-    }
+    })
 
 pub loop-made-preserved : goal.loop-made-preserved
 loop-made-preserved g c =

@@ -1,16 +1,11 @@
 -- By the source.
-use Rattle.std.proofs.Common.{ℕ, ◌≤◌, List, Some, Ok, length, arith, sym, subst}
-use Rattle.ps_language.specs.Access.{bytes}
-use Rattle.ps_language.specs.Scan.{scan}
-use Rattle.ps_language.specs.StepFrames.{source_bytes}
-use Rattle.ps_language.specs.Value.{Store}
-use Rattle.ps_mem.specs.Heap.{birth_at}
-use Rattle.ps_mem.specs.Shows.{Shows}
+use Rattle.std.proofs.Common.{◌≤◌, Some, Ok, length, sym, subst, arith}
 use Rattle.ps_control.specs.declared.frames.Source.{Source}
 use Rattle.ps_control.specs.declared.frames.Source.TheVariants.{Text as TextOf}
-use Rattle.ps_control.specs.Frames.{IsSourceAt, IsSourceWithin, source_of}
-use Rattle.ps_context.specs.Texts.{IsScanned, Starves, IsTaken, bytes_scanned}
+use Rattle.ps_control.specs.Frames.{IsSourceAt}
+use Rattle.ps_context.specs.Texts.{IsTaken, Scans, bytes_scanned}
 use Rattle.ps_context.specs.Windows.{IsWindow}
+use Rattle.ps_context.proofs.Rereading.{in_window}
 use Rattle.ps_context.proofs.Scanning.{taken, taken_at}
 use Rattle.ps_context.proofs.sources.scan_source.Goals as goal
 
@@ -26,13 +21,8 @@ returns-in-Program-clause-token g c =
 pub returns-in-None-clause-scanned : goal.returns-in-None-clause-scanned
 returns-in-None-clause-scanned g c =
     let heap = g.M.Memory.heap c.args.memory.now in
-    subst (λ (source : Source). (names : List (List ℕ)) (s : Store) → Shows heap names s
-    → IsSourceWithin (birth_at heap) s source
-    → let whose = source_of (birth_at heap) source in
-    let outcome = scan (source_bytes c.args.program.now s whose) c.args.at in
-    IsScanned (Starves whose outcome)
-    (bytes_scanned source c.args.program.now c.scan_string.new.list.items) c.scan_string.result
-    outcome) (sym c.in-Text.is)
+    subst (λ (source : Source). Scans heap source c.args.at c.args.program.now
+    c.scan_string.new.list.items c.scan_string.result) (sym c.in-Text.is)
     c.scan_string.ensures.scanned
 
 pub returns-in-None-clause-token : goal.returns-in-None-clause-token
@@ -54,16 +44,8 @@ returns-in-Some-clause-scanned g c =
     let part = c.in-Text.part in
     let window = subst (λ (source : Source). IsWindow heap source c.args.start.now
     c.args.list.now.items) c.in-Text.is c.requires.window in
-    subst (λ (source : Source). (names : List (List ℕ)) (s : Store) → Shows heap names s
-    → IsSourceWithin (birth_at heap) s source
-    → let whose = source_of (birth_at heap) source in
-    let outcome = scan (source_bytes c.args.program.now s whose) c.args.at in
-    IsScanned (Starves whose outcome)
-    (bytes_scanned source c.args.program.now c.args.list.now.items) (Ok (Some c.in-Some.token))
-    outcome) (sym c.in-Text.is)
-    (λ names s shows within.
-    let fits = window.1 in
-    rw (c.as_slice.ensures.value, c.in-Some.is) at
-    (c.scan_read.ensures.scanned (bytes s (birth_at heap part.address)) within
-    (rw c.as_slice.ensures.value
-    (window.0 names s shows (omega (arith, fits, within))))))
+    subst (λ (source : Source). Scans heap source c.args.at c.args.program.now
+    c.args.list.now.items (Ok (Some c.in-Some.token))) (sym c.in-Text.is)
+    (in_window heap part c.args.at c.args.program.now c.args.start.now c.args.list.now.items
+    window c.in-Some.token
+    (rw (c.as_slice.ensures.value, c.in-Some.is) at c.scan_read.ensures.scanned))

@@ -1,18 +1,12 @@
 -- A text that stands is found, and a new one goes last.
 use Rattle.std.proofs.Common.{sym, ◌∙◌, arith, rules}
-use Rattle.ps_names.proofs.Places.{known_short, meet_known, long_new, meet_new, next_place, last_stands, last_found, kept_number, stands_at}
+use Rattle.ps_names.proofs.Places.{known_short, meet_known, long_new, meet_new, next_place, last_stands, last_found, kept_number}
 use Rattle.ps_names.proofs.names.Names.intern.Goals as goal
 
-pub returns-then-is_at-clause-names : goal.returns-then-is_at-clause-names
-returns-then-is_at-clause-names c = meet_known c.args.text.now c.args.self.now c.guess-id.result.0 (c.is_at.ensures.0 c.if-is_at.true)
-
-pub returns-then-is_at-clause-stands : goal.returns-then-is_at-clause-stands
-returns-then-is_at-clause-stands c = stands_at c.args.text.now c.args.self.now c.guess-id.result.0 (c.is_at.ensures.0 c.if-is_at.true)
-
-pub returns-then-is_at-clause-too_long : goal.returns-then-is_at-clause-too_long
-returns-then-is_at-clause-too_long c =
-    let short = known_short c.args.text.now c.args.self.now c.guess-id.result.0
-    (c.is_at.ensures.0 c.if-is_at.true) c.len-place.ensures.names in
+pub returns-in-Some-clause-too_long : goal.returns-in-Some-clause-too_long
+returns-in-Some-clause-too_long c =
+    let short = known_short c.args.text.now c.args.self.now c.in-Some.id.0
+    (sym c.in-Some.ensures.place) c.len-place.ensures.names in
     (search rules, λ long. absurd (omega (arith, short, long)))
 
 pub returns-then-text-gt-NAME_LIMIT-clause-known : goal.returns-then-text-gt-NAME_LIMIT-clause-known

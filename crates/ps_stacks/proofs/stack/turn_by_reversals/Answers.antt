@@ -2,7 +2,7 @@ use Rattle.std.proofs.Common.{◌≡◌, ◌-◌, drop, take, length, refl, ap, 
 use Rattle.std.specs.Prelude.{reverse}
 use Rattle.std.proofs.lemmas.List.{reverse-reverse}
 use Rattle.ps_stacks.proofs.Reversed.{reverse-take, reverse-drop}
-use Rattle.ps_stacks.proofs.stack.turn.Goals as goal
+use Rattle.ps_stacks.proofs.stack.turn_by_reversals.Goals as goal
 
 pub returns : goal.returns
 returns g c =
