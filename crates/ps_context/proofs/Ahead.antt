@@ -321,17 +321,6 @@ some_made most zero more some goes =
     let any : 1 ≤ more = goes (omega (arith, some)) in omega (arith, any)
 some_made most (suc made) more some goes = omega arith
 
--- so many were made and no more were asked for, where the turn behind them is one more or is told
-pub with_within : (most made : ℕ) (run : Run) → made < most
-    → (IsSome run.next → run.made ≡ made) → (IsNone run.next → run.made ≡ made + 1)
-    → run.made ≤ most
-with_within most made run fewer behind more = by run.next behind more
-  where
-    by : (next : Option (Result Turned Reason)) → (IsSome next → run.made ≡ made)
-        → (IsNone next → run.made ≡ made + 1) → run.made ≤ most
-    by None behind more = let is = more refl in omega (arith, fewer, is)
-    by (Some turn) behind more = let is = behind refl in omega (arith, fewer, is)
-
 -- none is told
 pub none_runs : (asks : Status → Around → Scene → Asked) (slot made : ℕ)
     (next : Option (Result Turned Reason)) (old new : Lent) → IsNone next

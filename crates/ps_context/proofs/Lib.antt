@@ -1,5 +1,6 @@
 pub mod Ahead
 mod Frugal
+pub mod Leaving
 pub mod Listing
 pub mod Reading
 pub mod Scanning

@@ -1,9 +1,10 @@
 -- A token of a text is done by operands alone.
-use Rattle.std.proofs.Common.{◌≡◌, ℕ, ◌+◌, true, List, [], ◌∷◌, drop, length, Option, Some, None, Result, Ok, Err, refl, sym, subst, ◌∙◌}
+use Rattle.std.proofs.Common.{◌≡◌, ℕ, ◌+◌, true, false, List, [], ◌∷◌, drop, length, Option, Some, None, Result, Ok, Err, refl, sym, subst, ◌∙◌}
 use Rattle.ps_language.specs.Token as language
 use Rattle.ps_language.specs.Token.{found}
 use Rattle.ps_language.specs.Value.{Store}
 use Rattle.ps_word.specs.declared.words.Word.{Word}
+use Rattle.ps_word.specs.Format.{executable_in}
 use Rattle.ps_mem.specs.Heap.{Heap, birth_at}
 use Rattle.ps_mem.specs.Shows.{IsWithin}
 use Rattle.ps_ops.specs.declared.failure.NotMade.{NotMade as Reason}
@@ -18,10 +19,13 @@ use Rattle.ps_acts.specs.Lent.{Lent, IsShown, IsGood}
 use Rattle.ps_acts.specs.Trials.{ordinary}
 use Rattle.ps_turns.specs.declared.turned.Turned.{Turned}
 use Rattle.ps_turns.specs.declared.turned.Turned.TheVariants.{Goes}
-use Rattle.ps_turns.specs.Turns.{Turns, TurnsWith}
+use Rattle.ps_turns.specs.Turns.{Turns, TurnsWith, nothing_more}
 use Rattle.ps_turns.proofs.Composing.{turns_as, turns_shown}
 use Rattle.ps_values.specs.Quick.{IsTreated, TreatsAs}
-use Rattle.ps_values.specs.Values.{Asks, GoesIn, among, executed_asks, done_turn, treated_asks, treated_turn}
+use Rattle.ps_values.specs.declared.quick.Quick.TheVariants.{Done as QuickDone}
+use Rattle.ps_values.specs.Values.{Asks, GoesAlone, GoesIn, among, executed_asks, done_turn, pushed_turn, treated_asks, treated_turn}
+use Rattle.ps_values.proofs.Alone.{literal_treated, own_treats, treated_comes}
+use Rattle.ps_values.proofs.Executing.{literal_unmade, literal_unnamed}
 use Rattle.ps_frames.specs.Steps.{running_turn}
 use Rattle.ps_interpreter.specs.Interprets.{asks_in, own_turn}
 use Rattle.ps_interpreter.specs.Makes.{TurnsBehind}
@@ -191,16 +195,20 @@ module _ (asks : Asks) (source : Source) (at : ℕ) (start : Lent)
       by (Ok None) scanned held reads = absurd reads
       by (Err fault) scanned held reads = absurd reads
 
--- where it is not done, operands are as they were
-pub treated_same : (asks : Asks) (heap : Heap) (dictionaries : List Word) (names : List (List ℕ))
-    (text : List ℕ) (word value : Word) (end : ℕ) (result : Result (Option Token) Fault)
-    (old new : List Word)
-    → Reads asks heap dictionaries names text (Treats word value end) result old new → new ≡ old
-treated_same asks heap dictionaries names text word value end (Ok (Some token)) old new reads =
-    reads.0
-treated_same asks heap dictionaries names text word value end (Ok None) old new reads = absurd reads
-treated_same asks heap dictionaries names text word value end (Err fault) old new reads =
-    absurd reads
+-- a token whose word is a literal, which is pushed
+pub literal_does : (asks : Asks) (heap : Heap) (dictionaries : List Word) (names : List (List ℕ))
+    (token : language.Token) (word : Word) (old new : List Word) → IsDoneAs names token word
+    → executable_in word.0 ≡ false
+    → ((command : Word) → GoesAlone (word ∷ command ∷ []) nothing_more (pushed_turn command word)
+    true old new)
+    → DoesToken asks heap dictionaries names token old new
+literal_does asks heap dictionaries names token word old new is literal pushed =
+    word_does asks heap dictionaries names token word old new is
+    (treated_comes asks heap dictionaries word old new true word QuickDone refl (is.held heap)
+    (own_treats asks heap dictionaries word
+    (λ births names. literal_unmade word births names literal)
+    (λ births names. literal_unnamed word births names literal))
+    (literal_treated asks word word true old new literal (pushed word)))
 
 -- ---- a number or a name
 

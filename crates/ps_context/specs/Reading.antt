@@ -1,5 +1,5 @@
 -- The tokens of a text, one after another (PLRM2, 3.2, 3.5).
-use Rattle.std.specs.Prelude.{◌≡◌, ℕ, List, ◌∷◌, drop, length, Option, Some, Result, Ok}
+use Rattle.std.specs.Prelude.{◌≡◌, ℕ, List, ◌∷◌, drop, length, Option, Some, None, Result, Ok}
 use Rattle.ps_language.specs.Token as language
 use Rattle.ps_language.specs.Token.{found}
 use Rattle.ps_language.specs.Value.{Store}
@@ -53,6 +53,11 @@ Reads asks heap dictionaries names text (Treats word value end) (Ok (Some token)
     (new ≡ old) × (end ≡ token.end) × IsDoneAs names (token_of text token.kind) word
     × IsValue heap value × TreatsAs asks heap dictionaries word value
 Reads asks heap dictionaries names text read scanned old new = ⊥
+
+-- where it was done, up to this place
+abbrev pub read_to_end : Option ℕ → Read
+read_to_end (Some end) = Done end
+read_to_end None = Left
 
 -- behind a place of the text a token was read up to another, which is done as this word, and so as
 -- this value is treated

@@ -17,7 +17,8 @@ use crate::sources::read_source;
 use crate::texts::{Taken, read_token, text_turn};
 use ps_acts::lent::{Context, Shared, Trial};
 use ps_control::ahead::Ahead;
-use ps_control::frames::{Frame, Source, push_frame, replace_top};
+use ps_control::frames::{Cause, Frame, Frames, Source, push_frame, replace_top};
+use ps_control::unwinding::frames_to_loop;
 use ps_frames::ahead::turn_ahead;
 use ps_frames::elements::{Element, element_ahead, element_under, pushed_turn};
 use ps_frames::frames::drop_top;
@@ -224,19 +225,36 @@ fn run_entered<O: Operate, M: Memory>(
 }
 
 /// Steps that were made, and what the turn behind them came to: where it goes on it is a step more.
+/// Where it is an `exit`, above whose loop procedures alone stand, their frames and the loop's are
+/// taken off, a step each, if so many more may be made.
 #[inline(always)]
-fn with_turn(made: u32, turn: Result<Turned, NotMade>) -> Run
-    requires few { made + 1 < 2 ^ 32 }
+fn with_turn(made: u32, turn: Result<Turned, NotMade>, most: u32, frames: &mut Frames) -> Run
+    requires few { made < most }
+    ensures within { result.made ≤ most }
     ensures behind { IsSome result.next → result.made ≡ made }
-    ensures more { IsNone result.next → result.made ≡ made + 1 }
+    ensures more { IsNone result.next → made + 1 ≤ result.made }
     ensures runs { (asks : Asks) (slot : ℕ) (old new : Lent)
-        → TurnsBehind (own_asks asks) slot made turn old new
-        → Runs (own_asks asks) slot result.made result.next old new }
+        → TurnsBehind (own_asks asks) slot made turn old new → new.frames ≡ frames.old
+        → Runs (own_asks asks) slot result.made result.next old
+        (record new { frames = frames.new }) }
 {
     match turn {
         Ok(Turned::Goes) => Run {
             made: made + 1,
             next: None,
+        },
+        Ok(Turned::Breaks(Cause::Exit)) => match frames_to_loop(frames, most - made - 1) {
+            Some(count) => {
+                frames.discard(count as usize);
+                Run {
+                    made: made + 1 + count,
+                    next: None,
+                }
+            }
+            None => Run {
+                made,
+                next: Some(turn),
+            },
         },
         _ => Run {
             made,
@@ -289,7 +307,7 @@ fn run_text<O: Operate, M: Memory>(
                 place = end;
                 made += 1;
             }
-            Taken::Turned(turn) => return with_turn(made, turn),
+            Taken::Turned(turn) => return with_turn(made, turn, most, &mut context.frames),
         }
     }
     replace_top(&mut context.frames, Frame::Text { source, at: place });
@@ -333,10 +351,8 @@ pub fn run_turns<O: Operate, M: Memory>(
                 slot,
                 refused: false,
             };
-            with_turn(
-                0,
-                turn_frame(text, operators, context, shared, memory, trial),
-            )
+            let turn = turn_frame(text, operators, context, shared, memory, trial);
+            with_turn(0, turn, most, &mut context.frames)
         }
     }
 }
@@ -461,7 +477,7 @@ pub fn run_ahead<O: Operate, M: Memory>(
         };
         made += run.made;
         if let Some(turn) = run.next {
-            let run = with_turn(made, turn);
+            let run = with_turn(made, turn, most, &mut context.frames);
             if run.next.is_some() {
                 return run;
             }

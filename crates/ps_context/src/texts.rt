@@ -16,7 +16,7 @@ ghost use Rattle.ps_context.specs.Texts.{IsFaulty, IsScanned, Starves, IsTaken, 
 ghost use Rattle.ps_context.specs.Windows.{IsWindow, OnDone};
 
 use crate::sources::{scan_source, scanned_bytes};
-use crate::tokens::{Read, token_ahead, word_ahead};
+use crate::tokens::{Read, literal_ahead, word_ahead};
 use ps_acts::lent::{Context, Shared, Trial};
 use ps_control::frames::{Frame, Source, replace_top};
 use ps_frames::frames::drop_top;
@@ -229,8 +229,8 @@ fn treat_token<O: Operate, M: Memory>(
     }
 }
 
-/// What was scanned of a text behind a place is taken: a token is done by operands alone, and the
-/// memory stays as it is; or the frame goes on from that place and the turn is made.
+/// What was scanned of a text behind a place is taken: a literal is pushed, and the memory stays as
+/// it is; or the frame goes on from that place and the turn is made.
 #[inline(always)]
 fn take_scanned<O: Operate, M: Memory>(
     source: Source,
@@ -260,23 +260,9 @@ fn take_scanned<O: Operate, M: Memory>(
         (lent (M.heap memory.new) (M.grants memory.new) context.new shared.new) }
     ensures heap { OnDone result (M.heap memory.new ≡ M.heap memory.old) }
 {
-    let dictionaries = &context.dictionaries;
-    let operands = &mut context.operands;
-    let names = &shared.names;
-    match token_ahead(
-        &scanned,
-        text,
-        operators,
-        dictionaries,
-        names,
-        operands,
-        memory,
-    ) {
-        Read::Done(end) => Taken::Done(end),
-        Read::Treats { word, value, end } => Taken::Turned(treat_token(
-            source, at, end, word, value, operators, context, shared, memory, trial,
-        )),
-        Read::Left => {
+    match literal_ahead(&scanned, text, &shared.names, &mut context.operands) {
+        Some(end) => Taken::Done(end),
+        None => {
             let top = Frame::Text { source, at };
             replace_top(&mut context.frames, top);
             Taken::Turned(scanned_turn(

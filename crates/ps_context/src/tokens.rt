@@ -1,11 +1,13 @@
 //! Tokens that are done by operands alone (PLRM2, 3.2, 3.5).
 
-ghost use Rattle.std.specs.Prelude.{◌≡◌, Some, Ok, ⊤, length};
+ghost use Rattle.std.specs.Prelude.{◌≡◌, Some, Ok, ⊤, IsNone, List, length};
+ghost use Rattle.ps_mem.specs.Heap.{Heap};
+ghost use Rattle.ps_values.specs.Values.{Asks};
 ghost use Rattle.ps_mem.specs.Shows.{AreValues, IsSound};
 ghost use Rattle.ps_control.specs.Frames.{IsSourceAt};
 ghost use Rattle.ps_scan.specs.Shown.{token_of};
 ghost use Rattle.ps_tokens.specs.Short.{IsShort};
-ghost use Rattle.ps_context.specs.Reading.{Reads, ReadsWord};
+ghost use Rattle.ps_context.specs.Reading.{Reads, ReadsWord, read_to_end};
 ghost use Rattle.ps_context.specs.Texts.{IsTaken};
 ghost use Rattle.ps_context.specs.Windows.{IsWindow};
 
@@ -18,6 +20,7 @@ use ps_operands::Operands;
 use ps_scan::{ScanFault, Token};
 use ps_tokens::words::word_of;
 use ps_values::operates::Operate;
+use ps_values::pushes::push_quickly;
 use ps_values::quick::{Quick, do_quickly};
 use ps_word::words::Word;
 
@@ -64,36 +67,33 @@ fn do_ahead<O: Operate, M: Memory>(
     }
 }
 
-/// Does a token that was scanned, as `do_ahead` does, where there is one. The memory stays as it is.
-#[inline(never)]
-pub fn token_ahead<O: Operate, M: Memory>(
+/// A token that was scanned becomes an operand, where it is a literal number or a literal name that
+/// was met, and there is room; then it ends at the place that is told. Else nothing has changed.
+#[inline(always)]
+pub fn literal_ahead(
     scanned: &Result<Option<Token>, ScanFault>,
     text: &[u8],
-    operators: &O,
-    dictionaries: &Dictionaries,
     names: &Names,
     operands: &mut Operands,
-    memory: &mut M,
-) -> Read
-    requires sound { IsSound (M.heap memory.old) }
-    requires dictionaries { AreValues (M.heap memory.old) dictionaries.now }
+) -> Option<usize>
     requires short { IsTaken (λ end. ⊤) text.now scanned.now }
-    ensures heap { M.heap memory.new ≡ M.heap memory.old }
-    ensures grants { M.grants memory.new ≡ M.grants memory.old }
-    ensures reads { Reads O.asks (M.heap memory.old) dictionaries.now names.now text.now result
-        scanned.now operands.old operands.new }
+    ensures reads { (asks : Asks) (heap : Heap) (dictionaries : List Word) → Reads asks heap
+        dictionaries names.now text.now (read_to_end result) scanned.now operands.old operands.new }
+    ensures kept { IsNone result → operands.new ≡ operands.old }
 {
     match scanned {
-        Ok(Some(token)) => do_ahead(
-            token,
-            text,
-            operators,
-            dictionaries,
-            names,
-            operands,
-            memory,
-        ),
-        _ => Read::Left,
+        Ok(Some(token)) => {
+            let word = word_of(&token.kind, text, names)?;
+            if word.is_executable() {
+                return None;
+            }
+            if push_quickly(word, operands) {
+                Some(token.end)
+            } else {
+                None
+            }
+        }
+        _ => None,
     }
 }
 

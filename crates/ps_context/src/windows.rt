@@ -167,7 +167,7 @@ fn place_read(part: Part, at: usize, start: usize, list: &[u8]) -> Option<usize>
 
 /// A token that was scanned from one place on, as it is from another.
 #[inline(always)]
-fn token_from(token: Token, from: usize, at: usize) -> Token
+fn moved_token(token: Token, from: usize, at: usize) -> Token
     requires behind { from ≤ token.end }
     requires end { at + (token.end - from) < 2 ^ 64 }
     ensures kind { result.kind ≡ token.kind }
@@ -193,7 +193,7 @@ pub fn scan_read(part: Part, at: usize, start: usize, list: &[u8], alloc: Global
     scanned_is_short();
     let front = place_read(part, at, start, list)?;
     match next_token(alloc, list, front) {
-        Ok(Some(token)) if token.end < list.len() => Some(token_from(token, front, at)),
+        Ok(Some(token)) if token.end < list.len() => Some(moved_token(token, front, at)),
         _ => None,
     }
 }
@@ -211,7 +211,7 @@ pub fn word_read(part: Part, at: usize, start: usize, list: &[u8]) -> Option<Tok
     scanned_is_short();
     let front = place_read(part, at, start, list)?;
     match next_word(list, front) {
-        Some(token) if token.end < list.len() => Some(token_from(token, front, at)),
+        Some(token) if token.end < list.len() => Some(moved_token(token, front, at)),
         _ => None,
     }
 }
@@ -275,7 +275,7 @@ pub fn scan_string<M: Memory>(
     let rest = rest_of(part, at, front);
     *start = rest.offset as usize;
     match scan_by_windows(memory, rest, front as usize, list, alloc) {
-        Ok(Some(token)) => Ok(Some(token_from(token, front as usize, at))),
+        Ok(Some(token)) => Ok(Some(moved_token(token, front as usize, at))),
         Ok(None) => Ok(None),
         Err(fault) => Err(fault),
     }

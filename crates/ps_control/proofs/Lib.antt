@@ -8,3 +8,4 @@ pub mod Rows
 pub mod Turning
 pub mod Foralls
 pub mod FramesLeft
+pub mod ToLoop

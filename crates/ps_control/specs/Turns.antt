@@ -1,5 +1,5 @@
 -- When what a turn of a frame did to operands and frames is what the definitions say.
-use Rattle.std.specs.Prelude.{◌≡◌, ℕ, Bool, true, false, List, [], ◌∷◌, drop, Option, option_map, IfSome, Result, Ok, Err}
+use Rattle.std.specs.Prelude.{◌≡◌, ℕ, suc, Bool, true, false, if◌then◌else◌, List, [], ◌∷◌, drop, Option, Some, None, option_map, IfSome, Result, Ok, Err}
 use Rattle.ps_language.specs.declared.errors.ErrorName.{ErrorName}
 use Rattle.ps_language.specs.declared.operators.Operator.{Operator}
 use Rattle.ps_language.specs.Value.{Value, Store}
@@ -15,7 +15,7 @@ use Rattle.ps_mem.specs.Meaning.{value_of, part_of}
 use Rattle.ps_mem.specs.Shows.{AreValues, IsWithin, AreWithin, Shows}
 use Rattle.ps_ops.specs.Does.{values_in}
 use Rattle.ps_control.specs.declared.frames.Frame.{Frame}
-use Rattle.ps_control.specs.declared.frames.Frame.TheVariants.{Repeat, Loop, For, Forall, Stopped, Monitor}
+use Rattle.ps_control.specs.declared.frames.Frame.TheVariants.{Procedure, Repeat, Loop, For, Forall, Stopped, Monitor}
 use Rattle.ps_control.specs.declared.frames.Cause.{Cause}
 use Rattle.ps_control.specs.declared.frames.Cause.TheVariants.{Stop, Exit, Quit}
 use Rattle.ps_control.specs.declared.turns.TurnOperands.{TurnOperands}
@@ -65,6 +65,12 @@ ends_at_loop cause frame = false
 abbrev pub ends_at_stopped : Cause → Frame → Bool
 ends_at_stopped Stop Stopped = true
 ends_at_stopped cause frame = false
+
+-- how many frames an exit takes off, where procedures alone stand above a loop
+abbrev pub frames_to_loop : List Frame → Option ℕ
+frames_to_loop [] = None
+frames_to_loop (Procedure rest ∷ frames) = option_map suc (frames_to_loop frames)
+frames_to_loop (frame ∷ frames) = if ends_at_loop Exit frame then Some 1 else None
 
 -- a frame that holds a lock
 abbrev pub is_monitor : Frame → Bool

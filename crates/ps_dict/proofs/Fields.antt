@@ -18,7 +18,7 @@ use Rattle.ps_dict.specs.Places.{natural_in, body_at}
 use Rattle.ps_dict.proofs.Shapes.{shape, count-is, capacity-is, access-is, body-is}
 
 -- the low half of a natural number's word
-low_natural : (w n : ℕ) → content_in w ≡ Integer (pos n) → w % 2 ^ 32 ≡ n
+pub low_natural : (w n : ℕ) → content_in w ≡ Integer (pos n) → w % 2 ^ 32 ≡ n
 low_natural w n is = elim (ℕ_discrete (w / 2 ^ 60) 1) [
   | yes e ↦
       let number : Integer (cast_signed w32 (w % 2 ^ 32)) ≡ Integer (pos n) =

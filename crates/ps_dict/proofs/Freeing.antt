@@ -8,7 +8,8 @@ use Rattle.ps_word.specs.Format.{content_in}
 use Rattle.ps_word.specs.Readers.{as_integer}
 use Rattle.ps_mem.specs.Heap.{zero_word}
 use Rattle.ps_mem.specs.Index.{index_word, has_free, filled, placed}
-use Rattle.ps_dict.proofs.IndexPlaces.{turned, IsBelow, turned-length}
+use Rattle.ps_dict.specs.Probes.{turned}
+use Rattle.ps_dict.proofs.IndexPlaces.{IsBelow, turned-length}
 use Rattle.std.proofs.lemmas.List.{length-map}
 use Rattle.ps_language.specs.declared.kinds.Kind.TheVariants.{Dictionary as DictionaryKind}
 use Rattle.ps_mem.specs.Heap.{Heap, birth_at, fields_at}

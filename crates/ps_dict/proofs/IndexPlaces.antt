@@ -6,10 +6,7 @@ use Rattle.std.specs.List.{AllByRecursion}
 use Rattle.std.proofs.lemmas.List.{length-take-le, take-append-drop, append_assoc}
 use Rattle.ps_mem.specs.Index.{has_free, filled, placed, placed_all, index_of}
 use Rattle.ps_mem.proofs.Lists.{all_append, all_take, all_drop}
-
--- places from a start on, going round
-unfoldable pub turned : {A : Type 0} → ℕ → List A → List A
-turned start places = drop start places ++ take start places
+use Rattle.ps_dict.specs.Probes.{turned}
 
 pub turned-length : {A : Type 0} (n : ℕ) (xs : List A) → length (turned n xs) ≡ length xs
 unfolding turned

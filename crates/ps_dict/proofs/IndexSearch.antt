@@ -1,6 +1,6 @@
 -- A search by the index finds exactly the place of the key.
 use Rattle.std.proofs.Common.{◌≡◌, ℕ, zero, suc, ◌%◌, ◌<◌, ◌≤◌, Bool, true, false, ◌&&◌, List, [], ◌∷◌, ◌++◌, length, map, Option, Some, None, refl, ap, ◌∙◌, arith, subst, rules}
-use Rattle.std.specs.Prelude.{slice_get, option_map, if◌then◌else◌, ◌==◌}
+use Rattle.std.specs.Prelude.{slice_get, option_map, ◌==◌}
 use Rattle.std.specs.List.{AllByRecursion}
 use Rattle.std.specs.Int.{w32, cast_unsigned}
 use Rattle.std.proofs.lemmas.List.{length-map}
@@ -19,7 +19,8 @@ use Rattle.ps_mem.specs.Index.{hash_of_content, hash_of, hashes_of, index_of}
 use Rattle.ps_mem.proofs.Lists.{slice_get-map}
 use Rattle.ps_dict.specs.Keys.{same_place, same_content, same_words}
 use Rattle.ps_dict.specs.Places.{place_of}
-use Rattle.ps_dict.proofs.IndexPlaces.{turned, IsFound, IsIndex, is-index}
+use Rattle.ps_dict.specs.Probes.{turned, looked_up, same_found, same_at}
+use Rattle.ps_dict.proofs.IndexPlaces.{IsFound, IsIndex, is-index}
 
 -- ---- one key, one hash number
 
@@ -65,20 +66,6 @@ unfolding hash_of same_words
 hash-same births a b e = hash-same_content births (content_in a.0) (content_in b.0) e
 
 -- ---- a search
-
--- the first of these positions at which the key is; none behind a free place
-abbrev pub looked_up : (ℕ → Bool) → List (Option ℕ) → Option ℕ
-looked_up same [] = None
-looked_up same (None ∷ places) = None
-looked_up same (Some q ∷ places) = if same q then Some q else looked_up same places
-
-abbrev pub same_found : Option (Word × Word) → Word → Bool
-same_found None key = false
-same_found (Some pair) key = same_words pair.0 key
-
--- whether the pair at a position has the key
-abbrev pub same_at : List (Word × Word) → Word → ℕ → Bool
-same_at pairs key q = same_found (slice_get pairs q) key
 
 looked_up-found : (same : ℕ → Bool) (q : ℕ) → same q ≡ true → ((j : ℕ) → j < q → same j ≡ false)
     → (front : List ℕ) → AllByRecursion (λ j. j < q) front → (rest : List (Option ℕ))

@@ -45,7 +45,7 @@ unlike_test m n other = by (nat_eq m n) (Decides-eqb m n).0
     by true there = absurd (other (there refl))
     by false there = refl
 
-test_cases : (m n : ℕ) → (m ≡ n) ⊎ (m ≢ n)
+pub test_cases : (m n : ℕ) → (m ≡ n) ⊎ (m ≢ n)
 test_cases m n = by (nat_eq m n) (Decides-eqb m n)
   where
     by : (b : Bool) → (b ≡ true → m ≡ n) × (m ≡ n → b ≡ true) → (m ≡ n) ⊎ (m ≢ n)

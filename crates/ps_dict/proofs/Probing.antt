@@ -1,7 +1,7 @@
 -- What a look into the index of a dictionary's body says of the place of a key.
-use Rattle.std.proofs.Common.{◌≡◌, ℕ, zero, suc, ◌+◌, ◌-◌, ◌*◌, ◌%◌, ◌^◌, ◌<◌, ◌≤◌, true, false, List, [], ◌∷◌, ◌++◌, length, map, take, drop, Option, Some, None, refl, sym, ap, ◌∙◌, arith, subst, inl, inr, nat_lt, rules}
-use Rattle.std.specs.Prelude.{ℤ, pos, slice_get, unsigned_abs, if◌then◌else◌, FitsSigned}
-use Rattle.std.specs.Int.{w32, cast_unsigned}
+use Rattle.std.proofs.Common.{◌≢◌, ◌≡◌, ℕ, zero, suc, ◌+◌, ◌-◌, ◌*◌, ◌%◌, ◌^◌, ◌<◌, ◌≤◌, true, false, List, [], ◌∷◌, ◌++◌, length, map, take, drop, Option, Some, None, refl, sym, ap, ◌∙◌, arith, subst, inl, inr, nat_lt, rules}
+use Rattle.std.specs.Prelude.{pos, slice_get, if◌then◌else◌, FitsSigned}
+use Rattle.std.specs.Int.{w32}
 use Rattle.std.proofs.lemmas.List.{length-map, length-drop}
 use Rattle.std.proofs.lemmas.Bool.{cases_lt}
 use Rattle.std.proofs.lemmas.Bool.Decides.{nat_tests}
@@ -9,8 +9,8 @@ use Rattle.std.proofs.lemmas.Nat.{mod_below}
 use Rattle.ps_language.specs.declared.kinds.Kind.TheVariants.{Dictionary as DictionaryKind}
 use Rattle.ps_word.specs.declared.words.Word.{Word}
 use Rattle.ps_word.specs.declared.values.Value.{Value as WordValue}
-use Rattle.ps_word.specs.declared.values.Content.TheVariants.{Integer}
-use Rattle.ps_word.specs.Format.{content_in}
+use Rattle.ps_word.specs.declared.values.Content.TheVariants.{Integer, Null}
+use Rattle.ps_word.specs.Format.{content_in, value_in, packed, IsWord}
 use Rattle.ps_word.specs.Readers.{as_integer}
 use Rattle.ps_word.proofs.Packing.{value_in-packed}
 use Rattle.ps_mem.specs.Heap.{Heap, birth_at, fields_at, zero_word}
@@ -20,10 +20,13 @@ use Rattle.ps_mem.specs.Shows.{IsSound}
 use Rattle.ps_mem.proofs.Lists.{all_at}
 use Rattle.ps_dict.specs.Keys.{same_words}
 use Rattle.ps_dict.specs.Places.{count_at, capacity_at, body_at, pairs_at, place_of}
+use Rattle.ps_dict.specs.Probes.{turned, going_round, looked_up, same_found, same_at, start_at, StillAhead, Tells}
+use Rattle.ps_dict.specs.declared.dictionaries.Look.{Look}
+use Rattle.ps_dict.proofs.Fields.{low_natural}
 use Rattle.ps_dict.proofs.Reading.{key-pair, key-place, loaded}
 use Rattle.ps_dict.proofs.Shapes.{shape, capacity-is, body-room, count-fits, length-pairs, indexed-is}
-use Rattle.ps_dict.proofs.IndexPlaces.{turned, IsBelow, AreBelow, IsIndex, is-index, below-turned}
-use Rattle.ps_dict.proofs.IndexSearch.{looked_up, same_found, same_at, no_pair, index-finds}
+use Rattle.ps_dict.proofs.IndexPlaces.{IsBelow, AreBelow, IsIndex, is-index}
+use Rattle.ps_dict.proofs.IndexSearch.{no_pair, index-finds}
 
 -- ---- a word of the index
 
@@ -44,34 +47,19 @@ index_word-none None below e = refl
 index_word-none (Some q) below e = let clash : Some (pos q) ≡ None =
     sym (ap as_integer (index_word-content q below)) ∙ e in cc
 
-index_word-some : (x : Option ℕ) (number : ℤ) → IsBelow (2 ^ 31) x
-    → as_integer (content_in (index_word x).0) ≡ Some number → x ≡ Some (unsigned_abs number)
-index_word-some None number below e = let clash : None ≡ Some number = sym zero-content ∙ e in cc
-index_word-some (Some q) number below e =
-    let same : Some (pos q) ≡ Some number = sym (ap as_integer (index_word-content q below)) ∙ e in
-    let is : pos q ≡ number = cc in
-    ap (λ z. Some (unsigned_abs z)) is
+-- the word of a free place is zero
+index_word-zero : (x : Option ℕ) → IsBelow (2 ^ 31) x → (index_word x).0 ≡ 0 → x ≡ None
+index_word-zero None below e = refl
+index_word-zero (Some q) below e = let clash : Some (pos q) ≡ None =
+    sym (ap as_integer (index_word-content q below))
+    ∙ (ap (λ n. as_integer (content_in n)) e ∙ zero-content) in cc
 
-index_word-fits : (x : Option ℕ) (number : ℤ) → IsBelow (2 ^ 31) x
-    → as_integer (content_in (index_word x).0) ≡ Some number → FitsSigned w32 number
-index_word-fits None number below e = let clash : None ≡ Some number = sym zero-content ∙ e in cc
-index_word-fits (Some q) number below e =
-    let same : Some (pos q) ≡ Some number = sym (ap as_integer (index_word-content q below)) ∙ e in
-    let is : pos q ≡ number = cc in
-    let fits : FitsSigned w32 (pos q) = search rules in
-    subst (FitsSigned w32) is fits
-
-natural-cast : (q : ℕ) → q < 2 ^ 31 → cast_unsigned w32 (pos q) ≡ q
-natural-cast q below = search rules
-
-index_word-natural : (x : Option ℕ) (number : ℤ) → IsBelow (2 ^ 31) x
-    → as_integer (content_in (index_word x).0) ≡ Some number
-    → cast_unsigned w32 number ≡ unsigned_abs number
-index_word-natural None number below e = let clash : None ≡ Some number = sym zero-content ∙ e in cc
-index_word-natural (Some q) number below e =
-    let same : Some (pos q) ≡ Some number = sym (ap as_integer (index_word-content q below)) ∙ e in
-    let is : pos q ≡ number = cc in
-    subst (λ z. cast_unsigned w32 z ≡ unsigned_abs z) is (natural-cast q below)
+-- that of another has its position as its low half
+index_word-low : (x : Option ℕ) → IsBelow (2 ^ 31) x → (index_word x).0 ≢ 0
+    → x ≡ Some ((index_word x).0 % 2 ^ 32)
+index_word-low None below other = absurd (other refl)
+index_word-low (Some q) below other =
+    ap Some (sym (low_natural (index_word (Some q)).0 q (index_word-content q below)))
 
 -- ---- places going round
 
@@ -145,24 +133,12 @@ from-map (x ∷ places) (suc i) w e = from-map places i w e
 
 -- ---- the index of a dictionary
 
--- what is still to be looked through, so many places behind the start, has the place of the key
-abbrev pub StillAhead : Heap → ℕ → Word → ℕ → Type 0
-StillAhead h a key k =
-    looked_up (same_at (pairs_at h a) key)
-    (drop k (turned (hash_of (birth_at h) key % capacity_at h a)
-    (index_of (capacity_at h a) (hashes_of (birth_at h) (pairs_at h a))))) ≡ place_of
-    (pairs_at h a) key
-
 -- the place itself is the one that lies nothing behind it
-pub first-behind : (s n : ℕ) → s < n → s ≡ (if nat_lt (s + 0) n then s + 0 else s + 0 - n)
+pub first-behind : (s n : ℕ) → s < n → s ≡ going_round s 0 n
 first-behind s n below =
     let none : s ≡ s + 0 = omega (arith) in
     none ∙ ap (λ b. if b then s + 0 else s + 0 - n)
     (sym (below_test (s + 0) n (omega (arith, below))))
-
-pub ahead-in : (g h : Heap) (a : ℕ) (key : Word) (k : ℕ) → g ≡ h → StillAhead g a key k
-    → StillAhead h a key k
-ahead-in g h a key k same = subst (λ (x : Heap). StillAhead x a key k) same
 
 module _ (h : Heap) (a : ℕ) (known : StandsAs h DictionaryKind a 4) (sound : IsSound h) where
   abbrev pub places : List (Option ℕ)
@@ -193,14 +169,7 @@ module _ (h : Heap) (a : ℕ) (known : StandsAs h DictionaryKind a 4) (sound : I
       subst (λ n. AreBelow n places) count places-index.below
 
   module _ (key : Word) where
-    abbrev pub start : ℕ
-    start = hash_of (birth_at h) key % capacity_at h a
-
-    -- the invariant of the search
-    abbrev pub IsStillAhead : ℕ → Type 0
-    IsStillAhead k = StillAhead h a key k
-
-    pub ahead-first : IsStillAhead 0
+    pub ahead-first : StillAhead h a key 0
     ahead-first = let pairs = length-pairs h a known sound in let fits =
         count-fits h a known sound in
         index-finds (birth_at h) (capacity_at h a) (pairs_at h a) key (omega (arith, pairs, fits))
@@ -215,99 +184,112 @@ module _ (h : Heap) (a : ℕ) (known : StandsAs h DictionaryKind a 4) (sound : I
         empty [] e = no_pair key
         empty (p ∷ ps) e = absurd (omega (arith, e))
 
-    module _ (k : ℕ) (below : k < capacity_at h a) (w : Word)
-        (read : slice_get (fields_at h (body_at h a))
-        (2 * capacity_at h a + (if nat_lt (start + k) (capacity_at h a) then start + k else
-        start + k - capacity_at h a)) ≡ Some w) where
-      pub look : (x : Option ℕ) × (slice_get (turned start places) k ≡ Some x) × (index_word x ≡ w)
-      look =
-          let place : ℕ = if nat_lt (start + k) (capacity_at h a) then start + k else start + k -
-          capacity_at h a in
-          let (x, at, is) = from-map places place w
-          (ap (λ ws. slice_get ws place) (sym places-words)
-          ∙ (get-drop (2 * capacity_at h a) (fields_at h (body_at h a)) place ∙ read)) in
-          let first : start < length places =
-          (let s = mod_below (hash_of (birth_at h) key) (capacity_at h a) (omega (arith, below))
-          in let count = places-index.count in omega (arith, s, count)) in
-          let here : k < length places =
-          (let count = places-index.count in omega (arith, below, count)) in (
-            x,
-            get-turned places start k first here
-                ∙ (subst (λ n. slice_get places
-                (if nat_lt (start + k) n then start + k else start + k - n) ≡ Some x)
-                (sym places-index.count) at),
-            is,
-          )
+  -- ---- a place of it
 
-      look-below : IsBelow (count_at h a) look.0
-      look-below = all_at (IsBelow (count_at h a)) (turned start places) k look.0
-          (below-turned (count_at h a) start places places-below) look.1
+  module _ (place : ℕ) (below : place < capacity_at h a) (w : Word)
+      (read : slice_get (fields_at h (body_at h a)) (2 * capacity_at h a + place) ≡ Some w) where
+    look : (x : Option ℕ) × (slice_get places place ≡ Some x) × (index_word x ≡ w)
+    look = from-map places place w (ap (λ ws. slice_get ws place) (sym places-words)
+        ∙ (get-drop (2 * capacity_at h a) (fields_at h (body_at h a)) place ∙ read))
 
-      look-small : IsBelow (2 ^ 31) look.0
-      look-small = smaller look.0 look-below
-        where
-          smaller : (x : Option ℕ) → IsBelow (count_at h a) x → IsBelow (2 ^ 31) x
-          smaller None b = tt
-          smaller (Some q) b = let f = few-places in let g = count-fits h a known sound in
-              omega (arith, b, f, g)
+    look-below : IsBelow (count_at h a) look.0
+    look-below = all_at (IsBelow (count_at h a)) places place look.0 places-below look.1
 
-      pub look-free : as_integer (content_in w.0) ≡ None → IsStillAhead k
-          → place_of (pairs_at h a) key ≡ None
-      look-free e ahead =
-          let none : look.0 ≡ None =
-          index_word-none look.0 look-small
-          (ap (λ (v : Word). as_integer (content_in v.0)) look.2 ∙ e) in
-          let now : drop k (turned start places) ≡ None ∷ drop (suc k) (turned start places) =
-          drop-at (turned start places) k None (look.1 ∙ ap Some none) in
-          sym (sym (ap (looked_up (same_at (pairs_at h a) key)) now) ∙ ahead)
+    look-small : IsBelow (2 ^ 31) look.0
+    look-small = smaller look.0 look-below
+      where
+        smaller : (x : Option ℕ) → IsBelow (count_at h a) x → IsBelow (2 ^ 31) x
+        smaller None b = tt
+        smaller (Some q) b = let f = few-places in let g = count-fits h a known sound in
+            omega (arith, b, f, g)
 
-      module _ (number : ℤ) (e : as_integer (content_in w.0) ≡ Some number) where
-        abbrev pub position : ℕ
-        position = unsigned_abs number
+    -- it is what stands so many behind the first place of a key
+    turned-at : (key : Word) (k : ℕ) → k < capacity_at h a
+        → place ≡ going_round (start_at h a key) k (capacity_at h a)
+        → slice_get (turned (start_at h a key) places) k ≡ Some look.0
+    turned-at key k some at =
+        let start : ℕ = start_at h a key in
+        let count : length places ≡ capacity_at h a = places-index.count in
+        let first : start < length places =
+        (let s = mod_below (hash_of (birth_at h) key) (capacity_at h a) (omega (arith, some))
+        in omega (arith, s, count)) in
+        let here : k < length places = omega (arith, some, count) in
+        get-turned places start k first here
+        ∙ (ap (λ n. slice_get places (going_round start k n)) count
+        ∙ (ap (slice_get places) (sym at) ∙ look.1))
 
-        position-is : look.0 ≡ Some position
-        position-is = index_word-some look.0 number look-small
-            (ap (λ (v : Word). as_integer (content_in v.0)) look.2 ∙ e)
+    pub look-free : w.0 ≡ 0 → (key : Word) (k : ℕ)
+        → k < capacity_at h a → place ≡ going_round (start_at h a key) k (capacity_at h a)
+        → StillAhead h a key k → place_of (pairs_at h a) key ≡ None
+    look-free e key k some at ahead =
+        let start : ℕ = start_at h a key in
+        let none : look.0 ≡ None =
+        index_word-zero look.0 look-small (ap (λ (v : Word). v.0) look.2 ∙ e) in
+        let now : drop k (turned start places) ≡ None ∷ drop (suc k) (turned start places) =
+        drop-at (turned start places) k None (turned-at key k some at ∙ ap Some none) in
+        sym (sym (ap (looked_up (same_at (pairs_at h a) key)) now) ∙ ahead)
 
-        pub number-fits : FitsSigned w32 number
-        number-fits = index_word-fits look.0 number look-small
-            (ap (λ (v : Word). as_integer (content_in v.0)) look.2 ∙ e)
+    module _ (e : w.0 ≢ 0) where
+      abbrev position : ℕ
+      position = w.0 % 2 ^ 32
 
-        -- its bits say it
-        pub number-natural : cast_unsigned w32 number ≡ unsigned_abs number
-        number-natural = index_word-natural look.0 number look-small
-            (ap (λ (v : Word). as_integer (content_in v.0)) look.2 ∙ e)
+      position-is : look.0 ≡ Some position
+      position-is =
+          index_word-low look.0 look-small (λ none. e (sym (ap (λ (v : Word). v.0) look.2) ∙ none))
+          ∙ ap (λ (v : Word). Some (v.0 % 2 ^ 32)) look.2
 
-        pub position-within : position < count_at h a
-        position-within = subst (IsBelow (count_at h a)) position-is look-below
+      pub position-within : position < count_at h a
+      position-within = subst (IsBelow (count_at h a)) position-is look-below
+
+      module _ (v : Word)
+          (first : slice_get (fields_at h (body_at h a)) (2 * position) ≡ Some v)
+          (key : Word) (k : ℕ) (some : k < capacity_at h a)
+          (at : place ≡ going_round (start_at h a key) k (capacity_at h a))
+          (ahead : StillAhead h a key k) where
+        abbrev start : ℕ
+        start = start_at h a key
+
+        here : same_at (pairs_at h a) key position ≡ same_words v key
+        here = let (value, there) = key-pair h a known sound position position-within v first in
+            ap (λ o. same_found o key) there
 
         now : drop k (turned start places) ≡ Some position ∷ drop (suc k) (turned start places)
-        now = drop-at (turned start places) k (Some position) (look.1 ∙ ap Some position-is)
+        now = drop-at (turned start places) k (Some position)
+            (turned-at key k some at ∙ ap Some position-is)
 
-        module _ (v : Word) (first : slice_get (fields_at h (body_at h a)) (2 * position) ≡ Some v)
-          where
-            here : same_at (pairs_at h a) key position ≡ same_words v key
-            here = let (value, there) = key-pair h a known sound position position-within v first in
-                ap (λ o. same_found o key) there
+        pub look-found : same_words v key ≡ true → place_of (pairs_at h a) key ≡ Some position
+        look-found same =
+            let is : same_at (pairs_at h a) key position ≡ true = here ∙ same in
+            let found : looked_up (same_at (pairs_at h a) key)
+            (Some position ∷ drop (suc k) (turned start places)) ≡ Some position =
+            rw is refl in
+            sym (sym found ∙ (sym (ap (looked_up (same_at (pairs_at h a) key)) now) ∙ ahead))
 
-            pub look-found : same_words v key ≡ true → IsStillAhead k
-                → place_of (pairs_at h a) key ≡ Some position
-            look-found same ahead =
-                let is : same_at (pairs_at h a) key position ≡ true = here ∙ same in
-                let found : looked_up (same_at (pairs_at h a) key)
-                (Some position ∷ drop (suc k) (turned start places)) ≡ Some position =
-                rw is refl in
-                sym (sym found ∙ (sym (ap (looked_up (same_at (pairs_at h a) key)) now) ∙ ahead))
+        pub look-on : same_words v key ≡ false → StillAhead h a key (k + 1)
+        look-on other =
+            let is : same_at (pairs_at h a) key position ≡ false = here ∙ other in
+            let next : looked_up (same_at (pairs_at h a) key)
+            (Some position ∷ drop (suc k) (turned start places)) ≡ looked_up
+            (same_at (pairs_at h a) key) (drop (suc k) (turned start places)) = rw is refl in
+            let one : k + 1 ≡ suc k = omega arith in
+            ap (λ n. looked_up (same_at (pairs_at h a) key) (drop n (turned start places))) one
+            ∙ (sym next ∙ (sym (ap (looked_up (same_at (pairs_at h a) key)) now) ∙ ahead))
 
-            pub look-on : same_words v key ≡ false → IsStillAhead k → IsStillAhead (k + 1)
-            look-on other ahead =
-                let is : same_at (pairs_at h a) key position ≡ false = here ∙ other in
-                let next : looked_up (same_at (pairs_at h a) key)
-                (Some position ∷ drop (suc k) (turned start places)) ≡ looked_up
-                (same_at (pairs_at h a) key) (drop (suc k) (turned start places)) = rw is refl in
-                let one : k + 1 ≡ suc k = omega arith in
-                ap (λ n. looked_up (same_at (pairs_at h a) key) (drop n (turned start places))) one
-                ∙ (sym next ∙ (sym (ap (looked_up (same_at (pairs_at h a) key)) now) ∙ ahead))
+-- what the first place tells, behind which none was looked at
+pub first-tells : (g h : Heap) (a n s : ℕ) (key : Word) (look : Look)
+    → StandsAs h DictionaryKind a 4 → IsSound h → g ≡ h → n ≡ capacity_at h a → 0 < n → s < n
+    → s ≡ hash_of (birth_at h) key % n
+    → ((behind : ℕ) → behind < n → s ≡ going_round (start_at g a key) behind n
+    → StillAhead g a key behind → Tells g a key behind look)
+    → Tells h a key 0 look
+first-tells g h a n s key look known sound same capacity some below first tells =
+    let here = subst (λ (x : Heap). (behind : ℕ) → behind < n
+    → s ≡ going_round (start_at x a key) behind n → StillAhead x a key behind
+    → Tells x a key behind look) same tells in
+    here 0 some
+    (first-behind s n below ∙ ap (λ t. going_round t 0 n)
+    (first ∙ ap (λ m. hash_of (birth_at h) key % m) capacity))
+    (ahead-first h a known sound key)
 
 -- ---- what is read of a heap that is the same
 
@@ -333,23 +315,21 @@ module _ (g h : Heap) (a b n : ℕ) (known : StandsAs h DictionaryKind a 4) (sou
       let fits = key-place h a known sound q below in
       omega (arith, count, fits)
 
-  pub looked-at : (key : Word) (s p k : ℕ) (w : Word) → s ≡ start h a known sound key
-      → p ≡ (if nat_lt (s + k) n then s + k else s + k - n)
-      → slice_get (fields_at g b) (2 * n + p) ≡ Some w
-      → slice_get (fields_at h (body_at h a))
-      (2 * capacity_at h a + (if nat_lt (start h a known sound key + k) (capacity_at h a) then
-      start h a known sound key + k else start h a known sound key + k - capacity_at h a)) ≡
-      Some w
-  looked-at key s p k w first place read =
-      ap (slice_get (fields_at h (body_at h a)))
-      (ap (λ m. 2 * m + (if nat_lt (start h a known sound key + k) m then start h a known sound key
-      + k else start h a known sound key + k - m)) (sym capacity)
-      ∙ (ap (λ t. 2 * n + (if nat_lt (t + k) n then t + k else t + k - n)) (sym first)
-      ∙ ap (λ q. 2 * n + q) (sym place)))
+  -- a place of the index, and the key of a position
+  pub looked-at : (p : ℕ) (w : Word) → slice_get (fields_at g b) (2 * n + p) ≡ Some w
+      → slice_get (fields_at h (body_at h a)) (2 * capacity_at h a + p) ≡ Some w
+  looked-at p w read =
+      ap (λ m. slice_get (fields_at h (body_at h a)) (2 * m + p)) (sym capacity)
       ∙ loaded g h a b (2 * n + p) w same is read
 
-  pub start-here : (key : Word) (s : ℕ) (f : Heap) → f ≡ h → s ≡ hash_of (birth_at f) key % n
-      → s ≡ start h a known sound key
-  start-here key s f as_before e = e
-      ∙ (ap (λ (x : Heap). hash_of (birth_at x) key % n) as_before
-      ∙ ap (λ m. hash_of (birth_at h) key % m) capacity)
+  pub key-at : (p q : ℕ) (v : Word) → p ≡ q → slice_get (fields_at g b) (2 * p) ≡ Some v
+      → slice_get (fields_at h (body_at h a)) (2 * q) ≡ Some v
+  key-at p q v e read = loaded g h a b (2 * q) v same is
+      (subst (λ r. slice_get (fields_at g b) (2 * r) ≡ Some v) e read)
+
+-- ---- the word of a null
+
+pub null-zero : (w : Word) → IsWord w.0
+    → value_in w.0 ≡ record { content = Null; executable = false } → w.0 ≡ 0
+unfolding packed
+null-zero w word is = sym word.exact ∙ ap packed is

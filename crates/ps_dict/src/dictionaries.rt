@@ -11,6 +11,7 @@ ghost use Rattle.ps_mem.specs.References.{StandsAs};
 ghost use Rattle.ps_mem.specs.Meaning.{value_of};
 ghost use Rattle.ps_mem.specs.Shows.{IsValue, IsSound, IsWithin, Shows, pair_of};
 ghost use Rattle.ps_dict.specs.Places.{natural_in, count_at, capacity_at, access_at, body_at, pairs_at, place_of, first_place};
+ghost use Rattle.ps_dict.specs.Probes.{going_round, start_at, IsPosition, StillAhead, Tells};
 
 use crate::index::{first_place, place_behind};
 use crate::keys::is_same_key;
@@ -123,6 +124,47 @@ pub fn position<M: Memory>(memory: &mut M, address: u32, key: Word) -> Option<u3
     near_position(memory, address, capacity, key)
 }
 
+/// What a place of an index tells of a key.
+#[derive(Clone, Copy, Debug, PartialEq, Eq)]
+enum Look {
+    /// The pair of this position is the first that has it.
+    Here(u32),
+    /// The pair of another key.
+    Other,
+    /// None: the key is absent, if it is in no place before.
+    Free,
+}
+
+/// Looks at a place of an index.
+#[inline(always)]
+fn look_at<M: Memory>(memory: &mut M, address: u32, capacity: u32, place: u32, key: Word) -> Look
+    requires capacity { capacity ≡ capacity_at (M.heap memory.old) address }
+    requires place { place < capacity }
+    requires sound { IsSound (M.heap memory.old) }
+    requires known { StandsAs (M.heap memory.old) Kind.Dictionary address 4 }
+    requires held { IsValue (M.heap memory.old) key }
+    ensures heap { M.heap memory.new ≡ M.heap memory.old }
+    ensures grants { M.grants memory.new ≡ M.grants memory.old }
+    ensures within { IsPosition (M.heap memory.old) address result }
+    ensures tells { (behind : ℕ) → behind < capacity
+        → place ≡ going_round (start_at (M.heap memory.old) address key) behind capacity
+        → StillAhead (M.heap memory.old) address key behind
+        → Tells (M.heap memory.old) address key behind result }
+{
+    let body = body(memory, address);
+    let placed = memory.load(body, 2 * capacity + place);
+    if placed == Word::null() {
+        return Look::Free;
+    }
+    let position = placed.low_natural();
+    let word = memory.load(body, 2 * position);
+    if is_same_key(word, key) {
+        Look::Here(position)
+    } else {
+        Look::Other
+    }
+}
+
 /// The same by the place of the key's hash number, where most keys stand that are there; else by
 /// the places behind it.
 #[inline(always)]
@@ -137,18 +179,11 @@ fn near_position<M: Memory>(memory: &mut M, address: u32, capacity: u32, key: Wo
     ensures within { IfSome result (λ place. place < count_at (M.heap memory.old) address) }
     ensures words { result ≡ place_of (pairs_at (M.heap memory.old) address) key }
 {
-    let body = body(memory, address);
-    let place = first_place(memory, key, capacity);
-    match memory.load(body, 2 * capacity + place).as_integer() {
-        Some(number) => {
-            let position = number.cast_unsigned();
-            let word = memory.load(body, 2 * position);
-            if is_same_key(word, key) {
-                return Some(position);
-            }
-            indexed_position(memory, address, capacity, key)
-        }
-        None => None,
+    let start = first_place(memory, key, capacity);
+    match look_at(memory, address, capacity, start, key) {
+        Look::Here(position) => Some(position),
+        Look::Other => indexed_position(memory, address, capacity, start, key),
+        Look::Free => None,
     }
 }
 
@@ -162,38 +197,35 @@ fn looks_in(capacity: u32) -> u32
     capacity / PLACES_A_LOOK + 1
 }
 
-/// The same by the index, from the place of the key's hash number on: where places are free, a few
-/// looks tell that a key is absent. Where they tell nothing, by the order.
+/// The same by the places of the index behind that at which the key is looked for first, which has
+/// another: where places are free, a few looks tell that a key is absent. Where they tell nothing,
+/// by the order.
 #[inline(never)]
 fn indexed_position<M: Memory>(
     memory: &mut M,
     address: u32,
     capacity: u32,
+    start: u32,
     key: Word,
 ) -> Option<u32>
     requires capacity { capacity ≡ capacity_at (M.heap memory.old) address }
     requires some { 0 < capacity }
+    requires start { start ≡ start_at (M.heap memory.old) address key }
     requires sound { IsSound (M.heap memory.old) }
     requires known { StandsAs (M.heap memory.old) Kind.Dictionary address 4 }
     requires held { IsValue (M.heap memory.old) key }
+    requires ahead { StillAhead (M.heap memory.old) address key 1 }
     ensures heap { M.heap memory.new ≡ M.heap memory.old }
     ensures grants { M.grants memory.new ≡ M.grants memory.old }
     ensures within { IfSome result (λ place. place < count_at (M.heap memory.old) address) }
     ensures words { result ≡ place_of (pairs_at (M.heap memory.old) address) key }
 {
-    let body = body(memory, address);
-    let start = first_place(memory, key, capacity);
-    for behind in 0..looks_in(capacity) {
+    for behind in 1..looks_in(capacity) {
         let place = place_behind(start, behind, capacity);
-        match memory.load(body, 2 * capacity + place).as_integer() {
-            Some(number) => {
-                let position = number.unsigned_abs();
-                let word = memory.load(body, 2 * position);
-                if is_same_key(word, key) {
-                    return Some(position);
-                }
-            }
-            None => return None,
+        match look_at(memory, address, capacity, place, key) {
+            Look::Here(position) => return Some(position),
+            Look::Other => {}
+            Look::Free => return None,
         }
     }
     let count = length(memory, address);

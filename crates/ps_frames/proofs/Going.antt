@@ -1,9 +1,11 @@
 -- Unwindings, by the frame that goes.
-use Rattle.std.proofs.Common.{◌≡◌, ℕ, Bool, true, false, List, ◌∷◌, drop, Some, Ok, refl, sym, ap, subst, ◌∙◌}
+use Rattle.std.proofs.Common.{◌≡◌, ℕ, Bool, true, false, List, ◌∷◌, drop, Some, Ok, refl, sym, ap, subst, ◌∙◌, arith}
 use Rattle.std.specs.Prelude.{Result}
 use Rattle.ps_language.specs.Value.{Store}
 use Rattle.ps_language.specs.StepValues.{Turn}
 use Rattle.ps_language.specs.StepFrames.{unwound_turn}
+use Rattle.ps_language.specs.Machines.{with_scene, settled, reaches}
+use Rattle.ps_language.specs.World.{unwinding}
 use Rattle.ps_stacks.specs.Tops.{first_of}
 use Rattle.ps_mem.specs.Heap.{birth_at}
 use Rattle.ps_ops.specs.declared.failure.NotMade.{NotMade as Reason}
@@ -17,11 +19,12 @@ use Rattle.ps_control.proofs.FramesLeft.{left, ended, stopped_ended}
 use Rattle.ps_acts.specs.declared.lent.Trial.{Trial}
 use Rattle.ps_acts.specs.Lent.{Lent, scene_of, IsShown, IsGood}
 use Rattle.ps_turns.specs.declared.turned.Turned.{Turned}
-use Rattle.ps_turns.specs.declared.turned.Turned.TheVariants.{Goes}
-use Rattle.ps_turns.specs.Turns.{Turns, break_turn, nothing_more}
+use Rattle.ps_turns.specs.declared.turned.Turned.TheVariants.{Goes, Breaks}
+use Rattle.ps_turns.specs.Turns.{IsUnderWay, Turns, break_turn, nothing_more}
 use Rattle.ps_frames.specs.Steps.{unwinding_turn, gone_turn, truth_turn, unwinding_asks, unwound_asks, with_frames}
-use Rattle.ps_turns.proofs.Composing.{turns_as}
-use Rattle.ps_frames.proofs.Framing.{goes_here}
+use Rattle.ps_acts.proofs.Meeting.{keeps-same, lasts-same, logs-same, stays_as, at_least-same}
+use Rattle.ps_turns.proofs.Composing.{composes, restacked_good, restacked_shown, turns_as}
+use Rattle.ps_frames.proofs.Framing.{below_good, goes_here}
 
 module _ (l : Lent) (good : IsGood l) (cause : Cause) (top : Frame)
     (is : Some top ≡ first_of l.frames) where
@@ -122,3 +125,75 @@ unlocked l new cause trial result top is free turns =
     l new (λ s shown. refl) (λ s shown. unlocked_asks top (drop 1 l.frames) l s free
     ∙ ap (λ (fs : List Frame). unwound_asks (frames_in l.heap l.names fs))
     (sym (first_split l.frames top is))) turns
+
+-- ---- a frame that goes by itself
+
+-- while frames are left an unwinding goes on
+breaks_here : (l : Lent) (trial : Trial) (cause : Cause) → IsGood l
+    → IsUnderWay (Breaks cause) l.frames
+    → Turns nothing_more (break_turn (cause_of cause)) trial (Ok (Breaks cause)) l l
+breaks_here l trial cause good under_way = record {
+  meets = λ s shown. record {
+    did = record {
+      after = s;
+      shown = shown;
+      lasts = lasts-same s;
+      is = λ machine was address.
+          (λ i. reaches (settled
+          (record (with_scene (scene_of l s) (unwinding (cause_of cause)) machine)
+          { printed = was i })));
+    };
+    logs = logs-same _ l.grants trial.slot;
+  };
+  good = good;
+  keeps = keeps-same l.heap;
+  stays = stays_as l l refl refl refl (omega arith) (at_least-same _);
+  logs = logs-same _ l.grants trial.slot;
+  framed = tt;
+  under_way = under_way;
+}
+
+module _ (l : Lent) (good : IsGood l) (trial : Trial) (cause : Cause) (top : Frame)
+    (below : List Frame) (is : l.frames ≡ top ∷ below) (free : is_monitor top ≡ false) where
+  first_is : Some top ≡ first_of l.frames
+  first_is = sym (ap (λ (fs : List Frame). first_of fs) is)
+
+  rest_is : drop 1 l.frames ≡ below
+  rest_is = ap (drop 1) is
+
+  abbrev under : Lent
+  under = record l { frames = drop 1 l.frames }
+
+  under_good : IsGood under
+  under_good = restacked_good l l.operands (drop 1 l.frames) (below_good l good) good
+
+  -- as what is left of it turns
+  gone_turns : (turned : Turned)
+      → Turns nothing_more (gone_turn (ends_at_loop cause top) (ends_at_stopped cause top) cause)
+      trial (Ok turned) under under
+      → Turns unwinding_asks (unwinding_turn cause) trial (Ok turned) l
+      (record l { frames = below })
+  gone_turns turned turns =
+      subst (λ (fs : List Frame). Turns unwinding_asks (unwinding_turn cause) trial (Ok turned) l
+      (record l { frames = fs })) rest_is
+      (unlocked l under cause trial (Ok turned) top first_is free
+      (composes l l.operands (drop 1 l.frames) nothing_more nothing_more (unwinding_turn cause)
+      (gone_turn (ends_at_loop cause top) (ends_at_stopped cause top) cause) trial IsShown
+      (restacked_shown l l.operands (drop 1 l.frames) (below_good l good))
+      (gone_is l good cause top first_is free) (λ s shown. refl) turned under turns))
+
+  -- it ends there
+  pub frame_ends : ends_at_loop cause top ≡ true
+      → Turns unwinding_asks (unwinding_turn cause) trial (Ok Goes) l (record l { frames = below })
+  frame_ends loop = gone_turns Goes (gone_ended under trial cause top under_good loop)
+
+  -- it goes on below
+  pub frame_left : ends_at_loop cause top ≡ false → ends_at_stopped cause top ≡ false
+      → IsUnderWay (Breaks cause) below
+      → Turns unwinding_asks (unwinding_turn cause) trial (Ok (Breaks cause)) l
+      (record l { frames = below })
+  frame_left loop stopped some =
+      gone_turns (Breaks cause)
+      (gone_left under trial cause top loop (Ok (Breaks cause)) under stopped
+      (breaks_here under trial cause under_good
+      (subst (IsUnderWay (Breaks cause)) (sym rest_is) some)))

@@ -1,29 +1,34 @@
 -- Own steps of a running context, one after another.
-use Rattle.std.proofs.Common.{◌≡◌, ◌≢◌, ℕ, zero, suc, ◌+◌, Bool, true, false, Option, Some, None, List, [], ◌∷◌, refl, sym, ◌∙◌, ap, subst, IsTrue, Ok, arith}
+use Rattle.std.proofs.Common.{◌≡◌, ◌≢◌, ℕ, zero, suc, ◌+◌, Bool, true, false, Option, Some, None, List, [], ◌∷◌, map, refl, sym, ◌∙◌, ap, subst, IsTrue, Ok, arith}
 use Rattle.std.specs.Prelude.{option_and_then}
 use Rattle.std.proofs.lemmas.List.{replicate_more}
 use Rattle.ps_language.specs.Effect.{Around, Scene}
 use Rattle.ps_language.specs.Machines.{may_end, is_empty, settled, Reached, reaches, leaves_to_world, after_turn, own_step}
 use Rattle.ps_language.specs.Schedules.{plain_move}
 use Rattle.ps_language.specs.Value.{Store}
-use Rattle.ps_language.specs.World.{Status, running, Machine}
+use Rattle.ps_language.specs.World.{Status, running, unwinding, Machine}
+use Rattle.ps_mem.specs.Heap.{birth_at}
 use Rattle.ps_mem.proofs.KeepsLemmas.{Keeps-then}
 use Rattle.ps_control.specs.declared.frames.Frame.{Frame}
+use Rattle.ps_control.specs.declared.frames.Cause.{Cause}
+use Rattle.ps_control.specs.Frames.{frame_of}
+use Rattle.ps_control.specs.Turns.{cause_of}
 use Rattle.ps_acts.specs.Acts.{Asked, Lasts}
 use Rattle.ps_acts.specs.Lent.{Lent, IsGood}
 use Rattle.ps_acts.specs.Trials.{ordinary}
 use Rattle.ps_acts.proofs.Meeting.{keeps-same, lasts-same, stays_as, stays_then, at_least-same}
-use Rattle.ps_turns.specs.declared.turned.Turned.TheVariants.{Goes}
-use Rattle.ps_turns.specs.Turns.{Turns, IsTurned}
+use Rattle.ps_turns.specs.declared.turned.Turned.{Turned}
+use Rattle.ps_turns.specs.declared.turned.Turned.TheVariants.{Goes, Calls, Breaks, Ends}
+use Rattle.ps_turns.specs.Turns.{Turns, IsTurned, IsUnderWay, status_of, lines_after, reached_by}
 use Rattle.ps_interpreter.specs.Alone.{alone_step, is_alone_ready, after_alone_moves, all_alone_ready}
 use Rattle.ps_interpreter.specs.Courses.{going, course_after, IsLentBy, IsAtBy}
-use Rattle.ps_interpreter.specs.Interprets.{asks_in, own_turn}
+use Rattle.ps_interpreter.specs.Interprets.{asks_in, own_turn, status_in}
 use Rattle.ps_interpreter.specs.Makes.{plain_moves, HasMade}
-use Rattle.ps_interpreter.specs.OwnSteps.{machine_in, own_next, own_after, status_with, ComesTo, HasRun}
+use Rattle.ps_interpreter.specs.OwnSteps.{machine_in, own_next, own_after, status_with, ComesTo, HasCome, HasRun}
 use Rattle.ps_interpreter.proofs.Laws.{first_ready, ready_move, after_more, ready_more}
 use Rattle.ps_interpreter.proofs.Made.{next, came, next_lent, settled_at, steady_after}
-use Rattle.ps_interpreter.proofs.Reached.{settled_framed, settled_ends}
-use Rattle.ps_interpreter.proofs.Turning.{turn_by}
+use Rattle.ps_interpreter.proofs.Reached.{IsMade, settled_framed, settled_ends}
+use Rattle.ps_interpreter.proofs.Turning.{may_in, turn_by}
 
 -- ---- the definition's steps in a row
 
@@ -116,83 +121,151 @@ run_then first second old mid new one other = record {
   stays = stays_then old mid new one.stays other.stays;
 }
 
--- what ran and settled has its objects
-settled_store : (machine : Machine) → machine.context.status ≡ running
-    → (settled machine).store ≡ machine.store
-settled_store machine runs = by (is_empty machine.context.frames) refl
-  where
-    by : (b : Bool) → is_empty machine.context.frames ≡ b
-        → (settled machine).store ≡ machine.store
-    by true empty = ap (λ (m : Machine). m.store) (settled_ends machine runs empty)
-    by false framed =
-        ap (λ (m : Machine). m.store) (settled_framed machine (ap may_end runs) framed)
+-- ---- a turn more
 
--- and is detached as it was
-settled_detached : (machine : Machine) → machine.context.status ≡ running
-    → (settled machine).context.is_detached ≡ machine.context.is_detached
-settled_detached machine runs = by (is_empty machine.context.frames) refl
+-- a turn that goes on, or by which an unwinding begins or goes on
+abbrev pub IsGoing : Turned → Type 0
+IsGoing Goes = Unit {0}
+IsGoing (Breaks cause) = Unit {0}
+IsGoing turned = ⊥
+
+-- how far the context is behind it
+abbrev pub status_behind : Turned → List Frame → Status
+status_behind (Breaks cause) frames = unwinding (cause_of cause)
+status_behind turned frames = status_with frames
+
+going_made : (turned : Turned) → IsGoing turned → IsMade turned
+going_made Goes going = tt
+going_made (Breaks cause) going = tt
+going_made (Calls operator) going = absurd going
+going_made (Ends told) going = absurd going
+
+going_reached : (turned : Turned) → IsGoing turned → (machine : Machine)
+    → machine_in (reached_by turned machine) ≡ Some (settled machine)
+going_reached Goes going machine = refl
+going_reached (Breaks cause) going machine = refl
+going_reached (Calls operator) going machine = absurd going
+going_reached (Ends told) going machine = absurd going
+
+going_at : (turned : Turned) → IsGoing turned → (frames : List Frame) (l : Lent) (lines : ℕ)
+    (machine : Machine) → IsAtBy (course_after turned frames) l (lines_after turned lines) machine
+    → IsLentBy l (status_behind turned frames) lines machine
+going_at Goes going frames l lines machine at = lent_going frames l lines machine at
+going_at (Breaks cause) going frames l lines machine at = at
+going_at (Calls operator) going frames l lines machine at = absurd going
+going_at (Ends told) going frames l lines machine at = absurd going
+
+-- what settles has its objects, and is detached as it was
+record IsKept (machine : Machine) : Type 0 where
+  store : (settled machine).store ≡ machine.store
+  detached : (settled machine).context.is_detached ≡ machine.context.is_detached
+
+ran_kept : (machine : Machine) → machine.context.status ≡ running → IsKept machine
+ran_kept machine runs = by (is_empty machine.context.frames) refl
   where
-    by : (b : Bool) → is_empty machine.context.frames ≡ b
-        → (settled machine).context.is_detached ≡ machine.context.is_detached
+    by : (b : Bool) → is_empty machine.context.frames ≡ b → IsKept machine
     by true empty =
-        ap (λ (m : Machine). m.context.is_detached) (settled_ends machine runs empty)
+        let same = settled_ends machine runs empty in record {
+          store = ap (λ (m : Machine). m.store) same;
+          detached = ap (λ (m : Machine). m.context.is_detached) same;
+        }
     by false framed =
-        ap (λ (m : Machine). m.context.is_detached)
-        (settled_framed machine (ap may_end runs) framed)
+        let same = settled_framed machine (ap may_end runs) framed in record {
+          store = ap (λ (m : Machine). m.store) same;
+          detached = ap (λ (m : Machine). m.context.is_detached) same;
+        }
 
--- a turn that goes on is an own step more
-module _ (asks : Status → Around → Scene → Asked) (slot made : ℕ) (old mid new : Lent)
-    (so_far : HasRun made old mid) (framed : mid.frames ≢ [])
-    (turns : Turns (asks_in asks None) (own_turn None) (ordinary slot) (Ok Goes) mid new) where
-  module _ (machine : Machine) (lines : ℕ) (lent : IsLentBy mid running lines machine) where
-    turned : IsTurned false (own_turn None mid machine.store) Goes machine.store mid new
-    turned = (turns.meets machine.store lent.shown).did
+broken_kept : (cause : Cause) (frames : List Frame) → IsUnderWay (Breaks cause) frames
+    → (births : ℕ → ℕ) (names : List (List ℕ)) (machine : Machine)
+    → machine.context.status ≡ unwinding (cause_of cause)
+    → machine.context.frames ≡ map (frame_of births names) frames → IsKept machine
+broken_kept cause [] under_way births names machine breaks are = absurd under_way
+broken_kept cause (frame ∷ frames) under_way births names machine breaks are =
+    let same = settled_framed machine (ap may_end breaks) (ap is_empty are) in record {
+      store = ap (λ (m : Machine). m.store) same;
+      detached = ap (λ (m : Machine). m.context.is_detached) same;
+    }
 
-    abbrev unsettled : Machine
-    unsettled = next false (own_turn None mid machine.store) Goes mid new running lines machine
-        lent so_far.good turns.keeps turns.stays turned
+going_kept : (turned : Turned) → IsGoing turned → (frames : List Frame) → IsUnderWay turned frames
+    → (births : ℕ → ℕ) (names : List (List ℕ)) (machine : Machine)
+    → machine.context.status ≡ status_of turned
+    → machine.context.frames ≡ map (frame_of births names) frames → IsKept machine
+going_kept Goes going frames under_way births names machine is are = ran_kept machine is
+going_kept (Breaks cause) going frames under_way births names machine is are =
+    broken_kept cause frames under_way births names machine is are
+going_kept (Calls operator) going frames under_way births names machine is are = absurd going
+going_kept (Ends told) going frames under_way births names machine is are = absurd going
 
-    steps_on : own_next mid.program machine ≡ Some (settled unsettled)
-    unfolding own_step
-    steps_on =
-        rw (ap may_end lent.is_so)
-        (ap (λ t. machine_in (after_turn false machine t)) (turn_by mid running lines machine lent)
-        ∙ ap machine_in (came false (own_turn None mid machine.store) Goes mid new running lines
-        machine lent so_far.good turns.keeps turns.stays turned))
+module _ (asks : Status → Around → Scene → Asked) (slot made : ℕ) (unwinds : Option Cause)
+    (turned : Turned) (going : IsGoing turned) (old mid new : Lent)
+    (so_far : HasCome made (status_in unwinds) old mid)
+    (turns : Turns (asks_in asks unwinds) (own_turn unwinds) (ordinary slot) (Ok turned) mid new)
+  where
+    module _ (machine : Machine) (lines : ℕ)
+        (lent : IsLentBy mid (status_in unwinds) lines machine) where
+      did : IsTurned false (own_turn unwinds mid machine.store) turned machine.store mid new
+      did = (turns.meets machine.store lent.shown).did
 
-    goes_to : IsLentBy new (status_with new.frames) lines (settled unsettled)
-    goes_to =
-        lent_going new.frames new lines (settled unsettled)
-        (settled_at new lines unsettled Goes
-        (next_lent false (own_turn None mid machine.store) Goes mid new running lines machine lent
-        so_far.good turns.keeps turns.stays turned) turns.under_way tt)
+      abbrev unsettled : Machine
+      unsettled = next false (own_turn unwinds mid machine.store) turned mid new (status_in unwinds)
+          lines machine lent so_far.good turns.keeps turns.stays did
 
-    lasts_on : Lasts machine.store (settled unsettled).store
-    lasts_on = subst (Lasts machine.store) (sym (settled_store unsettled refl)) turned.lasts
+      steps_on : own_next mid.program machine ≡ Some (settled unsettled)
+      unfolding own_step
+      steps_on =
+          rw (ap may_end lent.is_so ∙ may_in unwinds)
+          (ap (λ t. machine_in (after_turn false machine t))
+          (turn_by mid (status_in unwinds) lines machine lent)
+          ∙ (ap machine_in (came false (own_turn unwinds mid machine.store) turned mid new
+          (status_in unwinds) lines machine lent so_far.good turns.keeps turns.stays did)
+          ∙ going_reached turned going unsettled))
 
-  pub run_more : HasRun (made + 1) old new
-  run_more = record {
-    comes = λ machine lent.
-        let come = so_far.comes machine lent in
-        let runs : IsLentBy mid running machine.error_lines come.next =
-        subst (λ status. IsLentBy mid status machine.error_lines come.next)
-        (status_framed mid.frames framed) come.lent in
-        record {
-          next = settled (unsettled come.next machine.error_lines runs);
-          steps = own_more old.program made machine come.next _ come.steps
-              (ap (λ (p : List ℕ). own_next p come.next) (sym so_far.stays.program)
-              ∙ steps_on come.next machine.error_lines runs);
-          lent = goes_to come.next machine.error_lines runs;
-          lasts = lasts_then machine.store come.next.store _ come.lasts
-              (lasts_on come.next machine.error_lines runs);
-          detached =
-              settled_detached (unsettled come.next machine.error_lines runs) refl
-              ∙ come.detached;
-        };
-    good = turns.good;
-    keeps = Keeps-then old.heap mid.heap new.heap so_far.keeps turns.keeps;
-    stays = stays_then old mid new so_far.stays turns.stays;
-  }
+      goes_to : IsLentBy new (status_behind turned new.frames) lines (settled unsettled)
+      goes_to =
+          going_at turned going new.frames new lines (settled unsettled)
+          (settled_at new (lines_after turned lines) unsettled turned
+          (next_lent false (own_turn unwinds mid machine.store) turned mid new (status_in unwinds)
+          lines machine lent so_far.good turns.keeps turns.stays did) turns.under_way
+          (going_made turned going))
+
+      kept : IsKept unsettled
+      kept = going_kept turned going new.frames turns.under_way (birth_at new.heap) new.names
+          unsettled refl refl
+
+      lasts_on : Lasts machine.store (settled unsettled).store
+      lasts_on = subst (Lasts machine.store) (sym kept.store) did.lasts
+
+    pub come_more : HasCome (made + 1) (status_behind turned new.frames) old new
+    come_more = record {
+      comes = λ machine lent.
+          let come = so_far.comes machine lent in
+          record {
+            next = settled (unsettled come.next machine.error_lines come.lent);
+            steps = own_more old.program made machine come.next _ come.steps
+                (ap (λ (p : List ℕ). own_next p come.next) (sym so_far.stays.program)
+                ∙ steps_on come.next machine.error_lines come.lent);
+            lent = goes_to come.next machine.error_lines come.lent;
+            lasts = lasts_then machine.store come.next.store _ come.lasts
+                (lasts_on come.next machine.error_lines come.lent);
+            detached = (kept come.next machine.error_lines come.lent).detached ∙ come.detached;
+          };
+      good = turns.good;
+      keeps = Keeps-then old.heap mid.heap new.heap so_far.keeps turns.keeps;
+      stays = stays_then old mid new so_far.stays turns.stays;
+    }
+
+-- a running context goes on
+pub running_come : (made : ℕ) (old mid : Lent) → HasRun made old mid → mid.frames ≢ []
+    → HasCome made running old mid
+running_come made old mid so_far framed =
+    subst (λ status. HasCome made status old mid) (status_framed mid.frames framed) so_far
+
+pub run_more : (asks : Status → Around → Scene → Asked) (slot made : ℕ) (old mid new : Lent)
+    → HasRun made old mid → mid.frames ≢ []
+    → Turns (asks_in asks None) (own_turn None) (ordinary slot) (Ok Goes) mid new
+    → HasRun (made + 1) old new
+run_more asks slot made old mid new so_far framed turns =
+    come_more asks slot made None Goes tt old mid new (running_come made old mid so_far framed) turns
 
 -- ---- own steps of a context by itself
 

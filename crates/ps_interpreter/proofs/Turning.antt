@@ -39,7 +39,7 @@ lent_at : (unwinding : Option Cause) (l : Lent) (lines : ℕ) (machine : Machine
 lent_at None l lines machine at = at
 lent_at (Some cause) l lines machine at = at
 
-may_in : (unwinding : Option Cause) → may_end (status_in unwinding) ≡ true
+pub may_in : (unwinding : Option Cause) → may_end (status_in unwinding) ≡ true
 may_in None = refl
 may_in (Some cause) = refl
 

@@ -29,20 +29,30 @@ abbrev pub status_with : List Frame → Status
 status_with [] = finished
 status_with (frame ∷ frames) = running
 
--- what a machine came to by so many own steps: what is lent is that of the next machine, whose
--- context is detached as it was; no string is shorter, and no line of an error was printed
-pub record ComesTo (program : List ℕ) (made : ℕ) (machine : Machine) (new : Lent) : Type 0 where
+-- what a machine came to by so many own steps: what is lent is that of the next machine, which is in
+-- this status, and whose context is detached as it was; no string is shorter, and no line of an error
+-- was printed
+pub record ComesAs (program : List ℕ) (made : ℕ) (machine : Machine) (status : Status) (new : Lent)
+    : Type 0 where
   pub next : Machine
   pub steps : own_after program made machine ≡ Some next
-  pub lent : IsLentBy new (status_with new.frames) machine.error_lines next
+  pub lent : IsLentBy new status machine.error_lines next
   pub lasts : Lasts machine.store next.store
   pub detached : next.context.is_detached ≡ machine.context.is_detached
 
--- so many own steps were made, from every machine whose is what was lent
-pub record HasRun (made : ℕ) (old new : Lent) : Type 0 where
+-- so many own steps were made, behind which the status is this, from every machine whose is what was
+-- lent
+pub record HasCome (made : ℕ) (status : Status) (old new : Lent) : Type 0 where
   pub comes : (machine : Machine)
       → IsLentBy old (status_with old.frames) machine.error_lines machine
-      → ComesTo old.program made machine new
+      → ComesAs old.program made machine status new
   pub good : IsGood new
   pub keeps : Keeps old.heap new.heap
   pub stays : Stays old new
+
+-- and the context goes on
+abbrev pub ComesTo : (program : List ℕ) → (made : ℕ) → Machine → (new : Lent) → Type 0
+ComesTo program made machine new = ComesAs program made machine (status_with new.frames) new
+
+abbrev pub HasRun : (made : ℕ) → (old new : Lent) → Type 0
+HasRun made old new = HasCome made (status_with new.frames) old new

@@ -47,14 +47,14 @@ pub(crate) fn guess(text: &[u8]) -> NameId {
 
 /// The numbers of the names that were met last, by their marks.
 #[derive(Clone, Copy, Debug)]
-pub(crate) struct Lately {
+pub(crate) struct RecentNames {
     numbers: [u16; MARKS],
 }
 
-impl Lately {
+impl RecentNames {
     /// None was met.
-    pub(crate) fn none() -> Lately {
-        Lately {
+    pub(crate) fn none() -> RecentNames {
+        RecentNames {
             numbers: [0; MARKS],
         }
     }

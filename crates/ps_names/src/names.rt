@@ -9,7 +9,7 @@ ghost use Rattle.ps_language.specs.Limits.{name_limit, names_limit};
 ghost use Rattle.ps_names.specs.Names.{place_of, AreNames};
 
 use crate::first::{FIRST_COUNT, first_name};
-use crate::guesses::{Lately, guess};
+use crate::guesses::{RecentNames, guess};
 use indexmap::IndexSet;
 use std::alloc::{AllocError, Global};
 use std::hash::RandomState;
@@ -47,7 +47,7 @@ pub enum NamesFault {
 #[derive(Drop)]
 pub struct Names {
     texts: IndexSet<Vec<u8>, RandomState>,
-    lately: Lately,
+    recent: RecentNames,
 }
 
 impl Model for Names {
@@ -70,7 +70,7 @@ impl Names {
     {
         Names {
             texts: IndexSet::with_hasher(alloc, keys),
-            lately: Lately::none(),
+            recent: RecentNames::none(),
         }
     }
 
@@ -116,7 +116,7 @@ impl Names {
         if self.is_at(id, text) {
             return Some(id);
         }
-        let id = self.lately.guess(text);
+        let id = self.recent.guess(text);
         if self.is_at(id, text) {
             return Some(id);
         }
@@ -204,7 +204,7 @@ impl Names {
         let mut owned = Vec::with_capacity(*self.texts.allocator(), text.len())?;
         owned.extend_from_slice(text)?;
         self.texts.insert(owned)?;
-        self.lately.note(text, NameId(place as u16));
+        self.recent.note(text, NameId(place as u16));
         Ok(())
     }
 

@@ -27,7 +27,7 @@ use Rattle.ps_values.specs.declared.quick.Quick.{Quick}
 use Rattle.ps_values.specs.declared.quick.Quick.TheVariants.{Done, Treats, Left}
 use Rattle.ps_values.specs.Quick.{IsTreated, TreatsAs, ComesTo}
 use Rattle.ps_values.specs.Values.{meaning, GoesIn, GoesAlone, among, pushed_turn, operated_turn, treated_turn, done_turn, Asks, operated_asks, treated_asks, executed_asks}
-use Rattle.ps_values.proofs.Executing.{operator_acts, operator_unmade, operator_unnamed, treated_literal, treated_executable, procedure_pushed, found_as, finds_value}
+use Rattle.ps_values.proofs.Executing.{operator_acts, treated_literal, treated_executable, procedure_pushed, found_as, finds_value}
 
 -- the same turn, said otherwise
 alone_as : (some words : List Word) (asked other : Lent → Store → Asked)
@@ -205,24 +205,3 @@ module _ (asks : Asks) (heap : Heap) (dictionaries : List Word) (word : Word) wh
             procedure_pushed asks word word _ trial (Ok Goes) _ (made _ _)
             (goes (among heap dictionaries l) trial good values)
         by false same = same
-
--- an element is done as a value that is an executable operator
-pub record ActsAsValue (asks : Asks) (heap : Heap) (dictionaries : List Word) (word : Word)
-    (operator : Named) (value : Word) : Type 0 where
-  pub may : executable_in value.0 ≡ true
-  pub content : content_in value.0 ≡ Operator operator
-  pub held : IsValue heap value
-  pub treats : TreatsAs asks heap dictionaries word value
-
--- as it is
-pub own_acts : (asks : Asks) (heap : Heap) (dictionaries : List Word) (word : Word)
-    (operator : Named) → (executable_in word.0 ≡ true) × (content_in word.0 ≡ Operator operator)
-    → IsValue heap word → ActsAsValue asks heap dictionaries word operator word
-own_acts asks heap dictionaries word operator is held = record {
-  may = is.0;
-  content = is.1;
-  held = held;
-  treats = own_treats asks heap dictionaries word
-      (λ births names. operator_unmade word births names operator is.1 is.0)
-      (λ births names. operator_unnamed word births names operator is.1 is.0);
-}

@@ -2,6 +2,7 @@
 
 ghost use Rattle.std.specs.Prelude.{◌∷◌, []};
 ghost use Rattle.ps_word.specs.declared.words.Word.{Word as TheWord};
+ghost use Rattle.ps_word.specs.Format.{IsWord};
 ghost use Rattle.ps_values.specs.Values.{EntersAlone, treated_asks, treated_turn};
 
 use crate::operates::Operate;
@@ -15,13 +16,14 @@ use ps_word::words::Word;
 /// procedure is entered, and an operator acts that enters one. Else nothing has changed.
 #[inline(always)]
 pub fn treat_ahead<O: Operate>(value: Word, operators: &O, operands: &mut Operands) -> Ahead
+    requires word { IsWord value.0 }
     ensures { (command : TheWord) → EntersAlone (value ∷ command ∷ []) (treated_asks O.asks value)
         (treated_turn command value) result operands.old operands.new }
 {
     if !value.is_executable() {
         return Ahead::Left;
     }
-    match value.content() {
+    match value.known_content() {
         Content::Array(part) => {
             if is_executable(part.access) {
                 enter_ahead(part)

@@ -3,9 +3,10 @@
 
 ghost use Rattle.std.specs.Prelude.{◌≡◌, ◌∷◌, [], if◌then◌else◌};
 ghost use Rattle.ps_word.specs.declared.words.Word.{Word as TheWord};
+ghost use Rattle.ps_word.specs.Format.{IsWord};
 ghost use Rattle.ps_mem.specs.Shows.{AreValues, IsSound, IsValue};
 ghost use Rattle.ps_values.specs.Quick.{ComesTo};
-ghost use Rattle.ps_values.specs.Values.{Asks, GoesAlone, treated_asks, treated_turn};
+ghost use Rattle.ps_values.specs.Values.{GoesAlone, treated_asks, treated_turn};
 
 use crate::operates::Operate;
 use crate::pushes::push_quickly;
@@ -37,17 +38,21 @@ impl Quick {
     }
 }
 
-/// Treats a value that is no executable operator by operands alone, where that raises no error: a
-/// literal one becomes an operand. Else nothing has changed, and the answer is no.
+/// Treats a value by operands alone, where that raises no error: a literal one becomes an operand,
+/// and an operator acts quickly. Else nothing has changed, and the answer is no.
 #[inline(always)]
-fn push_literal(value: Word, operands: &mut Operands) -> bool
-    ensures { (asks : Asks) (command : TheWord) → GoesAlone (value ∷ command ∷ [])
-        (treated_asks asks value) (treated_turn command value) result operands.old operands.new }
+fn treat_quickly<O: Operate>(word: Word, operators: &O, operands: &mut Operands) -> bool
+    requires word { IsWord word.0 }
+    ensures { (command : TheWord) → GoesAlone (word ∷ command ∷ []) (treated_asks O.asks word)
+        (treated_turn command word) result operands.old operands.new }
 {
-    if value.is_executable() {
+    if let Some(operator) = word.executable_operator() {
+        return operators.operate_quickly(operator, operands);
+    }
+    if word.is_executable() {
         return false;
     }
-    push_quickly(value, operands)
+    push_quickly(word, operands)
 }
 
 /// Does an element by operands alone, where that raises no error: a literal value or a procedure
@@ -73,29 +78,22 @@ pub fn do_quickly<O: Operate, M: Memory>(
         let done = push_quickly(word, operands);
         return Quick::or(done, Quick::Treats(word));
     }
-    let (operator, value) = match word.executable_operator() {
-        Some(operator) => (operator, word),
-        None => match word.content() {
-            Content::Array(_) => {
-                let done = push_quickly(word, operands);
-                return Quick::or(done, Quick::Left);
-            }
-            Content::Name(_) => {
-                let Ok(Some(found)) = look_up(memory, dictionaries, Some(word)) else {
-                    return Quick::Left;
-                };
-                let value = found.1;
-                match value.executable_operator() {
-                    Some(operator) => (operator, value),
-                    None => {
-                        let done = push_literal(value, operands);
-                        return Quick::or(done, Quick::Treats(value));
-                    }
-                }
-            }
-            _ => return Quick::Treats(word),
-        },
-    };
-    let done = operators.operate_quickly(operator, operands);
-    Quick::or(done, Quick::Treats(value))
+    match word.known_content() {
+        Content::Array(_) => {
+            let done = push_quickly(word, operands);
+            Quick::or(done, Quick::Left)
+        }
+        Content::Operator(operator) => {
+            let done = operators.operate_quickly(operator, operands);
+            Quick::or(done, Quick::Treats(word))
+        }
+        Content::Name(_) => {
+            let Ok(Some(found)) = look_up(memory, dictionaries, Some(word)) else {
+                return Quick::Left;
+            };
+            let done = treat_quickly(found.1, operators, operands);
+            Quick::or(done, Quick::Treats(found.1))
+        }
+        _ => Quick::Treats(word),
+    }
 }

@@ -2,13 +2,13 @@
 
 ghost use Rattle.std.specs.Prelude.{◌≡◌, ◌<◌, ◌∷◌, []};
 ghost use Rattle.ps_word.specs.declared.words.Word.{Word as TheWord};
+ghost use Rattle.ps_word.specs.Format.{IsWord};
 ghost use Rattle.ps_acts.specs.Lent.{lent, IsGood};
 ghost use Rattle.ps_values.specs.Values.{GoesUnder, treated_asks, treated_turn};
 
 use crate::operates::Operate;
 use ps_acts::lent::{Context, Shared};
 use ps_mem::{Memory, SLOTS};
-use ps_word::values::Content;
 use ps_word::words::Word;
 
 /// What an operator came to, whatever frames are above those that stand.
@@ -33,6 +33,7 @@ pub fn treat_under<O: Operate, M: Memory>(
     memory: &mut M,
     slot: u32,
 ) -> Under
+    requires word { IsWord value.0 }
     requires slot { slot < SLOTS }
     requires good { IsGood
         (lent (M.heap memory.old) (M.grants memory.old) context.old shared.old) }
@@ -42,13 +43,8 @@ pub fn treat_under<O: Operate, M: Memory>(
         (lent (M.heap memory.old) (M.grants memory.old) context.old shared.old)
         (lent (M.heap memory.new) (M.grants memory.new) context.new shared.new) }
 {
-    if !value.is_executable() {
-        return Under::Left;
-    }
-    match value.content() {
-        Content::Operator(operator) => operators.operate_under(
-            operator, context, shared, memory, slot,
-        ),
-        _ => Under::Left,
+    match value.executable_operator() {
+        Some(operator) => operators.operate_under(operator, context, shared, memory, slot),
+        None => Under::Left,
     }
 }

@@ -169,6 +169,19 @@ impl Word {
         }
     }
 
+    /// What the bits of a word of the layout say of the value but for its attribute: as `content`
+    /// has it, with no test of an operator's number.
+    #[inline(always)]
+    pub fn known_content(self) -> Content
+        requires word { IsWord self.0 }
+        ensures { result ≡ content_in self.0 }
+    {
+        if self.0 / TYPE == 5 {
+            return Content::Operator(operator_at((self.0 % (1 << 8)) as u8));
+        }
+        self.content()
+    }
+
     /// The operator of a word of the layout, where it is one and executable: by one test of both.
     #[inline(always)]
     pub fn executable_operator(self) -> Option<Operator>

@@ -2,7 +2,7 @@
 use Rattle.std.proofs.Common.{◌+◌, ◌<◌, ◌-◌, arith, Some, None, refl, sym, ◌∙◌}
 use Rattle.ps_interpreter.proofs.Running.{run_none}
 use Rattle.ps_context.specs.Steps.{own_asks}
-use Rattle.ps_context.proofs.Ahead.{runs_then, with_within, none_runs}
+use Rattle.ps_context.proofs.Ahead.{runs_then, none_runs}
 use Rattle.ps_context.proofs.runs.run_ahead.Goals as goal
 
 pub loop-made-init : goal.loop-made-init
@@ -13,23 +13,18 @@ returns-then-is_some-clause-runs g c =
     c.with_turn-run.ensures.runs g.O.Operate.asks c.args.slot _ _
     (runs_then (own_asks g.O.Operate.asks) c.args.slot c.loop-made.made c.in-Some.run'.made
     (Some c.in-Some-next.turn) _ _ _ c.loop-made.invariant.makes
-    (rw c.in-Some-next.is at c.in-Some.ensures.runs))
+    (rw c.in-Some-next.is at c.in-Some.ensures.runs)) refl
 
 pub loop-made-preserved-in-Some-next : goal.loop-made-preserved-in-Some-next
-loop-made-preserved-in-Some-next g c =
-    let fewer : c.in-Some.run'.made < c.args.most - c.loop-made.made =
-    (rw c.in-Some-next.is at c.in-Some.ensures.fewer) refl in
-    record {
-      within = with_within c.args.most (c.loop-made.made + c.in-Some.run'.made)
-          c.with_turn-run.result (omega (arith, fewer)) c.with_turn-run.ensures.behind
-          c.with_turn-run.ensures.more;
-      makes = none_runs (own_asks g.O.Operate.asks) c.args.slot c.with_turn-run.result.made
-          c.with_turn-run.result.next _ _ (sym c.is_some.ensures ∙ c.if-is_some.false)
-          (c.with_turn-run.ensures.runs g.O.Operate.asks c.args.slot _ _
-          (runs_then (own_asks g.O.Operate.asks) c.args.slot c.loop-made.made c.in-Some.run'.made
-          (Some c.in-Some-next.turn) _ _ _ c.loop-made.invariant.makes
-          (rw c.in-Some-next.is at c.in-Some.ensures.runs)));
-    }
+loop-made-preserved-in-Some-next g c = record {
+  within = c.with_turn-run.ensures.within;
+  makes = none_runs (own_asks g.O.Operate.asks) c.args.slot c.with_turn-run.result.made
+      c.with_turn-run.result.next _ _ (sym c.is_some.ensures ∙ c.if-is_some.false)
+      (c.with_turn-run.ensures.runs g.O.Operate.asks c.args.slot _ _
+      (runs_then (own_asks g.O.Operate.asks) c.args.slot c.loop-made.made c.in-Some.run'.made
+      (Some c.in-Some-next.turn) _ _ _ c.loop-made.invariant.makes
+      (rw c.in-Some-next.is at c.in-Some.ensures.runs)) refl);
+}
 
 pub loop-made-preserved : goal.loop-made-preserved
 loop-made-preserved g c = record {

@@ -1,5 +1,5 @@
 -- Token after token, until one is not done by operands alone.
-use Rattle.std.proofs.Common.{◌≡◌, ◌∷◌, ◌≤◌, List, arith, drop, length, sym, subst}
+use Rattle.std.proofs.Common.{◌≡◌, ◌∷◌, ◌≤◌, List, arith, drop, length, refl, sym, subst}
 use Rattle.std.proofs.lemmas.Bool.{true≢false}
 use Rattle.std.proofs.lemmas.Bool.Decides.{nat_tests}
 use Rattle.ps_ops.proofs.Operands.{first_split}
@@ -8,7 +8,6 @@ use Rattle.ps_control.specs.declared.frames.Frame.TheVariants.{Text}
 use Rattle.ps_acts.specs.Lent.{Lent, lent}
 use Rattle.ps_interpreter.specs.OwnSteps.{HasRun}
 use Rattle.ps_interpreter.proofs.Running.{run_none}
-use Rattle.ps_context.proofs.Ahead.{with_within}
 use Rattle.ps_context.proofs.Reading.{read_more, read_behind}
 use Rattle.ps_context.proofs.runs.run_text.Goals as goal
 
@@ -42,16 +41,14 @@ loop-made-preserved g c =
 
 pub returns-in-Turned : goal.returns-in-Turned
 returns-in-Turned g c = record {
-  within = with_within c.args.most c.loop-made.made c.with_turn.result
-      (omega (arith, nat_tests, c.loop-made-test.true)) c.with_turn.ensures.behind
-      c.with_turn.ensures.more;
+  within = c.with_turn.ensures.within;
   fewer = λ some. omega (arith, nat_tests, c.loop-made-test.true, c.with_turn.ensures.behind some);
   more = λ none. omega (arith, c.with_turn.ensures.more none);
   runs = c.with_turn.ensures.runs g.O.Operate.asks c.args.slot _ _
       (read_behind g.O.Operate.asks c.args.slot c.loop-made.made _
       (lent (g.M.Memory.heap c.loop-made.memory) (g.M.Memory.grants c.loop-made.memory)
       c.loop-made.context c.loop-made.shared) c.args.source c.loop-made.place
-      c.loop-made.invariant.makes _ _ (rw c.in-Turned.is at c.read_token.ensures.takes));
+      c.loop-made.invariant.makes _ _ (rw c.in-Turned.is at c.read_token.ensures.takes)) refl;
 }
 
 pub returns : goal.returns

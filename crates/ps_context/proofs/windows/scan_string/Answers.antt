@@ -16,7 +16,7 @@ returns-in-Ok-Some-clause-scanned g c = λ names s shows within.
     let near : (part.offset + c.args.at) % 8 ≤ part.offset + c.args.at = omega arith in
     let scanned = rw (c.rest_of-rest.ensures, c.in-Ok-Some.is, c.in-Ok-Some.field-0-is) at
     c.scan_by_windows.ensures.scanned in
-    rw (c.token_from.ensures.kind, c.token_from.ensures.end)
+    rw (c.moved_token.ensures.kind, c.moved_token.ensures.end)
     (rest_scanned all part.offset part.length c.args.at low within
     ∙ token_further _ c.args.at _ _ _
     (sym (fronted all part.offset part.length c.args.at _ low near within)

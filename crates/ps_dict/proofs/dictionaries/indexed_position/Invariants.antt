@@ -1,5 +1,5 @@
 use Rattle.std.proofs.Common.{◌≡◌}
-use Rattle.ps_dict.proofs.Probing.{StillAhead}
+use Rattle.ps_dict.specs.Probes.{StillAhead}
 use Rattle.ps_dict.proofs.dictionaries.indexed_position.Given as goal
 
 -- the memory is as it was, and what is still to be looked through has the place of the key

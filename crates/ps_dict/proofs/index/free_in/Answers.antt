@@ -3,7 +3,7 @@ use Rattle.std.proofs.lemmas.Option.{slice_get-get_or}
 use Rattle.ps_word.specs.declared.words.Word.{Word}
 use Rattle.ps_word.specs.Format.{content_in}
 use Rattle.ps_word.specs.Readers.{as_integer}
-use Rattle.ps_dict.proofs.IndexPlaces.{turned}
+use Rattle.ps_dict.specs.Probes.{turned}
 use Rattle.std.specs.Prelude.{ℤ, slice_get, slice_set, if◌then◌else◌}
 use Rattle.ps_mem.specs.Index.{has_free, index_word, placed}
 use Rattle.ps_dict.proofs.Freeing.{free-end_in, free-here_in, free-on_in}

@@ -1,7 +1,7 @@
 use Rattle.std.proofs.Common.{◌≡◌, ◌<◌, ◌^◌, ℕ, List, Option, Some, false, length, map, take}
 use Rattle.std.specs.Prelude.{slice_get}
 use Rattle.ps_mem.specs.Index.{has_free, index_word}
-use Rattle.ps_dict.proofs.IndexPlaces.{turned}
+use Rattle.ps_dict.specs.Probes.{turned}
 use Rattle.ps_dict.proofs.index.free_in.Given as goal
 
 -- no place so far was free

@@ -2,7 +2,7 @@ use Rattle.std.proofs.Common.{◌≡◌, ◌*◌, ◌<◌, ◌^◌, ℕ, List, O
 use Rattle.std.specs.Prelude.{slice_get}
 use Rattle.ps_mem.specs.Heap.{fields_at}
 use Rattle.ps_mem.specs.Index.{has_free, index_word}
-use Rattle.ps_dict.proofs.IndexPlaces.{turned}
+use Rattle.ps_dict.specs.Probes.{turned}
 use Rattle.ps_dict.proofs.index.free_place.Given as goal
 
 -- the memory is as it was, and no place so far was free

@@ -6,6 +6,11 @@ use Rattle.ps_acts.specs.Lent.{Lent, lent}
 use Rattle.ps_frames.proofs.Entered.{entered_goes, rest_room}
 use Rattle.ps_frames.proofs.elements.element_ahead.Goals as goal
 
+pub treat_ahead-requires : goal.treat_ahead-requires
+treat_ahead-requires g c =
+    let is = rw c.in-Some.is at c.requires.first in
+    record { word = is.value_held.word }
+
 pub returns-in-Enters-clause-goes : goal.returns-in-Enters-clause-goes
 returns-in-Enters-clause-goes g c =
     let l : Lent = lent (g.M.Memory.heap c.args.memory.now) (g.M.Memory.grants c.args.memory.now)

@@ -5,6 +5,11 @@ use Rattle.ps_frames.proofs.elements.element_under.Goals as goal
 pub treat_under-requires-clause-good : goal.treat_under-requires-clause-good
 treat_under-requires-clause-good g c = good_below _ c.args.rest c.requires.good
 
+pub treat_under-requires-clause-word : goal.treat_under-requires-clause-word
+treat_under-requires-clause-word g c =
+    let is = rw c.in-Some.is at c.requires.first in
+    is.value_held.word
+
 pub returns-in-Some-clause-does : goal.returns-in-Some-clause-does
 returns-in-Some-clause-does g c =
     does_under g.O.Operate.asks _ _ c.args.rest c.in-Some.element c.requires.good

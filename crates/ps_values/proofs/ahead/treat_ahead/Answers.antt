@@ -12,12 +12,12 @@ returns-then-is_executable g c = λ command.
     c.args.operands.now c.args.operands.now) (sym c.enter_ahead.ensures)
     (procedure_enters g.O.Operate.asks command c.args.value
     (sym c.is_executable.ensures ∙ c.if-not-is_executable.false) c.in-Array.part
-    (sym c.content.ensures ∙ c.in-Array.is)
+    (sym c.known_content.ensures ∙ c.in-Array.is)
     (sym c.is_executable-in-Array.ensures ∙ c.if-is_executable.true) c.args.operands.now)
 
 pub returns-in-Operator : goal.returns-in-Operator
 returns-in-Operator g c = λ command.
     operator_enters g.O.Operate.asks command c.args.value
     (sym c.is_executable.ensures ∙ c.if-not-is_executable.false) c.in-Operator.operator
-    (sym c.content.ensures ∙ c.in-Operator.is) c.enter_quickly.result c.args.operands.now
+    (sym c.known_content.ensures ∙ c.in-Operator.is) c.enter_quickly.result c.args.operands.now
     c.enter_quickly.new.operands c.enter_quickly.ensures
