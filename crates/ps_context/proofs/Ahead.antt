@@ -1,6 +1,6 @@
 -- One element more is done by operands alone.
 use Rattle.std.proofs.Common.{◌≡◌, ◌≢◌, ℕ, zero, suc, ◌+◌, ◌-◌, ◌<◌, ◌≤◌, arith, Bool, true, false, List, [], ◌∷◌, drop, Option, Some, None, Ok, refl, sym, ap, subst, ◌∙◌}
-use Rattle.std.specs.Prelude.{Result, IfSome, IsSome, IsNone, nat_lt, slice_get, if◌then◌else◌}
+use Rattle.std.specs.Prelude.{Result, IfSome, IsNone, nat_lt, slice_get, if◌then◌else◌}
 use Rattle.std.proofs.lemmas.Bool.{true≢false}
 use Rattle.std.proofs.lemmas.Bool.Decides.{nat_tests}
 use Rattle.ps_language.specs.Access.{elements}
@@ -30,7 +30,6 @@ use Rattle.ps_values.specs.Values.{meaning, GoesIn, among, done_turn, Asks, exec
 use Rattle.ps_frames.specs.declared.elements.Element.{Element}
 use Rattle.ps_frames.specs.Steps.{frames_after, rest_frames, running_turn, frame_asks, above, IsElement}
 use Rattle.ps_frames.proofs.Taking.{rest_some, rest_good, element_made}
-use Rattle.ps_interpreter.specs.declared.interprets.Run.{Run}
 use Rattle.ps_interpreter.specs.Interprets.{asks_in, own_turn}
 use Rattle.ps_interpreter.specs.Makes.{TurnsBehind, Runs}
 use Rattle.ps_interpreter.specs.OwnSteps.{HasRun}

@@ -1,5 +1,5 @@
 -- A loop is left by exit, with the procedures above it (PLRM2, 8 'Operators': exit).
-use Rattle.std.proofs.Common.{◌≡◌, ℕ, suc, ◌+◌, true, false, List, [], ◌∷◌, drop, Option, Some, None, Ok, refl, sym, ap, subst, ◌∙◌, arith}
+use Rattle.std.proofs.Common.{◌≡◌, ℕ, suc, ◌+◌, true, false, List, [], ◌∷◌, drop, Option, Some, None, Ok, refl, subst, arith}
 use Rattle.std.specs.Prelude.{option_map, Result}
 use Rattle.ps_ops.specs.declared.failure.NotMade.{NotMade as Reason}
 use Rattle.ps_language.specs.World.{unwinding, for_exit}

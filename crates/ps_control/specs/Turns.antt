@@ -1,5 +1,5 @@
 -- When what a turn of a frame did to operands and frames is what the definitions say.
-use Rattle.std.specs.Prelude.{◌≡◌, ℕ, suc, Bool, true, false, if◌then◌else◌, List, [], ◌∷◌, drop, Option, Some, None, option_map, IfSome, Result, Ok, Err}
+use Rattle.std.specs.Prelude.{◌≡◌, ℕ, suc, Bool, true, false, if◌then◌else◌, nat_le, List, [], ◌∷◌, drop, Option, Some, None, option_map, IfSome, Result, Ok, Err}
 use Rattle.ps_language.specs.declared.errors.ErrorName.{ErrorName}
 use Rattle.ps_language.specs.declared.operators.Operator.{Operator}
 use Rattle.ps_language.specs.Value.{Value, Store}
@@ -71,6 +71,11 @@ abbrev pub frames_to_loop : List Frame → Option ℕ
 frames_to_loop [] = None
 frames_to_loop (Procedure rest ∷ frames) = option_map suc (frames_to_loop frames)
 frames_to_loop (frame ∷ frames) = if ends_at_loop Exit frame then Some 1 else None
+
+-- so many, where they are no more than may be
+abbrev pub no_more_than : (most : ℕ) → Option ℕ → Option ℕ
+no_more_than most None = None
+no_more_than most (Some count) = if nat_le count most then Some count else None
 
 -- a frame that holds a lock
 abbrev pub is_monitor : Frame → Bool

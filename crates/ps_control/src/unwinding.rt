@@ -1,7 +1,7 @@
 //! Where an unwinding for `stop`, `exit` and `quit` ends (PLRM2, 3.10, 8 'Operators': exit, stop,
 //! quit).
 
-ghost use Rattle.std.specs.Prelude.{◌≡◌, ◌≤◌, ℕ, List, Some, IfSome};
+ghost use Rattle.std.specs.Prelude.{◌≡◌, ℕ, List};
 ghost use Rattle.ps_language.specs.Control as language;
 ghost use Rattle.ps_mem.specs.Heap.{Heap};
 ghost use Rattle.ps_control.specs.Frames.{frames_in};
@@ -59,8 +59,7 @@ pub fn is_in_loop(frames: &Frames) -> bool
 /// most so many. `None`: another frame stands there, or more.
 #[inline]
 pub fn frames_to_loop(frames: &Frames, most: u32) -> Option<u32>
-    ensures { IfSome result
-        (λ count. (count ≤ most) × (turns.frames_to_loop frames.now ≡ Some count)) }
+    ensures { result ≡ turns.no_more_than most (turns.frames_to_loop frames.now) }
 {
     for depth in 0..most {
         let frame = frames.peek(depth as usize)?;

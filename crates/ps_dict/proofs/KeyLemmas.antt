@@ -1,6 +1,6 @@
 -- Two words of a memory are the same key exactly where their values are, and where their bits are.
-use Rattle.std.proofs.Common.{◌≡◌, ◌≢◌, ◌⊎◌, true≢false, ℕ, zero, suc, ◌+◌, ◌*◌, ◌/◌, ◌%◌, ◌^◌, ◌<◌, Bool, true, false, ◌&&◌, List, [], ◌∷◌, length, refl, sym, ap, ◌∙◌, arith, rules, inl, inr, nat_eq, w32, slice_index_or}
-use Rattle.std.specs.Prelude.{ℤ, ◌==◌, not, FitsSigned}
+use Rattle.std.proofs.Common.{◌≡◌, ◌≢◌, ◌⊎◌, true≢false, ℕ, zero, suc, ◌+◌, ◌*◌, ◌/◌, ◌%◌, ◌^◌, ◌<◌, Bool, true, false, ◌&&◌, List, [], ◌∷◌, length, Some, None, refl, sym, ap, ◌∙◌, arith, rules, inl, inr, nat_eq, w32, slice_index_or}
+use Rattle.std.specs.Prelude.{ℤ, ◌==◌, not, FitsSigned, option_map}
 use Rattle.std.specs.Int.{cast_signed, cast_unsigned}
 use Rattle.std.specs.Ordering.{int_eq}
 use Rattle.std.specs.List.{AllPairs}
@@ -23,6 +23,7 @@ use Rattle.ps_word.specs.declared.values.Part.{Part}
 use Rattle.ps_word.specs.declared.values.Content.{Content}
 use Rattle.ps_word.specs.declared.values.Content.TheVariants.{Null, Integer, Boolean, Mark, Name, Operator, Array, Text, Dictionary, Lock, Condition, Body}
 use Rattle.ps_word.specs.OperatorNumbers.{operator_number}
+use Rattle.ps_word.specs.Readers.{as_text}
 use Rattle.ps_word.specs.Format.{type_number, part_bits, content_bits, content_in, is_body, IsPart, IsContent, IsWord}
 use Rattle.ps_word.proofs.Packing.{operator_at-number, operator_number-below, access_number-below}
 use Rattle.ps_word.proofs.Places.{IsContent-of_word, type-of_word, low-of_word}
@@ -31,6 +32,7 @@ use Rattle.ps_mem.specs.References.{StandsAs, IsKnown, IsKnownContent}
 use Rattle.ps_mem.specs.Meaning.{what_of, value_of, text_of_name}
 use Rattle.ps_mem.specs.Shows.{IsValue, IsSound, IsWithin, IsWithinContent}
 use Rattle.ps_dict.specs.Keys.{same_place, same_content, same_words}
+use Rattle.ps_dict.specs.Places.{place_of}
 
 same_test : (a b m n : ℕ) → (a ≡ b → m ≡ n) → (m ≡ n → a ≡ b) → nat_eq m n ≡ nat_eq a b
 same_test a b m n there back = same_from_decides (nat_eq m n) (nat_eq a b) (Decides-eqb m n) ((λ e. there ((Decides-eqb a b).0 e)), λ e. (Decides-eqb a b).1 (back e))
@@ -45,7 +47,7 @@ unlike_test m n other = by (nat_eq m n) (Decides-eqb m n).0
     by true there = absurd (other (there refl))
     by false there = refl
 
-pub test_cases : (m n : ℕ) → (m ≡ n) ⊎ (m ≢ n)
+test_cases : (m n : ℕ) → (m ≡ n) ⊎ (m ≢ n)
 test_cases m n = by (nat_eq m n) (Decides-eqb m n)
   where
     by : (b : Bool) → (b ≡ true → m ≡ n) × (m ≡ n → b ≡ true) → (m ≡ n) ⊎ (m ≢ n)
@@ -142,6 +144,14 @@ strings (Dictionary _) d h = absurd (omega (arith, h))
 strings (Lock _) d h = absurd (omega (arith, h))
 strings (Condition _) d h = absurd (omega (arith, h))
 
+other_type : (c : Content) → as_text c ≡ None → type_number c ≢ 7
+other_type (Text part) none = λ is. cc
+other_type c none = λ is. omega (arith, is)
+
+not_text : (c : Content) → type_number c ≢ 7 → as_text c ≡ None
+not_text (Text part) other = absurd (other refl)
+not_text c other = refl
+
 truths_same : (a b : Bool) → nat_eq (content_bits (Boolean a) % 2 ^ 57) (content_bits (Boolean b) % 2 ^ 57) ≡ same_truth a b
 truths_same true true = refl
 truths_same true false = refl
@@ -182,22 +192,48 @@ module _ (left right : Word) (first : IsWord left.0) (second : IsWord right.0) w
       (same_low (content_in left.0) (content_in right.0) (IsContent-of_word left.0 first) (IsContent-of_word right.0 second)
       (sym (type-of_word left.0 first) ∙ (same ∙ type-of_word right.0 second)) (λ e. plain (type-of_word left.0 first ∙ e)) visible)
 
-  pub unlike-bits : is_body (content_in left.0) ≡ false → left.0 / 2 ^ 60 ≡ right.0 / 2 ^ 60
-      → left.0 % 2 ^ 57 ≢ right.0 % 2 ^ 57 → false ≡ same_words left right
-  unlike-bits visible same other = elim (test_cases (left.0 / 2 ^ 60) 7) [
-    | inl is ↦ unlike-string is
-    | inr not ↦ sym (unlike_test (left.0 % 2 ^ 57) (right.0 % 2 ^ 57) other) ∙ like-bits visible same not
+  pub of_string : right.0 / 2 ^ 60 ≡ 7 → false ≡ same_words left right
+  of_string is = elim (test_cases (left.0 / 2 ^ 60) (right.0 / 2 ^ 60)) [
+    | inl same ↦ unlike-string (same ∙ is)
+    | inr other ↦ unlike-types other
   ]
 
-  -- the bits are the same: so is the key, but for strings
-  pub alike : is_body (content_in left.0) ≡ false → left.0 / 2 ^ 60 ≡ right.0 / 2 ^ 60
-      → left.0 % 2 ^ 57 ≡ right.0 % 2 ^ 57 → not (nat_eq (left.0 / 2 ^ 60) 7) ≡ same_words left right
-  alike visible same bits = elim (test_cases (left.0 / 2 ^ 60) 7) [
-    | inl is ↦ ap not (like_test (left.0 / 2 ^ 60) 7 is) ∙ unlike-string is
-    | inr other ↦
-        ap not (unlike_test (left.0 / 2 ^ 60) 7 other)
-        ∙ (sym (like_test (left.0 % 2 ^ 57) (right.0 % 2 ^ 57) bits) ∙ like-bits visible same other)
-  ]
+  pub of_other : right.0 / 2 ^ 60 ≢ 7 → as_text (content_in right.0) ≡ None
+  of_other other = not_text (content_in right.0) (λ is. other (type-of_word right.0 second ∙ is))
+
+  -- where the second is no string, the bits tell
+  pub by_bits : is_body (content_in left.0) ≡ false → as_text (content_in right.0) ≡ None
+      → nat_eq (left.0 / 2 ^ 60 * 2 ^ 60 + left.0 % 2 ^ 57)
+      (right.0 / 2 ^ 60 * 2 ^ 60 + right.0 % 2 ^ 57) ≡ same_words left right
+  by_bits visible none =
+      let l : ℕ = left.0 / 2 ^ 60 * 2 ^ 60 + left.0 % 2 ^ 57 in
+      let r : ℕ = right.0 / 2 ^ 60 * 2 ^ 60 + right.0 % 2 ^ 57 in
+      elim (test_cases (left.0 / 2 ^ 60) (right.0 / 2 ^ 60)) [
+        | inl same ↦
+            same_test (left.0 % 2 ^ 57) (right.0 % 2 ^ 57) l r
+            (λ bits. ap (λ t. t * 2 ^ 60 + left.0 % 2 ^ 57) same
+            ∙ ap (λ b. right.0 / 2 ^ 60 * 2 ^ 60 + b) bits)
+            (λ equal. omega (arith, equal, same))
+            ∙ like-bits visible same
+            (λ is. other_type (content_in right.0) none
+            (sym (type-of_word right.0 second) ∙ (sym same ∙ is)))
+        | inr other ↦
+            unlike_test l r (λ equal. other (omega (arith, equal)))
+            ∙ unlike-types other
+      ]
+
+-- a string is the same as nothing
+text_last : (c : Content) (part : Part) → same_content c (Text part) ≡ false
+text_last Null part = refl
+text_last c part = refl
+
+pub string_absent : (key : Word) (part : Part) → content_in key.0 ≡ Text part
+    → (pairs : List (Word × Word)) → place_of pairs key ≡ None
+unfolding place_of same_words
+string_absent key part is [] = refl
+string_absent key part is (pair ∷ pairs) =
+    rw (ap (same_content (content_in pair.0.0)) is ∙ text_last (content_in pair.0.0) part)
+    (ap (option_map suc) (string_absent key part is pairs))
 
 -- ---- by the values
 

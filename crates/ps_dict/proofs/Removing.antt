@@ -8,13 +8,14 @@ use Rattle.ps_language.specs.Equality.{same_key}
 use Rattle.ps_language.specs.Dictionaries.{without}
 use Rattle.ps_word.specs.declared.words.Word.{Word}
 use Rattle.ps_word.specs.declared.values.Content.TheVariants.{Null}
-use Rattle.ps_word.specs.Format.{value_in, packed, IsWord}
+use Rattle.ps_word.specs.Format.{value_in, IsWord}
 use Rattle.ps_mem.specs.Heap.{Heap, fields_at, zero_word}
 use Rattle.ps_mem.specs.References.{StandsAs}
 use Rattle.ps_mem.specs.Shows.{IsValue, AreValues, IsSound, words_of_pairs}
 use Rattle.ps_mem.proofs.Lists.{splice-zero, all_take, all_drop}
 use Rattle.ps_dict.specs.Places.{count_at, body_at, first_place}
 use Rattle.ps_dict.specs.Removals.{without_place, shifted, moved_down}
+use Rattle.ps_dict.proofs.Probing.{null-zero}
 use Rattle.ps_dict.proofs.Pairs.{take-front_all, length-words_of_pairs}
 use Rattle.ps_dict.proofs.Shapes.{count-fits, body-room, body-values}
 use Rattle.ps_dict.proofs.WordRuns.{splice-two}
@@ -158,11 +159,7 @@ split-last (suc n) (p ∷ ps) is = let (last, e) = split-last n ps (omega (arith
 
 pub null_is_zero : (w : Word) → value_in w.0 ≡ record { content = Null; executable = false }
     → IsWord w.0 → w ≡ zero_word
-unfolding packed
-null_is_zero w is word =
-    let number : packed (value_in w.0) ≡ 0 = ap packed is in
-    let same : w.0 ≡ 0 = sym word.exact ∙ number in
-    λ i. record { 0 = same i }
+null_is_zero w is word = let same = null-zero w word is in λ i. record { 0 = same i }
 
 module _ (h : Heap) (a : ℕ) (known : StandsAs h DictionaryKind a 4) (sound : IsSound h) where
   -- ---- moved down

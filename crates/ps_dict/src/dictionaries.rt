@@ -1,11 +1,12 @@
 //! Dictionaries that are read (PLRM2, 3.3.9 and 8: length, maxlength, get, known, forall).
 
-ghost use Rattle.std.specs.Prelude.{◌≡◌, ◌≢◌, ℕ, ◌+◌, ◌<◌, ◌≤◌, ◌^◌, List, length, Option, Some, IfSome, option_map, slice_get};
+ghost use Rattle.std.specs.Prelude.{◌≡◌, ◌≢◌, ℕ, ◌+◌, ◌<◌, ◌≤◌, ◌^◌, List, length, Option, Some, None, IfSome, option_map, slice_get};
 ghost use Rattle.std.specs.List.{AllPairs};
 ghost use Rattle.ps_language.specs.Value.{Store};
 ghost use Rattle.ps_language.specs.Access.{dictionary_at};
 ghost use Rattle.ps_language.specs.Dictionaries.{find};
 ghost use Rattle.ps_word.specs.Format as format;
+ghost use Rattle.ps_word.specs.Readers as readers;
 ghost use Rattle.ps_mem.specs.Heap.{birth_at, fields_at};
 ghost use Rattle.ps_mem.specs.References.{StandsAs};
 ghost use Rattle.ps_mem.specs.Meaning.{value_of};
@@ -14,11 +15,11 @@ ghost use Rattle.ps_dict.specs.Places.{natural_in, count_at, capacity_at, access
 ghost use Rattle.ps_dict.specs.Probes.{going_round, start_at, IsPosition, StillAhead, Tells};
 
 use crate::index::{first_place, place_behind};
-use crate::keys::is_same_key;
+use crate::keys::{are_alike, is_same_key};
 use ps_language::access::Access;
 use ps_language::kinds::Kind;
 use ps_mem::Memory;
-use ps_word::values::access_of;
+use ps_word::values::{Content, access_of};
 use ps_word::words::Word;
 
 pub(crate) const COUNT: u32 = 0;
@@ -135,7 +136,7 @@ enum Look {
     Free,
 }
 
-/// Looks at a place of an index.
+/// Looks at a place of an index, for a key that is no string.
 #[inline(always)]
 fn look_at<M: Memory>(memory: &mut M, address: u32, capacity: u32, place: u32, key: Word) -> Look
     requires capacity { capacity ≡ capacity_at (M.heap memory.old) address }
@@ -143,6 +144,7 @@ fn look_at<M: Memory>(memory: &mut M, address: u32, capacity: u32, place: u32, k
     requires sound { IsSound (M.heap memory.old) }
     requires known { StandsAs (M.heap memory.old) Kind.Dictionary address 4 }
     requires held { IsValue (M.heap memory.old) key }
+    requires other { readers.as_text (format.content_in key.0) ≡ None }
     ensures heap { M.heap memory.new ≡ M.heap memory.old }
     ensures grants { M.grants memory.new ≡ M.grants memory.old }
     ensures within { IsPosition (M.heap memory.old) address result }
@@ -158,7 +160,7 @@ fn look_at<M: Memory>(memory: &mut M, address: u32, capacity: u32, place: u32, k
     }
     let position = placed.low_natural();
     let word = memory.load(body, 2 * position);
-    if is_same_key(word, key) {
+    if are_alike(word, key) {
         Look::Here(position)
     } else {
         Look::Other
@@ -166,7 +168,7 @@ fn look_at<M: Memory>(memory: &mut M, address: u32, capacity: u32, place: u32, k
 }
 
 /// The same by the place of the key's hash number, where most keys stand that are there; else by
-/// the places behind it.
+/// the places behind it. No dictionary has a string.
 #[inline(always)]
 fn near_position<M: Memory>(memory: &mut M, address: u32, capacity: u32, key: Word) -> Option<u32>
     requires capacity { capacity ≡ capacity_at (M.heap memory.old) address }
@@ -179,11 +181,16 @@ fn near_position<M: Memory>(memory: &mut M, address: u32, capacity: u32, key: Wo
     ensures within { IfSome result (λ place. place < count_at (M.heap memory.old) address) }
     ensures words { result ≡ place_of (pairs_at (M.heap memory.old) address) key }
 {
-    let start = first_place(memory, key, capacity);
-    match look_at(memory, address, capacity, start, key) {
-        Look::Here(position) => Some(position),
-        Look::Other => indexed_position(memory, address, capacity, start, key),
-        Look::Free => None,
+    match key.content() {
+        Content::Text(_) => None,
+        _ => {
+            let start = first_place(memory, key, capacity);
+            match look_at(memory, address, capacity, start, key) {
+                Look::Here(position) => Some(position),
+                Look::Other => indexed_position(memory, address, capacity, start, key),
+                Look::Free => None,
+            }
+        }
     }
 }
 
@@ -214,6 +221,7 @@ fn indexed_position<M: Memory>(
     requires sound { IsSound (M.heap memory.old) }
     requires known { StandsAs (M.heap memory.old) Kind.Dictionary address 4 }
     requires held { IsValue (M.heap memory.old) key }
+    requires other { readers.as_text (format.content_in key.0) ≡ None }
     requires ahead { StillAhead (M.heap memory.old) address key 1 }
     ensures heap { M.heap memory.new ≡ M.heap memory.old }
     ensures grants { M.grants memory.new ≡ M.grants memory.old }

@@ -8,6 +8,7 @@ ghost use Rattle.ps_mem.specs.Heap.{birth_at, fields_at};
 ghost use Rattle.ps_mem.specs.Index.{hash_of};
 ghost use Rattle.ps_mem.specs.Shows.{IsValue};
 ghost use Rattle.ps_dict.specs.Places.{IsPlaceFor};
+ghost use Rattle.ps_dict.specs.Probes.{going_round};
 
 use ps_mem::Memory;
 use ps_word::operators::number_of;
@@ -87,8 +88,7 @@ pub(crate) fn place_behind(start: u32, behind: u32, capacity: u32) -> u32
     requires start { start < capacity }
     requires behind { behind < capacity }
     requires few { capacity ≤ capacity_limit }
-    ensures answer { result ≡
-        (if nat_lt (start + behind) capacity then start + behind else start + behind - capacity) }
+    ensures answer { result ≡ going_round start behind capacity }
     ensures below { result < capacity }
 {
     let place = start + behind;

@@ -1,7 +1,8 @@
 //! Keys by their words.
 
-ghost use Rattle.std.specs.Prelude.{◌≡◌, ◌+◌, ◌*◌, ◌/◌, ◌%◌, ◌^◌, false};
+ghost use Rattle.std.specs.Prelude.{◌≡◌, ◌+◌, ◌*◌, ◌/◌, ◌%◌, ◌^◌, false, None};
 ghost use Rattle.ps_word.specs.Format.{IsWord, is_body, content_in};
+ghost use Rattle.ps_word.specs.Readers as readers;
 ghost use Rattle.ps_dict.specs.Keys.{same_words};
 
 use ps_word::words::Word;
@@ -31,8 +32,20 @@ pub fn is_same_key(left: Word, right: Word) -> bool
     requires visible { is_body (content_in left.0) ≡ false }
     ensures { result ≡ same_words left right }
 {
-    if bare(left) != bare(right) {
+    if right.0 / TYPE == STRING {
         return false;
     }
-    right.0 / TYPE != STRING
+    are_alike(left, right)
+}
+
+/// The same where the second is no string: their bits but for access and attribute tell.
+#[inline(always)]
+pub(crate) fn are_alike(left: Word, right: Word) -> bool
+    requires left { IsWord left.0 }
+    requires right { IsWord right.0 }
+    requires visible { is_body (content_in left.0) ≡ false }
+    requires other { readers.as_text (content_in right.0) ≡ None }
+    ensures { result ≡ same_words left right }
+{
+    bare(left) == bare(right)
 }

@@ -5,7 +5,7 @@ use Rattle.ps_ops.specs.declared.failure.NotMade.{NotMade as Reason}
 use Rattle.ps_control.specs.declared.frames.Frame.{Frame}
 use Rattle.ps_control.specs.declared.frames.Cause.TheVariants.{Exit}
 use Rattle.ps_control.specs.Turns.{frames_to_loop}
-use Rattle.ps_control.proofs.ToLoop.{found_within}
+use Rattle.ps_control.proofs.ToLoop.{found_within, no_more}
 use Rattle.ps_turns.specs.declared.turned.Turned.{Turned}
 use Rattle.ps_turns.specs.declared.turned.Turned.TheVariants.{Goes, Breaks}
 use Rattle.ps_interpreter.specs.Makes.{TurnsBehind}
@@ -28,7 +28,8 @@ returns-in-Ok-Goes-clause-runs c = λ asks slot old new behind same.
 pub discard-requires : goal.discard-requires
 discard-requires c = (
   search rules,
-  found_within c.args.frames.now c.in-Some.count c.in-Some.ensures.1,
+  found_within c.args.frames.now c.in-Some.count
+      (no_more _ (frames_to_loop c.args.frames.now) c.in-Some.count c.in-Some.ensures).1,
 )
 
 pub returns-in-Some-clause-runs : goal.returns-in-Some-clause-runs
@@ -42,7 +43,8 @@ returns-in-Some-clause-runs c = λ asks slot old new behind same.
     exit_behind asks slot c.args.made old new
     (subst (λ (turn : Result Turned Reason). TurnsBehind (own_asks asks) slot c.args.made turn old
     new) is behind) c.in-Some.count
-    (ap (λ (fs : List Frame). frames_to_loop fs) same ∙ c.in-Some.ensures.1) in
+    (ap (λ (fs : List Frame). frames_to_loop fs) same
+    ∙ (no_more _ (frames_to_loop c.args.frames.now) c.in-Some.count c.in-Some.ensures).1) in
     subst (λ (fs : List Frame). HasRun (c.args.made + 1 + c.in-Some.count) old
     (record new { frames = fs }))
     (ap (drop c.in-Some.count) same ∙ sym c.discard.ensures) left

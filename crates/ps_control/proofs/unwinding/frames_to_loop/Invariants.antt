@@ -1,4 +1,4 @@
-use Rattle.std.proofs.Common.{◌≡◌, ◌≤◌}
+use Rattle.std.proofs.Common.{◌≡◌}
 use Rattle.ps_control.specs.Turns.{frames_to_loop}
 use Rattle.ps_control.proofs.ToLoop.{behind_so_many}
 use Rattle.ps_control.proofs.unwinding.frames_to_loop.Given as goal

@@ -94,8 +94,8 @@ load-word-requires g c =
           (subst (λ q. q < count_at h c.args.address) (sym position) within);
     }
 
-pub is_same_key-requires-clause-left : goal.is_same_key-requires-clause-left
-is_same_key-requires-clause-left g c =
+pub are_alike-requires-clause-left : goal.are_alike-requires-clause-left
+are_alike-requires-clause-left g c =
     let h = g.M.Memory.heap c.args.memory.now in
     let known = c.requires.known in
     let sound = c.requires.sound in
@@ -120,8 +120,8 @@ is_same_key-requires-clause-left g c =
     (key-value h c.args.address known sound (c.load-placed.result.0 % 2 ^ 32) within
     c.load-word.result word).word
 
-pub is_same_key-requires-clause-visible : goal.is_same_key-requires-clause-visible
-is_same_key-requires-clause-visible g c =
+pub are_alike-requires-clause-visible : goal.are_alike-requires-clause-visible
+are_alike-requires-clause-visible g c =
     let h = g.M.Memory.heap c.args.memory.now in
     let known = c.requires.known in
     let sound = c.requires.sound in
@@ -146,8 +146,8 @@ is_same_key-requires-clause-visible g c =
     (key-value h c.args.address known sound (c.load-placed.result.0 % 2 ^ 32) within
     c.load-word.result word).visible
 
-pub returns-then-is_same_key-clause-within : goal.returns-then-is_same_key-clause-within
-returns-then-is_same_key-clause-within g c =
+pub returns-then-are_alike-clause-within : goal.returns-then-are_alike-clause-within
+returns-then-are_alike-clause-within g c =
     let h = g.M.Memory.heap c.args.memory.now in
     let known = c.requires.known in
     let sound = c.requires.sound in
@@ -167,8 +167,8 @@ returns-then-is_same_key-clause-within g c =
     read some in
     subst (λ q. q < count_at h c.args.address) (sym position) within
 
-pub returns-then-is_same_key-clause-tells : goal.returns-then-is_same_key-clause-tells
-returns-then-is_same_key-clause-tells g c = λ behind within_places at ahead.
+pub returns-then-are_alike-clause-tells : goal.returns-then-are_alike-clause-tells
+returns-then-are_alike-clause-tells g c = λ behind within_places at ahead.
     let h = g.M.Memory.heap c.args.memory.now in
     let known = c.requires.known in
     let sound = c.requires.sound in
@@ -194,11 +194,11 @@ returns-then-is_same_key-clause-tells g c = λ behind within_places at ahead.
     some c.load-word.result word c.args.key behind
     (subst (λ n. behind < n) capacity within_places)
     (at ∙ ap (going_round (start_at h c.args.address c.args.key) behind) capacity) ahead
-    (sym c.is_same_key.ensures ∙ c.if-is_same_key.true)
+    (sym c.are_alike.ensures ∙ c.if-are_alike.true)
     ∙ ap Some (sym position)
 
-pub returns-else-is_same_key-clause-tells : goal.returns-else-is_same_key-clause-tells
-returns-else-is_same_key-clause-tells g c = λ behind within_places at ahead.
+pub returns-else-are_alike-clause-tells : goal.returns-else-are_alike-clause-tells
+returns-else-are_alike-clause-tells g c = λ behind within_places at ahead.
     let h = g.M.Memory.heap c.args.memory.now in
     let known = c.requires.known in
     let sound = c.requires.sound in
@@ -224,4 +224,4 @@ returns-else-is_same_key-clause-tells g c = λ behind within_places at ahead.
     some c.load-word.result word c.args.key behind
     (subst (λ n. behind < n) capacity within_places)
     (at ∙ ap (going_round (start_at h c.args.address c.args.key) behind) capacity) ahead
-    (sym c.is_same_key.ensures ∙ c.if-is_same_key.false)
+    (sym c.are_alike.ensures ∙ c.if-are_alike.false)

@@ -1,7 +1,14 @@
--- What the first place tells.
-use Rattle.std.proofs.Common.{sym}
+-- What the first place tells; no dictionary has a string.
+use Rattle.std.proofs.Common.{sym, ◌∙◌}
+use Rattle.ps_dict.specs.Places.{pairs_at}
+use Rattle.ps_dict.proofs.KeyLemmas.{string_absent}
 use Rattle.ps_dict.proofs.Probing.{first-tells}
 use Rattle.ps_dict.proofs.dictionaries.near_position.Goals as goal
+
+pub returns-in-Text-clause-words : goal.returns-in-Text-clause-words
+returns-in-Text-clause-words g c =
+    sym (string_absent c.args.key c.in-Text.field-0 (sym c.content.ensures ∙ c.in-Text.is)
+    (pairs_at (g.M.Memory.heap c.args.memory.now) c.args.address))
 
 pub indexed_position-requires-clause-ahead : goal.indexed_position-requires-clause-ahead
 indexed_position-requires-clause-ahead g c =
