@@ -1,6 +1,6 @@
 -- Two words of a memory are the same key exactly where their values are, and where their bits are.
-use Rattle.std.proofs.Common.{◌≡◌, ◌≢◌, ◌⊎◌, true≢false, ℕ, zero, suc, ◌+◌, ◌*◌, ◌/◌, ◌%◌, ◌^◌, ◌<◌, Bool, true, false, ◌&&◌, List, [], ◌∷◌, length, Some, None, refl, sym, ap, ◌∙◌, arith, rules, inl, inr, nat_eq, w32, slice_index_or}
-use Rattle.std.specs.Prelude.{ℤ, ◌==◌, not, FitsSigned, option_map}
+use Rattle.std.proofs.Common.{◌≡◌, ◌≢◌, ◌⊎◌, true≢false, ℕ, zero, suc, ◌+◌, ◌*◌, ◌/◌, ◌%◌, ◌^◌, ◌<◌, Bool, true, false, ◌&&◌, List, [], ◌∷◌, length, None, refl, sym, ap, ◌∙◌, arith, rules, inl, inr, nat_eq, w32, slice_index_or}
+use Rattle.std.specs.Prelude.{ℤ, ◌==◌, FitsSigned, option_map, IsSome}
 use Rattle.std.specs.Int.{cast_signed, cast_unsigned}
 use Rattle.std.specs.Ordering.{int_eq}
 use Rattle.std.specs.List.{AllPairs}
@@ -223,17 +223,18 @@ module _ (left right : Word) (first : IsWord left.0) (second : IsWord right.0) w
       ]
 
 -- a string is the same as nothing
-text_last : (c : Content) (part : Part) → same_content c (Text part) ≡ false
-text_last Null part = refl
-text_last c part = refl
+text_last : (c d : Content) → IsSome (as_text d) → same_content c d ≡ false
+text_last Null (Text part) some = refl
+text_last c (Text part) some = refl
+text_last c d some = cc
 
-pub string_absent : (key : Word) (part : Part) → content_in key.0 ≡ Text part
+pub string_absent : (key : Word) → IsSome (as_text (content_in key.0))
     → (pairs : List (Word × Word)) → place_of pairs key ≡ None
 unfolding place_of same_words
-string_absent key part is [] = refl
-string_absent key part is (pair ∷ pairs) =
-    rw (ap (same_content (content_in pair.0.0)) is ∙ text_last (content_in pair.0.0) part)
-    (ap (option_map suc) (string_absent key part is pairs))
+string_absent key some [] = refl
+string_absent key some (pair ∷ pairs) =
+    rw (text_last (content_in pair.0.0) (content_in key.0) some)
+    (ap (option_map suc) (string_absent key some pairs))
 
 -- ---- by the values
 

@@ -14,12 +14,12 @@ ghost use Rattle.ps_mem.specs.Shows.{IsValue, IsSound, IsWithin, Shows, pair_of}
 ghost use Rattle.ps_dict.specs.Places.{natural_in, count_at, capacity_at, access_at, body_at, pairs_at, place_of, first_place};
 ghost use Rattle.ps_dict.specs.Probes.{going_round, start_at, IsPosition, StillAhead, Tells};
 
-use crate::index::{first_place, place_behind};
+use crate::index::{place_behind, sought_place};
 use crate::keys::{are_alike, is_same_key};
 use ps_language::access::Access;
 use ps_language::kinds::Kind;
 use ps_mem::Memory;
-use ps_word::values::{Content, access_of};
+use ps_word::values::access_of;
 use ps_word::words::Word;
 
 pub(crate) const COUNT: u32 = 0;
@@ -181,16 +181,13 @@ fn near_position<M: Memory>(memory: &mut M, address: u32, capacity: u32, key: Wo
     ensures within { IfSome result (λ place. place < count_at (M.heap memory.old) address) }
     ensures words { result ≡ place_of (pairs_at (M.heap memory.old) address) key }
 {
-    match key.content() {
-        Content::Text(_) => None,
-        _ => {
-            let start = first_place(memory, key, capacity);
-            match look_at(memory, address, capacity, start, key) {
-                Look::Here(position) => Some(position),
-                Look::Other => indexed_position(memory, address, capacity, start, key),
-                Look::Free => None,
-            }
-        }
+    match sought_place(memory, key, capacity) {
+        Some(start) => match look_at(memory, address, capacity, start, key) {
+            Look::Here(position) => Some(position),
+            Look::Other => indexed_position(memory, address, capacity, start, key),
+            Look::Free => None,
+        },
+        None => None,
     }
 }
 

@@ -1,8 +1,10 @@
 //! The index of a dictionary's keys, in the last words of its body: the position of each pair,
 //! placed by the hash number of its key.
 
-ghost use Rattle.std.specs.Prelude.{◌≡◌, ℕ, ◌+◌, ◌-◌, ◌*◌, ◌%◌, ◌<◌, ◌≤◌, ◌^◌, true, [], ◌∷◌, List, Option, Some, None, drop, length, map, slice_get, slice_set, option_map, if◌then◌else◌, nat_lt};
+ghost use Rattle.std.specs.Prelude.{◌≡◌, ℕ, ◌+◌, ◌-◌, ◌*◌, ◌%◌, ◌<◌, ◌≤◌, ◌^◌, true, [], ◌∷◌, List, Option, Some, None, IfSome, IsSome, IsNone, drop, length, map, slice_get, slice_set, option_map, if◌then◌else◌, nat_lt};
 ghost use Rattle.ps_language.specs.Limits.{capacity_limit};
+ghost use Rattle.ps_word.specs.Format.{content_in};
+ghost use Rattle.ps_word.specs.Readers as readers;
 ghost use Rattle.ps_word.specs.declared.words.Word.{Word as TheWord};
 ghost use Rattle.ps_mem.specs.Heap.{birth_at, fields_at};
 ghost use Rattle.ps_mem.specs.Index.{hash_of};
@@ -65,7 +67,28 @@ fn remainder(number: u32, capacity: u32) -> u32
 }
 
 /// The place at which a key is looked for first, of so many: by the number of a name or an integer,
-/// and of every other key by its hash number.
+/// and of every other key by its hash number. No dictionary has a string, so none is looked for.
+#[inline(always)]
+pub(crate) fn sought_place<M: Memory>(memory: &mut M, key: Word, capacity: u32) -> Option<u32>
+    requires held { IsValue (M.heap memory.old) key }
+    requires some { 0 < capacity }
+    ensures heap { M.heap memory.new ≡ M.heap memory.old }
+    ensures grants { M.grants memory.new ≡ M.grants memory.old }
+    ensures answer { IfSome result
+        (λ place. place ≡ hash_of (birth_at (M.heap memory.old)) key % capacity) }
+    ensures below { IfSome result (λ place. place < capacity) }
+    ensures other { IsSome result → readers.as_text (content_in key.0) ≡ None }
+    ensures string { IsNone result → IsSome (readers.as_text (content_in key.0)) }
+{
+    match key.content() {
+        Content::Name(name) => Some(remainder(name as u32, capacity)),
+        Content::Integer(number) => Some(remainder(number.cast_unsigned(), capacity)),
+        Content::Text(_) => None,
+        _ => Some((hash_number(memory, key) % capacity as u64) as u32),
+    }
+}
+
+/// The same of any word, also of a string.
 #[inline(always)]
 pub(crate) fn first_place<M: Memory>(memory: &mut M, key: Word, capacity: u32) -> u32
     requires held { IsValue (M.heap memory.old) key }
@@ -75,10 +98,9 @@ pub(crate) fn first_place<M: Memory>(memory: &mut M, key: Word, capacity: u32) -
     ensures answer { result ≡ hash_of (birth_at (M.heap memory.old)) key % capacity }
     ensures below { result < capacity }
 {
-    match key.content() {
-        Content::Name(name) => remainder(name as u32, capacity),
-        Content::Integer(number) => remainder(number.cast_unsigned(), capacity),
-        _ => (hash_number(memory, key) % capacity as u64) as u32,
+    match sought_place(memory, key, capacity) {
+        Some(place) => place,
+        None => (hash_number(memory, key) % capacity as u64) as u32,
     }
 }
 

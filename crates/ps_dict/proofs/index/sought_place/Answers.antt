@@ -5,7 +5,7 @@ use Rattle.ps_word.specs.declared.values.Content.{Content}
 use Rattle.ps_word.specs.declared.values.Content.TheVariants.{Integer}
 use Rattle.ps_mem.specs.Heap.{birth_at}
 use Rattle.ps_dict.proofs.Hashing.{fits-content, hash-content, name_hash}
-use Rattle.ps_dict.proofs.index.first_place.Goals as goal
+use Rattle.ps_dict.proofs.index.sought_place.Goals as goal
 
 pub returns-in-Name-clause-answer : goal.returns-in-Name-clause-answer
 returns-in-Name-clause-answer g c =
