@@ -1,6 +1,6 @@
 -- One element more is done by operands alone.
-use Rattle.std.proofs.Common.{◌≡◌, ◌≢◌, ℕ, zero, suc, ◌+◌, ◌-◌, ◌<◌, ◌≤◌, arith, Bool, true, false, List, [], ◌∷◌, drop, Option, Some, None, Ok, refl, sym, ap, subst, ◌∙◌}
-use Rattle.std.specs.Prelude.{Result, IfSome, IsNone, nat_lt, slice_get, if◌then◌else◌}
+use Rattle.std.proofs.Common.{◌≡◌, ◌≢◌, ℕ, zero, suc, ◌+◌, ◌-◌, ◌<◌, ◌≤◌, arith, Bool, true, false, List, [], ◌∷◌, drop, length, Option, Some, None, Ok, refl, sym, ap, subst, ◌∙◌}
+use Rattle.std.specs.Prelude.{Result, IsNone, nat_lt, slice_get, if◌then◌else◌}
 use Rattle.std.proofs.lemmas.Bool.{true≢false}
 use Rattle.std.proofs.lemmas.Bool.Decides.{nat_tests}
 use Rattle.ps_language.specs.Access.{elements}
@@ -18,23 +18,25 @@ use Rattle.ps_ops.specs.declared.failure.NotMade.{NotMade as Reason}
 use Rattle.ps_control.specs.declared.frames.Frame.{Frame}
 use Rattle.ps_control.specs.declared.frames.Frame.TheVariants.{Text, Procedure, Pending, Repeat, Loop, For, Forall, Stopped, Bind, Monitor}
 use Rattle.ps_control.specs.declared.frames.Source.{Source}
+use Rattle.ps_control.specs.declared.ahead.Ahead.{Ahead}
+use Rattle.ps_control.specs.declared.ahead.Ahead.TheVariants as ahead
 use Rattle.ps_acts.specs.declared.lent.Trial.{Trial}
 use Rattle.ps_acts.specs.Acts.{Asked}
 use Rattle.ps_acts.specs.Lent.{Lent, IsShown, IsGood}
 use Rattle.ps_acts.specs.Trials.{ordinary}
 use Rattle.ps_turns.specs.declared.turned.Turned.{Turned}
 use Rattle.ps_turns.specs.declared.turned.Turned.TheVariants.{Goes}
-use Rattle.ps_turns.specs.Turns.{Turns, none_asked}
+use Rattle.ps_turns.specs.Turns.{Turns, TurnsWith, none_asked}
 use Rattle.ps_turns.proofs.Composing.{turns_as, restacked_good}
-use Rattle.ps_values.specs.Values.{meaning, GoesIn, among, done_turn, Asks, executed_asks}
+use Rattle.ps_values.specs.Values.{meaning, EntersIn, among, done_turn, Asks, executed_asks}
 use Rattle.ps_frames.specs.declared.elements.Element.{Element}
-use Rattle.ps_frames.specs.Steps.{frames_after, rest_frames, running_turn, frame_asks, above, IsElement}
-use Rattle.ps_frames.proofs.Taking.{rest_some, rest_good, element_made}
+use Rattle.ps_frames.specs.Steps.{frames_after, rest_frames, running_turn, frame_asks, above, part_behind, with_frames, IsElement}
+use Rattle.ps_frames.proofs.Taking.{rest_good, element_made}
 use Rattle.ps_interpreter.specs.Interprets.{asks_in, own_turn}
 use Rattle.ps_interpreter.specs.Makes.{TurnsBehind, Runs}
 use Rattle.ps_interpreter.specs.OwnSteps.{HasRun}
 use Rattle.ps_interpreter.proofs.Running.{run_none, run_more, run_then}
-use Rattle.ps_context.specs.Elements.{stacked, DoesFirst}
+use Rattle.ps_context.specs.Elements.{stacked, DoesTo, DoesInto}
 use Rattle.ps_context.specs.Steps.{own_asks}
 
 module _ (rest : Part) (below : List Frame) where
@@ -46,20 +48,20 @@ module _ (rest : Part) (below : List Frame) where
   abbrev Frames_by : Bool → Part → List Frame
   Frames_by some part = if some then Procedure part ∷ below else below
 
-  some_left : (made : ℕ) → made < rest.length
+  pub some_left : (made : ℕ) → made < rest.length
       → frames_after made rest below ≡ Procedure (rest_from made) ∷ below
   some_left made some =
       let more : nat_lt made rest.length ≡ true = grind (arith, nat_tests, some) in
       ap (λ (b : Bool). Frames_by b (rest_from made)) more
 
-  none_taken : 1 ≤ rest.length → frames_after 0 rest below ≡ Procedure rest ∷ below
+  pub none_taken : 1 ≤ rest.length → frames_after 0 rest below ≡ Procedure rest ∷ below
   none_taken some =
       let offset_is : rest.offset + 0 ≡ rest.offset = omega arith in
       let length_is : rest.length - 0 ≡ rest.length = omega arith in
       some_left 0 some
       ∙ (λ i. Procedure (record rest { offset = offset_is i; length = length_is i }) ∷ below)
 
-  one_taken : (made : ℕ) → made < rest.length
+  pub one_taken : (made : ℕ) → made < rest.length
       → rest_frames (rest_from made) below ≡ frames_after (made + 1) rest below
   one_taken made some =
       let test_is : nat_lt 1 (rest.length - made) ≡ nat_lt (made + 1) rest.length =
@@ -68,35 +70,40 @@ module _ (rest : Part) (below : List Frame) where
       let length_is : (rest.length - made) - 1 ≡ rest.length - (made + 1) = omega arith in
       λ i. Frames_by (test_is i) (record rest { offset = offset_is i; length = length_is i })
 
-module _ (heap : Heap) (dictionaries : List Word) (rest : Part) (old : List Word) where
-  pub does_none : DoesFirst heap dictionaries rest 0 old old
+module _ (heap : Heap) (dictionaries : List Word) (rest : Part) (from : ℕ) (old : List Word) where
+  pub does_none : DoesTo heap dictionaries rest from from old old
   does_none l below good =
-      let before : Lent = stacked heap dictionaries old (Procedure rest ∷ below) l in
-      subst (λ (frames : List Frame). HasRun 0 before (stacked heap dictionaries old frames l))
-      (sym (none_taken rest below (rest_some before rest below refl good)))
-      (run_none before good)
+      let before : Lent = stacked heap dictionaries old (frames_after from rest below) l in
+      let none : 0 ≡ from - from = omega arith in
+      subst (λ (n : ℕ). HasRun n before before) none (run_none before good)
 
-  module _ (asks : Asks) (made : ℕ) (now next : List Word) (word : Word)
+  module _ (asks : Asks) (made : ℕ) (now next : List Word) (word : Word) (after : from ≤ made)
       (some : made < rest.length) (value : IsValue heap word)
       (within : (names : List (List ℕ)) (s : Store) → Shows heap names s
       → IsWithin (birth_at heap) names s word)
       (reads : (names : List (List ℕ)) (s : Store) → Shows heap names s
       → slice_get (elements s (birth_at heap rest.address)) (rest.offset + made)
-      ≡ Some (value_of (birth_at heap) names word))
-      (goes : GoesIn (among heap dictionaries) (word ∷ word ∷ []) (executed_asks asks word)
-      (done_turn word word) true now next) where
+      ≡ Some (value_of (birth_at heap) names word)) where
     abbrev trial : Trial
     trial = record { slot = 0; refused = false }
 
+    -- what one more comes to
+    abbrev Comes : Ahead → Type 0
+    Comes came = EntersIn (among heap dictionaries) (word ∷ word ∷ []) (executed_asks asks word)
+        (done_turn word word) came now next
+
     module _ (l : Lent) (below : List Frame) where
+      abbrev left : Part
+      left = rest_from rest below made
+
       abbrev before : Lent
-      before = stacked heap dictionaries old (Procedure rest ∷ below) l
+      before = stacked heap dictionaries old (frames_after from rest below) l
 
       abbrev mid : Lent
-      mid = stacked heap dictionaries now (Procedure (rest_from rest below made) ∷ below) l
+      mid = stacked heap dictionaries now (Procedure left ∷ below) l
 
-      abbrev after : Lent
-      after = stacked heap dictionaries next (rest_frames (rest_from rest below made) below) l
+      abbrev with_stacks : List Frame → Lent
+      with_stacks frames = stacked heap dictionaries next frames l
 
       element_read : (s : Store) → IsShown mid s
           → slice_get (elements s (birth_at heap rest.address)) ((rest.offset + made) + 0)
@@ -106,34 +113,68 @@ module _ (heap : Heap) (dictionaries : List Word) (rest : Part) (old : List Word
           ap (slice_get (elements s (birth_at heap rest.address))) place_is
           ∙ reads l.names s shown.shows
 
-      one_turn : IsGood mid → Turns (frame_asks asks) running_turn trial (Ok Goes) mid after
-      one_turn good =
-          let left = rest_from rest below made in
+      rest_mid : IsGood mid → IsGood (record mid { frames = rest_frames left below })
+      rest_mid good =
+          restacked_good mid now (rest_frames left below) (rest_good mid left below refl good) good
+
+      one_turn : (frames : List Frame) → IsGood mid
+          → TurnsWith (word ∷ word ∷ []) [] (executed_asks asks word) (done_turn word word) trial
+          (Ok Goes) (record mid { frames = rest_frames left below }) (with_stacks frames)
+          → Turns (frame_asks asks) running_turn trial (Ok Goes) mid (with_stacks frames)
+      one_turn frames good turns =
           element_made mid left below refl word element_read good
-          (λ s shown. within l.names s shown.shows) asks trial Goes after
-          (goes (record mid { frames = rest_frames left below }) trial
-          (restacked_good mid now (rest_frames left below)
-          (rest_good mid left below refl good) good)
-          (value, (value, tt)))
+          (λ s shown. within l.names s shown.shows) asks trial Goes (with_stacks frames) turns
 
-      made_one : HasRun made before mid → HasRun (made + 1) before after
-      made_one so_far =
-          run_more (own_asks asks) 0 made before mid after so_far (λ none. absurd (cc))
+      made_one : (frames : List Frame) → HasRun (made - from) before mid
+          → TurnsWith (word ∷ word ∷ []) [] (executed_asks asks word) (done_turn word word) trial
+          (Ok Goes) (record mid { frames = rest_frames left below }) (with_stacks frames)
+          → HasRun ((made + 1) - from) before (with_stacks frames)
+      made_one frames so_far turns =
+          let count : (made - from) + 1 ≡ (made + 1) - from = omega (arith, after) in
+          subst (λ (n : ℕ). HasRun n before (with_stacks frames)) count
+          (run_more (own_asks asks) 0 (made - from) before mid (with_stacks frames) so_far
+          (λ none. absurd (cc))
           (turns_as (frame_asks asks) (asks_in (own_asks asks) None) running_turn (own_turn None)
-          trial (Ok Goes) mid after (λ s shown. refl) (λ s shown. refl)
-          (one_turn so_far.good))
+          trial (Ok Goes) mid (with_stacks frames) (λ s shown. refl) (λ s shown. refl)
+          (one_turn frames so_far.good turns)))
 
-    pub does_more : DoesFirst heap dictionaries rest made old now → DoesFirst heap dictionaries rest (made + 1) old next
-    does_more so_far l below good =
-        subst (λ (frames : List Frame). HasRun (made + 1) (before l below)
-        (stacked heap dictionaries next frames l)) (one_taken rest below made some)
-        (made_one l below
-        (subst (λ (frames : List Frame). HasRun made (before l below)
-        (stacked heap dictionaries now frames l)) (some_left rest below made some)
-        (so_far l below good)))
+      so_made : DoesTo heap dictionaries rest from made old now → IsGood before
+          → HasRun (made - from) before mid
+      so_made so_far good =
+          subst (λ (frames : List Frame). HasRun (made - from) before
+          (stacked heap dictionaries now frames l)) (some_left rest below made some)
+          (so_far l below good)
+
+      rest_room : 2 + length below ≤ 250 → 1 + length (rest_frames left below) ≤ 250
+      rest_room room = by (nat_lt 1 left.length)
+        where
+          by : (more : Bool) → 1 + length (Frames_by rest below more (part_behind 1 left)) ≤ 250
+          by true = omega (arith, room)
+          by false = omega (arith, room)
+
+    pub does_more : DoesTo heap dictionaries rest from made old now → Comes ahead.Goes
+        → DoesTo heap dictionaries rest from (made + 1) old next
+    does_more so_far goes l below good =
+        let done = so_made l below so_far good in
+        subst (λ (frames : List Frame). HasRun ((made + 1) - from) (before l below)
+        (with_stacks l below frames)) (one_taken rest below made some)
+        (made_one l below (rest_frames (left l below) below) done
+        (goes.1 (record (mid l below) { frames = rest_frames (left l below) below }) trial
+        (rest_mid l below done.good) (value, (value, tt)) tt))
+
+    pub does_into : (body : Part) → DoesTo heap dictionaries rest from made old now
+        → Comes (ahead.Enters body)
+        → DoesInto heap dictionaries rest from made body old next
+    does_into body so_far goes l below room good =
+        let done = so_made l below so_far good in
+        subst (λ (frames : List Frame). HasRun ((made + 1) - from) (before l below)
+        (with_stacks l below (Procedure body ∷ frames))) (one_taken rest below made some)
+        (made_one l below (Procedure body ∷ rest_frames (left l below) below) done
+        (goes.1 (record (mid l below) { frames = rest_frames (left l below) below }) trial
+        (rest_mid l below done.good) (value, (value, tt)) (rest_room l below room)))
 
 -- the element at a place is the first of what is left
-element_first : (asks : Asks) (heap : Heap) (dictionaries : List Word) (rest : Part)
+pub element_first : (asks : Asks) (heap : Heap) (dictionaries : List Word) (rest : Part)
     (below : List Frame) (made : ℕ) (element : Element)
     → IsElement asks heap dictionaries rest made element
     → IsElement asks heap dictionaries (rest_from rest below made) 0 element
@@ -147,17 +188,8 @@ element_first asks heap dictionaries rest below made element is = record {
   treats = is.treats;
 }
 
--- where it is known
-pub first_known : (asks : Asks) (heap : Heap) (dictionaries : List Word) (rest : Part)
-    (below : List Frame) (made : ℕ) (next : Option Element)
-    → IfSome next (IsElement asks heap dictionaries rest made)
-    → IfSome next (IsElement asks heap dictionaries (rest_from rest below made) 0)
-first_known asks heap dictionaries rest below made None is = tt
-first_known asks heap dictionaries rest below made (Some element) is =
-    element_first asks heap dictionaries rest below made element is
-
 -- all were taken
-all_taken : (rest : Part) (below : List Frame) (made : ℕ) → made ≡ rest.length
+pub all_taken : (rest : Part) (below : List Frame) (made : ℕ) → made ≡ rest.length
     → frames_after made rest below ≡ below
 all_taken rest below made all =
     let none : nat_lt made rest.length ≡ false = grind (arith, nat_tests, all) in
@@ -263,27 +295,37 @@ runs_then asks slot first second (Some result) old mid new one behind = record {
 
 -- ---- of a procedure above the frames
 
--- behind steps that were made, its first elements are done
-module _ (start l : Lent) (rest : Part) (so_far : ℕ) (makes : HasRun so_far start (above rest l))
-    (made : ℕ) (operands : List Word)
-    (does : DoesFirst l.heap l.dictionaries rest made l.operands operands) where
+-- behind steps that were made, its elements are done from a place to another
+module _ (start l : Lent) (rest : Part) (made from to : ℕ) (operands : List Word)
+    (further : from ≤ to)
+    (makes : HasRun (made + from) start (with_frames (frames_after from rest l.frames) l)) where
   abbrev now : Lent
   now = record l { operands = operands }
 
-  done : HasRun (so_far + made) start
-      (record l { operands = operands; frames = frames_after made rest l.frames })
-  done = run_then so_far made start (above rest l) _ makes (does l l.frames makes.good)
+  pub done_to : DoesTo l.heap l.dictionaries rest from to l.operands operands
+      → HasRun (made + to) start (with_frames (frames_after to rest l.frames) now)
+  done_to does =
+      let count : (made + from) + (to - from) ≡ made + to = omega (arith, further) in
+      subst (λ (n : ℕ). HasRun n start (with_frames (frames_after to rest l.frames) now)) count
+      (run_then (made + from) (to - from) start _ _ makes (does l l.frames makes.good))
 
-  pub done_all : made ≡ rest.length → HasRun (so_far + made) start now
-  done_all all =
-      subst (λ (frames : List Frame). HasRun (so_far + made) start
-      (record l { operands = operands; frames = frames })) (all_taken rest l.frames made all) done
+  pub done_above : to < rest.length
+      → DoesTo l.heap l.dictionaries rest from to l.operands operands
+      → HasRun (made + to) start (above (part_behind to rest) now)
+  done_above some does =
+      subst (λ (frames : List Frame). HasRun (made + to) start (with_frames frames now))
+      (some_left rest l.frames to some) (done_to does)
 
-  pub done_some : made < rest.length
-      → HasRun (so_far + made) start (above (rest_from rest l.frames made) now)
-  done_some some =
-      subst (λ (frames : List Frame). HasRun (so_far + made) start
-      (record l { operands = operands; frames = frames })) (some_left rest l.frames made some) done
+  pub entered_to : (body : Part) → 2 + length l.frames ≤ 250
+      → DoesInto l.heap l.dictionaries rest from to body l.operands operands
+      → HasRun (made + (to + 1)) start
+      (with_frames (Procedure body ∷ frames_after (to + 1) rest l.frames) now)
+  entered_to body room does =
+      let count : (made + from) + ((to + 1) - from) ≡ made + (to + 1) = omega (arith, further) in
+      subst (λ (n : ℕ). HasRun n start
+      (with_frames (Procedure body ∷ frames_after (to + 1) rest l.frames) now)) count
+      (run_then (made + from) ((to + 1) - from) start _ _ makes
+      (does l l.frames room makes.good))
 
 -- behind steps that were made, its first element is done
 module _ (asks : Asks) (start l : Lent) (rest : Part) (made : ℕ)
@@ -298,13 +340,6 @@ module _ (asks : Asks) (start l : Lent) (rest : Part) (made : ℕ)
   own_above trial result new turns =
       turns_as (frame_asks asks) (asks_in (own_asks asks) None) running_turn (own_turn None) trial
       result (above rest l) new (λ s shown. refl) (λ s shown. refl) turns
-
-  pub goes_above : (new : Lent)
-      → ((trial : Trial) → Turns (frame_asks asks) running_turn trial (Ok Goes) (above rest l) new)
-      → HasRun (made + 1) start new
-  goes_above new goes =
-      run_more (own_asks asks) 0 made start (above rest l) new makes (λ none. absurd (cc))
-      (own_above (ordinary 0) (Ok Goes) new (goes (ordinary 0)))
 
   pub turned_above : (slot : ℕ) (result : Result Turned Reason) (new : Lent)
       → Turns (frame_asks asks) running_turn (ordinary slot) result (above rest l) new

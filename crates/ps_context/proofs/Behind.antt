@@ -1,6 +1,8 @@
 -- What a procedure's first element came to, without its frame or over it.
-use Rattle.std.proofs.Common.{◌≡◌, ℕ, ◌<◌, Bool, true, false, List, ◌∷◌, length, Ok, refl, sym, subst}
-use Rattle.std.specs.Prelude.{Result, nat_lt, if◌then◌else◌}
+use Rattle.std.proofs.Common.{◌≡◌, ℕ, ◌+◌, arith, true, false, List, ◌∷◌, length, Option, Some, None, Ok, refl, sym, subst}
+use Rattle.std.proofs.lemmas.Bool.{true≢false}
+use Rattle.std.specs.Prelude.{Result, is_some}
+use Rattle.ps_mem.specs.Keeps.{Keeps}
 use Rattle.ps_language.specs.World.{Machine, running}
 use Rattle.ps_word.specs.declared.values.Part.{Part}
 use Rattle.ps_ops.specs.declared.failure.NotMade.{NotMade as Reason}
@@ -16,15 +18,14 @@ use Rattle.ps_turns.specs.declared.turned.Turned.{Turned}
 use Rattle.ps_turns.specs.declared.turned.Turned.TheVariants.{Goes}
 use Rattle.ps_turns.specs.Turns.{Turns}
 use Rattle.ps_values.specs.Values.{Asks}
-use Rattle.ps_frames.specs.Steps.{above, frame_asks, part_behind, rest_frames, running_turn, with_frames}
+use Rattle.ps_frames.specs.Steps.{above, frame_asks, rest_frames, running_turn, with_frames}
 use Rattle.ps_interpreter.specs.Courses.{IsLentBy}
-use Rattle.ps_interpreter.specs.Makes.{TurnsBehind}
+use Rattle.ps_interpreter.specs.Makes.{Runs, TurnsBehind}
 use Rattle.ps_interpreter.specs.OwnSteps.{own_after, HasRun}
-use Rattle.ps_interpreter.proofs.Running.{run_none}
-use Rattle.ps_context.specs.declared.runs.Came.TheVariants as came
-use Rattle.ps_context.specs.Elements.{came_behind, ComesBy}
+use Rattle.ps_interpreter.proofs.Running.{run_none, run_then}
+use Rattle.ps_context.specs.Elements.{ComesBy}
 use Rattle.ps_context.specs.Steps.{own_asks}
-use Rattle.ps_context.proofs.Ahead.{goes_behind, turned_above}
+use Rattle.ps_context.proofs.Ahead.{goes_behind, runs_then, turned_above}
 
 -- a turn of a procedure above the frames that goes on is a step
 pub step_above : (asks : Asks) (slot : ℕ) (rest : Part) (l new : Lent) → IsGood (above rest l)
@@ -34,24 +35,6 @@ step_above asks slot rest l new good turns =
     goes_behind asks slot 0 (above rest l) new
     (turned_above asks (above rest l) l rest 0 (run_none (above rest l) good) slot (Ok Goes) new
     turns)
-
--- what is left of the procedure is above the frames, or all of it was done
-pub comes_behind : (asks : Asks) (slot : ℕ) (rest : Part) (l new : Lent) → IsGood (above rest l)
-    → length new.frames < 250
-    → Turns (frame_asks asks) running_turn (ordinary slot) (Ok Goes) (above rest l)
-    (with_frames (rest_frames rest new.frames) new)
-    → ComesBy (own_asks asks) slot (came_behind rest) (part_behind 1 rest) (above rest l) new
-comes_behind asks slot rest l new good room turns =
-    by (nat_lt 1 rest.length) (step_above asks slot rest l _ good turns)
-  where
-    by : (some : Bool)
-        → HasRun 1 (above rest l)
-        (with_frames (if some then Procedure (part_behind 1 rest) ∷ new.frames else new.frames)
-        new)
-        → ComesBy (own_asks asks) slot (if some then came.Enters else came.Goes)
-        (part_behind 1 rest) (above rest l) new
-    by true run = (room, run)
-    by false run = run
 
 -- ---- where nothing was done
 
@@ -130,3 +113,33 @@ module _ (l new : Lent) (rest : Part) {slot : ℕ} (undone : IsUndone slot l new
       → TurnsBehind (own_asks asks) slot 0 turn (above rest l) after
   undone_turned asks slot turn after turns =
       turned_above asks (above rest l) new rest 0 run_undone slot turn after turns
+
+-- ---- what its first element came to
+
+module _ (asks : Asks) (slot made : ℕ) (start l new : Lent) (rest : Part)
+    (makes : HasRun made start (above rest l)) where
+  -- a turn that is told
+  pub told_behind : (next : Option (Result Turned Reason)) → is_some next ≡ true
+      → ComesBy (own_asks asks) slot next rest l new
+      → Runs (own_asks asks) slot made next start new
+  told_behind None told comes = absurd (true≢false (sym told))
+  told_behind (Some turn) told comes =
+      let none : made + 0 ≡ made = omega arith in
+      subst (λ (n : ℕ). TurnsBehind (own_asks asks) slot n turn start new) none
+      (runs_then (own_asks asks) slot made 0 (Some turn) start (above rest l) new makes comes)
+
+  -- a step
+  pub step_behind : (next : Option (Result Turned Reason)) → is_some next ≡ false
+      → ComesBy (own_asks asks) slot next rest l new
+      → (new.frames ≡ l.frames)
+      × (HasRun (made + 1) start (with_frames (rest_frames rest new.frames) new)
+      × Keeps l.heap new.heap)
+  step_behind None none comes = (
+    comes.0,
+    (
+      run_then made 1 start (above rest l) (with_frames (rest_frames rest new.frames) new) makes
+          comes.1,
+      comes.1.keeps,
+    ),
+  )
+  step_behind (Some turn) none comes = absurd (true≢false none)

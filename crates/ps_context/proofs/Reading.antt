@@ -23,7 +23,8 @@ use Rattle.ps_turns.specs.Turns.{Turns, TurnsWith, nothing_more}
 use Rattle.ps_turns.proofs.Composing.{turns_as, turns_shown}
 use Rattle.ps_values.specs.Quick.{IsTreated, TreatsAs}
 use Rattle.ps_values.specs.declared.quick.Quick.TheVariants.{Done as QuickDone}
-use Rattle.ps_values.specs.Values.{Asks, GoesAlone, GoesIn, among, executed_asks, done_turn, pushed_turn, treated_asks, treated_turn}
+use Rattle.ps_control.specs.declared.ahead.Ahead.TheVariants as ahead
+use Rattle.ps_values.specs.Values.{Asks, EntersIn, GoesAlone, among, executed_asks, done_turn, pushed_turn, treated_asks, treated_turn}
 use Rattle.ps_values.proofs.Alone.{literal_treated, own_treats, treated_comes}
 use Rattle.ps_values.proofs.Executing.{literal_unmade, literal_unnamed}
 use Rattle.ps_frames.specs.Steps.{running_turn}
@@ -48,8 +49,8 @@ use Rattle.ps_context.proofs.Taking.{behind, behind_good, token_goes, token_unma
 -- a token whose word is done as an element
 pub word_does : (asks : Asks) (heap : Heap) (dictionaries : List Word) (names : List (List ℕ))
     (token : language.Token) (word : Word) (old new : List Word) → IsDoneAs names token word
-    → GoesIn (among heap dictionaries) (word ∷ word ∷ []) (executed_asks asks word)
-    (done_turn word word) true old new
+    → EntersIn (among heap dictionaries) (word ∷ word ∷ []) (executed_asks asks word)
+    (done_turn word word) ahead.Goes old new
     → DoesToken asks heap dictionaries names token old new
 word_does asks heap dictionaries names token word old new is goes l trial same good =
     let before : Lent = record (among heap dictionaries l) { operands = old } in
@@ -62,7 +63,7 @@ word_does asks heap dictionaries names token word old new is goes l trial same g
     (λ s shown.
     let within : IsWithin (birth_at heap) l.names s word = rw same (is.within (birth_at heap) s) in
     (within, (within, tt))) (λ s shown. tt)
-    (goes l trial good (is.held heap, (is.held heap, tt))))
+    (goes.1 l trial good (is.held heap, (is.held heap, tt)) tt))
 
 -- ---- over the text that goes on
 
@@ -204,11 +205,11 @@ pub literal_does : (asks : Asks) (heap : Heap) (dictionaries : List Word) (names
     → DoesToken asks heap dictionaries names token old new
 literal_does asks heap dictionaries names token word old new is literal pushed =
     word_does asks heap dictionaries names token word old new is
-    (treated_comes asks heap dictionaries word old new true word QuickDone refl (is.held heap)
+    (treated_comes asks heap dictionaries word old new ahead.Goes word QuickDone refl (is.held heap)
     (own_treats asks heap dictionaries word
     (λ births names. literal_unmade word births names literal)
     (λ births names. literal_unnamed word births names literal))
-    (literal_treated asks word word true old new literal (pushed word)))
+    (literal_treated asks word word ahead.Goes old new literal true refl (pushed word)))
 
 -- ---- a number or a name
 

@@ -1,5 +1,5 @@
 -- Elements of a procedure that operands alone do (PLRM2, 3.5).
-use Rattle.std.specs.Prelude.{◌≡◌, ℕ, ◌≤◌, ◌<◌, List, ◌∷◌, length, nat_lt, if◌then◌else◌}
+use Rattle.std.specs.Prelude.{◌≡◌, ℕ, ◌+◌, ◌-◌, ◌≤◌, ◌<◌, Option, Some, None, Result, List, ◌∷◌, length}
 use Rattle.ps_language.specs.Effect.{Around, Scene}
 use Rattle.ps_language.specs.World.{Status}
 use Rattle.ps_word.specs.declared.values.Part.{Part}
@@ -9,11 +9,15 @@ use Rattle.ps_control.specs.declared.frames.Frame.{Frame}
 use Rattle.ps_control.specs.declared.frames.Frame.TheVariants.{Procedure}
 use Rattle.ps_acts.specs.Acts.{Asked}
 use Rattle.ps_acts.specs.Lent.{Lent, IsGood}
-use Rattle.ps_frames.specs.Steps.{above, frames_after}
+use Rattle.ps_frames.specs.Steps.{above, frames_after, rest_frames, with_frames, IsElement}
+use Rattle.ps_values.specs.Values.{Asks}
+use Rattle.ps_turns.specs.declared.turned.Turned.{Turned}
+use Rattle.ps_ops.specs.declared.failure.NotMade.{NotMade as Reason}
 use Rattle.ps_interpreter.specs.Makes.{TurnsBehind}
 use Rattle.ps_interpreter.specs.OwnSteps.{HasRun}
-use Rattle.ps_context.specs.declared.runs.Came.{Came}
-use Rattle.ps_context.specs.declared.runs.Came.TheVariants as came
+use Rattle.ps_context.specs.declared.elements.First.{First}
+use Rattle.ps_context.specs.declared.elements.First.TheVariants as first
+use Rattle.ps_context.specs.declared.elements.First.TheVariants.{All}
 use Rattle.ps_context.specs.declared.runs.Begin.{Begin}
 use Rattle.ps_context.specs.declared.runs.Begin.TheVariants.{Enters, Goes, Left}
 
@@ -23,21 +27,50 @@ abbrev pub stacked : Heap → (dictionaries operands : List Word) → (frames : 
 stacked heap dictionaries operands frames l =
     record l { heap = heap; dictionaries = dictionaries; operands = operands; frames = frames }
 
--- whatever else is lent, so many steps do the first elements of the procedure that is the topmost
--- frame, and change operands alone
-abbrev pub DoesFirst : Heap → (dictionaries : List Word) → Part → (made : ℕ)
+-- whatever else is lent, the elements of a procedure from one place to another are a step each, and
+-- change operands alone
+abbrev pub DoesTo : Heap → (dictionaries : List Word) → Part → (from to : ℕ)
     → (old new : List Word) → Type 0
-DoesFirst heap dictionaries rest made old new =
+DoesTo heap dictionaries rest from to old new =
     (l : Lent) (below : List Frame)
-    → IsGood (stacked heap dictionaries old (Procedure rest ∷ below) l)
-    → HasRun made (stacked heap dictionaries old (Procedure rest ∷ below) l)
-    (stacked heap dictionaries new (frames_after made rest below) l)
+    → IsGood (stacked heap dictionaries old (frames_after from rest below) l)
+    → HasRun (to - from) (stacked heap dictionaries old (frames_after from rest below) l)
+    (stacked heap dictionaries new (frames_after to rest below) l)
+
+-- and the one behind them enters this procedure, if its frame and that of what is left have room
+abbrev pub DoesInto : Heap → (dictionaries : List Word) → Part → (from to : ℕ) → (body : Part)
+    → (old new : List Word) → Type 0
+DoesInto heap dictionaries rest from to body old new =
+    (l : Lent) (below : List Frame) → 2 + length below ≤ 250
+    → IsGood (stacked heap dictionaries old (frames_after from rest below) l)
+    → HasRun ((to + 1) - from) (stacked heap dictionaries old (frames_after from rest below) l)
+    (stacked heap dictionaries new (Procedure body ∷ frames_after (to + 1) rest below) l)
+
+-- the one behind these is within those that may be done
+abbrev pub IsBehind : (from most : ℕ) → First → Type 0
+IsBehind from most All = Unit {0}
+IsBehind from most (first.Enters done body) = (from ≤ done) × (done < most)
+IsBehind from most (first.Treats done element) = (from ≤ done) × (done < most)
+IsBehind from most (first.Left done) = (from ≤ done) × (done < most)
+
+-- how far they came
+abbrev pub DoesFirst : Asks → Heap → (dictionaries : List Word) → Part → (from most : ℕ) → First
+    → (old new : List Word) → Type 0
+DoesFirst asks heap dictionaries rest from most All old new =
+    DoesTo heap dictionaries rest from most old new
+DoesFirst asks heap dictionaries rest from most (first.Enters done body) old new =
+    DoesInto heap dictionaries rest from done body old new
+DoesFirst asks heap dictionaries rest from most (first.Treats done element) old new =
+    DoesTo heap dictionaries rest from done old new
+    × IsElement asks heap dictionaries rest done element
+DoesFirst asks heap dictionaries rest from most (first.Left done) old new =
+    DoesTo heap dictionaries rest from done old new
 
 -- so many steps were made, one at most, and the frame of the procedure that is above the frames has
--- room
+-- room, with one above it
 pub record BeginsWith (rest : Part) (made : ℕ) (old new : Lent) : Type 0 where
   pub few : made ≤ 1
-  pub room : length new.frames < 250
+  pub room : 2 + length new.frames ≤ 250
   pub makes : HasRun made old (above rest new)
 
 -- how steps of the topmost frame begin
@@ -46,15 +79,11 @@ Begins (Enters rest made) old new = BeginsWith rest made old new
 Begins Goes old new = HasRun 1 old new
 Begins Left old new = new ≡ old
 
--- a step by a procedure's first element: what is left of it is above the frames, or nothing is
-abbrev pub came_behind : Part → Came
-came_behind rest = if nat_lt 1 rest.length then came.Enters else came.Goes
-
--- what a procedure's first element came to: a step, behind which this procedure is above the frames,
--- or none is; or a turn that is told
-abbrev pub ComesBy : (asks : Status → Around → Scene → Asked) → (slot : ℕ) → Came → Part
-    → (old new : Lent) → Type 0
-ComesBy asks slot came.Enters rest old new =
-    (length new.frames < 250) × HasRun 1 old (above rest new)
-ComesBy asks slot came.Goes rest old new = HasRun 1 old new
-ComesBy asks slot (came.Turned turn) rest old new = TurnsBehind asks slot 0 turn old new
+-- what a procedure's first element came to that is known: a step, behind which what is left of the
+-- procedure is above the frames; or a turn that is told
+abbrev pub ComesBy : (asks : Status → Around → Scene → Asked) → (slot : ℕ)
+    → Option (Result Turned Reason) → Part → (old new : Lent) → Type 0
+ComesBy asks slot None rest old new =
+    (new.frames ≡ old.frames)
+    × HasRun 1 (above rest old) (with_frames (rest_frames rest new.frames) new)
+ComesBy asks slot (Some turn) rest old new = TurnsBehind asks slot 0 turn (above rest old) new

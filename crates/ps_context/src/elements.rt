@@ -1,10 +1,9 @@
-//! Elements of a procedure one after another, as far as operands alone do them (PLRM2, 3.5).
+//! Elements of a procedure one after another, as far as operands and frames alone do them (PLRM2, 3.5).
 
-ghost use Rattle.std.specs.Prelude.{◌≡◌, ◌<◌, ◌≤◌, IfSome};
+ghost use Rattle.std.specs.Prelude.{◌≡◌, ◌≤◌};
 ghost use Rattle.ps_control.specs.Frames.{IsHeld};
 ghost use Rattle.ps_mem.specs.Shows.{AreValues, IsSound};
-ghost use Rattle.ps_frames.specs.Steps.{IsElement};
-ghost use Rattle.ps_context.specs.Elements.{DoesFirst};
+ghost use Rattle.ps_context.specs.Elements.{DoesFirst, IsBehind};
 
 use ps_acts::lent::Dictionaries;
 use ps_frames::elements::Element;
@@ -15,18 +14,25 @@ use ps_values::operates::Operate;
 use ps_values::quick::{Quick, do_quickly};
 use ps_word::values::Part;
 
-/// How many elements were done, and the next one, where it is known as what it is treated.
+/// How far elements came by operands and frames alone.
 #[derive(Clone, Copy, Debug, PartialEq, Eq)]
-pub struct First {
-    pub done: u16,
-    pub next: Option<Element>,
+pub enum First {
+    /// As many are done as may be.
+    All,
+    /// So many are done, and the one behind them, which enters this procedure. No frame is pushed.
+    Enters { done: u16, body: Part },
+    /// So many are done, and the one behind them is known as what it is treated.
+    Treats { done: u16, element: Element },
+    /// So many are done.
+    Left { done: u16 },
 }
 
-/// Does the first elements of a procedure, at most so many, as far as operands alone do them, names
-/// looked up among them. The memory stays as it is.
+/// Does elements of a procedure from a place on, up to another, as far as operands and frames alone do
+/// them, names looked up among them. The memory stays as it is.
 #[inline(always)]
 pub fn do_first<O: Operate, M: Memory>(
     rest: Part,
+    from: u16,
     most: u16,
     operators: &O,
     dictionaries: &Dictionaries,
@@ -36,31 +42,25 @@ pub fn do_first<O: Operate, M: Memory>(
     requires sound { IsSound (M.heap memory.old) }
     requires dictionaries { AreValues (M.heap memory.old) dictionaries.now }
     requires part { IsHeld (M.heap memory.old) rest }
+    requires from { from ≤ most }
     requires most { most ≤ rest.length }
     ensures heap { M.heap memory.new ≡ M.heap memory.old }
     ensures grants { M.grants memory.new ≡ M.grants memory.old }
-    ensures within { result.done ≤ most }
-    ensures does { DoesFirst (M.heap memory.old) dictionaries.now rest result.done operands.old
-        operands.new }
-    ensures fewer { IfSome result.next (λ next. result.done < most) }
-    ensures next { IfSome result.next
-        (IsElement O.asks (M.heap memory.old) dictionaries.now rest result.done) }
+    ensures behind { IsBehind from most result }
+    ensures does { DoesFirst O.asks (M.heap memory.old) dictionaries.now rest from most result
+        operands.old operands.new }
 {
-    for done in 0..most {
+    for done in from..most {
         let word = element(memory, rest, done);
-        match do_quickly(word, operators, dictionaries, operands, memory) {
+        match do_quickly(word, operators, dictionaries, operands, memory, true) {
             Quick::Done => {}
+            Quick::Enters(body) => return First::Enters { done, body },
             Quick::Treats(value) => {
-                return First {
-                    done,
-                    next: Some(Element { word, value }),
-                };
+                let element = Element { word, value };
+                return First::Treats { done, element };
             }
-            Quick::Left => return First { done, next: None },
+            Quick::Left => return First::Left { done },
         }
     }
-    First {
-        done: most,
-        next: None,
-    }
+    First::All
 }

@@ -9,10 +9,10 @@ ghost use Rattle.ps_interpreter.specs.Interprets.{asks_in, own_turn};
 ghost use Rattle.ps_interpreter.specs.Makes.{Runs, TurnsBehind};
 ghost use Rattle.ps_values.specs.Values.{Asks};
 ghost use Rattle.ps_frames.specs.Steps.{above, part_behind, IsElement};
-ghost use Rattle.ps_context.specs.Elements.{Begins, ComesBy, came_behind};
+ghost use Rattle.ps_context.specs.Elements.{Begins, ComesBy};
 ghost use Rattle.ps_context.specs.Steps.{own_asks};
 
-use crate::elements::do_first;
+use crate::elements::{First, do_first};
 use crate::sources::read_source;
 use crate::texts::{Taken, read_token, text_turn};
 use ps_acts::lent::{Context, Shared, Trial};
@@ -20,12 +20,13 @@ use ps_control::ahead::Ahead;
 use ps_control::frames::{Cause, Frame, Frames, Source, push_frame, replace_top};
 use ps_control::unwinding::frames_to_loop;
 use ps_frames::ahead::turn_ahead;
-use ps_frames::elements::{Element, element_ahead, element_under, pushed_turn};
-use ps_frames::frames::drop_top;
+use ps_frames::elements::{Element, element_under, pushed_turn};
+use ps_frames::frames::{drop_top, push_rest};
 use ps_frames::steps::frame_turn;
 use ps_interpreter::interprets::Run;
 use ps_mem::{Memory, SLOTS};
 use ps_ops::failure::NotMade;
+use ps_stacks::FRAME_LIMIT;
 use ps_turns::turned::Turned;
 use ps_values::operates::Operate;
 use ps_values::under::Under;
@@ -87,86 +88,61 @@ fn least(budget: u32, length: u16) -> u16
     }
 }
 
-/// What the first element of a procedure above the frames came to.
-#[derive(Clone, Copy, Debug, PartialEq, Eq)]
-pub enum Came {
-    /// It is a step, behind which a procedure is above the frames.
-    Enters,
-    /// It is a step, behind which none is.
-    Goes,
-    /// Its turn over its frame came to this.
-    Turned(Result<Turned, NotMade>),
-}
-
-/// A step by the first element of a procedure, behind which what is left of it is above the frames.
+/// The first element of a procedure above the frames, which is known, is done without its frame, where
+/// it neither sees nor changes frames, raises no error and is made. Else it is done over its frame, and
+/// what its turn came to is told. The records go into the log of a slot.
 #[inline(always)]
-fn behind_first(rest: &mut Part) -> Came
-    requires some { 1 ≤ rest.old.length }
-    requires end { rest.old.offset + rest.old.length < 2 ^ 16 }
-    ensures left { rest.new ≡ part_behind 1 rest.old }
-    ensures came { result ≡ came_behind rest.old }
-{
-    *rest = left_of(*rest, 1);
-    if rest.length > 0 {
-        Came::Enters
-    } else {
-        Came::Goes
-    }
-}
-
-/// Does the first element of a procedure above the frames: up to the frame of the procedure that it
-/// enters, or without a frame, where it neither sees nor changes them; else over its frame. What is
-/// above the frames then is left in place of the procedure. The records go into the log of a slot.
-#[inline(always)]
-fn do_next<O: Operate, M: Memory>(
-    rest: &mut Part,
-    first: Option<Element>,
+fn do_known<O: Operate, M: Memory>(
+    rest: Part,
+    first: Element,
     operators: &O,
     context: &mut Context,
     shared: &mut Shared,
     memory: &mut M,
     slot: u32,
-) -> Came
+) -> Option<Result<Turned, NotMade>>
     requires slot { slot < SLOTS }
-    requires good { IsGood (above rest.old
+    requires good { IsGood (above rest
         (lent (M.heap memory.old) (M.grants memory.old) context.old shared.old)) }
     requires room { length context.old.frames < 250 }
-    requires first { IfSome first
-        (IsElement O.asks (M.heap memory.old) context.old.dictionaries rest.old 0) }
-    ensures { ComesBy (own_asks O.asks) slot result rest.new (above rest.old
-        (lent (M.heap memory.old) (M.grants memory.old) context.old shared.old))
+    requires first { IsElement O.asks (M.heap memory.old) context.old.dictionaries rest 0 first }
+    ensures { ComesBy (own_asks O.asks) slot result rest
+        (lent (M.heap memory.old) (M.grants memory.old) context.old shared.old)
         (lent (M.heap memory.new) (M.grants memory.new) context.new shared.new) }
 {
-    let procedure = *rest;
-    match element_ahead(procedure, first, operators, context, shared, memory) {
-        Ahead::Enters(body) => {
-            *rest = body;
-            return Came::Enters;
-        }
-        Ahead::Goes => return behind_first(rest),
-        Ahead::Left => {}
-    }
     let trial = Trial {
         slot,
         refused: false,
     };
-    match element_under(procedure, first, operators, context, shared, memory, slot) {
-        Under::Done => behind_first(rest),
-        Under::Fails => {
-            let turn = pushed_turn(procedure, None, operators, context, shared, memory, trial);
-            Came::Turned(turn)
-        }
-        Under::Left => {
-            let turn = pushed_turn(procedure, first, operators, context, shared, memory, trial);
-            Came::Turned(turn)
-        }
+    let known = Some(first);
+    match element_under(rest, known, operators, context, shared, memory, slot) {
+        Under::Done => None,
+        Under::Fails => Some(pushed_turn(rest, None, operators, context, shared, memory, trial)),
+        Under::Left => Some(pushed_turn(rest, known, operators, context, shared, memory, trial)),
+    }
+}
+
+/// How many elements of so many may be done ahead within a budget: none where the frames have no room
+/// for two more.
+#[inline(always)]
+fn may_do(frames: &Frames, budget: u32, count: u16) -> u16
+    ensures budget { result ≤ budget }
+    ensures count { result ≤ count }
+    ensures room { 1 ≤ result → 2 + length frames.now ≤ 250 }
+    ensures some { 1 ≤ budget → 1 ≤ count → 2 + length frames.now ≤ 250 → 1 ≤ result }
+{
+    if frames.len() >= FRAME_LIMIT - 1 {
+        0
+    } else {
+        least(budget, count)
     }
 }
 
 /// Makes the first steps of a procedure above the frames, at most so many: those of its first
-/// elements, as far as operands alone do them, of each procedure that is entered so, and that of
-/// the element behind them. What is left of the procedure is pushed before that, or where no more
-/// are to be made. The records go into the log of a slot.
+/// elements, as far as operands and frames alone do them, of each procedure that is entered so, of
+/// operators that neither see nor change frames, and that of the element behind them. What is left of
+/// the procedure is pushed before that, or where no more are to be made. The records go into the log
+/// of a slot.
 #[inline(always)]
 fn run_entered<O: Operate, M: Memory>(
     entered: Part,
@@ -180,7 +156,7 @@ fn run_entered<O: Operate, M: Memory>(
     requires slot { slot < SLOTS }
     requires good { IsGood (above entered
         (lent (M.heap memory.old) (M.grants memory.old) context.old shared.old)) }
-    requires room { length context.old.frames < 250 }
+    requires room { 2 + length context.old.frames ≤ 250 }
     ensures within { result.made ≤ most }
     ensures fewer { IsSome result.next → result.made < most }
     ensures more { IsNone result.next → 1 ≤ most → 1 ≤ result.made }
@@ -189,39 +165,54 @@ fn run_entered<O: Operate, M: Memory>(
         (lent (M.heap memory.new) (M.grants memory.new) context.new shared.new) }
 {
     let mut rest = entered;
-    let mut made = 0;
-    while made < most {
-        let count = least(most - made, rest.length);
+    let mut left = most;
+    let mut from = 0;
+    let mut end = may_do(&context.frames, left, rest.length);
+    while from < end {
         let dictionaries = &context.dictionaries;
         let operands = &mut context.operands;
-        let first = do_first(rest, count, operators, dictionaries, operands, memory);
-        made += first.done as u32;
-        if first.done == rest.length {
-            return Run { made, next: None };
-        }
-        rest = left_of(rest, first.done);
-        if made < most {
-            match do_next(
-                &mut rest, first.next, operators, context, shared, memory, slot,
-            ) {
-                Came::Enters => made += 1,
-                Came::Goes => {
+        match do_first(rest, from, end, operators, dictionaries, operands, memory) {
+            First::All => from = end,
+            First::Enters { done, body } => {
+                push_rest(&mut context.frames, left_of(rest, done));
+                left -= done as u32 + 1;
+                rest = body;
+                from = 0;
+                end = may_do(&context.frames, left, rest.length);
+            }
+            First::Treats { done, element } => {
+                let behind = left_of(rest, done);
+                let known = do_known(behind, element, operators, context, shared, memory, slot);
+                if known.is_some() {
                     return Run {
-                        made: made + 1,
-                        next: None,
+                        made: most - left + done as u32,
+                        next: known,
                     };
                 }
-                Came::Turned(turn) => {
-                    return Run {
-                        made,
-                        next: Some(turn),
-                    };
-                }
+                from = done + 1;
+            }
+            First::Left { done } => {
+                let trial = Trial {
+                    slot,
+                    refused: false,
+                };
+                let behind = left_of(rest, done);
+                let turn = pushed_turn(behind, None, operators, context, shared, memory, trial);
+                return Run {
+                    made: most - left + done as u32,
+                    next: Some(turn),
+                };
             }
         }
     }
-    push_frame(&mut context.frames, Frame::Procedure { rest });
-    Run { made, next: None }
+    if end < rest.length {
+        let rest = left_of(rest, end);
+        push_frame(&mut context.frames, Frame::Procedure { rest });
+    }
+    Run {
+        made: most - left + end as u32,
+        next: None,
+    }
 }
 
 /// Steps that were made, and what the turn behind them came to: where it goes on it is a step more.
@@ -369,7 +360,7 @@ pub enum Begin {
 }
 
 /// The procedure that is the topmost frame is taken off, or a loop turns, up to the frame of the
-/// procedure that it enters. The memory stays as it is.
+/// procedure that it enters, where two more have room. The memory stays as it is.
 #[inline(always)]
 fn begin_with<M: Memory>(
     top: Frame,
@@ -388,6 +379,9 @@ fn begin_with<M: Memory>(
 {
     match top {
         Frame::Procedure { rest } => {
+            if context.frames.is_full() {
+                return Begin::Left;
+            }
             drop_top(&mut context.frames);
             Begin::Enters { rest, made: 0 }
         }

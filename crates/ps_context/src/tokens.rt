@@ -60,8 +60,9 @@ fn do_ahead<O: Operate, M: Memory>(
         return Read::Left;
     };
     let end = token.end;
-    match do_quickly(word, operators, dictionaries, operands, memory) {
+    match do_quickly(word, operators, dictionaries, operands, memory, false) {
         Quick::Done => Read::Done(end),
+        Quick::Enters(_) => unreachable!(),
         Quick::Treats(value) => Read::Treats { word, value, end },
         Quick::Left => Read::Left,
     }

@@ -1,5 +1,5 @@
 -- A turn, or an operator, that enters a procedure, up to its frame.
-use Rattle.std.proofs.Common.{◌≡◌, ℕ, suc, ◌<◌, ◌≤◌, ◌==◌, Bool, true, false, List, [], ◌∷◌, drop, length, Some, refl, arith}
+use Rattle.std.proofs.Common.{◌≡◌, ℕ, suc, ◌+◌, ◌<◌, ◌≤◌, ◌==◌, Bool, true, false, List, [], ◌∷◌, drop, length, Some, refl, sym, subst, arith}
 use Rattle.std.specs.Prelude.{if◌then◌else◌}
 use Rattle.std.proofs.lemmas.Bool.Decides.{nat_tests}
 use Rattle.std.proofs.lemmas.List.{length-drop}
@@ -13,15 +13,20 @@ use Rattle.ps_mem.specs.Heap.{Heap}
 use Rattle.ps_control.specs.declared.ahead.Ahead.{Ahead}
 use Rattle.ps_control.specs.declared.ahead.Ahead.TheVariants.{Enters, Goes}
 use Rattle.ps_control.specs.declared.frames.Frame.{Frame}
-use Rattle.ps_control.specs.Ahead.{entered_ahead, ControlsAhead}
+use Rattle.ps_control.specs.Ahead.{entered_ahead, ControlsAhead, HasRoom}
 use Rattle.ps_control.specs.Controls as controls
 use Rattle.ps_control.specs.Controls.{stacks, IsReadyFor}
 use Rattle.ps_control.specs.Frames.{IsHeld}
 use Rattle.ps_control.proofs.Controlling.{controls_entered, controls_pushed, begins_entered, within_procedure}
 
 -- no deeper than before
-pub room_kept : (frames : List Frame) → length frames < 250 → suc (length (drop 1 frames)) < 250
+pub room_kept : (frames : List Frame) → 2 + length frames ≤ 250
+    → 2 + suc (length (drop 1 frames)) ≤ 250
 room_kept frames room = omega (arith, length-drop 1 frames, room)
+
+-- one has room where two have
+pub one_fits : (frames : List Frame) → 2 + length frames ≤ 250 → length frames < 250
+one_fits frames room = omega (arith, room)
 
 -- what has a topmost frame has one
 pub some_frame : (frames : List Frame) (top : Frame) → Some top ≡ first_of frames
@@ -33,21 +38,23 @@ some_frame (frame ∷ frames) top is = omega arith
 module _ (row : List Value → Scene → Outcome Scene) (h : Heap) (size : ℕ) (operands : List Word)
     (frames : List Frame) (ready : IsReadyFor h size (stacks operands frames)) (count : ℕ)
     (body : Part) (enters : controls.Enters row h operands count body) (held : IsHeld h body)
-    (room : length frames < 250) where
-  abbrev Comes : Ahead → Type 0
-  Comes ahead = ControlsAhead row ahead h size (stacks operands frames)
-      (stacks (drop count operands) frames)
+  where
+    abbrev Comes : Ahead → Type 0
+    Comes ahead = HasRoom 1 ahead frames
+        → ControlsAhead row ahead h size (stacks operands frames)
+        (stacks (drop count operands) frames)
 
-  comes_by : (empty : Bool) → (body.length == 0) ≡ empty
-      → Comes (if empty then Goes else Enters body)
-  comes_by true none =
-      controls_entered row h size operands frames ready count body
-      (grind (arith, nat_tests, none)) enters
-  comes_by false some =
-      let elements : 1 ≤ body.length = grind (arith, nat_tests, some) in
-      controls_pushed row h size operands frames ready count _
-      (begins_entered row h size operands frames ready count body elements enters) room
-      (held, elements) (within_procedure h operands frames body)
+    comes_by : (empty : Bool) → (body.length == 0) ≡ empty
+        → Comes (if empty then Goes else Enters body)
+    comes_by true none room =
+        controls_entered row h size operands frames ready count body
+        (grind (arith, nat_tests, none)) enters
+    comes_by false some room =
+        let elements : 1 ≤ body.length = grind (arith, nat_tests, some) in
+        controls_pushed row h size operands frames ready count _
+        (begins_entered row h size operands frames ready count body elements enters)
+        (omega (arith, room))
+        (held, elements) (within_procedure h operands frames body)
 
-  pub enters_ahead : Comes (entered_ahead body)
-  enters_ahead = comes_by (body.length == 0) refl
+    pub enters_ahead : (came : Ahead) → came ≡ entered_ahead body → Comes came
+    enters_ahead came is = subst Comes (sym is) (comes_by (body.length == 0) refl)

@@ -1,6 +1,6 @@
 -- When a turn of a loop, or an operator of control, that raises no error did what the definitions
 -- say. The frame of the procedure that is entered is still to be pushed.
-use Rattle.std.specs.Prelude.{ℕ, ◌<◌, ◌==◌, List, ◌∷◌, length, Ok, if◌then◌else◌}
+use Rattle.std.specs.Prelude.{ℕ, ◌+◌, ◌≤◌, ◌==◌, Bool, List, ◌∷◌, length, Ok, if◌then◌else◌}
 use Rattle.ps_language.specs.declared.operators.Operator.{Operator}
 use Rattle.ps_language.specs.Effect.{Scene}
 use Rattle.ps_language.specs.Outcome.{Outcome}
@@ -16,6 +16,10 @@ use Rattle.ps_control.specs.Turns.{Turns}
 
 -- ---- by what it came to
 
+-- what enters no procedure, where it is done
+abbrev pub done_ahead : Bool → Ahead
+done_ahead done = if done then Goes else Left
+
 -- entering a procedure; an empty one needs no frame
 abbrev pub entered_ahead : (body : Part) → Ahead
 entered_ahead body = if body.length == 0 then Goes else Enters body
@@ -26,11 +30,11 @@ frames_ahead (Enters body) frames = Procedure body ∷ frames
 frames_ahead Goes frames = frames
 frames_ahead Left frames = frames
 
--- its frame has room
-abbrev pub HasRoom : Ahead → List Frame → Type 0
-HasRoom (Enters body) frames = length frames < 250
-HasRoom Goes frames = Unit {0}
-HasRoom Left frames = Unit {0}
+-- so many frames have room above these, its own among them
+abbrev pub HasRoom : (count : ℕ) → Ahead → List Frame → Type 0
+HasRoom count (Enters body) frames = count + length frames ≤ 250
+HasRoom count Goes frames = Unit {0}
+HasRoom count Left frames = Unit {0}
 
 -- a fact where nothing has changed, and one where something was done
 abbrev pub OnLeft : Ahead → Type 0 → Type 0

@@ -7,7 +7,7 @@ ghost use Rattle.ps_language.specs.Control as rows;
 ghost use Rattle.ps_mem.specs.Heap.{Heap};
 ghost use Rattle.ps_stacks.specs.Tops.{first_of};
 ghost use Rattle.ps_control.specs.declared.frames.Frame.{Frame as TheFrame};
-ghost use Rattle.ps_control.specs.Ahead.{OnLeft, HasRoom, entered_ahead, ControlsAhead, TurnsAhead};
+ghost use Rattle.ps_control.specs.Ahead.{OnLeft, HasRoom, done_ahead, entered_ahead, ControlsAhead, TurnsAhead};
 ghost use Rattle.ps_control.specs.Controls.{IsReadyFor, stacks};
 ghost use Rattle.ps_control.specs.Frames.{IsCourse};
 ghost use Rattle.ps_control.specs.Turns.{words_of, IsPushed};
@@ -19,7 +19,7 @@ use crate::turns::{TurnOperands, control_word, is_past, leave};
 use ps_language::operators::Operator;
 use ps_operands::Operands;
 use ps_ops::arrays::{is_executable, push_within};
-use ps_stacks::OPERAND_LIMIT;
+use ps_stacks::{FRAME_LIMIT, OPERAND_LIMIT};
 use ps_word::values::Part;
 use ps_word::words::Word;
 
@@ -34,18 +34,28 @@ pub enum Ahead {
     Left,
 }
 
+impl Ahead {
+    /// What enters no procedure, where it is done.
+    #[inline]
+    pub fn of(done: bool) -> Ahead
+        ensures { result ≡ done_ahead done }
+    {
+        if done { Ahead::Goes } else { Ahead::Left }
+    }
+}
+
 // ---- loops
 
 /// Whether a turn that pushes so many operands can enter a procedure: it isn't empty, and both
-/// stacks have room.
+/// stacks have room, that of the frames for one above the procedure's too.
 #[inline(always)]
 fn may_enter(operands: &Operands, frames: &Frames, count: usize, body: Part) -> bool
     requires few { count ≤ 2 }
     ensures operands { IsTrue result → count + length operands.now ≤ 500 }
     ensures body { IsTrue result → 1 ≤ body.length }
-    ensures frames { IsTrue result → length frames.now < 250 }
+    ensures frames { IsTrue result → 2 + length frames.now ≤ 250 }
 {
-    if body.length == 0 || frames.is_full() {
+    if body.length == 0 || frames.len() >= FRAME_LIMIT - 1 {
         return false;
     }
     count + operands.len() <= OPERAND_LIMIT
@@ -58,7 +68,7 @@ pub fn loop_ahead(operands: &Operands, frames: &Frames, body: Part) -> Ahead
     ensures turns { (h : Heap) (size : ℕ) → IsReadyFor h size (stacks operands.now frames.now)
         → TurnsAhead Operator.Loop result h size (stacks operands.now frames.now)
         (stacks operands.now frames.now) }
-    ensures room { HasRoom result frames.now }
+    ensures room { HasRoom 2 result frames.now }
 {
     if !may_enter(operands, frames, 0, body) {
         return Ahead::Left;
@@ -84,7 +94,7 @@ pub fn repeat_ahead(operands: &Operands, frames: &mut Frames, count: usize, body
     ensures turns { (h : Heap) (size : ℕ) → IsReadyFor h size (stacks operands.now frames.old)
         → TurnsAhead Operator.Repeat result h size (stacks operands.now frames.old)
         (stacks operands.now frames.new) }
-    ensures room { HasRoom result frames.new }
+    ensures room { HasRoom 2 result frames.new }
     ensures frames { OnLeft result (frames.new ≡ frames.old) }
 {
     if count == 0 {
@@ -124,7 +134,7 @@ pub fn for_ahead(
     ensures turns { (h : Heap) (size : ℕ) → IsReadyFor h size (stacks operands.old frames.old)
         → TurnsAhead Operator.For result h size (stacks operands.old frames.old)
         (stacks operands.new frames.new) }
-    ensures room { HasRoom result frames.new }
+    ensures room { HasRoom 2 result frames.new }
     ensures operands { OnLeft result (operands.new ≡ operands.old) }
     ensures frames { OnLeft result (frames.new ≡ frames.old) }
 {
@@ -168,7 +178,7 @@ pub fn forall_ahead(
         → IsPushed h over at (Some pushed)
         → TurnsAhead Operator.Forall result h size (stacks operands.old frames.old)
         (stacks operands.new frames.new) }
-    ensures room { HasRoom result frames.new }
+    ensures room { HasRoom 2 result frames.new }
     ensures operands { OnLeft result (operands.new ≡ operands.old) }
     ensures frames { OnLeft result (frames.new ≡ frames.old) }
 {
@@ -194,10 +204,10 @@ pub fn enter_ahead(body: Part) -> Ahead
     }
 }
 
-/// `t P if` over fewer than 250 frames: the procedure is entered where `t` is true.
+/// `t P if`: the procedure is entered where `t` is true, if its frame has room.
 #[inline(always)]
 pub fn if_ahead(operands: &mut Operands) -> Ahead
-    ensures controls { (h : Heap) (size : ℕ) (frames : List TheFrame) → length frames < 250
+    ensures controls { (h : Heap) (size : ℕ) (frames : List TheFrame) → HasRoom 1 result frames
         → IsReadyFor h size (stacks operands.old frames)
         → ControlsAhead rows.if_row result h size (stacks operands.old frames)
         (stacks operands.new frames) }
@@ -223,11 +233,11 @@ pub fn if_ahead(operands: &mut Operands) -> Ahead
     }
 }
 
-/// `t P1 P2 ifelse` over fewer than 250 frames: the first procedure is entered where `t` is true,
-/// else the second.
+/// `t P1 P2 ifelse`: the first procedure is entered where `t` is true, else the second, if its frame
+/// has room.
 #[inline(always)]
 pub fn if_else_ahead(operands: &mut Operands) -> Ahead
-    ensures controls { (h : Heap) (size : ℕ) (frames : List TheFrame) → length frames < 250
+    ensures controls { (h : Heap) (size : ℕ) (frames : List TheFrame) → HasRoom 1 result frames
         → IsReadyFor h size (stacks operands.old frames)
         → ControlsAhead rows.ifelse_row result h size (stacks operands.old frames)
         (stacks operands.new frames) }

@@ -21,11 +21,12 @@ use Rattle.ps_word.specs.Readers.{as_dictionary, as_integer}
 use Rattle.ps_mem.specs.Heap.{Heap}
 use Rattle.ps_operands.specs.Does.{Does, DoesAs, copy_number_row, values_of}
 use Rattle.ps_operands.specs.Kept.{AreFrom}
+use Rattle.ps_word.specs.declared.values.Part.{Part}
 use Rattle.ps_control.specs.declared.ahead.Ahead.{Ahead}
 use Rattle.ps_control.specs.declared.ahead.Ahead.TheVariants.{Enters, Goes as Unentered, Left}
 use Rattle.ps_control.specs.declared.frames.Frame.{Frame}
 use Rattle.ps_control.specs.declared.frames.Frame.TheVariants.{Procedure}
-use Rattle.ps_control.specs.Ahead.{OnLeft, ControlsAhead}
+use Rattle.ps_control.specs.Ahead.{HasRoom, OnLeft, ControlsAhead, done_ahead}
 use Rattle.ps_control.specs.Controls.{stacks, IsReadyFor, Controls}
 use Rattle.ps_acts.specs.declared.lent.Trial.{Trial}
 use Rattle.ps_acts.specs.Acts.{Asked, Acts, nothing_asked}
@@ -37,7 +38,7 @@ use Rattle.ps_acts.proofs.Lifts.{does_acts, observes_acts, controls_acts, held, 
 use Rattle.ps_turns.specs.declared.turned.Turned.TheVariants.{Goes}
 use Rattle.ps_turns.specs.Turns.{IsShownWith, TurnsWith}
 use Rattle.ps_turns.proofs.Composing.{turns_over}
-use Rattle.ps_values.specs.Values.{EntersAlone, GoesAlone, operated_asks, operated_turn}
+use Rattle.ps_values.specs.Values.{EntersAlone, operated_asks, operated_turn}
 use Rattle.ps_sequence_operators.specs.Asks.{copy_asks as sequence_copy_asks}
 use Rattle.ps_sequence_operators.proofs.CopyRows.{copy_counts, copy_counts_asks}
 use Rattle.ps_dispatch.specs.Alone.{ActsAhead, ActsAlone}
@@ -49,6 +50,20 @@ use Rattle.ps_dispatch.proofs.Stepping.{goes_on}
 
 -- ---- by what it came to
 
+-- what is done by operands alone
+pub acts_ahead : (operator which : Operator) (acts : Bool) (came : Ahead) (old new : List Word)
+    → operator ≡ which → came ≡ done_ahead acts → ActsAlone which acts old new
+    → ActsAhead operator came old new
+acts_ahead operator which acts came old new same goes did =
+    subst (λ (o : Operator). ActsAhead o came old new) (sym same)
+    (subst (λ (a : Ahead). ActsAhead which a old new) (sym goes) did)
+
+-- it enters none
+pub none_entered : (P : Type 0) (acts : Bool) (came : Ahead) → came ≡ done_ahead acts
+    → (body : Part) → came ≡ Enters body → P
+none_entered P true came goes body enters = absurd (cc (goes, enters))
+none_entered P false came goes body enters = absurd (cc (goes, enters))
+
 module _ (old new : List Word) (row : List Value → Outcome (List Value)) where
   unchanged : (error : ErrorName) (outcome : Outcome (List Value)) (births : ℕ → ℕ)
       (names : List (List ℕ)) → DoesAs (Err error) outcome births names old new → new ≡ old
@@ -58,30 +73,34 @@ module _ (old new : List Word) (row : List Value → Outcome (List Value)) where
   by_result : (operator : Operator) → row_now operator ≡ operand_row row
       → asked_of operator ≡ nothing_asked → (result : Result Unit ErrorName)
       → Does row result old new → AreFrom old new → ActsAlone operator (is_ok result) old new
-  by_result operator is none (Ok _) did from = λ l trial good.
-      subst (λ (r : Row). Acts (asked_of operator) r trial (Ok tt) (record l { operands = old })
-      (record l { operands = new })) (sym is)
-      (subst (λ (asks : Scene → Asked). Acts asks (operand_row row) trial (Ok tt)
-      (record l { operands = old }) (record l { operands = new })) (sym none)
-      (does_acts (record l { operands = old }) good trial row (Ok tt) new did from))
+  by_result operator is none (Ok _) did from = (
+    tt,
+    λ l trial good room.
+        subst (λ (r : Row). Acts (asked_of operator) r trial (Ok tt) (record l { operands = old })
+        (record l { operands = new })) (sym is)
+        (subst (λ (asks : Scene → Asked). Acts asks (operand_row row) trial (Ok tt)
+        (record l { operands = old }) (record l { operands = new })) (sym none)
+        (does_acts (record l { operands = old }) good trial row (Ok tt) new did from)),
+  )
   by_result operator is none (Err error) did from =
-      unchanged error (row (values_of (λ x. 0) [] old)) (λ x. 0) [] (did.agrees (λ x. 0) [])
+      (unchanged error (row (values_of (λ x. 0) [] old)) (λ x. 0) [] (did.agrees (λ x. 0) []), tt)
 
-  pub alone : {operator which : Operator} {acts : Bool} {result : Result Unit ErrorName}
+  pub alone : {operator which : Operator} {acts : Bool} {came : Ahead}
+      {result : Result Unit ErrorName}
       → operator ≡ which → row_now which ≡ operand_row row → asked_of which ≡ nothing_asked
-      → acts ≡ is_ok result → Does row result old new → AreFrom old new
-      → ActsAlone operator acts old new
-  alone {operator} {which} {acts} {result} same is none ok did from =
-      subst (λ (o : Operator). ActsAlone o acts old new) (sym same)
+      → acts ≡ is_ok result → came ≡ done_ahead acts → Does row result old new → AreFrom old new
+      → ActsAhead operator came old new
+  alone {operator} {which} {acts} {came} {result} same is none ok goes did from =
+      acts_ahead operator which acts came old new same goes
       (subst (λ (b : Bool). ActsAlone which b old new) (sym ok)
       (by_result which is none result did from))
 
 -- a mark is pushed by three operators
-pub marked : {operator : Operator} {acts : Bool} {result : Result Unit ErrorName}
+pub marked : {operator : Operator} {acts : Bool} {came : Ahead} {result : Result Unit ErrorName}
     (old new : List Word)
     → (operator ≡ Mark) ⊎ ((operator ≡ BeginArray) ⊎ (operator ≡ BeginDict))
-    → acts ≡ is_ok result → Does mark_row result old new → AreFrom old new
-    → ActsAlone operator acts old new
+    → acts ≡ is_ok result → came ≡ done_ahead acts → Does mark_row result old new
+    → AreFrom old new → ActsAhead operator came old new
 marked old new (inl is) = alone old new mark_row is refl refl
 marked old new (inr (inl is)) = alone old new mark_row is refl refl
 marked old new (inr (inr is)) = alone old new mark_row is refl refl
@@ -93,19 +112,24 @@ module _ (old new : List Word) where
       → None ≡ as_dictionary (content_in top.0) → (result : Result Unit ErrorName)
       → Does copy_number_row result old new → AreFrom old new
       → ActsAlone Copy (is_ok result) old new
-  counted top first number other (Ok _) did from = λ l trial good.
-      let before : Lent = record l { operands = old } in
-      let after : Lent = record l { operands = new } in
-      asked_acts trial (Ok tt) before after copy_asks sequence_copy_asks (changing_row copy_row)
-      (copy_other_asks before top first other)
-      (asked_acts trial (Ok tt) before after sequence_copy_asks nothing_asked
-      (changing_row copy_row) (copy_counts_asks before top first number)
-      (effect_acts trial (Ok tt) before after nothing_asked (changing_row copy_row)
-      (operand_row copy_number_row) (copy_counts before top first number)
-      (does_acts before good trial copy_number_row (Ok tt) new did from)))
-  counted top first number other (Err error) did from =
-      unchanged old new copy_number_row error (copy_number_row (values_of (λ x. 0) [] old))
-      (λ x. 0) [] (did.agrees (λ x. 0) [])
+  counted top first number other (Ok _) did from = (
+    tt,
+    λ l trial good room.
+        let before : Lent = record l { operands = old } in
+        let after : Lent = record l { operands = new } in
+        asked_acts trial (Ok tt) before after copy_asks sequence_copy_asks (changing_row copy_row)
+        (copy_other_asks before top first other)
+        (asked_acts trial (Ok tt) before after sequence_copy_asks nothing_asked
+        (changing_row copy_row) (copy_counts_asks before top first number)
+        (effect_acts trial (Ok tt) before after nothing_asked (changing_row copy_row)
+        (operand_row copy_number_row) (copy_counts before top first number)
+        (does_acts before good trial copy_number_row (Ok tt) new did from))),
+  )
+  counted top first number other (Err error) did from = (
+    unchanged old new copy_number_row error (copy_number_row (values_of (λ x. 0) [] old))
+        (λ x. 0) [] (did.agrees (λ x. 0) []),
+    tt,
+  )
 
   -- a number is no dictionary
   undirected : (content : Content) (number : ℤ) → Some number ≡ as_integer content
@@ -140,33 +164,36 @@ module _ (old new : List Word) where
       subst (λ (b : Bool). ActsAlone Copy b old new) (sym ok)
       (by_number top first number is there result did from)
 
-  pub copied_alone : (operator : Operator) (acts : Bool) → operator ≡ Copy
-      → ActsAlone Copy acts old new → ActsAlone operator acts old new
-  copied_alone operator acts same did =
-      subst (λ (o : Operator). ActsAlone o acts old new) (sym same) did
+  pub copied_alone : (operator : Operator) (acts : Bool) (came : Ahead) → operator ≡ Copy
+      → came ≡ done_ahead acts → ActsAlone Copy acts old new → ActsAhead operator came old new
+  copied_alone operator acts came same goes did =
+      acts_ahead operator Copy acts came old new same goes did
 
 -- ---- operators that read no memory here
 
 -- those that did their row whatever the memory
 pub alone_over : (old new : List Word) (row : Store → List Value → Outcome (List Value))
-    {operator which : Operator} {acts : Bool} → operator ≡ which → row_now which ≡ reading_row row
-    → asked_of which ≡ nothing_asked
+    {operator which : Operator} {acts : Bool} {came : Ahead} → operator ≡ which
+    → row_now which ≡ reading_row row → asked_of which ≡ nothing_asked → came ≡ done_ahead acts
     → (acts ≡ true → (h : Heap) → Observes row (Ok tt) h old new) → (acts ≡ false → new ≡ old)
-    → AreFrom old new → ActsAlone operator acts old new
-alone_over old new row {operator} {which} {acts} same is none done kept from =
-    subst (λ (o : Operator). ActsAlone o acts old new) (sym same) (by acts done kept)
+    → AreFrom old new → ActsAhead operator came old new
+alone_over old new row {operator} {which} {acts} {came} same is none goes done kept from =
+    acts_ahead operator which acts came old new same goes (by acts done kept)
   where
     by : (acts : Bool) → (acts ≡ true → (h : Heap) → Observes row (Ok tt) h old new)
         → (acts ≡ false → new ≡ old) → ActsAlone which acts old new
-    by true done kept = λ l trial good.
-        let before : Lent = record l { operands = old } in
-        subst (λ (r : Row). Acts (asked_of which) r trial (Ok tt) before
-        (record l { operands = new })) (sym is)
-        (subst (λ (asks : Scene → Asked). Acts asks (reading_row row) trial (Ok tt) before
-        (record l { operands = new })) (sym none)
-        (observes_acts before good trial row (Ok tt) l.heap l.grants new refl refl
-        (done refl l.heap) (ready_from l.heap old new (held good) from)))
-    by false done kept = kept refl
+    by true done kept = (
+      tt,
+      λ l trial good room.
+          let before : Lent = record l { operands = old } in
+          subst (λ (r : Row). Acts (asked_of which) r trial (Ok tt) before
+          (record l { operands = new })) (sym is)
+          (subst (λ (asks : Scene → Asked). Acts asks (reading_row row) trial (Ok tt) before
+          (record l { operands = new })) (sym none)
+          (observes_acts before good trial row (Ok tt) l.heap l.grants new refl refl
+          (done refl l.heap) (ready_from l.heap old new (held good) from))),
+    )
+    by false done kept = (kept refl, tt)
 
 -- ---- operators that enter a procedure
 
@@ -175,7 +202,7 @@ pub ahead : {operator which : Operator} (row : List Value → Scene → Outcome 
     (came : Ahead) (old new : List Word) → operator ≡ which
     → row_now which ≡ scene_row (scene_effect row) → asked_of which ≡ nothing_asked
     → OnLeft came (new ≡ old)
-    → ((h : Heap) (size : ℕ) (frames : List Frame) → length frames < 250
+    → ((h : Heap) (size : ℕ) (frames : List Frame) → HasRoom 1 came frames
     → IsReadyFor h size (stacks old frames)
     → ControlsAhead row came h size (stacks old frames) (stacks new frames))
     → ActsAhead operator came old new
@@ -196,7 +223,7 @@ ahead {operator} {which} row came old new same is none kept did =
         (controls_acts before good new frames trial row (Ok tt) controls tt))
 
     by : (came : Ahead) → OnLeft came (new ≡ old)
-        → ((h : Heap) (size : ℕ) (frames : List Frame) → length frames < 250
+        → ((h : Heap) (size : ℕ) (frames : List Frame) → HasRoom 1 came frames
         → IsReadyFor h size (stacks old frames)
         → ControlsAhead row came h size (stacks old frames) (stacks new frames))
         → ActsAhead which came old new
@@ -226,14 +253,6 @@ stepped operator trial before after acts =
     (operated_asks operator_asks operator) (operated_turn operator) (operated_turn operator) trial
     (Ok Goes) before after (λ s held. held.shown) (λ s held. refl) (λ s held. refl)
     (goes_on operator trial before after acts)
-
-pub goes_alone : (operator : Operator) (acts : Bool) (old new : List Word)
-    → ActsAlone operator acts old new
-    → GoesAlone [] (operated_asks operator_asks operator) (operated_turn operator) acts old new
-goes_alone operator true old new acts = λ l trial good none.
-    stepped operator trial (record l { operands = old }) (record l { operands = new })
-    (acts l trial good)
-goes_alone operator false old new same = same
 
 pub enters_alone : (operator : Operator) (old new : List Word) (came : Ahead)
     → ActsAhead operator came old new

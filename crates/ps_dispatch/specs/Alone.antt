@@ -1,10 +1,10 @@
 -- What an operator does to operands alone, to frames, and whatever frames are above.
-use Rattle.std.specs.Prelude.{◌≡◌, ℕ, ◌<◌, Bool, true, false, List, length, Result, Ok, Err}
+use Rattle.std.specs.Prelude.{◌≡◌, ℕ, Bool, List, Result, Ok, Err}
 use Rattle.ps_language.specs.declared.operators.Operator.{Operator}
 use Rattle.ps_word.specs.declared.words.Word.{Word}
 use Rattle.ps_control.specs.declared.ahead.Ahead.{Ahead}
 use Rattle.ps_control.specs.declared.frames.Frame.{Frame}
-use Rattle.ps_control.specs.Ahead.{OnDone, OnLeft, frames_ahead}
+use Rattle.ps_control.specs.Ahead.{HasRoom, OnDone, OnLeft, done_ahead, frames_ahead}
 use Rattle.ps_acts.specs.declared.breaks.Break.{Break}
 use Rattle.ps_acts.specs.declared.lent.Trial.{Trial}
 use Rattle.ps_acts.specs.Acts.{Acts}
@@ -15,23 +15,18 @@ use Rattle.ps_values.specs.declared.under.Under.{Under}
 use Rattle.ps_values.specs.declared.under.Under.TheVariants as variants
 use Rattle.ps_dispatch.specs.Operators.{asked_of, row_now}
 
--- it acts and raises no error, whatever else is lent and however it is tried; or nothing has
--- changed
-abbrev pub ActsAlone : Operator → (acts : Bool) → (old new : List Word) → Type 0
-ActsAlone operator true old new =
-    (l : Lent) (trial : Trial) → IsGood (record l { operands = old })
-    → Acts (asked_of operator) (row_now operator) trial (Ok tt) (record l { operands = old })
-    (record l { operands = new })
-ActsAlone operator false old new = new ≡ old
-
--- over fewer than 250 frames it acts and raises no error, once the frame is pushed of the procedure
--- that it enters; or nothing has changed
+-- whatever else is lent and however it is tried it acts and raises no error, once the frame is pushed
+-- of the procedure that it enters, if that has room; or nothing has changed
 abbrev pub ActsAhead : Operator → Ahead → (old new : List Word) → Type 0
-ActsAhead operator ahead old new = OnLeft ahead (new ≡ old)
-    × OnDone ahead ((l : Lent) (trial : Trial) → IsGood (record l { operands = old })
-    → length l.frames < 250
+ActsAhead operator came old new = OnLeft came (new ≡ old)
+    × OnDone came ((l : Lent) (trial : Trial) → IsGood (record l { operands = old })
+    → HasRoom 1 came l.frames
     → Acts (asked_of operator) (row_now operator) trial (Ok tt) (record l { operands = old })
-    (record l { operands = new; frames = frames_ahead ahead l.frames }))
+    (record l { operands = new; frames = frames_ahead came l.frames }))
+
+-- by operands alone: it acts, or nothing has changed
+abbrev pub ActsAlone : Operator → (acts : Bool) → (old new : List Word) → Type 0
+ActsAlone operator acts old new = ActsAhead operator (done_ahead acts) old new
 
 -- in an ordinary step it acts and raises no error, as it would under any more frames; or nothing was
 -- done; or nothing has changed

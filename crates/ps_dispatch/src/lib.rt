@@ -2,7 +2,7 @@
 //! (PLRM2, 3.5, 3.10, 8 'Operators').
 #![tactic(auto)]
 
-pub mod alone;
+pub mod ahead;
 pub mod dispatch;
 pub mod exits;
 pub mod joins;

@@ -5,9 +5,8 @@ ghost use Rattle.ps_dispatch.specs.Few.{operator_few};
 ghost use Rattle.ps_dispatch.specs.Turns.{operator_asks};
 ghost use Rattle.ps_turns.specs.Turns as turns;
 
-use crate::alone::{enter_alone, operate_alone};
 use crate::turns::operated;
-use crate::under;
+use crate::{ahead, under};
 use ps_acts::lent::{Context, Shared, Trial};
 use ps_control::ahead::Ahead;
 use ps_language::operators::Operator;
@@ -48,16 +47,10 @@ pub struct Operators;
 impl Operate for Operators {
     ghost asks = { operator_asks };
 
-    /// One on operands alone.
+    /// One on operands alone, or one that enters a procedure.
     #[inline(always)]
-    fn operate_quickly(&self, operator: Operator, operands: &mut Operands) -> bool {
-        operate_alone(operator, operands)
-    }
-
-    /// One that enters a procedure.
-    #[inline(always)]
-    fn enter_quickly(&self, operator: Operator, operands: &mut Operands) -> Ahead {
-        enter_alone(operator, operands)
+    fn operate_ahead(&self, operator: Operator, operands: &mut Operands, may_enter: bool) -> Ahead {
+        ahead::operate_ahead(operator, operands, may_enter)
     }
 
     /// One that programs call often.

@@ -1,21 +1,15 @@
--- An element that enters a procedure, over the frames that are left.
-use Rattle.std.proofs.Common.{◌<◌, Bool, true, false, arith, List, [], ◌∷◌, length, Ok, refl}
-use Rattle.std.specs.Prelude.{nat_lt, if◌then◌else◌}
+-- An element as its value is treated, over the frames that are left.
+use Rattle.std.proofs.Common.{[], ◌∷◌, Ok, refl}
 use Rattle.ps_word.specs.declared.values.Part.{Part}
-use Rattle.ps_word.specs.declared.words.Word.{Word}
-use Rattle.ps_control.specs.declared.ahead.Ahead.{Ahead}
-use Rattle.ps_control.specs.declared.ahead.Ahead.TheVariants as variants
-use Rattle.ps_control.specs.declared.frames.Frame.{Frame}
-use Rattle.ps_control.specs.declared.frames.Frame.TheVariants.{Procedure}
 use Rattle.ps_acts.specs.declared.lent.Trial.{Trial}
 use Rattle.ps_acts.specs.Lent.{Lent, IsGood}
 use Rattle.ps_turns.specs.declared.turned.Turned.TheVariants.{Goes}
 use Rattle.ps_turns.specs.Turns.{Turns, TurnsWith}
 use Rattle.ps_turns.proofs.Composing.{restacked_good}
-use Rattle.ps_values.specs.Values.{Asks, EntersAlone, treated_asks, treated_turn}
+use Rattle.ps_values.specs.Values.{Asks, treated_asks, treated_turn}
 use Rattle.ps_values.proofs.Alone.{treated_done}
 use Rattle.ps_frames.specs.declared.elements.Element.{Element}
-use Rattle.ps_frames.specs.Steps.{above, rest_frames, with_frames, frame_asks, running_turn, part_behind, ElementAhead, IsElement}
+use Rattle.ps_frames.specs.Steps.{above, rest_frames, with_frames, frame_asks, running_turn, IsElement}
 use Rattle.ps_frames.proofs.Taking.{rest_good, element_made}
 
 module _ (asks : Asks) (l : Lent) (rest : Part) (element : Element) (good : IsGood (above rest l))
@@ -37,31 +31,3 @@ module _ (asks : Asks) (l : Lent) (rest : Part) (element : Element) (good : IsGo
       (λ s shown. is.within l.names s shown.shows) asks trial Goes after
       (treated_done asks l.heap l.dictionaries element.word element.value is.treats left trial
       (Ok Goes) after left_good turns)
-
-  pub rest_room : length l.frames < 249 → length (rest_frames rest l.frames) < 250
-  rest_room few = by (nat_lt 1 rest.length)
-    where
-      by : (some : Bool)
-          → length (if some then Procedure (part_behind 1 rest) ∷ l.frames else l.frames) < 250
-      by true = omega (arith, few)
-      by false = omega (arith, few)
-
-  -- the frames that are left
-  abbrev frames_left : Ahead → List Frame
-  frames_left (variants.Enters body) = rest_frames rest l.frames
-  frames_left came = l.frames
-
-  pub entered_goes : (came : Ahead) (operands : List Word)
-      → EntersAlone (element.value ∷ element.word ∷ []) (treated_asks asks element.value)
-      (treated_turn element.word element.value) came l.operands operands
-      → length (rest_frames rest l.frames) < 250
-      → ElementAhead asks rest came l
-      (record l { operands = operands; frames = frames_left came })
-  entered_goes (variants.Enters body) operands alone room = λ trial.
-      treated_goes trial
-      (record l { operands = operands; frames = Procedure body ∷ rest_frames rest l.frames })
-      (alone.1 left trial left_good (is.value_held, (is.held, tt)) room)
-  entered_goes variants.Goes operands alone room = λ trial.
-      treated_goes trial (record l { operands = operands; frames = rest_frames rest l.frames })
-      (alone.1 left trial left_good (is.value_held, (is.held, tt)) room)
-  entered_goes variants.Left operands alone room = tt

@@ -21,7 +21,6 @@ use Rattle.ps_control.specs.declared.frames.Cause.{Cause}
 use Rattle.ps_control.specs.declared.frames.Frame.{Frame}
 use Rattle.ps_control.specs.declared.frames.Frame.TheVariants.{Text, Procedure}
 use Rattle.ps_control.specs.declared.ahead.Ahead.{Ahead}
-use Rattle.ps_control.specs.declared.ahead.Ahead.TheVariants as ahead
 use Rattle.ps_control.specs.Ahead.{OnDone, frames_ahead}
 use Rattle.ps_control.specs.Turns.{cause_of}
 use Rattle.ps_acts.specs.declared.lent.Trial.{Trial}
@@ -168,14 +167,6 @@ above rest l = with_frames (Procedure rest ∷ l.frames) l
 abbrev pub GoesAhead : Asks → Ahead → (old new : Lent) → Type 0
 GoesAhead asks came old new = OnDone came ((trial : Trial)
     → Turns (frame_asks asks) running_turn trial (Ok Goes) old (with_entered came new))
-
--- the same of a procedure above the frames. Where its first element enters another, that is to be
--- above the frames, and else what is left of it
-abbrev pub ElementAhead : Asks → Part → Ahead → (old new : Lent) → Type 0
-ElementAhead asks rest ahead.Goes old new = (trial : Trial)
-    → Turns (frame_asks asks) running_turn trial (Ok Goes) (above rest old)
-    (with_frames (rest_frames rest new.frames) new)
-ElementAhead asks rest came old new = GoesAhead asks came (above rest old) new
 
 -- the ordinary turn of a procedure above the frames goes on, of which what is left is above them; or
 -- nothing was done; or nothing has changed

@@ -32,7 +32,7 @@ pub fn turn_ahead<M: Memory>(
     ensures goes { (asks : Asks) → GoesAhead asks result
         (lent (M.heap memory.old) (M.grants memory.old) context.old shared.now)
         (lent (M.heap memory.old) (M.grants memory.old) context.new shared.now) }
-    ensures room { HasRoom result context.new.frames }
+    ensures room { HasRoom 2 result context.new.frames }
     ensures left { OnLeft result
         (lent (M.heap memory.old) (M.grants memory.old) context.new shared.now
         ≡ lent (M.heap memory.old) (M.grants memory.old) context.old shared.now) }

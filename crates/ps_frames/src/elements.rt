@@ -2,23 +2,19 @@
 
 ghost use Rattle.std.specs.Prelude.{◌≡◌, ◌<◌, ◌∷◌, [], Some, IfSome, length};
 ghost use Rattle.ps_acts.specs.Lent.{lent, IsGood};
-ghost use Rattle.ps_control.specs.Ahead.{OnLeft};
 ghost use Rattle.ps_stacks.specs.Tops.{first_of};
 ghost use Rattle.ps_mem.specs.Shows.{IsValue};
 ghost use Rattle.ps_turns.specs.Turns.{Turns, TurnsWith};
 ghost use Rattle.ps_values.specs.Values.{treated_asks, treated_turn};
-ghost use Rattle.ps_frames.specs.Steps.{above, frame_asks, running_turn, DoesUnder, ElementAhead, IsElement};
+ghost use Rattle.ps_frames.specs.Steps.{above, frame_asks, running_turn, DoesUnder, IsElement};
 
 use crate::frames::{advance, drop_top, push_rest, put_back};
 use ps_acts::lent::{Context, Shared, Trial};
-use ps_control::ahead::Ahead;
 use ps_control::frames::{Frame, push_frame};
 use ps_mem::{Memory, SLOTS};
 use ps_ops::failure::NotMade;
 use ps_seq::arrays::element;
-use ps_stacks::FRAME_LIMIT;
 use ps_turns::turned::Turned;
-use ps_values::ahead::treat_ahead;
 use ps_values::operates::Operate;
 use ps_values::under::{Under, treat_under};
 use ps_values::values::{do_element, execute, treat};
@@ -120,47 +116,6 @@ fn element_turn<O: Operate, M: Memory>(
             put_back(&mut context.frames, rest);
             Err(reason)
         }
-    }
-}
-
-/// The first element that is left of a procedure above the frames is done, where its value is known,
-/// may enter another procedure and raises no error: what is left is pushed, up to the frame of the
-/// procedure that it enters. Where it enters none, no frame is pushed. Else nothing has changed.
-#[inline(always)]
-pub fn element_ahead<O: Operate, M: Memory>(
-    rest: Part,
-    first: Option<Element>,
-    operators: &O,
-    context: &mut Context,
-    shared: &Shared,
-    memory: &M,
-) -> Ahead
-    requires good { IsGood (above rest
-        (lent (M.heap memory.now) (M.grants memory.now) context.old shared.now)) }
-    requires room { length context.old.frames < 250 }
-    requires first { IfSome first
-        (IsElement O.asks (M.heap memory.now) context.old.dictionaries rest 0) }
-    ensures goes { ElementAhead O.asks rest result
-        (lent (M.heap memory.now) (M.grants memory.now) context.old shared.now)
-        (lent (M.heap memory.now) (M.grants memory.now) context.new shared.now) }
-    ensures room { length context.new.frames < 250 }
-    ensures left { OnLeft result
-        (lent (M.heap memory.now) (M.grants memory.now) context.new shared.now
-        ≡ lent (M.heap memory.now) (M.grants memory.now) context.old shared.now) }
-{
-    let Some(element) = first else {
-        return Ahead::Left;
-    };
-    if context.frames.len() >= FRAME_LIMIT - 1 {
-        return Ahead::Left;
-    }
-    match treat_ahead(element.value, operators, &mut context.operands) {
-        Ahead::Enters(body) => {
-            push_rest(&mut context.frames, rest);
-            Ahead::Enters(body)
-        }
-        Ahead::Goes => Ahead::Goes,
-        Ahead::Left => Ahead::Left,
     }
 }
 

@@ -1,11 +1,12 @@
 -- What a look-up comes to.
-use Rattle.std.proofs.Common.{◌≡◌, ℕ, zero, suc, ◌+◌, ◌≤◌, arith, Bool, true, false, List, [], ◌∷◌, drop, map, slice_get, length, Option, Some, None, Ok, Err, refl, sym, ap, ◌∙◌}
+use Rattle.std.proofs.Common.{◌≡◌, ℕ, zero, suc, ◌+◌, ◌-◌, ◌<◌, ◌≤◌, arith, subst, Bool, true, false, List, [], ◌∷◌, drop, map, slice_get, length, Option, Some, None, Ok, Err, refl, sym, ap, ◌∙◌}
 use Rattle.std.specs.Prelude.{option_map}
 use Rattle.ps_language.specs.declared.errors.ErrorName.{ErrorName}
 use Rattle.ps_language.specs.declared.errors.ErrorName.TheVariants.{InvalidAccess}
 use Rattle.ps_language.specs.declared.kinds.Kind.TheVariants.{Dictionary as DictionaryKind}
 use Rattle.ps_language.specs.Value.{Value, Store}
-use Rattle.ps_language.specs.Access.{dictionary_at, may_read}
+use Rattle.ps_language.specs.declared.access.Access.{Access}
+use Rattle.ps_language.specs.Access.{dictionary_at, is_readable, may_read, permits}
 use Rattle.ps_language.specs.Dictionaries.{find, found_in, look_up, pairs_of}
 use Rattle.ps_language.specs.Readers.{as_dictionary, dictionary_in}
 use Rattle.ps_language.specs.Outcome.{Outcome, leaves, fails, given_that}
@@ -19,6 +20,7 @@ use Rattle.ps_mem.specs.References.{StandsAs}
 use Rattle.ps_mem.specs.Meaning.{value_of, what_of}
 use Rattle.ps_mem.specs.Shows.{IsSound, Shows}
 use Rattle.ps_keys.specs.Lookups.{IsSought, LooksIn}
+use Rattle.ps_types.proofs.Accesses.{dictionary_has}
 use Rattle.ps_keys.proofs.Keying.{unmet_missing}
 
 -- ---- dictionaries among values
@@ -57,6 +59,20 @@ unsought_missing h a known sound names s shows (Some w) none k sought = absurd (
 unsought_missing h a known sound names s shows None none k sought =
     sym (ap (find (dictionary_at s (birth_at h a)).pairs) sought.1
     ∙ unmet_missing h a known sound names s shows sought.0 sought.2)
+
+-- a dictionary is read where its access permits that
+pub dictionary_read : (births : ℕ → ℕ) (names : List (List ℕ)) (s : Store) (w : Word) (a : ℕ)
+    → Some a ≡ words.as_dictionary (content_in w.0) → {access : Access} {truth : Bool}
+    → access ≡ (dictionary_at s (births a)).access → truth ≡ is_readable access
+    → may_read s (value_of births names w) ≡ truth
+dictionary_read births names s w a is same told =
+    ap (permits is_readable) (dictionary_has births names s w a is)
+    ∙ (ap is_readable (sym same) ∙ sym told)
+
+pub looks_hidden : (births : ℕ → ℕ) (names : List (List ℕ)) (s : Store) (w : Word) (k : Value)
+    → may_read s (value_of births names w) ≡ false
+    → LooksIn births names s w k (Err InvalidAccess)
+looks_hidden births names s w k hidden = rw hidden refl
 
 module _ (births : ℕ → ℕ) (names : List (List ℕ)) (s : Store) (w : Word) (k : Value)
     (readable : may_read s (value_of births names w) ≡ true) where
@@ -115,6 +131,14 @@ module _ {A B : Type 0} (f : A → B) where
   drop_past [] (suc n) past = refl
   drop_past (y ∷ xs) zero past = absurd (omega (arith, past))
   drop_past (y ∷ xs) (suc n) past = drop_past xs n (omega (arith, past))
+
+-- where there are so many, the topmost of them
+pub topmost_left : (ws : List Word) (left : ℕ) {w : Word} → 0 < left → left ≤ length ws
+    → slice_get ws (length ws - 1 - (left - 1)) ≡ Some w
+    → slice_get ws (length ws - left) ≡ Some w
+topmost_left ws left {w} some within at =
+    let same : length ws - 1 - (left - 1) ≡ length ws - left = omega (arith, some, within) in
+    subst (λ (n : ℕ). slice_get ws n ≡ Some w) same at
 
 module _ (births : ℕ → ℕ) (names : List (List ℕ)) (s : Store) (k : Value) (ws : List Word)
     (n : ℕ) where

@@ -1,6 +1,6 @@
 //! Look-up of keys in a dictionary and through the dictionary stack (PLRM2, 3.3.9, 3.7.1).
 
-ghost use Rattle.std.specs.Prelude.{◌≡◌, ◌≢◌, ℕ, List, IsSome, IfSome, IfOk, option_map, map, AllPairs};
+ghost use Rattle.std.specs.Prelude.{◌≡◌, ◌≢◌, ℕ, ◌-◌, ◌<◌, List, Some, IsSome, IfSome, IfOk, option_map, map, AllPairs, slice_get, length};
 ghost use Rattle.ps_language.specs.Access.{dictionary_at};
 ghost use Rattle.ps_language.specs.Dictionaries as language;
 ghost use Rattle.ps_language.specs.Dictionaries.{find};
@@ -14,7 +14,7 @@ ghost use Rattle.ps_ops.specs.Does.{values_in};
 ghost use Rattle.ps_keys.specs.Lookups.{IsSought, LooksIn, found_of};
 
 use ps_acts::lent::Dictionaries;
-use ps_dict::dictionaries::value_of_key;
+use ps_dict::dictionaries::{access, value_of_key};
 use ps_language::errors::ErrorName;
 use ps_language::kinds::Kind;
 use ps_mem::Memory;
@@ -84,13 +84,25 @@ fn look_in<M: Memory>(
         → IsSought (birth_at (M.heap memory.old)) names s key k
         → LooksIn (birth_at (M.heap memory.old)) names s dictionary k result }
 {
-    if !may_read(memory, dictionary) {
+    let Some(address) = dictionary.as_dictionary() else {
+        if may_read(memory, dictionary) {
+            return Ok(None);
+        }
+        return Err(ErrorName::InvalidAccess);
+    };
+    if !is_readable(access(memory, address)) {
         return Err(ErrorName::InvalidAccess);
     }
-    match dictionary.as_dictionary() {
-        Some(address) => Ok(find_in(memory, address, key)),
-        None => Ok(None),
-    }
+    Ok(find_in(memory, address, key))
+}
+
+/// What stands on the dictionary stack above so many others.
+#[inline(always)]
+fn dictionary_above(dictionaries: &Dictionaries, below: usize) -> Word
+    requires { below < length dictionaries.now }
+    ensures { slice_get dictionaries.now (length dictionaries.now - 1 - below) ≡ Some result }
+{
+    dictionaries.topmost(dictionaries.len())[below]
 }
 
 /// The topmost dictionary that has a key, and its value there. Raises `invalidaccess` where one
@@ -120,10 +132,10 @@ pub fn look_up<M: Memory>(
         → language.look_up s (values_in (M.heap memory.old) names dictionaries.now) k
         ≡ found_of (birth_at (M.heap memory.old)) names result }
 {
-    for depth in 0..dictionaries.len() {
-        let Some(dictionary) = dictionaries.peek(depth) else {
-            return Ok(None);
-        };
+    let mut below = dictionaries.len();
+    while below > 0 {
+        below -= 1;
+        let dictionary = dictionary_above(dictionaries, below);
         match look_in(memory, dictionary, key) {
             Ok(Some(value)) => return Ok(Some((dictionary, value))),
             Ok(None) => {}

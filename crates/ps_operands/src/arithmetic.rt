@@ -104,7 +104,7 @@ pub fn mul(operands: &mut Operands) -> Result<(), ErrorName>
 /// `i j idiv k`. Toward zero. Raises `stackunderflow`, `typecheck`, and `undefinedresult` where `j`
 /// is zero or the quotient doesn't fit 32 bits.
 #[tactic(auto, using(crate::proofs::Sources::sources, crate::proofs::NumberRows::two_lemmas))]
-#[inline(always)]
+#[inline]
 pub fn idiv(operands: &mut Operands) -> Result<(), ErrorName>
     ensures row { Does rows.idiv_row result operands.old operands.new }
     ensures kept { AreFrom operands.old operands.new }
@@ -116,7 +116,7 @@ pub fn idiv(operands: &mut Operands) -> Result<(), ErrorName>
 /// `i j mod k`. With the sign of `i`. Raises `stackunderflow`, `typecheck`, and `undefinedresult`
 /// where `j` is zero.
 #[tactic(auto, using(crate::proofs::Sources::sources, crate::proofs::NumberRows::two_lemmas))]
-#[inline(always)]
+#[inline]
 pub fn modulo(operands: &mut Operands) -> Result<(), ErrorName>
     ensures row { Does rows.mod_row result operands.old operands.new }
     ensures kept { AreFrom operands.old operands.new }

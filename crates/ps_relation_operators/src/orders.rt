@@ -35,7 +35,7 @@ pub enum Relation {
 
 impl Relation {
     /// Whether an order is what is asked.
-    #[inline(always)]
+    #[inline]
     fn holds(self, order: Ordering) -> bool
         ensures { result ≡ relations.holds self order }
     {

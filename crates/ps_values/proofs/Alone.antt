@@ -1,6 +1,6 @@
 -- What is done by operands alone, as an element.
-use Rattle.std.proofs.Common.{◌≡◌, ◌≢◌, ℕ, Bool, true, false, List, [], ◌∷◌, Option, Some, Ok, refl, sym, subst}
-use Rattle.std.specs.Prelude.{Result, IfOk, IfSome, if◌then◌else◌}
+use Rattle.std.proofs.Common.{◌≡◌, ◌≢◌, ℕ, Bool, true, false, List, [], ◌∷◌, Option, Some, Ok, refl, sym, subst, ◌∙◌}
+use Rattle.std.specs.Prelude.{Result, IfOk, IfSome}
 use Rattle.std.specs.List.{AllPairs}
 use Rattle.ps_language.specs.declared.errors.ErrorName.{ErrorName}
 use Rattle.ps_language.specs.declared.operators.Operator.{Operator as Named}
@@ -14,6 +14,10 @@ use Rattle.ps_mem.specs.Heap.{Heap, birth_at}
 use Rattle.ps_mem.specs.Meaning.{value_of}
 use Rattle.ps_mem.specs.Shows.{AreValues, AreWithin, IsValue, IsWithin, Shows}
 use Rattle.ps_ops.specs.Does.{values_in}
+use Rattle.ps_word.specs.declared.values.Part.{Part}
+use Rattle.ps_control.specs.declared.ahead.Ahead.{Ahead}
+use Rattle.ps_control.specs.declared.ahead.Ahead.TheVariants as ahead
+use Rattle.ps_control.specs.Ahead.{done_ahead}
 use Rattle.ps_acts.specs.declared.lent.Trial.{Trial}
 use Rattle.ps_acts.specs.Acts.{Asked}
 use Rattle.ps_acts.specs.Lent.{Lent, scene_of, IsGood}
@@ -24,23 +28,37 @@ use Rattle.ps_keys.specs.Lookups.{IsSought, found_of}
 use Rattle.ps_turns.specs.declared.turned.Turned.{Turned}
 use Rattle.ps_ops.specs.declared.failure.NotMade.{NotMade as Reason}
 use Rattle.ps_values.specs.declared.quick.Quick.{Quick}
-use Rattle.ps_values.specs.declared.quick.Quick.TheVariants.{Done, Treats, Left}
-use Rattle.ps_values.specs.Quick.{IsTreated, TreatsAs, ComesTo}
-use Rattle.ps_values.specs.Values.{meaning, GoesIn, GoesAlone, among, pushed_turn, operated_turn, treated_turn, done_turn, Asks, operated_asks, treated_asks, executed_asks}
+use Rattle.ps_values.specs.declared.quick.Quick.TheVariants.{Enters, Treats, Left}
+use Rattle.ps_values.specs.Quick.{IsTreated, TreatsAs, ComesTo, came_or}
+use Rattle.ps_values.specs.Values.{meaning, EntersIn, EntersAlone, GoesAlone, among, pushed_turn, operated_turn, treated_turn, done_turn, Asks, operated_asks, treated_asks, executed_asks}
 use Rattle.ps_values.proofs.Executing.{operator_acts, treated_literal, treated_executable, procedure_pushed, found_as, finds_value}
 
 -- the same turn, said otherwise
-alone_as : (some words : List Word) (asked other : Lent → Store → Asked)
+pub enters_as : (some words : List Word) (asked other : Lent → Store → Asked)
     (done turn : Lent → Store → Turn)
     → ((heap : Heap) → AreValues heap words → AreValues heap some)
     → ((l new : Lent) (trial : Trial) → TurnsWith some [] asked done trial (Ok Goes) l new
     → TurnsWith words [] other turn trial (Ok Goes) l new)
-    → (goes : Bool) (old new : List Word) → GoesAlone some asked done goes old new
-    → GoesAlone words other turn goes old new
-alone_as some words asked other done turn fewer same true old new alone =
-    λ l trial good values.
-    same _ _ trial (alone l trial good (fewer l.heap values))
-alone_as some words asked other done turn fewer same false old new alone = alone
+    → (came : Ahead) (old new : List Word) → EntersAlone some asked done came old new
+    → EntersAlone words other turn came old new
+enters_as some words asked other done turn fewer same (ahead.Enters body) old new alone =
+    (tt, λ l trial good values room. same _ _ trial (alone.1 l trial good (fewer l.heap values) room))
+enters_as some words asked other done turn fewer same ahead.Goes old new alone =
+    (tt, λ l trial good values room. same _ _ trial (alone.1 l trial good (fewer l.heap values) room))
+enters_as some words asked other done turn fewer same ahead.Left old new alone = (alone.0, tt)
+
+-- what goes by operands alone enters none
+pub goes_enters : (words : List Word) (asked : Lent → Store → Asked) (turn : Lent → Store → Turn)
+    (goes : Bool) (came : Ahead) (old new : List Word) → came ≡ done_ahead goes
+    → GoesAlone words asked turn goes old new → EntersAlone words asked turn came old new
+goes_enters words asked turn goes came old new is alone =
+    subst (λ (a : Ahead). EntersAlone words asked turn a old new) (sym is) alone
+
+-- it tells no procedure
+pub none_entered : (goes : Bool) (came : Ahead) → came ≡ done_ahead goes
+    → (body : Part) → came ≡ ahead.Enters body → ⊥
+none_entered true came is body enters = absurd (cc (is, enters))
+none_entered false came is body enters = absurd (cc (is, enters))
 
 module _ (asks : Asks) (command word : Word) where
   pub treated_by_operator : (l new : Lent) (trial : Trial) (operator : Named)
@@ -53,25 +71,25 @@ module _ (asks : Asks) (command word : Word) where
       (operator_acts asks command word l trial (Ok Goes) new operator content
       (turns_shown [] [] _ _ trial (Ok Goes) l new (λ s shown. tt) (λ s shown. tt) turns))
 
-module _ (asks : Asks) (command word : Word) (goes : Bool) (old new : List Word) where
-  abbrev Pushed : Type 0
-  Pushed = GoesAlone (word ∷ command ∷ []) nothing_more (pushed_turn command word) goes old new
-
+module _ (asks : Asks) (command word : Word) (came : Ahead) (old new : List Word) where
   abbrev Treated : Type 0
-  Treated = GoesAlone (word ∷ command ∷ []) (treated_asks asks word) (treated_turn command word)
-      goes old new
+  Treated = EntersAlone (word ∷ command ∷ []) (treated_asks asks word) (treated_turn command word)
+      came old new
 
-  pub literal_treated : executable_in word.0 ≡ false → Pushed → Treated
-  literal_treated literal = alone_as _ _ _ _ _ _ (λ heap values. values)
+  pub literal_treated : executable_in word.0 ≡ false → (goes : Bool) → came ≡ done_ahead goes
+      → GoesAlone (word ∷ command ∷ []) nothing_more (pushed_turn command word) goes old new
+      → Treated
+  literal_treated literal goes is pushed = enters_as _ _ _ _ _ _ (λ heap values. values)
       (λ l new trial turns. treated_literal asks command word l trial (Ok Goes) new literal turns)
-      goes old new
+      came old new (goes_enters (word ∷ command ∷ []) nothing_more (pushed_turn command word) goes came old new is
+      pushed)
 
   pub operator_treated : (operator : Named) → executable_in word.0 ≡ true
       → content_in word.0 ≡ Operator operator
-      → GoesAlone [] (operated_asks asks operator) (operated_turn operator) goes old new → Treated
-  operator_treated operator may content = alone_as _ _ _ _ _ _ (λ heap values. tt)
+      → EntersAlone [] (operated_asks asks operator) (operated_turn operator) came old new → Treated
+  operator_treated operator may content = enters_as _ _ _ _ _ _ (λ heap values. tt)
       (λ l new trial turns.
-      treated_by_operator asks command word l new trial operator may content turns) goes old new
+      treated_by_operator asks command word l new trial operator may content turns) came old new
 
 -- ---- as which value an element is treated
 
@@ -158,50 +176,76 @@ module _ (asks : Asks) (heap : Heap) (dictionaries : List Word) (word : Word) wh
         turns
 
   module _ (old new : List Word) where
-    abbrev Goes_by : (done : Bool) → Type 0
-    Goes_by done = GoesIn (among heap dictionaries) (word ∷ word ∷ []) (executed_asks asks word)
-        (done_turn word word) done old new
-
     abbrev Comes : Quick → Type 0
     Comes came = ComesTo asks heap dictionaries word came old new
 
-    comes_by : (done : Bool) (otherwise : Quick) → Goes_by done → (new ≡ old → Comes otherwise)
-        → Comes (if done then Done else otherwise)
-    comes_by true otherwise goes kept = goes
-    comes_by false otherwise same kept = kept same
+    abbrev Done_by : Ahead → Type 0
+    Done_by came = EntersIn (among heap dictionaries) (word ∷ word ∷ []) (executed_asks asks word)
+        (done_turn word word) came old new
 
-    pub treated_comes : (done : Bool) (value : Word) (came : Quick)
-        → came ≡ (if done then Done else Treats value) → IsValue heap value
+    comes_by : (came : Ahead) (otherwise : Quick) → Done_by came → (new ≡ old → Comes otherwise)
+        → Comes (came_or came otherwise)
+    comes_by ahead.Goes otherwise done kept = done
+    comes_by (ahead.Enters body) otherwise done kept = done
+    comes_by ahead.Left otherwise done kept = kept done.0
+
+    pub treated_comes : (goes : Ahead) (value : Word) (came : Quick)
+        → came ≡ came_or goes (Treats value) → IsValue heap value
         → TreatsAs asks heap dictionaries word value
-        → GoesAlone (value ∷ word ∷ []) (treated_asks asks value) (treated_turn word value) done old
-        new
+        → EntersAlone (value ∷ word ∷ []) (treated_asks asks value) (treated_turn word value) goes
+        old new
         → Comes came
-    treated_comes done value came is held treats goes =
+    treated_comes goes value came is held treats alone =
         subst Comes (sym is)
-        (comes_by done (Treats value) (by done goes) (λ same. (same, (held, treats))))
+        (comes_by goes (Treats value) (by goes alone) (λ same. (same, (held, treats))))
       where
-        by : (done : Bool)
-            → GoesAlone (value ∷ word ∷ []) (treated_asks asks value) (treated_turn word value) done
-            old new
-            → Goes_by done
-        by true goes = λ l trial good values.
-            treated_done value treats (record l { operands = old }) trial (Ok Goes) _ good
-            (goes (among heap dictionaries l) trial good (held, values.1))
-        by false same = same
+        by : (goes : Ahead)
+            → EntersAlone (value ∷ word ∷ []) (treated_asks asks value) (treated_turn word value)
+            goes old new
+            → Done_by goes
+        by ahead.Goes alone = (
+          tt,
+          λ l trial good values room.
+              treated_done value treats (record l { operands = old }) trial (Ok Goes) _ good
+              (alone.1 (among heap dictionaries l) trial good (held, values.1) room),
+        )
+        by (ahead.Enters body) alone = (
+          tt,
+          λ l trial good values room.
+              treated_done value treats (record l { operands = old }) trial (Ok Goes) _ good
+              (alone.1 (among heap dictionaries l) trial good (held, values.1) room),
+        )
+        by ahead.Left alone = (alone.0, tt)
 
-    pub procedure_comes : (done : Bool) (came : Quick)
-        → came ≡ (if done then Done else Left)
+    pub procedure_comes : (done : Bool) (goes : Ahead) (came : Quick) → goes ≡ done_ahead done
+        → came ≡ came_or goes Left
         → ((births : ℕ → ℕ) (names : List (List ℕ))
         → is_procedure (value_of births names word) ≡ true)
         → GoesAlone (word ∷ word ∷ []) nothing_more (pushed_turn word word) done old new
         → Comes came
-    procedure_comes done came is made goes =
-        subst Comes (sym is) (comes_by done Left (by done goes) (λ same. same))
+    procedure_comes done goes came same is made pushed =
+        subst Comes (sym is) (comes_by goes Left
+        (subst Done_by (sym same) (by done pushed)) (λ same. same))
       where
         by : (done : Bool)
             → GoesAlone (word ∷ word ∷ []) nothing_more (pushed_turn word word) done old new
-            → Goes_by done
-        by true goes = λ l trial good values.
-            procedure_pushed asks word word _ trial (Ok Goes) _ (made _ _)
-            (goes (among heap dictionaries l) trial good values)
-        by false same = same
+            → Done_by (done_ahead done)
+        by true pushed = (
+          tt,
+          λ l trial good values room.
+              procedure_pushed asks word word _ trial (Ok Goes) _ (made _ _)
+              (pushed.1 (among heap dictionaries l) trial good values room),
+        )
+        by false pushed = (pushed.0, tt)
+
+-- of what is told of an element: a procedure is entered only where it was ahead
+pub entered_by : (goes : Ahead) (otherwise came : Quick) → came ≡ came_or goes otherwise
+    → ((body : Part) → otherwise ≡ Enters body → ⊥) → (may : Type 0)
+    → ((body : Part) → goes ≡ ahead.Enters body → may) → (body : Part) → came ≡ Enters body → may
+entered_by goes otherwise came is other may entered body enters = by goes is entered
+  where
+    by : (goes : Ahead) → came ≡ came_or goes otherwise
+        → ((body : Part) → goes ≡ ahead.Enters body → may) → may
+    by ahead.Goes is entered = absurd (cc (is, enters))
+    by (ahead.Enters body) is entered = entered body refl
+    by ahead.Left is entered = absurd (other body (sym is ∙ enters))

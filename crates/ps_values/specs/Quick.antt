@@ -1,14 +1,16 @@
 -- What an element of a procedure comes to by operands alone (PLRM2, 3.5).
-use Rattle.std.specs.Prelude.{◌≡◌, true, List, [], ◌∷◌}
+use Rattle.std.specs.Prelude.{◌≡◌, List, [], ◌∷◌}
 use Rattle.ps_language.specs.Value.{Store}
 use Rattle.ps_word.specs.declared.words.Word.{Word}
 use Rattle.ps_mem.specs.Heap.{Heap, birth_at}
 use Rattle.ps_mem.specs.Shows.{IsValue, IsWithin}
+use Rattle.ps_control.specs.declared.ahead.Ahead.{Ahead}
+use Rattle.ps_control.specs.declared.ahead.Ahead.TheVariants as ahead
 use Rattle.ps_acts.specs.Lent.{Lent, IsGood}
 use Rattle.ps_turns.specs.Turns.{IsShownWith}
 use Rattle.ps_values.specs.declared.quick.Quick.{Quick}
-use Rattle.ps_values.specs.declared.quick.Quick.TheVariants.{Done, Treats, Left}
-use Rattle.ps_values.specs.Values.{Asks, done_turn, executed_asks, treated_turn, treated_asks, among, GoesIn}
+use Rattle.ps_values.specs.declared.quick.Quick.TheVariants.{Done, Enters, Treats, Left}
+use Rattle.ps_values.specs.Values.{Asks, done_turn, executed_asks, treated_turn, treated_asks, among, EntersIn}
 
 -- doing an element, with itself as the command, is treating this value
 pub record IsTreated (asks : Asks) (word value : Word) (l : Lent) (s : Store) : Type 0 where
@@ -23,12 +25,21 @@ TreatsAs asks heap dictionaries word value =
     → IsShownWith (word ∷ word ∷ []) [] (among heap dictionaries l) s
     → IsTreated asks word value (among heap dictionaries l) s
 
--- the element is done, or nothing has changed
+-- done, or up to the frame of the procedure that is entered, or this
+abbrev pub came_or : Ahead → Quick → Quick
+came_or ahead.Goes otherwise = Done
+came_or (ahead.Enters body) otherwise = Enters body
+came_or ahead.Left otherwise = otherwise
+
+-- the element is done, up to the frame of the procedure that it enters; or nothing has changed
 abbrev pub ComesTo : Asks → Heap → (dictionaries : List Word) → Word → Quick
     → (old new : List Word) → Type 0
 ComesTo asks heap dictionaries word Done old new =
-    GoesIn (among heap dictionaries) (word ∷ word ∷ []) (executed_asks asks word)
-    (done_turn word word) true old new
+    EntersIn (among heap dictionaries) (word ∷ word ∷ []) (executed_asks asks word)
+    (done_turn word word) ahead.Goes old new
+ComesTo asks heap dictionaries word (Enters body) old new =
+    EntersIn (among heap dictionaries) (word ∷ word ∷ []) (executed_asks asks word)
+    (done_turn word word) (ahead.Enters body) old new
 ComesTo asks heap dictionaries word (Treats value) old new =
     (new ≡ old) × (IsValue heap value × TreatsAs asks heap dictionaries word value)
 ComesTo asks heap dictionaries word Left old new = new ≡ old

@@ -1,5 +1,5 @@
 -- Executing a value, and doing an element of a procedure, over what is lent (PLRM2, 3.5).
-use Rattle.std.specs.Prelude.{◌≡◌, ℕ, ◌<◌, Bool, true, false, List, [], length, Ok, if◌then◌else◌}
+use Rattle.std.specs.Prelude.{◌≡◌, ℕ, Bool, List, [], Ok, if◌then◌else◌}
 use Rattle.ps_language.specs.declared.errors.ErrorName.TheVariants.{InvalidAccess}
 use Rattle.ps_language.specs.declared.operators.Operator.{Operator}
 use Rattle.ps_language.specs.Access.{is_executable}
@@ -17,7 +17,7 @@ use Rattle.ps_control.specs.declared.ahead.Ahead.{Ahead}
 use Rattle.ps_control.specs.declared.frames.Frame.{Frame}
 use Rattle.ps_control.specs.declared.frames.Frame.TheVariants.{Text}
 use Rattle.ps_control.specs.declared.frames.Source.TheVariants.{Text as TextOf}
-use Rattle.ps_control.specs.Ahead.{OnDone, OnLeft, frames_ahead}
+use Rattle.ps_control.specs.Ahead.{HasRoom, OnDone, OnLeft, done_ahead, frames_ahead}
 use Rattle.ps_control.specs.Frames.{frame_of}
 use Rattle.ps_acts.specs.declared.lent.Trial.{Trial}
 use Rattle.ps_acts.specs.Acts.{Asked}
@@ -140,35 +140,29 @@ module _ (asks : Asks) where
   abbrev pub executed_asks : Word → Lent → Store → Asked
   executed_asks word l s = done_asks (meaning l word) (around_of l) (scene_of l s)
 
--- ---- by operands alone
-
--- With these values in hand the turn goes on by operands alone, whatever else is lent in this
--- setting and however it is tried; or nothing has changed
-abbrev pub GoesIn : (setting : Lent → Lent) → (words : List Word) → (asked : Lent → Store → Asked)
-    → (turn : Lent → Store → Turn) → (goes : Bool) → (old new : List Word) → Type 0
-GoesIn setting words asked turn true old new =
-    (l : Lent) (trial : Trial) → IsGood (record (setting l) { operands = old })
-    → AreValues (setting l).heap words
-    → TurnsWith words [] asked turn trial (Ok Goes) (record (setting l) { operands = old })
-    (record (setting l) { operands = new })
-GoesIn setting words asked turn false old new = new ≡ old
-
--- in every setting
-abbrev pub GoesAlone : (words : List Word) → (asked : Lent → Store → Asked)
-    → (turn : Lent → Store → Turn) → (goes : Bool) → (old new : List Word) → Type 0
-GoesAlone words asked turn goes old new = GoesIn (λ l. l) words asked turn goes old new
-
 -- ---- by operands and frames alone
 
--- With these values in hand and over fewer than 250 frames the turn goes on by operands and frames
--- alone, once the frame is pushed of the procedure that it enters; or nothing has changed
+-- With these values in hand the turn goes on by operands and frames alone, whatever else is lent in
+-- this setting and however it is tried, once the frame is pushed of the procedure that it enters, if
+-- that has room; or nothing has changed
+abbrev pub EntersIn : (setting : Lent → Lent) → (words : List Word) → (asked : Lent → Store → Asked)
+    → (turn : Lent → Store → Turn) → Ahead → (old new : List Word) → Type 0
+EntersIn setting words asked turn came old new = OnLeft came (new ≡ old)
+    × OnDone came ((l : Lent) (trial : Trial) → IsGood (record (setting l) { operands = old })
+    → AreValues (setting l).heap words → HasRoom 1 came (setting l).frames
+    → TurnsWith words [] asked turn trial (Ok Goes) (record (setting l) { operands = old })
+    (record (setting l) { operands = new; frames = frames_ahead came (setting l).frames }))
+
+-- in every setting
 abbrev pub EntersAlone : (words : List Word) → (asked : Lent → Store → Asked)
     → (turn : Lent → Store → Turn) → Ahead → (old new : List Word) → Type 0
-EntersAlone words asked turn ahead old new = OnLeft ahead (new ≡ old)
-    × OnDone ahead ((l : Lent) (trial : Trial) → IsGood (record l { operands = old })
-    → AreValues l.heap words → length l.frames < 250
-    → TurnsWith words [] asked turn trial (Ok Goes) (record l { operands = old })
-    (record l { operands = new; frames = frames_ahead ahead l.frames }))
+EntersAlone words asked turn came old new = EntersIn (λ l. l) words asked turn came old new
+
+-- by operands alone: it goes on, or nothing has changed
+abbrev pub GoesAlone : (words : List Word) → (asked : Lent → Store → Asked)
+    → (turn : Lent → Store → Turn) → (goes : Bool) → (old new : List Word) → Type 0
+GoesAlone words asked turn goes old new =
+    EntersAlone words asked turn (done_ahead goes) old new
 
 -- ---- whatever frames are above
 

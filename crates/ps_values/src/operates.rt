@@ -1,12 +1,13 @@
 //! Who does the operators of a step.
 
-ghost use Rattle.std.specs.Prelude.{◌≡◌, ◌<◌, []};
+ghost use Rattle.std.specs.Prelude.{◌≡◌, ◌<◌, [], IsTrue};
 ghost use Rattle.ps_language.specs.Effect.{Around, Scene};
 ghost use Rattle.ps_language.specs.declared.operators.Operator as names;
+ghost use Rattle.ps_word.specs.declared.values.Part.{Part as ThePart};
 ghost use Rattle.ps_acts.specs.Acts.{Asked, AreFew};
 ghost use Rattle.ps_acts.specs.Lent.{lent, IsGood};
 ghost use Rattle.ps_turns.specs.Turns.{Turns};
-ghost use Rattle.ps_values.specs.Values.{EntersAlone, GoesAlone, GoesUnder, operated_asks, operated_turn};
+ghost use Rattle.ps_values.specs.Values.{EntersAlone, GoesUnder, operated_asks, operated_turn};
 
 use crate::under::Under;
 use ps_acts::lent::{Context, Shared, Trial};
@@ -22,17 +23,13 @@ pub trait Operate {
     /// What an operator asks for that the language doesn't say, in a scene and what surrounds it.
     ghost asks: { names.Operator → Around → Scene → Asked };
 
-    /// An operator on operands alone acts, where it raises no error. Else nothing has changed, and
-    /// the answer is no, as it is for every other operator.
-    fn operate_quickly(&self, operator: Operator, operands: &mut Operands) -> bool
-        ensures { GoesAlone [] (operated_asks asks operator) (operated_turn operator) result
-            operands.old operands.new };
-
-    /// An operator that enters a procedure, over fewer than 250 frames, acts up to the frame of that
-    /// procedure, where it raises no error. Else nothing has changed, as by every other operator.
-    fn enter_quickly(&self, operator: Operator, operands: &mut Operands) -> Ahead
-        ensures { EntersAlone [] (operated_asks asks operator) (operated_turn operator) result
-            operands.old operands.new };
+    /// An operator on operands alone acts, where it raises no error, and so does one that enters a
+    /// procedure, up to the frame of that, where one may be entered. Else nothing has changed, as by
+    /// every other operator.
+    fn operate_ahead(&self, operator: Operator, operands: &mut Operands, may_enter: bool) -> Ahead
+        ensures comes { EntersAlone [] (operated_asks asks operator) (operated_turn operator) result
+            operands.old operands.new }
+        ensures enters { (body : ThePart) → result ≡ Ahead.Enters body → IsTrue may_enter };
 
     /// An operator that neither sees nor changes frames acts, where it raises no error and is made, as
     /// it would under any more frames. Else nothing was done. Every other operator may be left, and

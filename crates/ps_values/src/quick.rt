@@ -1,27 +1,29 @@
-//! An element of a procedure is done by operands alone, or it is known as which value it is treated
-//! (PLRM2, 3.5).
+//! An element of a procedure is done by operands and frames alone, or it is known as which value it is
+//! treated (PLRM2, 3.5).
 
-ghost use Rattle.std.specs.Prelude.{◌≡◌, ◌∷◌, [], if◌then◌else◌};
-ghost use Rattle.ps_word.specs.declared.words.Word.{Word as TheWord};
-ghost use Rattle.ps_word.specs.Format.{IsWord};
+ghost use Rattle.std.specs.Prelude.{◌≡◌, IsTrue};
+ghost use Rattle.ps_word.specs.declared.values.Part.{Part as ThePart};
 ghost use Rattle.ps_mem.specs.Shows.{AreValues, IsSound, IsValue};
-ghost use Rattle.ps_values.specs.Quick.{ComesTo};
-ghost use Rattle.ps_values.specs.Values.{GoesAlone, treated_asks, treated_turn};
+ghost use Rattle.ps_values.specs.Quick.{ComesTo, came_or};
 
+use crate::ahead::treat_ahead;
 use crate::operates::Operate;
 use crate::pushes::push_quickly;
 use ps_acts::lent::Dictionaries;
+use ps_control::ahead::Ahead;
 use ps_keys::lookups::look_up;
 use ps_mem::Memory;
 use ps_operands::Operands;
-use ps_word::values::Content;
+use ps_word::values::{Content, Part};
 use ps_word::words::Word;
 
-/// What an element came to by operands alone.
+/// What an element came to by operands and frames alone.
 #[derive(Clone, Copy, Debug, PartialEq, Eq)]
 pub enum Quick {
     /// It is done.
     Done,
+    /// It is done, and this procedure is entered, which isn't empty. Its frame isn't pushed.
+    Enters(Part),
     /// Nothing has changed, and it is done as this value is treated.
     Treats(Word),
     /// Nothing has changed, and no more is known.
@@ -29,35 +31,23 @@ pub enum Quick {
 }
 
 impl Quick {
-    /// Done, or this.
-    #[inline(always)]
-    fn or(done: bool, left: Quick) -> Quick
-        ensures { result ≡ (if done then Quick.Done else left) }
+    /// What it came to ahead, or this.
+    #[inline]
+    fn or(came: Ahead, left: Quick) -> Quick
+        ensures { result ≡ came_or came left }
     {
-        if done { Quick::Done } else { left }
+        match came {
+            Ahead::Goes => Quick::Done,
+            Ahead::Enters(body) => Quick::Enters(body),
+            Ahead::Left => left,
+        }
     }
 }
 
-/// Treats a value by operands alone, where that raises no error: a literal one becomes an operand,
-/// and an operator acts quickly. Else nothing has changed, and the answer is no.
-#[inline(always)]
-fn treat_quickly<O: Operate>(word: Word, operators: &O, operands: &mut Operands) -> bool
-    requires word { IsWord word.0 }
-    ensures { (command : TheWord) → GoesAlone (word ∷ command ∷ []) (treated_asks O.asks word)
-        (treated_turn command word) result operands.old operands.new }
-{
-    if let Some(operator) = word.executable_operator() {
-        return operators.operate_quickly(operator, operands);
-    }
-    if word.is_executable() {
-        return false;
-    }
-    push_quickly(word, operands)
-}
-
-/// Does an element by operands alone, where that raises no error: a literal value or a procedure
-/// becomes an operand, an operator acts quickly, and a name is looked up for either. Else it tells
-/// as which value the element is treated. The memory stays as it is.
+/// Does an element by operands and frames alone, where that raises no error: a literal value or a
+/// procedure becomes an operand, an operator acts ahead, and a name is looked up and its value treated
+/// ahead. A procedure is entered only where one may be. Else it tells as which value the element is
+/// treated. The memory stays as it is.
 #[inline(always)]
 pub fn do_quickly<O: Operate, M: Memory>(
     word: Word,
@@ -65,6 +55,7 @@ pub fn do_quickly<O: Operate, M: Memory>(
     dictionaries: &Dictionaries,
     operands: &mut Operands,
     memory: &mut M,
+    may_enter: bool,
 ) -> Quick
     requires sound { IsSound (M.heap memory.old) }
     requires dictionaries { AreValues (M.heap memory.old) dictionaries.now }
@@ -73,26 +64,27 @@ pub fn do_quickly<O: Operate, M: Memory>(
     ensures grants { M.grants memory.new ≡ M.grants memory.old }
     ensures comes { ComesTo O.asks (M.heap memory.old) dictionaries.now word result operands.old
         operands.new }
+    ensures enters { (body : ThePart) → result ≡ Quick.Enters body → IsTrue may_enter }
 {
     if !word.is_executable() {
-        let done = push_quickly(word, operands);
-        return Quick::or(done, Quick::Treats(word));
+        let came = Ahead::of(push_quickly(word, operands));
+        return Quick::or(came, Quick::Treats(word));
     }
     match word.known_content() {
         Content::Array(_) => {
-            let done = push_quickly(word, operands);
-            Quick::or(done, Quick::Left)
+            let came = Ahead::of(push_quickly(word, operands));
+            Quick::or(came, Quick::Left)
         }
         Content::Operator(operator) => {
-            let done = operators.operate_quickly(operator, operands);
-            Quick::or(done, Quick::Treats(word))
+            let came = operators.operate_ahead(operator, operands, may_enter);
+            Quick::or(came, Quick::Treats(word))
         }
         Content::Name(_) => {
             let Ok(Some(found)) = look_up(memory, dictionaries, Some(word)) else {
                 return Quick::Left;
             };
-            let done = treat_quickly(found.1, operators, operands);
-            Quick::or(done, Quick::Treats(found.1))
+            let came = treat_ahead(found.1, operators, operands, may_enter);
+            Quick::or(came, Quick::Treats(found.1))
         }
         _ => Quick::Treats(word),
     }

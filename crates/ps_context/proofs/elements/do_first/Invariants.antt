@@ -1,5 +1,5 @@
 use Rattle.std.proofs.Common.{◌≡◌}
-use Rattle.ps_context.specs.Elements.{DoesFirst}
+use Rattle.ps_context.specs.Elements.{DoesTo}
 use Rattle.ps_context.proofs.elements.do_first.Given as goal
 
 -- so many are done, and the memory stays
@@ -7,6 +7,6 @@ abbrev pub invariant-loop-done : goal.invariant-loop-done
 invariant-loop-done g l = record {
   heap : g.M.Memory.heap l.memory ≡ g.M.Memory.heap l.initial.memory;
   grants : g.M.Memory.grants l.memory ≡ g.M.Memory.grants l.initial.memory;
-  does : DoesFirst (g.M.Memory.heap l.initial.memory) l.dictionaries l.rest l.done
+  does : DoesTo (g.M.Memory.heap l.initial.memory) l.dictionaries l.rest l.from l.done
       l.initial.operands l.operands;
 }

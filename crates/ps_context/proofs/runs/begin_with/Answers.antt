@@ -1,17 +1,21 @@
 -- A procedure is taken off, and a loop turns.
-use Rattle.std.proofs.Common.{arith, sym}
+use Rattle.std.proofs.Common.{◌<◌, arith, length, sym}
+use Rattle.std.proofs.lemmas.Bool.Decides.{nat_tests}
+use Rattle.std.proofs.lemmas.List.{length-drop}
 use Rattle.ps_ops.proofs.Operands.{first_split}
 use Rattle.ps_acts.specs.Lent.{Lent, lent}
 use Rattle.ps_context.proofs.Ahead.{procedure_begins, made_turn, no_asks}
 use Rattle.ps_context.proofs.runs.begin_with.Goals as goal
 
-pub returns-in-Procedure-clause-begins : goal.returns-in-Procedure-clause-begins
-returns-in-Procedure-clause-begins g c =
+pub returns-else-is_full-clause-begins : goal.returns-else-is_full-clause-begins
+returns-else-is_full-clause-begins g c =
     let l : Lent = lent (g.M.Memory.heap c.args.memory.now) (g.M.Memory.grants c.args.memory.now)
     c.args.context.now c.args.shared.now in
+    let few : length l.frames < 250 =
+    grind (arith, nat_tests, c.is_full.ensures, c.if-is_full.false) in
     record {
       few = omega arith;
-      room = c.drop_top.ensures.room;
+      room = rw c.drop_top.ensures.frames (omega (arith, few, length-drop 1 l.frames));
       makes = rw c.drop_top.ensures.frames
           (procedure_begins l c.in-Procedure.rest
           (first_split _ _ (rw c.in-Procedure.is at (sym c.requires.top))) c.requires.good);

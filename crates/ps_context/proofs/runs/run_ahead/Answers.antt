@@ -1,5 +1,5 @@
 -- Frame after frame, until one doesn't go ahead.
-use Rattle.std.proofs.Common.{◌+◌, ◌<◌, ◌-◌, arith, Some, None, refl, sym, ◌∙◌}
+use Rattle.std.proofs.Common.{arith, Some, None, refl, sym, ◌∙◌}
 use Rattle.ps_interpreter.proofs.Running.{run_none}
 use Rattle.ps_context.specs.Steps.{own_asks}
 use Rattle.ps_context.proofs.Ahead.{runs_then, none_runs}

@@ -1,213 +1,217 @@
 -- Element after element, procedure after procedure.
-use Rattle.std.proofs.Common.{◌≡◌, ℕ, ◌+◌, ◌<◌, Some, arith, sym, subst}
-use Rattle.std.proofs.lemmas.Bool.{true≢false}
-use Rattle.std.proofs.lemmas.Bool.Decides.{nat_tests}
-use Rattle.ps_word.specs.declared.values.Part.{Part}
+use Rattle.std.proofs.Common.{◌≡◌, ℕ, ◌+◌, ◌-◌, ◌<◌, ◌≤◌, List, [], ◌∷◌, arith, sym, ap, subst, length, ◌∙◌}
+use Rattle.ps_control.specs.declared.frames.Frame.{Frame}
+use Rattle.ps_control.specs.declared.frames.Frame.TheVariants.{Procedure}
+use Rattle.ps_acts.proofs.Kept.{frames-good}
 use Rattle.ps_acts.specs.Lent.{Lent, lent}
-use Rattle.ps_frames.specs.Steps.{above}
-use Rattle.ps_interpreter.specs.Makes.{TurnsBehind}
+use Rattle.ps_frames.specs.Steps.{above, frames_after, part_behind, with_frames}
 use Rattle.ps_interpreter.specs.OwnSteps.{HasRun}
-use Rattle.ps_interpreter.proofs.Running.{run_none, run_then}
-use Rattle.ps_context.specs.Steps.{own_asks}
-use Rattle.ps_context.proofs.Ahead.{rest_from, first_known, done_all, done_some, runs_then}
+use Rattle.ps_interpreter.proofs.Running.{run_none}
+use Rattle.ps_context.proofs.Ahead.{done_above, done_to, element_first, entered_to, none_taken, one_taken, turned_above}
+use Rattle.ps_context.proofs.Behind.{step_behind, told_behind}
 use Rattle.ps_context.proofs.runs.run_entered.Goals as goal
 
-pub loop-made-init : goal.loop-made-init
-loop-made-init g c = record {
-  within = omega arith;
-  room = c.requires.room;
-  makes = run_none _ c.requires.good;
-}
-
-pub do_first-first-requires-clause-part : goal.do_first-first-requires-clause-part
-do_first-first-requires-clause-part g c = c.loop-made.invariant.makes.good.frames.0.0
-
-pub do_first-first-requires-clause-most : goal.do_first-first-requires-clause-most
-do_first-first-requires-clause-most g c = omega (arith, nat_tests, c.least-count.ensures)
-
-pub returns-then-first-rest-clause-runs : goal.returns-then-first-rest-clause-runs
-returns-then-first-rest-clause-runs g c =
+pub loop-from-init : goal.loop-from-init
+loop-from-init g c =
     let start : Lent = above c.args.entered (lent (g.M.Memory.heap c.args.memory.now)
     (g.M.Memory.grants c.args.memory.now) c.args.context.now c.args.shared.now) in
-    let l : Lent = lent (g.M.Memory.heap c.loop-made.memory) (g.M.Memory.grants c.loop-made.memory)
-    c.loop-made.context c.loop-made.shared in
-    let first = c.do_first-first.result in
-    rw (c.do_first-first.ensures.heap, c.do_first-first.ensures.grants)
-    (done_all start l c.loop-made.rest c.loop-made.made c.loop-made.invariant.makes first.done
-    c.do_first-first.new.operands c.do_first-first.ensures.does
-    (omega (arith, nat_tests, c.if-first-rest.true)))
+    let some : 1 ≤ c.args.entered.length = c.requires.good.frames.0.1 in
+    let none : 0 ≡ (c.args.most - c.args.most) + 0 = omega arith in
+    let made : HasRun 0 start start = run_none start c.requires.good in
+    record {
+      few = omega arith;
+      from = omega arith;
+      within = c.may_do-end.ensures.budget;
+      part = c.may_do-end.ensures.count;
+      room = omega (arith, c.requires.room);
+      ahead = λ any. c.requires.room;
+      some = λ any.
+          let one : 1 ≤ c.may_do-end.result =
+          c.may_do-end.ensures.some any some c.requires.room in
+          omega (arith, one);
+      held = c.requires.good.frames.0.0;
+      makes = subst (λ (n : ℕ). HasRun n start (with_frames
+          (frames_after 0 c.args.entered c.args.context.now.frames) start)) none
+          (subst (λ (frames : List Frame). HasRun 0 start (with_frames frames start))
+          (sym (none_taken c.args.entered c.args.context.now.frames some)) made);
+    }
 
-pub do_next-requires-clause-good : goal.do_next-requires-clause-good
-do_next-requires-clause-good g c =
+pub loop-from-preserved-in-All : goal.loop-from-preserved-in-All
+loop-from-preserved-in-All g c =
     let start : Lent = above c.args.entered (lent (g.M.Memory.heap c.args.memory.now)
     (g.M.Memory.grants c.args.memory.now) c.args.context.now c.args.shared.now) in
-    let l : Lent = lent (g.M.Memory.heap c.loop-made.memory) (g.M.Memory.grants c.loop-made.memory)
-    c.loop-made.context c.loop-made.shared in
-    let first = c.do_first-first.result in
-    let left : Part = rest_from c.loop-made.rest l.frames first.done in
-    let now : Lent = record l { operands = c.do_first-first.new.operands } in
-    let some : first.done < c.loop-made.rest.length =
-    omega (
-      arith,
-      nat_tests,
-      c.do_first-first.ensures.within,
-      c.least-count.ensures,
-      c.if-first-rest.false,
-    ) in
-    let makes : HasRun (c.loop-made.made + first.done) start (above left now) =
-    done_some start l c.loop-made.rest c.loop-made.made c.loop-made.invariant.makes first.done
-    c.do_first-first.new.operands c.do_first-first.ensures.does some in
-    rw (c.do_first-first.ensures.heap, c.do_first-first.ensures.grants, c.left_of-rest.ensures)
+    let l : Lent = lent (g.M.Memory.heap c.loop-from.memory) (g.M.Memory.grants c.loop-from.memory)
+    c.loop-from.context c.loop-from.shared in
+    let known = c.loop-from.invariant in
+    record {
+      few = known.few;
+      from = omega arith;
+      within = known.within;
+      part = known.part;
+      room = known.room;
+      ahead = known.ahead;
+      some = known.some;
+      held = rw c.do_first.ensures.heap known.held;
+      makes = rw (c.do_first.ensures.heap, c.do_first.ensures.grants)
+          (done_to start l c.loop-from.rest (c.args.most - c.loop-from.left) c.loop-from.from
+          c.loop-from.end c.do_first.new.operands known.from known.makes
+          (rw c.in-All.is at c.do_first.ensures.does));
+    }
+
+pub do_known-known-requires-clause-good : goal.do_known-known-requires-clause-good
+do_known-known-requires-clause-good g c =
+    let start : Lent = above c.args.entered (lent (g.M.Memory.heap c.args.memory.now)
+    (g.M.Memory.grants c.args.memory.now) c.args.context.now c.args.shared.now) in
+    let l : Lent = lent (g.M.Memory.heap c.loop-from.memory) (g.M.Memory.grants c.loop-from.memory)
+    c.loop-from.context c.loop-from.shared in
+    let known = c.loop-from.invariant in
+    let behind = rw c.in-Treats.is at c.do_first.ensures.behind in
+    let some : c.in-Treats.done < c.loop-from.rest.length = omega (arith, behind.1, known.part) in
+    let makes = done_above start l c.loop-from.rest (c.args.most - c.loop-from.left)
+    c.loop-from.from c.in-Treats.done c.do_first.new.operands behind.0 known.makes some
+    (rw c.in-Treats.is at c.do_first.ensures.does).0 in
+    rw (c.do_first.ensures.heap, c.do_first.ensures.grants, c.left_of-behind.ensures) makes.good
+
+pub do_known-known-requires-clause-first : goal.do_known-known-requires-clause-first
+do_known-known-requires-clause-first g c =
+    rw (c.do_first.ensures.heap, c.left_of-behind.ensures)
+    (element_first g.O.Operate.asks (g.M.Memory.heap c.loop-from.memory)
+    c.loop-from.context.dictionaries c.loop-from.rest c.loop-from.context.frames c.in-Treats.done
+    c.in-Treats.element (rw c.in-Treats.is at c.do_first.ensures.does).1)
+
+pub returns-then-is_some-clause-runs : goal.returns-then-is_some-clause-runs
+returns-then-is_some-clause-runs g c =
+    let start : Lent = above c.args.entered (lent (g.M.Memory.heap c.args.memory.now)
+    (g.M.Memory.grants c.args.memory.now) c.args.context.now c.args.shared.now) in
+    let l : Lent = lent (g.M.Memory.heap c.loop-from.memory) (g.M.Memory.grants c.loop-from.memory)
+    c.loop-from.context c.loop-from.shared in
+    let now : Lent = record l { operands = c.do_first.new.operands } in
+    let known = c.loop-from.invariant in
+    let behind = rw c.in-Treats.is at c.do_first.ensures.behind in
+    let some : c.in-Treats.done < c.loop-from.rest.length = omega (arith, behind.1, known.part) in
+    told_behind g.O.Operate.asks c.args.slot
+    ((c.args.most - c.loop-from.left) + c.in-Treats.done) start now _
+    (part_behind c.in-Treats.done c.loop-from.rest)
+    (done_above start l c.loop-from.rest (c.args.most - c.loop-from.left)
+    c.loop-from.from c.in-Treats.done c.do_first.new.operands behind.0 known.makes some
+    (rw c.in-Treats.is at c.do_first.ensures.does).0) c.do_known-known.result
+    (sym c.is_some.ensures ∙ c.if-is_some.true)
+    (rw (c.do_first.ensures.heap, c.do_first.ensures.grants, c.left_of-behind.ensures)
+    at c.do_known-known.ensures)
+
+pub pushed_turn-turn-requires-clause-good : goal.pushed_turn-turn-requires-clause-good
+pushed_turn-turn-requires-clause-good g c =
+    let start : Lent = above c.args.entered (lent (g.M.Memory.heap c.args.memory.now)
+    (g.M.Memory.grants c.args.memory.now) c.args.context.now c.args.shared.now) in
+    let l : Lent = lent (g.M.Memory.heap c.loop-from.memory) (g.M.Memory.grants c.loop-from.memory)
+    c.loop-from.context c.loop-from.shared in
+    let known = c.loop-from.invariant in
+    let behind = rw c.in-Left.is at c.do_first.ensures.behind in
+    let some : c.in-Left.done < c.loop-from.rest.length = omega (arith, behind.1, known.part) in
+    let makes = done_above start l c.loop-from.rest (c.args.most - c.loop-from.left)
+    c.loop-from.from c.in-Left.done c.do_first.new.operands behind.0 known.makes some
+    (rw c.in-Left.is at c.do_first.ensures.does) in
+    rw (c.do_first.ensures.heap, c.do_first.ensures.grants, c.left_of-behind-in-Left.ensures)
     makes.good
 
-pub do_next-requires-clause-first : goal.do_next-requires-clause-first
-do_next-requires-clause-first g c =
-    rw (c.do_first-first.ensures.heap, c.left_of-rest.ensures)
-    (first_known g.O.Operate.asks (g.M.Memory.heap c.loop-made.memory)
-    c.loop-made.context.dictionaries c.loop-made.rest c.loop-made.context.frames
-    c.do_first-first.result.done c.do_first-first.result.next c.do_first-first.ensures.next)
-
-pub loop-made-preserved-in-Enters : goal.loop-made-preserved-in-Enters
-loop-made-preserved-in-Enters g c =
+pub returns-in-Left-clause-runs : goal.returns-in-Left-clause-runs
+returns-in-Left-clause-runs g c =
     let start : Lent = above c.args.entered (lent (g.M.Memory.heap c.args.memory.now)
     (g.M.Memory.grants c.args.memory.now) c.args.context.now c.args.shared.now) in
-    let l : Lent = lent (g.M.Memory.heap c.loop-made.memory) (g.M.Memory.grants c.loop-made.memory)
-    c.loop-made.context c.loop-made.shared in
-    let first = c.do_first-first.result in
-    let left : Part = rest_from c.loop-made.rest l.frames first.done in
-    let now : Lent = record l { operands = c.do_first-first.new.operands } in
-    let some : first.done < c.loop-made.rest.length =
-    omega (
-      arith,
-      nat_tests,
-      c.do_first-first.ensures.within,
-      c.least-count.ensures,
-      c.if-first-rest.false,
-    ) in
-    let makes : HasRun (c.loop-made.made + first.done) start (above left now) =
-    done_some start l c.loop-made.rest c.loop-made.made c.loop-made.invariant.makes first.done
-    c.do_first-first.new.operands c.do_first-first.ensures.does some in
-    let came = rw (
-      c.do_first-first.ensures.heap,
-      c.do_first-first.ensures.grants,
-      c.left_of-rest.ensures,
-      c.in-Enters.is,
-    ) at c.do_next.ensures in
-    record {
-      within = omega (arith, nat_tests, c.if-made-most.true);
-      room = came.0;
-      makes = run_then (c.loop-made.made + first.done) 1 start (above left now) _ makes came.1;
-    }
+    let l : Lent = lent (g.M.Memory.heap c.loop-from.memory) (g.M.Memory.grants c.loop-from.memory)
+    c.loop-from.context c.loop-from.shared in
+    let now : Lent = record l { operands = c.do_first.new.operands } in
+    let known = c.loop-from.invariant in
+    let behind = rw c.in-Left.is at c.do_first.ensures.behind in
+    let some : c.in-Left.done < c.loop-from.rest.length = omega (arith, behind.1, known.part) in
+    turned_above g.O.Operate.asks start now (part_behind c.in-Left.done c.loop-from.rest)
+    ((c.args.most - c.loop-from.left) + c.in-Left.done)
+    (done_above start l c.loop-from.rest (c.args.most - c.loop-from.left)
+    c.loop-from.from c.in-Left.done c.do_first.new.operands behind.0 known.makes some
+    (rw c.in-Left.is at c.do_first.ensures.does)) c.args.slot c.pushed_turn-turn.result _
+    (rw (c.do_first.ensures.heap, c.do_first.ensures.grants, c.left_of-behind-in-Left.ensures)
+    at c.pushed_turn-turn.ensures)
 
-pub returns-in-Goes : goal.returns-in-Goes
-returns-in-Goes g c =
+pub loop-from-preserved : goal.loop-from-preserved
+loop-from-preserved g c =
     let start : Lent = above c.args.entered (lent (g.M.Memory.heap c.args.memory.now)
     (g.M.Memory.grants c.args.memory.now) c.args.context.now c.args.shared.now) in
-    let l : Lent = lent (g.M.Memory.heap c.loop-made.memory) (g.M.Memory.grants c.loop-made.memory)
-    c.loop-made.context c.loop-made.shared in
-    let first = c.do_first-first.result in
-    let left : Part = rest_from c.loop-made.rest l.frames first.done in
-    let now : Lent = record l { operands = c.do_first-first.new.operands } in
-    let some : first.done < c.loop-made.rest.length =
-    omega (
-      arith,
-      nat_tests,
-      c.do_first-first.ensures.within,
-      c.least-count.ensures,
-      c.if-first-rest.false,
-    ) in
-    let makes : HasRun (c.loop-made.made + first.done) start (above left now) =
-    done_some start l c.loop-made.rest c.loop-made.made c.loop-made.invariant.makes first.done
-    c.do_first-first.new.operands c.do_first-first.ensures.does some in
-    let came = rw (
-      c.do_first-first.ensures.heap,
-      c.do_first-first.ensures.grants,
-      c.left_of-rest.ensures,
-      c.in-Goes.is,
-    ) at c.do_next.ensures in
+    let l : Lent = lent (g.M.Memory.heap c.loop-from.memory) (g.M.Memory.grants c.loop-from.memory)
+    c.loop-from.context c.loop-from.shared in
+    let now : Lent = record l { operands = c.do_first.new.operands } in
+    let after : Lent = lent (g.M.Memory.heap c.do_known-known.new.memory)
+    (g.M.Memory.grants c.do_known-known.new.memory) c.do_known-known.new.context
+    c.do_known-known.new.shared in
+    let known = c.loop-from.invariant in
+    let rest = c.loop-from.rest in
+    let done = c.in-Treats.done in
+    let behind = rw c.in-Treats.is at c.do_first.ensures.behind in
+    let some : done < rest.length = omega (arith, behind.1, known.part) in
+    let came = step_behind g.O.Operate.asks c.args.slot
+    ((c.args.most - c.loop-from.left) + done) start now after (part_behind done rest)
+    (done_above start l rest (c.args.most - c.loop-from.left)
+    c.loop-from.from done c.do_first.new.operands behind.0 known.makes some
+    (rw c.in-Treats.is at c.do_first.ensures.does).0) c.do_known-known.result
+    (sym c.is_some.ensures ∙ c.if-is_some.false)
+    (rw (c.do_first.ensures.heap, c.do_first.ensures.grants, c.left_of-behind.ensures)
+    at c.do_known-known.ensures) in
+    let count : ((c.args.most - c.loop-from.left) + done) + 1
+    ≡ (c.args.most - c.loop-from.left) + (done + 1) = omega arith in
     record {
-      within = omega (arith, nat_tests, c.if-made-most.true);
-      fewer = λ some. absurd (true≢false (sym some));
-      more = λ none any. omega arith;
-      runs = run_then (c.loop-made.made + first.done) 1 start (above left now) _ makes came;
+      few = known.few;
+      from = omega (arith, behind.1);
+      within = known.within;
+      part = known.part;
+      room = rw came.0 known.room;
+      ahead = rw came.0 known.ahead;
+      some = known.some;
+      held = (frames-good l.heap after.heap came.1.1 (length l.program) (Procedure rest ∷ [])
+          ((known.held, omega (arith, some)), tt)).0.0;
+      makes = subst (λ (n : ℕ). HasRun n start
+          (with_frames (frames_after (done + 1) rest after.frames) after)) count
+          (subst (λ (frames : List Frame). HasRun
+          (((c.args.most - c.loop-from.left) + done) + 1) start (with_frames frames after))
+          (one_taken rest after.frames done some) came.1.0);
     }
 
-pub returns-in-Turned : goal.returns-in-Turned
-returns-in-Turned g c =
-    let asks = g.O.Operate.asks in
+pub loop-from-preserved-in-Enters : goal.loop-from-preserved-in-Enters
+loop-from-preserved-in-Enters g c =
     let start : Lent = above c.args.entered (lent (g.M.Memory.heap c.args.memory.now)
     (g.M.Memory.grants c.args.memory.now) c.args.context.now c.args.shared.now) in
-    let l : Lent = lent (g.M.Memory.heap c.loop-made.memory) (g.M.Memory.grants c.loop-made.memory)
-    c.loop-made.context c.loop-made.shared in
-    let first = c.do_first-first.result in
-    let left : Part = rest_from c.loop-made.rest l.frames first.done in
-    let now : Lent = record l { operands = c.do_first-first.new.operands } in
-    let some : first.done < c.loop-made.rest.length =
-    omega (
-      arith,
-      nat_tests,
-      c.do_first-first.ensures.within,
-      c.least-count.ensures,
-      c.if-first-rest.false,
-    ) in
-    let makes : HasRun (c.loop-made.made + first.done) start (above left now) =
-    done_some start l c.loop-made.rest c.loop-made.made c.loop-made.invariant.makes first.done
-    c.do_first-first.new.operands c.do_first-first.ensures.does some in
-    let came = rw (
-      c.do_first-first.ensures.heap,
-      c.do_first-first.ensures.grants,
-      c.left_of-rest.ensures,
-      c.in-Turned.is,
-    ) at c.do_next.ensures in
-    let same : (c.loop-made.made + first.done) + 0 ≡ c.loop-made.made + first.done = omega arith in
+    let l : Lent = lent (g.M.Memory.heap c.loop-from.memory) (g.M.Memory.grants c.loop-from.memory)
+    c.loop-from.context c.loop-from.shared in
+    let known = c.loop-from.invariant in
+    let rest = c.loop-from.rest in
+    let done = c.in-Enters.done in
+    let body = c.in-Enters.body in
+    let behind = rw c.in-Enters.is at c.do_first.ensures.behind in
+    let some : done < rest.length = omega (arith, behind.1, known.part) in
+    let room : 2 + length l.frames ≤ 250 = known.ahead (omega (arith, behind.1)) in
+    let makes = entered_to start l rest (c.args.most - c.loop-from.left) c.loop-from.from done
+    c.do_first.new.operands behind.0 known.makes body room
+    (rw c.in-Enters.is at c.do_first.ensures.does) in
+    let now : Lent = record l { operands = c.do_first.new.operands } in
+    let left : frames_after (done + 1) rest l.frames ≡ c.push_rest.new.frames =
+    sym (rw c.left_of.ensures at c.push_rest.ensures.frames ∙ one_taken rest l.frames done some) in
+    let frames : Procedure body ∷ frames_after (done + 1) rest l.frames
+    ≡ frames_after 0 body c.push_rest.new.frames =
+    ap (λ (fs : List Frame). Procedure body ∷ fs) left
+    ∙ sym (none_taken body c.push_rest.new.frames makes.good.frames.0.1) in
+    let count : (c.args.most - c.loop-from.left) + (done + 1)
+    ≡ (c.args.most - (c.loop-from.left - (done + 1))) + 0 =
+    omega (arith, behind.1, known.within, known.few) in
     record {
-      within = omega (arith, nat_tests, c.if-made-most.true);
-      fewer = λ some. omega (arith, nat_tests, c.if-made-most.true);
-      more = λ none. absurd (true≢false none);
-      runs = subst (λ (n : ℕ). TurnsBehind (own_asks asks) c.args.slot n c.in-Turned.turn start
-          (lent (g.M.Memory.heap c.do_next.new.memory) (g.M.Memory.grants c.do_next.new.memory)
-          c.do_next.new.context c.do_next.new.shared)) same
-          (runs_then (own_asks asks) c.args.slot (c.loop-made.made + first.done) 0
-          (Some c.in-Turned.turn) start (above left now) _ makes came);
+      few = omega (arith, known.few);
+      from = omega arith;
+      within = c.may_do-end-in-Enters.ensures.budget;
+      part = c.may_do-end-in-Enters.ensures.count;
+      room = omega (arith, c.push_rest.ensures.room, room);
+      ahead = c.may_do-end-in-Enters.ensures.room;
+      some = λ any. omega (arith, any, behind.1, known.within, known.few);
+      held = rw c.do_first.ensures.heap makes.good.frames.0.0;
+      makes = rw (c.do_first.ensures.heap, c.do_first.ensures.grants)
+          (subst (λ (n : ℕ). HasRun n start
+          (with_frames (frames_after 0 body c.push_rest.new.frames) now)) count
+          (subst (λ (fs : List Frame). HasRun ((c.args.most - c.loop-from.left) + (done + 1)) start
+          (with_frames fs now)) frames makes));
     }
-
-pub loop-made-preserved : goal.loop-made-preserved
-loop-made-preserved g c =
-    let start : Lent = above c.args.entered (lent (g.M.Memory.heap c.args.memory.now)
-    (g.M.Memory.grants c.args.memory.now) c.args.context.now c.args.shared.now) in
-    let l : Lent = lent (g.M.Memory.heap c.loop-made.memory) (g.M.Memory.grants c.loop-made.memory)
-    c.loop-made.context c.loop-made.shared in
-    let first = c.do_first-first.result in
-    let left : Part = rest_from c.loop-made.rest l.frames first.done in
-    let now : Lent = record l { operands = c.do_first-first.new.operands } in
-    let some : first.done < c.loop-made.rest.length =
-    omega (
-      arith,
-      nat_tests,
-      c.do_first-first.ensures.within,
-      c.least-count.ensures,
-      c.if-first-rest.false,
-    ) in
-    let makes : HasRun (c.loop-made.made + first.done) start (above left now) =
-    done_some start l c.loop-made.rest c.loop-made.made c.loop-made.invariant.makes first.done
-    c.do_first-first.new.operands c.do_first-first.ensures.does some in
-    record {
-      within = omega (
-        arith,
-        nat_tests,
-        c.do_first-first.ensures.within,
-        c.least-count.ensures,
-        c.loop-made.invariant.within,
-      );
-      room = c.loop-made.invariant.room;
-      makes = rw (c.do_first-first.ensures.heap, c.do_first-first.ensures.grants, c.left_of-rest.ensures)
-          makes;
-    }
-
-pub returns : goal.returns
-returns g c = record {
-  within = c.loop-made.invariant.within;
-  fewer = λ some. absurd (true≢false (sym some));
-  more = λ none any. omega (arith, nat_tests, c.loop-made.invariant.within, c.loop-made-test.false);
-  runs = rw c.push_frame.ensures c.loop-made.invariant.makes;
-}

@@ -22,3 +22,11 @@ returns-then-push_quickly-clause-reads c = λ asks heap dictionaries.
           (sym c.is_executable.ensures ∙ c.if-is_executable.false)
           (rw c.if-push_quickly.true at c.push_quickly.ensures),
     )
+
+pub returns-else-push_quickly-clause-reads : goal.returns-else-push_quickly-clause-reads
+returns-else-push_quickly-clause-reads c = λ asks heap dictionaries.
+    (rw c.if-push_quickly.false at c.push_quickly.ensures c.in_ok-word-in-Ok-Some.word).0
+
+pub returns-else-push_quickly-clause-kept : goal.returns-else-push_quickly-clause-kept
+returns-else-push_quickly-clause-kept c = λ none.
+    (rw c.if-push_quickly.false at c.push_quickly.ensures c.in_ok-word-in-Ok-Some.word).0

@@ -7,7 +7,7 @@ use Rattle.ps_mem.specs.Heap.{birth_at}
 use Rattle.ps_ops.proofs.Ready.{plain_value, plain_within}
 use Rattle.ps_control.specs.declared.frames.Frame.TheVariants.{For}
 use Rattle.ps_control.proofs.Courses.{course_goes}
-use Rattle.ps_control.proofs.Entering.{some_frame, room_kept}
+use Rattle.ps_control.proofs.Entering.{some_frame, one_fits, room_kept}
 use Rattle.ps_control.proofs.Loops.{for_is, for_held, for_ends}
 use Rattle.ps_control.proofs.Turning.{turns_entered}
 use Rattle.ps_control.proofs.ahead.for_ahead.Goals as goal
@@ -54,7 +54,7 @@ returns-clause-turns c =
     (λ births names. simp to_z-of_z at c.control_word.ensures.value births names) going)
     (c.may_enter.ensures.operands c.if-not-may_enter.false)
     (c.may_enter.ensures.body c.if-not-may_enter.false)
-    (c.may_enter.ensures.frames c.if-not-may_enter.false))
+    (one_fits frames (c.may_enter.ensures.frames c.if-not-may_enter.false)))
 
 pub returns-clause-room : goal.returns-clause-room
 returns-clause-room c =

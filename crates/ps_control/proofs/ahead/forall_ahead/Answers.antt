@@ -3,7 +3,7 @@ use Rattle.std.proofs.Common.{◌+◌, sym}
 use Rattle.ps_language.specs.declared.operators.Operator.TheVariants.{Forall as ForallOperator}
 use Rattle.ps_control.specs.declared.frames.Frame.TheVariants.{Forall}
 use Rattle.ps_control.specs.Turns.{words_of}
-use Rattle.ps_control.proofs.Entering.{some_frame, room_kept}
+use Rattle.ps_control.proofs.Entering.{some_frame, one_fits, room_kept}
 use Rattle.ps_control.proofs.Loops.{forall_is, forall_held}
 use Rattle.ps_control.proofs.Turning.{turns_entered}
 use Rattle.ps_control.proofs.ahead.forall_ahead.Goals as goal
@@ -25,7 +25,7 @@ returns-clause-turns c =
     (forall_is h size operands frames ready over at body top c.args.pushed is)
     (rw c.count.ensures at (c.may_enter.ensures.operands c.if-not-may_enter.false))
     (c.may_enter.ensures.body c.if-not-may_enter.false)
-    (c.may_enter.ensures.frames c.if-not-may_enter.false))
+    (one_fits frames (c.may_enter.ensures.frames c.if-not-may_enter.false)))
 
 pub returns-clause-room : goal.returns-clause-room
 returns-clause-room c =

@@ -9,10 +9,11 @@ use Rattle.ps_control.proofs.ahead.if_ahead.Goals as goal
 
 pub returns-then-truth-clause-controls : goal.returns-then-truth-clause-controls
 returns-then-truth-clause-controls c = λ h size frames room ready.
-    rw (c.enter_ahead.ensures, c.discard.ensures)
+    rw (c.discard.ensures)
     (enters_ahead if_row h size _ frames ready 2 _
     (if_enters h _ _ _ _ c.in-Some.ensures c.in-Some-procedure_of.ensures.part
     (sym c.is_executable.ensures ∙ c.if-not-is_executable.false)
     (λ births names. rw (c.in-Some-boolean_of.ensures births names, c.if-truth.true) refl))
     (c.in-Some-procedure_of.ensures.held h
-    (first_of_two_held (IsValue h) _ ready.operands.values _ _ c.in-Some.ensures)) room)
+    (first_of_two_held (IsValue h) _ ready.operands.values _ _ c.in-Some.ensures)) _
+    c.enter_ahead.ensures room)

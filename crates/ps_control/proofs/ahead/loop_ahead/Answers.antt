@@ -6,7 +6,7 @@ use Rattle.ps_control.specs.declared.frames.Frame.{Frame}
 use Rattle.ps_control.specs.declared.frames.Frame.TheVariants.{Loop, Procedure}
 use Rattle.ps_control.specs.Controls.{stacks}
 use Rattle.ps_control.specs.Turns.{Turns}
-use Rattle.ps_control.proofs.Entering.{some_frame}
+use Rattle.ps_control.proofs.Entering.{some_frame, one_fits}
 use Rattle.ps_control.proofs.Loops.{loop_is, loop_held}
 use Rattle.ps_control.proofs.Turning.{turns_entered}
 use Rattle.ps_control.proofs.ahead.loop_ahead.Goals as goal
@@ -25,4 +25,4 @@ returns-clause-turns c =
     (loop_is h size operands frames ready body top)
     (c.may_enter.ensures.operands c.if-not-may_enter.false)
     (c.may_enter.ensures.body c.if-not-may_enter.false)
-    (c.may_enter.ensures.frames c.if-not-may_enter.false))
+    (one_fits frames (c.may_enter.ensures.frames c.if-not-may_enter.false)))

@@ -3,7 +3,7 @@ use Rattle.std.proofs.Common.{◌-◌, [], arith, sym}
 use Rattle.std.proofs.lemmas.Bool.Decides.{nat_tests}
 use Rattle.ps_language.specs.declared.operators.Operator.TheVariants.{Repeat as RepeatOperator}
 use Rattle.ps_control.specs.declared.frames.Frame.TheVariants.{Repeat}
-use Rattle.ps_control.proofs.Entering.{some_frame, room_kept}
+use Rattle.ps_control.proofs.Entering.{some_frame, one_fits, room_kept}
 use Rattle.ps_control.proofs.Loops.{repeat_is, repeat_held, repeat_ends}
 use Rattle.ps_control.proofs.Turning.{turns_entered}
 use Rattle.ps_control.proofs.ahead.repeat_ahead.Goals as goal
@@ -30,7 +30,7 @@ returns-clause-turns c =
     (omega (arith, nat_tests, c.if-count-eq0.false)) top)
     (c.may_enter.ensures.operands c.if-not-may_enter.false)
     (c.may_enter.ensures.body c.if-not-may_enter.false)
-    (c.may_enter.ensures.frames c.if-not-may_enter.false))
+    (one_fits frames (c.may_enter.ensures.frames c.if-not-may_enter.false)))
 
 pub returns-clause-room : goal.returns-clause-room
 returns-clause-room c =

@@ -1,23 +1,25 @@
--- A procedure is entered, and an operator acts.
-use Rattle.std.proofs.Common.{[], ◌∷◌, sym, subst, ◌∙◌}
-use Rattle.ps_control.specs.declared.ahead.Ahead.{Ahead}
-use Rattle.ps_values.specs.Values.{EntersAlone, treated_asks, treated_turn}
-use Rattle.ps_values.proofs.Entering.{operator_enters, procedure_enters}
+-- A literal value is pushed, a procedure is entered, and an operator acts.
+use Rattle.std.proofs.Common.{sym, ◌∙◌}
+use Rattle.ps_values.proofs.Alone.{literal_treated, operator_treated}
+use Rattle.ps_values.proofs.Entering.{procedure_enters}
 use Rattle.ps_values.proofs.ahead.treat_ahead.Goals as goal
 
-pub returns-then-is_executable : goal.returns-then-is_executable
-returns-then-is_executable g c = λ command.
-    subst (λ (came : Ahead). EntersAlone (c.args.value ∷ command ∷ [])
-    (treated_asks g.O.Operate.asks c.args.value) (treated_turn command c.args.value) came
-    c.args.operands.now c.args.operands.now) (sym c.enter_ahead.ensures)
-    (procedure_enters g.O.Operate.asks command c.args.value
+pub returns-then-not-is_executable-clause-comes : goal.returns-then-not-is_executable-clause-comes
+returns-then-not-is_executable-clause-comes g c = λ command.
+    literal_treated g.O.Operate.asks command c.args.value _ _ _
+    (sym c.is_executable.ensures ∙ c.if-not-is_executable.true) c.push_quickly.result c.of.ensures
+    (c.push_quickly.ensures command)
+
+pub returns-then-is_executable-clause-comes : goal.returns-then-is_executable-clause-comes
+returns-then-is_executable-clause-comes g c = λ command.
+    procedure_enters g.O.Operate.asks command c.args.value
     (sym c.is_executable.ensures ∙ c.if-not-is_executable.false) c.in-Array.part
     (sym c.known_content.ensures ∙ c.in-Array.is)
-    (sym c.is_executable-in-Array.ensures ∙ c.if-is_executable.true) c.args.operands.now)
+    (sym c.is_executable-then-may_enter.ensures ∙ c.if-is_executable.true) c.args.operands.now _
+    c.enter_ahead.ensures
 
-pub returns-in-Operator : goal.returns-in-Operator
-returns-in-Operator g c = λ command.
-    operator_enters g.O.Operate.asks command c.args.value
-    (sym c.is_executable.ensures ∙ c.if-not-is_executable.false) c.in-Operator.operator
-    (sym c.known_content.ensures ∙ c.in-Operator.is) c.enter_quickly.result c.args.operands.now
-    c.enter_quickly.new.operands c.enter_quickly.ensures
+pub returns-in-Operator-clause-comes : goal.returns-in-Operator-clause-comes
+returns-in-Operator-clause-comes g c = λ command.
+    operator_treated g.O.Operate.asks command c.args.value _ _ _ c.in-Operator.operator
+    (sym c.is_executable.ensures ∙ c.if-not-is_executable.false)
+    (sym c.known_content.ensures ∙ c.in-Operator.is) c.operate_ahead.ensures.comes

@@ -5,7 +5,10 @@ use Rattle.ps_values.proofs.Pushing.{pushed_goes}
 use Rattle.ps_values.proofs.pushes.push_quickly.Goals as goal
 
 pub returns : goal.returns
-returns c = λ command l trial good values.
-    rw c.push_reserved.ensures
-    (pushed_goes command (record l { operands = c.args.operands.now }) trial c.args.word good values.0
-    (grind (arith, nat_tests, c.is_full.ensures, c.if-is_full.false)))
+returns c = λ command. (
+  tt,
+  λ l trial good values room.
+      rw c.push_reserved.ensures
+      (pushed_goes command (record l { operands = c.args.operands.now }) trial c.args.word good values.0
+      (grind (arith, nat_tests, c.is_full.ensures, c.if-is_full.false))),
+)
