@@ -70,6 +70,18 @@ module _ (rest : Part) (below : List Frame) where
       let length_is : (rest.length - made) - 1 ≡ rest.length - (made + 1) = omega arith in
       λ i. Frames_by (test_is i) (record rest { offset = offset_is i; length = length_is i })
 
+-- what stands at a place of the array is the element at its index in the part
+pub read_at : (heap : Heap) (rest : Part) (word : Word) (place : ℕ) → rest.offset ≤ place
+    → ((names : List (List ℕ)) (s : Store) → Shows heap names s
+    → slice_get (elements s (birth_at heap rest.address)) place
+    ≡ Some (value_of (birth_at heap) names word))
+    → (names : List (List ℕ)) (s : Store) → Shows heap names s
+    → slice_get (elements s (birth_at heap rest.address)) (rest.offset + (place - rest.offset))
+    ≡ Some (value_of (birth_at heap) names word)
+read_at heap rest word place from reads names s shows =
+    let at : rest.offset + (place - rest.offset) ≡ place = omega (arith, from) in
+    ap (slice_get (elements s (birth_at heap rest.address))) at ∙ reads names s shows
+
 module _ (heap : Heap) (dictionaries : List Word) (rest : Part) (from : ℕ) (old : List Word) where
   pub does_none : DoesTo heap dictionaries rest from from old old
   does_none l below good =

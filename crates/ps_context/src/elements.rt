@@ -1,6 +1,6 @@
 //! Elements of a procedure one after another, as far as operands and frames alone do them (PLRM2, 3.5).
 
-ghost use Rattle.std.specs.Prelude.{◌≡◌, ◌≤◌};
+ghost use Rattle.std.specs.Prelude.{◌≡◌, ◌+◌, ◌-◌, ◌<◌, ◌≤◌};
 ghost use Rattle.ps_control.specs.Frames.{IsHeld};
 ghost use Rattle.ps_mem.specs.Shows.{AreValues, IsSound};
 ghost use Rattle.ps_context.specs.Elements.{DoesFirst, IsBehind};
@@ -9,7 +9,7 @@ use ps_acts::lent::Dictionaries;
 use ps_frames::elements::Element;
 use ps_mem::Memory;
 use ps_operands::Operands;
-use ps_seq::arrays::element;
+use ps_seq::arrays::element_at;
 use ps_values::operates::Operate;
 use ps_values::quick::{Quick, do_quickly};
 use ps_word::values::Part;
@@ -27,8 +27,19 @@ pub enum First {
     Left { done: u16 },
 }
 
-/// Does elements of a procedure from a place on, up to another, as far as operands and frames alone do
-/// them, names looked up among them. The memory stays as it is.
+/// The index in a part of a place of its array.
+#[inline(always)]
+fn index_of(part: Part, place: u32) -> u16
+    requires from { part.offset ≤ place }
+    requires within { place < part.offset + part.length }
+    ensures { result ≡ place - part.offset }
+{
+    (place - part.offset as u32) as u16
+}
+
+/// Does elements of a procedure from an index on, up to another, as far as operands and frames alone do
+/// them, names looked up among them. The memory stays as it is. It counts by places of the array, so
+/// that no index is added to the part's offset for each.
 #[inline(always)]
 pub fn do_first<O: Operate, M: Memory>(
     rest: Part,
@@ -50,16 +61,24 @@ pub fn do_first<O: Operate, M: Memory>(
     ensures does { DoesFirst O.asks (M.heap memory.old) dictionaries.now rest from most result
         operands.old operands.new }
 {
-    for done in from..most {
-        let word = element(memory, rest, done);
+    let start = rest.offset as u32;
+    for place in start + from as u32..start + most as u32 {
+        let word = element_at(memory, rest, place);
         match do_quickly(word, operators, dictionaries, operands, memory, true) {
             Quick::Done => {}
-            Quick::Enters(body) => return First::Enters { done, body },
+            Quick::Enters(body) => {
+                let done = index_of(rest, place);
+                return First::Enters { done, body };
+            }
             Quick::Treats(value) => {
+                let done = index_of(rest, place);
                 let element = Element { word, value };
                 return First::Treats { done, element };
             }
-            Quick::Left => return First::Left { done },
+            Quick::Left => {
+                let done = index_of(rest, place);
+                return First::Left { done };
+            }
         }
     }
     First::All

@@ -1,7 +1,7 @@
 //! Steps one after another: those of frames that go ahead, and those by the tokens of a text (PLRM2,
 //! 3.4, 3.5).
 
-ghost use Rattle.std.specs.Prelude.{◌≡◌, ◌≢◌, ℕ, ◌+◌, ◌-◌, ◌<◌, ◌≤◌, ◌^◌, [], IfSome, IsSome, IsNone, Some, None, length, min};
+ghost use Rattle.std.specs.Prelude.{◌≡◌, ◌≢◌, ℕ, ◌∷◌, ◌+◌, ◌-◌, ◌<◌, ◌≤◌, ◌^◌, [], IfSome, IsSome, IsNone, Some, None, length, min};
 ghost use Rattle.ps_stacks.specs.Tops.{first_of};
 ghost use Rattle.ps_acts.specs.Lent.{lent, Lent, IsGood};
 ghost use Rattle.ps_turns.specs.Turns.{Turns};
@@ -122,14 +122,23 @@ fn do_known<O: Operate, M: Memory>(
     }
 }
 
+/// Pushes what is left of a procedure, for whose frame there is room. It is a call: a frame's bytes are
+/// written apart from the steps.
+#[inline(never)]
+fn push_left(frames: &mut Frames, rest: Part)
+    requires { length frames.old < 250 }
+    ensures { frames.new ≡ Frame.Procedure rest ∷ frames.old }
+{
+    push_frame(frames, Frame::Procedure { rest });
+}
+
 /// How many elements of so many may be done ahead within a budget: none where the frames have no room
 /// for two more.
 #[inline(always)]
 fn may_do(frames: &Frames, budget: u32, count: u16) -> u16
-    ensures budget { result ≤ budget }
-    ensures count { result ≤ count }
+    ensures within { result ≤ min budget count }
     ensures room { 1 ≤ result → 2 + length frames.now ≤ 250 }
-    ensures some { 1 ≤ budget → 1 ≤ count → 2 + length frames.now ≤ 250 → 1 ≤ result }
+    ensures all { 2 + length frames.now ≤ 250 → result ≡ min budget count }
 {
     if frames.len() >= FRAME_LIMIT - 1 {
         0
@@ -167,7 +176,7 @@ fn run_entered<O: Operate, M: Memory>(
     let mut rest = entered;
     let mut left = most;
     let mut from = 0;
-    let mut end = may_do(&context.frames, left, rest.length);
+    let mut end = least(left, rest.length);
     while from < end {
         let dictionaries = &context.dictionaries;
         let operands = &mut context.operands;
@@ -206,8 +215,7 @@ fn run_entered<O: Operate, M: Memory>(
         }
     }
     if end < rest.length {
-        let rest = left_of(rest, end);
-        push_frame(&mut context.frames, Frame::Procedure { rest });
+        push_left(&mut context.frames, left_of(rest, end));
     }
     Run {
         made: most - left + end as u32,

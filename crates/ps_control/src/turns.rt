@@ -159,11 +159,13 @@ pub fn repeat_turn(
 pub(crate) fn is_past(control: i64, increment: i32, limit: i32) -> bool
     ensures { result ≡ language.is_past control increment limit }
 {
-    if increment < 0 {
-        control < limit as i64
+    let limit = limit as i64;
+    let (first, last) = if increment < 0 {
+        (limit, control)
     } else {
-        control > limit as i64
-    }
+        (control, limit)
+    };
+    first > last
 }
 
 /// The word of a control value that isn't past the limit, which is an integer of 32 bits.

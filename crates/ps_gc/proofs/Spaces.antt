@@ -1,23 +1,18 @@
 -- The memory of both seats: where its objects lie, and what its values name.
-use Rattle.std.proofs.Common.{◌≡◌, ◌+◌, ◌^◌, ◌<◌, ◌&&◌, true, not, List, [], ◌∷◌, Some, None, Option, length, refl, sym, ap, ◌∙◌, inl, inr, arith}
+use Rattle.std.proofs.Common.{◌≡◌, ◌+◌, ◌&&◌, true, not, List, [], ◌∷◌, length, refl, sym, ap, ◌∙◌, inl, inr, arith}
 use Rattle.std.specs.Prelude.{◌==◌, nat_lt}
 use Rattle.std.proofs.lemmas.Bool.Decides.{nat_tests}
 use Rattle.std.proofs.Math.Logic.{∥∥₁_elim}
 use Rattle.std.proofs.Props.{props}
-use Rattle.std.specs.Option.{option_map}
 use Rattle.ps_word.specs.declared.words.Word.{Word}
 use Rattle.ps_word.specs.Headers.{cycle_limit}
-use Rattle.ps_mem.specs.Heap as memory
-use Rattle.ps_mem.specs.Heap.{Standing}
 use Rattle.ps_mem.specs.Shows.{AreValues}
-use Rattle.ps_mem.specs.Stands.{IsAddressed}
-use Rattle.ps_core_parts.specs.declared.events.Object.{Object}
 use Rattle.ps_core_parts.specs.declared.events.Vm.{Vm}
 use Rattle.ps_core_parts.specs.declared.events.Gc.{Gc}
-use Rattle.ps_core_parts.specs.Objects.{object_at, value_stands, values_stand}
+use Rattle.ps_core_parts.specs.Objects.{value_stands, values_stand}
 use Rattle.ps_core_laws.proofs.HeapTests.{and_both, bool_cases}
 use Rattle.ps_core_laws.proofs.KeptFacts.{kept}
-use Rattle.ps_parts_memory.specs.Memory.{heap_of, standing}
+use Rattle.ps_parts_memory.specs.Memory.{heap_of}
 use Rattle.ps_parts_memory.specs.Shown.{VmRuns}
 use Rattle.ps_parts_memory.specs.Stores.{numbers}
 use Rattle.ps_parts_memory.proofs.Written.{known_stands}
@@ -29,7 +24,7 @@ use Rattle.ps_table.specs.Events.{gc_did_all}
 use Rattle.ps_table.specs.Mirrored.{KeepsVm}
 use Rattle.ps_table.specs.Shown.{GcRuns}
 use Rattle.ps_table.proofs.Kept.{keeps_vm}
-use Rattle.ps_table.proofs.Facts.{knows, vm_facts}
+use Rattle.ps_table.proofs.Facts.{knows}
 
 -- what values refer to stands
 pub values_name : (v : Vm) (ws : List Word) → AreValues (heap_of v) ws

@@ -17,6 +17,26 @@ use ps_mem::Memory;
 use ps_word::values::Part;
 use ps_word::words::Word;
 
+/// The element at a place of the array that a part is of, below the part's end. The memory stays as
+/// it is.
+#[inline]
+pub fn element_at<M: Memory>(memory: &mut M, part: Part, place: u32) -> Word
+    requires sound { IsSound (M.heap memory.old) }
+    requires known { StandsAs (M.heap memory.old) Kind.Array part.address
+        (part.offset + part.length) }
+    requires place { place < part.offset + part.length }
+    ensures heap { M.heap memory.new ≡ M.heap memory.old }
+    ensures grants { M.grants memory.new ≡ M.grants memory.old }
+    ensures held { IsValue (M.heap memory.old) result }
+    ensures within { (names : List (List ℕ)) (s : Store) → Shows (M.heap memory.old) names s
+        → IsWithin (birth_at (M.heap memory.old)) names s result }
+    ensures value { (names : List (List ℕ)) (s : Store) → Shows (M.heap memory.old) names s
+        → slice_get (elements s (birth_at (M.heap memory.old) part.address)) place
+        ≡ Some (value_of (birth_at (M.heap memory.old)) names result) }
+{
+    memory.load(part.address, place)
+}
+
 /// The element at an index of a part of an array. The memory stays as it is.
 #[inline]
 pub fn element<M: Memory>(memory: &mut M, part: Part, index: u16) -> Word
@@ -33,7 +53,7 @@ pub fn element<M: Memory>(memory: &mut M, part: Part, index: u16) -> Word
         → slice_get (elements s (birth_at (M.heap memory.old) part.address)) (part.offset + index)
         ≡ Some (value_of (birth_at (M.heap memory.old)) names result) }
 {
-    memory.load(part.address, part.offset as u32 + index as u32)
+    element_at(memory, part, part.offset as u32 + index as u32)
 }
 
 /// Puts a value at an index of a part of an array, with one record in a cycle.

@@ -1,5 +1,5 @@
 -- What stands has an address of 24 bits.
-use Rattle.std.proofs.Common.{◌≡◌, ◌+◌, ◌^◌, ◌<◌, Some, None, Option, refl, ap, arith}
+use Rattle.std.proofs.Common.{◌≡◌, ◌^◌, ◌<◌, Some, None, Option, refl, ap, arith}
 use Rattle.std.specs.Option.{option_map}
 use Rattle.ps_mem.specs.Heap as memory
 use Rattle.ps_mem.specs.Stands.{IsAddressed}

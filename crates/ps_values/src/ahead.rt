@@ -33,7 +33,10 @@ pub fn treat_ahead<O: Operate>(
     if !value.is_executable() {
         return Ahead::of(push_quickly(value, operands));
     }
-    match value.known_content() {
+    if let Some(operator) = value.executable_operator() {
+        return operators.operate_ahead(operator, operands, may_enter);
+    }
+    match value.content() {
         Content::Array(part) => {
             if may_enter && is_executable(part.access) {
                 enter_ahead(part)
@@ -41,7 +44,6 @@ pub fn treat_ahead<O: Operate>(
                 Ahead::Left
             }
         }
-        Content::Operator(operator) => operators.operate_ahead(operator, operands, may_enter),
         _ => Ahead::Left,
     }
 }

@@ -70,14 +70,14 @@ pub fn do_quickly<O: Operate, M: Memory>(
         let came = Ahead::of(push_quickly(word, operands));
         return Quick::or(came, Quick::Treats(word));
     }
-    match word.known_content() {
+    if let Some(operator) = word.executable_operator() {
+        let came = operators.operate_ahead(operator, operands, may_enter);
+        return Quick::or(came, Quick::Treats(word));
+    }
+    match word.content() {
         Content::Array(_) => {
             let came = Ahead::of(push_quickly(word, operands));
             Quick::or(came, Quick::Left)
-        }
-        Content::Operator(operator) => {
-            let came = operators.operate_ahead(operator, operands, may_enter);
-            Quick::or(came, Quick::Treats(word))
         }
         Content::Name(_) => {
             let Ok(Some(found)) = look_up(memory, dictionaries, Some(word)) else {

@@ -201,10 +201,10 @@ is_null-at w word =
     zero_type Null = refl
     zero_type _ = refl
 
--- the number of an operator that a word of the layout has
-pub operator_low : (w : ℕ) → IsWord w → w / 2 ^ 60 ≡ 5 → w % 2 ^ 8 < 99
+-- an operator of the layout is its type, its flag and its number
+pub operator_below : (w : ℕ) → IsWord w → w / 2 ^ 60 ≡ 5 → w % 2 ^ 59 < 99
 unfolding packed
-operator_low w word is =
+operator_below w word is =
     let operator : OperatorName = slice_index_or every_operator (w % 2 ^ 8) Pop in
     let content : content_in w ≡ Operator operator = content_in-at w 5 is in
     let exact : type_number (Operator operator) * 2 ^ 60 + bit_of (executable_in w) * 2 ^ 59
@@ -213,3 +213,6 @@ operator_low w word is =
     + content_bits c ≡ w) content word.exact in
     let below = operator_number-below operator in
     omega (arith, exact, below)
+
+pub operator_low : (w : ℕ) → IsWord w → w / 2 ^ 60 ≡ 5 → w % 2 ^ 8 < 99
+operator_low w word is = omega (arith, operator_below w word is)

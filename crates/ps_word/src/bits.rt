@@ -14,6 +14,9 @@ pub(crate) const TYPE: u64 = 1 << 60;
 /// The flag of an executable value.
 pub(crate) const EXECUTABLE: u64 = 1 << 59;
 
+/// The word of the first operator, executable.
+pub(crate) const OPERATOR: u64 = 5 * TYPE + EXECUTABLE;
+
 /// The lowest bit of the access's number.
 pub(crate) const ACCESS: u64 = 1 << 57;
 

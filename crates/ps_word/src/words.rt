@@ -7,7 +7,7 @@ ghost use Rattle.ps_word.specs.Format.{value_in, content_in, IsWord, IsInFormat,
 ghost use Rattle.ps_word.specs.Readers as readers;
 
 use crate::bits::{
-    ACCESS, ADDRESS, EXECUTABLE, OFFSET, REFERENCE, TYPE, content_bits, type_number,
+    ACCESS, ADDRESS, EXECUTABLE, OFFSET, OPERATOR, REFERENCE, TYPE, content_bits, type_number,
 };
 use crate::operators::{operator_at, operator_of};
 use crate::values::{Content, Part, Value, access_number, access_of};
@@ -169,20 +169,8 @@ impl Word {
         }
     }
 
-    /// What the bits of a word of the layout say of the value but for its attribute: as `content`
-    /// has it, with no test of an operator's number.
-    #[inline(always)]
-    pub fn known_content(self) -> Content
-        requires word { IsWord self.0 }
-        ensures { result ≡ content_in self.0 }
-    {
-        if self.0 / TYPE == 5 {
-            return Content::Operator(operator_at((self.0 % (1 << 8)) as u8));
-        }
-        self.content()
-    }
-
-    /// The operator of a word of the layout, where it is one and executable: by one test of both.
+    /// The operator of a word of the layout, where it is one and executable: by one test of the type,
+    /// the attribute and the number, behind which the number needs no test.
     #[inline(always)]
     pub fn executable_operator(self) -> Option<Operator>
         requires word { IsWord self.0 }
@@ -191,8 +179,9 @@ impl Word {
         ensures other { result ≡ None → layout.executable_in self.0 ≡ true
             → readers.as_operator (content_in self.0) ≡ None }
     {
-        if self.0 / EXECUTABLE == 11 {
-            Some(operator_at((self.0 % (1 << 8)) as u8))
+        let number = self.0.wrapping_sub(OPERATOR);
+        if number < 99 {
+            Some(operator_at(number as u8))
         } else {
             None
         }

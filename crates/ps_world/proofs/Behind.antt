@@ -8,7 +8,6 @@ use Rattle.ps_language.specs.World.{Status, World}
 use Rattle.ps_language.specs.Worlds.{after_moves}
 use Rattle.ps_mem.specs.Heap.{birth_at}
 use Rattle.ps_mem.specs.Keeps.{Keeps}
-use Rattle.ps_mem.proofs.KeepsLemmas.{Keeps-then}
 use Rattle.ps_ops.specs.declared.failure.NotMade.{NotMade as Reason}
 use Rattle.ps_control.specs.declared.frames.Frame.{Frame}
 use Rattle.ps_acts.specs.Acts.{Asked, AreFew}

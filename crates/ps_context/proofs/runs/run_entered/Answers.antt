@@ -21,14 +21,11 @@ loop-from-init g c =
     record {
       few = omega arith;
       from = omega arith;
-      within = c.may_do-end.ensures.budget;
-      part = c.may_do-end.ensures.count;
+      within = omega (arith, c.least-end.ensures);
+      part = omega (arith, c.least-end.ensures);
       room = omega (arith, c.requires.room);
       ahead = λ any. c.requires.room;
-      some = λ any.
-          let one : 1 ≤ c.may_do-end.result =
-          c.may_do-end.ensures.some any some c.requires.room in
-          omega (arith, one);
+      some = λ any. omega (arith, any, some, c.least-end.ensures);
       held = c.requires.good.frames.0.0;
       makes = subst (λ (n : ℕ). HasRun n start (with_frames
           (frames_after 0 c.args.entered c.args.context.now.frames) start)) none
@@ -203,10 +200,10 @@ loop-from-preserved-in-Enters g c =
     record {
       few = omega (arith, known.few);
       from = omega arith;
-      within = c.may_do-end-in-Enters.ensures.budget;
-      part = c.may_do-end-in-Enters.ensures.count;
+      within = omega (arith, c.may_do-end.ensures.within);
+      part = omega (arith, c.may_do-end.ensures.within);
       room = omega (arith, c.push_rest.ensures.room, room);
-      ahead = c.may_do-end-in-Enters.ensures.room;
+      ahead = c.may_do-end.ensures.room;
       some = λ any. omega (arith, any, behind.1, known.within, known.few);
       held = rw c.do_first.ensures.heap makes.good.frames.0.0;
       makes = rw (c.do_first.ensures.heap, c.do_first.ensures.grants)

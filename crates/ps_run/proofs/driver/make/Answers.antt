@@ -1,5 +1,5 @@
 -- A run with a budget: its schedule has a text, and a plain one has its turns in order.
-use Rattle.std.proofs.Common.{◌≡◌, ℕ, true, false, List, ap, arith, refl, sym, subst, ◌∙◌, true≢false}
+use Rattle.std.proofs.Common.{◌≡◌, ℕ, List, ap, arith, refl, sym, subst, ◌∙◌, true≢false}
 use Rattle.std.specs.Prelude.{◌≤◌}
 use Rattle.std.proofs.lemmas.Result.{IfOk-weaker}
 use Rattle.ps_language.specs.Effect.{Around, Scene}

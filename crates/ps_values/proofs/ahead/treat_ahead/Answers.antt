@@ -14,12 +14,12 @@ pub returns-then-is_executable-clause-comes : goal.returns-then-is_executable-cl
 returns-then-is_executable-clause-comes g c = λ command.
     procedure_enters g.O.Operate.asks command c.args.value
     (sym c.is_executable.ensures ∙ c.if-not-is_executable.false) c.in-Array.part
-    (sym c.known_content.ensures ∙ c.in-Array.is)
+    (sym c.content.ensures ∙ c.in-Array.is)
     (sym c.is_executable-then-may_enter.ensures ∙ c.if-is_executable.true) c.args.operands.now _
     c.enter_ahead.ensures
 
-pub returns-in-Operator-clause-comes : goal.returns-in-Operator-clause-comes
-returns-in-Operator-clause-comes g c = λ command.
-    operator_treated g.O.Operate.asks command c.args.value _ _ _ c.in-Operator.operator
-    (sym c.is_executable.ensures ∙ c.if-not-is_executable.false)
-    (sym c.known_content.ensures ∙ c.in-Operator.is) c.operate_ahead.ensures.comes
+pub returns-in-Some-clause-comes : goal.returns-in-Some-clause-comes
+returns-in-Some-clause-comes g c = λ command.
+    let is = c.in-Some.ensures.operator in
+    operator_treated g.O.Operate.asks command c.args.value _ _ _ c.in-Some.operator is.0 is.1
+    c.operate_ahead.ensures.comes

@@ -26,13 +26,13 @@ returns-in-Array-clause-comes g c =
     c.or-in-Array.ensures
     (λ births names. made c.args.word births names _
     (sym c.is_executable.ensures ∙ c.if-not-is_executable.false)
-    (sym c.known_content.ensures ∙ c.in-Array.is))
+    (sym c.content.ensures ∙ c.in-Array.is))
     (c.push_quickly-in-Array.ensures c.args.word)
 
 pub returns-in-Ok-Some-clause-comes : goal.returns-in-Ok-Some-clause-comes
 returns-in-Ok-Some-clause-comes g c =
     let may = sym c.is_executable.ensures ∙ c.if-not-is_executable.false in
-    let content = sym c.known_content.ensures ∙ c.in-Name.is in
+    let content = sym c.content.ensures ∙ c.in-Name.is in
     let is = c.in-Ok-Some.is ∙ ap Ok c.in-Ok-Some.field-0-is in
     treated_comes g.O.Operate.asks (g.M.Memory.heap c.args.memory.now) c.args.dictionaries.now
     c.args.word c.args.operands.now c.treat_ahead-came.new.operands c.treat_ahead-came.result
@@ -46,8 +46,8 @@ returns-in-Ok-Some-clause-comes g c =
     c.look_up.result c.in-Ok-Some.found is c.look_up.ensures.value c.look_up.ensures.within)
     (c.treat_ahead-came.ensures.comes c.args.word)
 
-pub returns-in_default : goal.returns-in_default
-returns-in_default g c =
+pub returns-in_default-content : goal.returns-in_default-content
+returns-in_default-content g c =
     let may = sym c.is_executable.ensures ∙ c.if-not-is_executable.false in
     record {
       heap = refl;
@@ -58,25 +58,24 @@ returns-in_default g c =
           c.requires.word,
           own_treats g.O.Operate.asks (g.M.Memory.heap c.args.memory.now) c.args.dictionaries.now
               c.args.word
-              (λ births names. unmade births names c.args.word c.known_content.result
-              c.known_content.ensures may c.in_default.not-Array)
-              (λ births names. unnamed births names c.args.word c.known_content.result
-              c.known_content.ensures may c.in_default.not-Name),
+              (λ births names. unmade births names c.args.word c.content.result
+              c.content.ensures may c.in_default-content.not-Array)
+              (λ births names. unnamed births names c.args.word c.content.result
+              c.content.ensures may c.in_default-content.not-Name),
         ),
       );
       enters = λ body is. absurd (cc is);
     }
 
-pub returns-in-Operator-clause-comes : goal.returns-in-Operator-clause-comes
-returns-in-Operator-clause-comes g c =
-    let may = sym c.is_executable.ensures ∙ c.if-not-is_executable.false in
-    let content = sym c.known_content.ensures ∙ c.in-Operator.is in
+pub returns-in-Some-clause-comes : goal.returns-in-Some-clause-comes
+returns-in-Some-clause-comes g c =
+    let is = c.in-Some.ensures.operator in
     treated_comes g.O.Operate.asks (g.M.Memory.heap c.args.memory.now) c.args.dictionaries.now
     c.args.word c.args.operands.now c.operate_ahead-came.new.operands c.operate_ahead-came.result
-    c.args.word _ c.or-in-Operator.ensures c.requires.word
+    c.args.word _ c.or-in-Some.ensures c.requires.word
     (own_treats g.O.Operate.asks (g.M.Memory.heap c.args.memory.now) c.args.dictionaries.now
     c.args.word
-    (λ births names. operator_unmade c.args.word births names _ content may)
-    (λ births names. operator_unnamed c.args.word births names _ content may))
-    (operator_treated g.O.Operate.asks c.args.word c.args.word _ _ _ c.in-Operator.operator may
-    content c.operate_ahead-came.ensures.comes)
+    (λ births names. operator_unmade c.args.word births names _ is.1 is.0)
+    (λ births names. operator_unnamed c.args.word births names _ is.1 is.0))
+    (operator_treated g.O.Operate.asks c.args.word c.args.word _ _ _ c.in-Some.operator is.0 is.1
+    c.operate_ahead-came.ensures.comes)

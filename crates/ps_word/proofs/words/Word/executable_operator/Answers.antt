@@ -1,28 +1,31 @@
-use Rattle.std.proofs.Common.{◌≡◌, ◌%◌, ◌/◌, ◌^◌, true, arith, ap, sym, ◌∙◌, nat_eq}
+use Rattle.std.proofs.Common.{◌≡◌, ℕ, ◌+◌, slice_index_or, ◌%◌, ◌/◌, ◌^◌, arith, ap, sym, ◌∙◌, nat_eq}
 use Rattle.std.proofs.lemmas.Bool.Decides.{nat_tests}
 use Rattle.ps_word.specs.declared.values.Content.TheVariants.{Operator}
+use Rattle.ps_language.specs.OperatorList.{every_operator}
+use Rattle.ps_language.specs.declared.operators.Operator.TheVariants.{Pop}
 use Rattle.ps_word.specs.Format.{executable_in}
-use Rattle.ps_word.proofs.Places.{content_in-at, operator_low, as_operator-other}
+use Rattle.ps_word.proofs.Places.{content_in-at, operator_below, as_operator-other}
 use Rattle.ps_word.proofs.words.Word.executable_operator.Goals as goal
 
-pub operator_at-requires : goal.operator_at-requires
-operator_at-requires c =
-    let both = c.if-self-eq11.true in record {
-      some = operator_low c.args.self.0 c.requires.word (omega (arith, both));
-    }
+-- what the word has above the least of an executable operator
+abbrev number_of : ℕ → ℕ
+number_of w = (w + 12105675798371893248) % 18446744073709551616
 
-pub returns-then-self-eq11-clause-operator : goal.returns-then-self-eq11-clause-operator
+pub returns-then-number-lt99-clause-operator : goal.returns-then-number-lt99-clause-operator
 unfolding executable_in
-returns-then-self-eq11-clause-operator c =
+returns-then-number-lt99-clause-operator c =
     let w = c.args.self.0 in
-    let both = c.if-self-eq11.true in
-    let odd : (w / 2 ^ 59) % 2 ≡ 1 = omega (arith, both) in
-    let five : w / 2 ^ 60 ≡ 5 = omega (arith, both) in
-    (ap (λ n. nat_eq n 1) odd, content_in-at w 5 five ∙ ap Operator (sym c.operator_at.ensures))
+    let number = c.if-number-lt99.true in
+    let odd : (w / 2 ^ 59) % 2 ≡ 1 = omega (arith, number) in
+    let five : w / 2 ^ 60 ≡ 5 = omega (arith, number) in
+    let same : number_of w ≡ w % 2 ^ 8 = omega (arith, number) in
+    let operator = c.operator_at.ensures ∙ ap (λ n. slice_index_or every_operator n Pop) same in
+    (ap (λ n. nat_eq n 1) odd, content_in-at w 5 five ∙ ap Operator (sym operator))
 
-pub returns-else-self-eq11-clause-other : goal.returns-else-self-eq11-clause-other
+pub returns-else-number-lt99-clause-other : goal.returns-else-number-lt99-clause-other
 unfolding executable_in
-returns-else-self-eq11-clause-other c = λ none may.
+returns-else-number-lt99-clause-other c = λ none may.
     let w = c.args.self.0 in
     let odd : (w / 2 ^ 59) % 2 ≡ 1 = grind (arith, nat_tests, may) in
-    sym (as_operator-other w λ five. c.if-self-eq11.false (omega (arith, five, odd)))
+    let below = operator_below w c.requires.word in
+    sym (as_operator-other w λ five. omega (arith, c.if-number-lt99.false, five, odd, below five))

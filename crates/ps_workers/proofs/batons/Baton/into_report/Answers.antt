@@ -1,5 +1,5 @@
 -- The run that the baton kept, of the program and the numbers that are asked for.
-use Rattle.std.proofs.Common.{◌≡◌, List, ℕ, false, sym, subst, ◌∙◌, ap, arith, ◌==◌}
+use Rattle.std.proofs.Common.{◌≡◌, List, ℕ, sym, subst, ◌∙◌, ap, arith, ◌==◌}
 use Rattle.std.proofs.lemmas.Bool.Decides.{nat_tests}
 use Rattle.ps_language.specs.Schedules.{count_of}
 use Rattle.ps_mem.specs.Bounded.{bounded_space}
