@@ -30,7 +30,7 @@ use Rattle.ps_turns.specs.Turns.{Turns, TurnsWith, none_asked}
 use Rattle.ps_turns.proofs.Composing.{turns_as, restacked_good}
 use Rattle.ps_values.specs.Values.{meaning, EntersIn, among, done_turn, Asks, executed_asks}
 use Rattle.ps_frames.specs.declared.elements.Element.{Element}
-use Rattle.ps_frames.specs.Steps.{frames_after, rest_frames, running_turn, frame_asks, above, part_behind, with_frames, IsElement}
+use Rattle.ps_frames.specs.Steps.{frames_after, rest_frames, running_turn, frame_asks, above, part_behind, procedure_in, with_frames, IsElement}
 use Rattle.ps_frames.proofs.Taking.{rest_good, element_made}
 use Rattle.ps_interpreter.specs.Interprets.{asks_in, own_turn}
 use Rattle.ps_interpreter.specs.Makes.{TurnsBehind, Runs}
@@ -70,17 +70,21 @@ module _ (rest : Part) (below : List Frame) where
       let length_is : (rest.length - made) - 1 ≡ rest.length - (made + 1) = omega arith in
       λ i. Frames_by (test_is i) (record rest { offset = offset_is i; length = length_is i })
 
--- what stands at a place of the array is the element at its index in the part
-pub read_at : (heap : Heap) (rest : Part) (word : Word) (place : ℕ) → rest.offset ≤ place
+-- what is read by the sum of the array's address and a place there is the element at its index in
+-- the part
+pub read_at : (heap : Heap) (rest : Part) (word : Word) (sum : ℕ)
+    → rest.address + rest.offset ≤ sum
     → ((names : List (List ℕ)) (s : Store) → Shows heap names s
-    → slice_get (elements s (birth_at heap rest.address)) place
+    → slice_get (elements s (birth_at heap rest.address)) (sum - rest.address)
     ≡ Some (value_of (birth_at heap) names word))
     → (names : List (List ℕ)) (s : Store) → Shows heap names s
-    → slice_get (elements s (birth_at heap rest.address)) (rest.offset + (place - rest.offset))
+    → slice_get (elements s (birth_at heap rest.address))
+    (rest.offset + (sum - (rest.address + rest.offset)))
     ≡ Some (value_of (birth_at heap) names word)
-read_at heap rest word place from reads names s shows =
-    let at : rest.offset + (place - rest.offset) ≡ place = omega (arith, from) in
-    ap (slice_get (elements s (birth_at heap rest.address))) at ∙ reads names s shows
+read_at heap rest word sum from reads names s shows =
+    let there : rest.offset + (sum - (rest.address + rest.offset)) ≡ sum - rest.address =
+    omega (arith, from) in
+    ap (slice_get (elements s (birth_at heap rest.address))) there ∙ reads names s shows
 
 module _ (heap : Heap) (dictionaries : List Word) (rest : Part) (from : ℕ) (old : List Word) where
   pub does_none : DoesTo heap dictionaries rest from from old old
@@ -206,6 +210,15 @@ pub all_taken : (rest : Part) (below : List Frame) (made : ℕ) → made ≡ res
 all_taken rest below made all =
     let none : nat_lt made rest.length ≡ false = grind (arith, nat_tests, all) in
     ap (λ (b : Bool). Frames_by rest below b (rest_from rest below made)) none
+
+-- what is left of a procedure is told where that is the topmost frame
+pub procedure_top : (top : Option Frame) (rest : Part) → Some rest ≡ procedure_in top
+    → Some (Procedure rest) ≡ top
+procedure_top None rest is = absurd (cc)
+procedure_top (Some (Procedure left)) rest is =
+    let same : rest ≡ left = cc in
+    ap (λ (part : Part). Some (Procedure part)) same
+procedure_top (Some _) rest is = absurd (cc)
 
 -- ---- a turn of the general way
 

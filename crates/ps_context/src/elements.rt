@@ -1,6 +1,6 @@
 //! Elements of a procedure one after another, as far as operands and frames alone do them (PLRM2, 3.5).
 
-ghost use Rattle.std.specs.Prelude.{◌≡◌, ◌+◌, ◌-◌, ◌<◌, ◌≤◌};
+ghost use Rattle.std.specs.Prelude.{◌≡◌, ◌+◌, ◌-◌, ◌<◌, ◌≤◌, ◌^◌};
 ghost use Rattle.ps_control.specs.Frames.{IsHeld};
 ghost use Rattle.ps_mem.specs.Shows.{AreValues, IsSound};
 ghost use Rattle.ps_context.specs.Elements.{DoesFirst, IsBehind};
@@ -27,19 +27,19 @@ pub enum First {
     Left { done: u16 },
 }
 
-/// The index in a part of a place of its array.
+/// The index of an element, by its sum of address and place and that of the first.
 #[inline(always)]
-fn index_of(part: Part, place: u32) -> u16
-    requires from { part.offset ≤ place }
-    requires within { place < part.offset + part.length }
-    ensures { result ≡ place - part.offset }
+fn index_of(start: usize, at: usize) -> u16
+    requires from { start ≤ at }
+    requires within { at < start + 2 ^ 16 }
+    ensures { result ≡ at - start }
 {
-    (place - part.offset as u32) as u16
+    (at - start) as u16
 }
 
 /// Does elements of a procedure from an index on, up to another, as far as operands and frames alone do
-/// them, names looked up among them. The memory stays as it is. It counts by places of the array, so
-/// that no index is added to the part's offset for each.
+/// them, names looked up among them. The memory stays as it is. It counts by sums of the array's
+/// address and the places there, so that nothing is added for each.
 #[inline(always)]
 pub fn do_first<O: Operate, M: Memory>(
     rest: Part,
@@ -61,22 +61,22 @@ pub fn do_first<O: Operate, M: Memory>(
     ensures does { DoesFirst O.asks (M.heap memory.old) dictionaries.now rest from most result
         operands.old operands.new }
 {
-    let start = rest.offset as u32;
-    for place in start + from as u32..start + most as u32 {
-        let word = element_at(memory, rest, place);
+    let start = rest.address as usize + rest.offset as usize;
+    for at in start + from as usize..start + most as usize {
+        let word = element_at(memory, rest, at);
         match do_quickly(word, operators, dictionaries, operands, memory, true) {
             Quick::Done => {}
             Quick::Enters(body) => {
-                let done = index_of(rest, place);
+                let done = index_of(start, at);
                 return First::Enters { done, body };
             }
             Quick::Treats(value) => {
-                let done = index_of(rest, place);
+                let done = index_of(start, at);
                 let element = Element { word, value };
                 return First::Treats { done, element };
             }
             Quick::Left => {
-                let done = index_of(rest, place);
+                let done = index_of(start, at);
                 return First::Left { done };
             }
         }

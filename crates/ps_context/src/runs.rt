@@ -21,7 +21,7 @@ use ps_control::frames::{Cause, Frame, Frames, Source, push_frame, replace_top};
 use ps_control::unwinding::frames_to_loop;
 use ps_frames::ahead::turn_ahead;
 use ps_frames::elements::{Element, element_under, pushed_turn};
-use ps_frames::frames::{drop_top, push_rest};
+use ps_frames::frames::{drop_top, push_rest, top_procedure};
 use ps_frames::steps::frame_turn;
 use ps_interpreter::interprets::Run;
 use ps_mem::{Memory, SLOTS};
@@ -122,13 +122,17 @@ fn do_known<O: Operate, M: Memory>(
     }
 }
 
-/// Pushes what is left of a procedure, for whose frame there is room. It is a call: a frame's bytes are
-/// written apart from the steps.
+/// Pushes what is left of a procedure behind so many elements, for whose frame there is room. It is
+/// a call, so that a frame's bytes are written apart from the steps. It gets the procedure by a
+/// reference: so this stays in memory, and leaves its registers to the elements.
 #[inline(never)]
-fn push_left(frames: &mut Frames, rest: Part)
-    requires { length frames.old < 250 }
-    ensures { frames.new ≡ Frame.Procedure rest ∷ frames.old }
+fn push_left(frames: &mut Frames, rest: &Part, count: u16)
+    requires room { length frames.old < 250 }
+    requires within { count ≤ rest.now.length }
+    requires end { rest.now.offset + rest.now.length < 2 ^ 16 }
+    ensures { frames.new ≡ Frame.Procedure (part_behind count rest.now) ∷ frames.old }
 {
+    let rest = left_of(*rest, count);
     push_frame(frames, Frame::Procedure { rest });
 }
 
@@ -181,7 +185,18 @@ fn run_entered<O: Operate, M: Memory>(
         let dictionaries = &context.dictionaries;
         let operands = &mut context.operands;
         match do_first(rest, from, end, operators, dictionaries, operands, memory) {
-            First::All => from = end,
+            First::All => {
+                from = end;
+                if end == rest.length {
+                    if let Some(below) = top_procedure(&context.frames) {
+                        rest = below;
+                        from = 0;
+                        left -= end as u32;
+                        drop_top(&mut context.frames);
+                        end = least(left, rest.length);
+                    }
+                }
+            }
             First::Enters { done, body } => {
                 push_rest(&mut context.frames, left_of(rest, done));
                 left -= done as u32 + 1;
@@ -215,7 +230,7 @@ fn run_entered<O: Operate, M: Memory>(
         }
     }
     if end < rest.length {
-        push_left(&mut context.frames, left_of(rest, end));
+        push_left(&mut context.frames, &rest, end);
     }
     Run {
         made: most - left + end as u32,
@@ -300,7 +315,7 @@ fn run_text<O: Operate, M: Memory>(
     read_source(source, at, shared.program, &mut start, text, memory);
     while made < most {
         match read_token(
-            source, place, &mut start, text, operators, context, shared, memory, trial,
+            &source, place, &mut start, text, operators, context, shared, memory, trial,
         ) {
             Taken::Done(end) => {
                 place = end;

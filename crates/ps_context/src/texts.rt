@@ -132,7 +132,7 @@ fn fault_turn<O: Operate, M: Memory>(
 /// of an error.
 #[inline(never)]
 fn scanned_turn<O: Operate, M: Memory>(
-    source: Source,
+    source: &Source,
     at: usize,
     scanned: Result<Option<Token>, ScanFault>,
     text: &[u8],
@@ -145,16 +145,17 @@ fn scanned_turn<O: Operate, M: Memory>(
     requires slot { trial.slot < SLOTS }
     requires good { IsGood
         (lent (M.heap memory.old) (M.grants memory.old) context.old shared.old) }
-    requires top { first_of context.old.frames ≡ Some (Frame.Text source at) }
+    requires top { first_of context.old.frames ≡ Some (Frame.Text source.now at) }
     requires scanned { (s : Store) → IsShown
         (lent (M.heap memory.old) (M.grants memory.old) context.old shared.old) s
-        → let outcome = scan_at source at
+        → let outcome = scan_at source.now at
         (lent (M.heap memory.old) (M.grants memory.old) context.old shared.old) s in
-        IsScanned (Starves (source_of (birth_at (M.heap memory.old)) source) outcome) text.now
+        IsScanned (Starves (source_of (birth_at (M.heap memory.old)) source.now) outcome) text.now
         scanned outcome }
     requires token { IsTaken
-        (IsSourceAt (M.heap memory.old) (length shared.old.program.now) source) text.now scanned }
-    ensures { Turns (text_asks O.asks source at (drop 1 context.old.frames)) running_turn trial
+        (IsSourceAt (M.heap memory.old) (length shared.old.program.now) source.now) text.now
+        scanned }
+    ensures { Turns (text_asks O.asks source.now at (drop 1 context.old.frames)) running_turn trial
         result
         (lent (M.heap memory.old) (M.grants memory.old) context.old shared.old)
         (lent (M.heap memory.new) (M.grants memory.new) context.new shared.new) }
@@ -165,7 +166,7 @@ fn scanned_turn<O: Operate, M: Memory>(
             Ok(Turned::Goes)
         }
         Ok(Some(token)) => take_token(
-            source,
+            *source,
             at,
             token.end,
             &token.kind,
@@ -176,7 +177,7 @@ fn scanned_turn<O: Operate, M: Memory>(
             memory,
             trial,
         ),
-        Err(fault) => fault_turn::<O, M>(source, at, fault, context, shared, memory, trial),
+        Err(fault) => fault_turn::<O, M>(*source, at, fault, context, shared, memory, trial),
     }
 }
 
@@ -195,7 +196,7 @@ pub enum Taken {
 /// Not made, with nothing changed but for the frame, which is read up to the token: as the value.
 #[inline(never)]
 fn treat_token<O: Operate, M: Memory>(
-    source: Source,
+    source: &Source,
     at: usize,
     end: usize,
     word: Word,
@@ -208,21 +209,27 @@ fn treat_token<O: Operate, M: Memory>(
 ) -> Result<Turned, NotMade>
     requires slot { trial.slot < SLOTS }
     requires framed { 1 ≤ length context.old.frames }
-    requires good { IsGood (read_to source at
+    requires good { IsGood (read_to source.now at
         (lent (M.heap memory.old) (M.grants memory.old) context.old shared.old)) }
-    requires read { IsRead O.asks source at word value end (read_to source at
+    requires read { IsRead O.asks source.now at word value end (read_to source.now at
         (lent (M.heap memory.old) (M.grants memory.old) context.old shared.old)) }
-    ensures { Turns (text_asks O.asks source at (drop 1 context.old.frames)) running_turn trial
-        result (read_to source at
+    ensures { Turns (text_asks O.asks source.now at (drop 1 context.old.frames)) running_turn trial
+        result (read_to source.now at
         (lent (M.heap memory.old) (M.grants memory.old) context.old shared.old))
         (lent (M.heap memory.new) (M.grants memory.new) context.new shared.new) }
 {
-    let behind = Frame::Text { source, at: end };
+    let behind = Frame::Text {
+        source: *source,
+        at: end,
+    };
     replace_top(&mut context.frames, behind);
     match treat(value, word, operators, context, shared, memory, trial) {
         Ok(turned) => Ok(turned),
         Err(reason) => {
-            let before = Frame::Text { source, at };
+            let before = Frame::Text {
+                source: *source,
+                at,
+            };
             replace_top(&mut context.frames, before);
             Err(reason)
         }
@@ -233,7 +240,7 @@ fn treat_token<O: Operate, M: Memory>(
 /// it is; or the frame goes on from that place and the turn is made.
 #[inline(always)]
 fn take_scanned<O: Operate, M: Memory>(
-    source: Source,
+    source: &Source,
     at: usize,
     scanned: Result<Option<Token>, ScanFault>,
     text: &[u8],
@@ -245,17 +252,18 @@ fn take_scanned<O: Operate, M: Memory>(
 ) -> Taken
     requires slot { trial.slot < SLOTS }
     requires framed { 1 ≤ length context.old.frames }
-    requires good { IsGood (read_to source at
+    requires good { IsGood (read_to source.now at
         (lent (M.heap memory.old) (M.grants memory.old) context.old shared.old)) }
-    requires scanned { (s : Store) → IsShown (read_to source at
+    requires scanned { (s : Store) → IsShown (read_to source.now at
         (lent (M.heap memory.old) (M.grants memory.old) context.old shared.old)) s
-        → let outcome = scan_at source at
+        → let outcome = scan_at source.now at
         (lent (M.heap memory.old) (M.grants memory.old) context.old shared.old) s in
-        IsScanned (Starves (source_of (birth_at (M.heap memory.old)) source) outcome) text.now
+        IsScanned (Starves (source_of (birth_at (M.heap memory.old)) source.now) outcome) text.now
         scanned outcome }
     requires token { IsTaken
-        (IsSourceAt (M.heap memory.old) (length shared.old.program.now) source) text.now scanned }
-    ensures takes { Takes O.asks source at trial result
+        (IsSourceAt (M.heap memory.old) (length shared.old.program.now) source.now) text.now
+        scanned }
+    ensures takes { Takes O.asks source.now at trial result
         (lent (M.heap memory.old) (M.grants memory.old) context.old shared.old)
         (lent (M.heap memory.new) (M.grants memory.new) context.new shared.new) }
     ensures heap { OnDone result (M.heap memory.new ≡ M.heap memory.old) }
@@ -263,7 +271,10 @@ fn take_scanned<O: Operate, M: Memory>(
     match literal_ahead(&scanned, text, &shared.names, &mut context.operands) {
         Some(end) => Taken::Done(end),
         None => {
-            let top = Frame::Text { source, at };
+            let top = Frame::Text {
+                source: *source,
+                at,
+            };
             replace_top(&mut context.frames, top);
             Taken::Turned(scanned_turn(
                 source, at, scanned, text, operators, context, shared, memory, trial,
@@ -276,7 +287,7 @@ fn take_scanned<O: Operate, M: Memory>(
 /// read into it as it stands now, as far as the token takes, from a place of the string on.
 #[inline(always)]
 fn take_next<O: Operate, M: Memory>(
-    source: Source,
+    source: &Source,
     at: usize,
     start: &mut usize,
     list: &mut Vec<u8>,
@@ -288,19 +299,19 @@ fn take_next<O: Operate, M: Memory>(
 ) -> Taken
     requires slot { trial.slot < SLOTS }
     requires framed { 1 ≤ length context.old.frames }
-    requires good { IsGood (read_to source at
+    requires good { IsGood (read_to source.now at
         (lent (M.heap memory.old) (M.grants memory.old) context.old shared.old)) }
-    requires window { IsWindow (M.heap memory.old) source start.old list.old.items }
-    ensures takes { Takes O.asks source at trial result
+    requires window { IsWindow (M.heap memory.old) source.now start.old list.old.items }
+    ensures takes { Takes O.asks source.now at trial result
         (lent (M.heap memory.old) (M.grants memory.old) context.old shared.old)
         (lent (M.heap memory.new) (M.grants memory.new) context.new shared.new) }
     ensures window { OnDone result
-        (IsWindow (M.heap memory.new) source start.new list.new.items) }
+        (IsWindow (M.heap memory.new) source.now start.new list.new.items) }
 {
     let alloc = *shared.printed.allocator();
     let program = shared.program;
-    let scanned = scan_source(source, at, program, start, list, memory, alloc);
-    let text = scanned_bytes(source, program, list);
+    let scanned = scan_source(*source, at, program, start, list, memory, alloc);
+    let text = scanned_bytes(*source, program, list);
     take_scanned(
         source, at, scanned, text, operators, context, shared, memory, trial,
     )
@@ -310,7 +321,7 @@ fn take_next<O: Operate, M: Memory>(
 /// executable name is scanned in line.
 #[inline(always)]
 pub fn read_token<O: Operate, M: Memory>(
-    source: Source,
+    source: &Source,
     at: usize,
     start: &mut usize,
     list: &mut Vec<u8>,
@@ -322,21 +333,21 @@ pub fn read_token<O: Operate, M: Memory>(
 ) -> Taken
     requires slot { trial.slot < SLOTS }
     requires framed { 1 ≤ length context.old.frames }
-    requires good { IsGood (read_to source at
+    requires good { IsGood (read_to source.now at
         (lent (M.heap memory.old) (M.grants memory.old) context.old shared.old)) }
-    requires window { IsWindow (M.heap memory.old) source start.old list.old.items }
-    ensures takes { Takes O.asks source at trial result
+    requires window { IsWindow (M.heap memory.old) source.now start.old list.old.items }
+    ensures takes { Takes O.asks source.now at trial result
         (lent (M.heap memory.old) (M.grants memory.old) context.old shared.old)
         (lent (M.heap memory.new) (M.grants memory.new) context.new shared.new) }
     ensures window { OnDone result
-        (IsWindow (M.heap memory.new) source start.new list.new.items) }
+        (IsWindow (M.heap memory.new) source.now start.new list.new.items) }
 {
     let program = shared.program;
     let dictionaries = &context.dictionaries;
     let operands = &mut context.operands;
     let names = &shared.names;
     match word_ahead(
-        source,
+        *source,
         at,
         program,
         *start,
@@ -390,6 +401,6 @@ pub fn text_turn<O: Operate, M: Memory>(
     let scanned = scan_source(source, at, program, &mut start, list, memory, alloc);
     let text = scanned_bytes(source, program, list);
     scanned_turn(
-        source, at, scanned, text, operators, context, shared, memory, trial,
+        &source, at, scanned, text, operators, context, shared, memory, trial,
     )
 }

@@ -5,6 +5,7 @@ use Rattle.ps_language.specs.declared.errors.ErrorName.{ErrorName}
 use Rattle.ps_language.specs.declared.errors.ErrorName.TheVariants.{ExecStackOverflow}
 use Rattle.ps_language.specs.Value.{Value, Store}
 use Rattle.ps_language.specs.Effect.{Scene}
+use Rattle.ps_language.specs.Control.{with_operands}
 use Rattle.ps_language.specs.Outcome.{Outcome, leaves, fails}
 use Rattle.std.proofs.lemmas.Bool.Decides.{nat_tests}
 use Rattle.ps_word.specs.declared.words.Word.{Word}
@@ -12,6 +13,7 @@ use Rattle.ps_word.specs.declared.values.Part.{Part}
 use Rattle.ps_mem.specs.Heap.{Heap, birth_at}
 use Rattle.ps_mem.specs.Meaning.{value_of}
 use Rattle.ps_mem.specs.Shows.{IsWithin}
+use Rattle.ps_ops.specs.Does.{values_in}
 use Rattle.ps_ops.proofs.Held.{rest_held}
 use Rattle.ps_ops.proofs.Ready.{ready_drop}
 use Rattle.ps_control.specs.declared.frames.Frame.{Frame}
@@ -50,14 +52,30 @@ module _ (row : List Value → Scene → Outcome Scene) (h : Heap) (size : ℕ) 
         (record { operands = ready_drop h operands count ready.operands; frames = (held, ready.frames) })
         (λ names store both. record { operands = rest_held (IsWithin (birth_at h) names store) operands both.operands count; frames = (within.within names store both, both.frames) })
 
+  -- a row that takes so many operands, and no more
+  pub controls_taken : ((names : List (List ℕ)) (scene : Scene)
+      → row (values_in h names operands) (with_operands (values_in h names operands) scene)
+      ≡ leaves (with_operands (drop count (values_in h names operands)) scene))
+      → Controls row (Ok tt) h size (stacks operands frames) (stacks (drop count operands) frames)
+  controls_taken takes =
+      controls_left row h size (stacks operands frames) ready (stacks (drop count operands) frames)
+      (λ names store dictionaries.
+      takes names (scene_of h names store dictionaries (stacks operands frames))
+      ∙ rw (drop-map (value_of (birth_at h) names) count operands) refl)
+      (record {
+        operands = ready_drop h operands count ready.operands;
+        frames = ready.frames;
+      })
+      (λ names store both. record {
+        operands = rest_held (IsWithin (birth_at h) names store) operands both.operands count;
+        frames = both.frames;
+      })
+
   module _ (body : Part) where
     -- an empty procedure is entered by taking the operands
     pub controls_entered : body.length ≡ 0 → Enters row h operands count body → Controls row (Ok tt) h size (stacks operands frames) (stacks (drop count operands) frames)
-    controls_entered none enters = controls_left row h size (stacks operands frames) ready (stacks (drop count operands) frames)
-        (λ names store dictionaries. enters.is names (scene_of h names store dictionaries (stacks operands frames))
-        ∙ rw (none, drop-map (value_of (birth_at h) names) count operands) refl)
-        (record { operands = ready_drop h operands count ready.operands; frames = ready.frames })
-        (λ names store both. record { operands = rest_held (IsWithin (birth_at h) names store) operands both.operands count; frames = both.frames })
+    controls_entered none enters =
+        controls_taken (λ names scene. enters.is names scene ∙ rw none refl)
 
     -- one with elements by a frame
     pub begins_entered : 1 ≤ body.length → Enters row h operands count body → Begins row h operands count (Procedure body)

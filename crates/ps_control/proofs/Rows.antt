@@ -108,6 +108,16 @@ module _ (h : Heap) (operands : List Word) where
           ) refl;
     }
 
+    pub if_passes : IsTruth t false → (names : List (List ℕ)) (scene : Scene)
+        → if_row (values_in h names operands) (with_operands (values_in h names operands) scene)
+        ≡ leaves (with_operands (drop 2 (values_in h names operands)) scene)
+    if_passes truth names scene = rw (
+      first_two_split operands p t two,
+      procedure (birth_at h) names,
+      truth (birth_at h) names,
+      executable,
+    ) refl
+
   module _ (q p t : Word) (other body : Part) (three : Some (q, p, t) ≡ first_three_of operands)
       (second : IsProcedure q other) (first : IsProcedure p body)
       (may : (is_executable other.access && is_executable body.access) ≡ true) where

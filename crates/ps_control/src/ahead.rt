@@ -12,13 +12,12 @@ ghost use Rattle.ps_control.specs.Controls.{IsReadyFor, stacks};
 ghost use Rattle.ps_control.specs.Frames.{IsCourse};
 ghost use Rattle.ps_control.specs.Turns.{words_of, IsPushed};
 
-use crate::control::are_executable;
 use crate::frames::{Frame, Frames};
-use crate::readers::{boolean_of, procedure_of};
+use crate::readers::boolean_of;
 use crate::turns::{TurnOperands, control_word, is_past, leave};
 use ps_language::operators::Operator;
 use ps_operands::Operands;
-use ps_ops::arrays::{is_executable, push_within};
+use ps_ops::arrays::push_within;
 use ps_stacks::{FRAME_LIMIT, OPERAND_LIMIT};
 use ps_word::values::Part;
 use ps_word::words::Word;
@@ -216,15 +215,12 @@ pub fn if_ahead(operands: &mut Operands) -> Ahead
     let Some((procedure, condition)) = operands.top_two() else {
         return Ahead::Left;
     };
-    let Some(body) = procedure_of(procedure) else {
+    let Some(body) = procedure.as_enterable() else {
         return Ahead::Left;
     };
     let Some(truth) = boolean_of(condition) else {
         return Ahead::Left;
     };
-    if !is_executable(body.access) {
-        return Ahead::Left;
-    }
     operands.discard(2);
     if truth {
         enter_ahead(body)
@@ -246,18 +242,15 @@ pub fn if_else_ahead(operands: &mut Operands) -> Ahead
     let Some((second, first, condition)) = operands.top_three() else {
         return Ahead::Left;
     };
-    let Some(other) = procedure_of(second) else {
+    let Some(other) = second.as_enterable() else {
         return Ahead::Left;
     };
-    let Some(body) = procedure_of(first) else {
+    let Some(body) = first.as_enterable() else {
         return Ahead::Left;
     };
     let Some(truth) = boolean_of(condition) else {
         return Ahead::Left;
     };
-    if !are_executable(other.access, body.access) {
-        return Ahead::Left;
-    }
     operands.discard(3);
     if truth {
         enter_ahead(body)

@@ -23,7 +23,7 @@ use ps_word::values::Part;
 
 /// Whether two accesses permit execution.
 #[inline]
-pub(crate) fn are_executable(first: Access, second: Access) -> bool
+fn are_executable(first: Access, second: Access) -> bool
     ensures { result ≡ language.is_executable first && language.is_executable second }
 {
     is_executable(first) && is_executable(second)

@@ -1,5 +1,5 @@
 -- A step by the topmost frame, and one of an unwinding, over what is lent (PLRM2, 3.4, 3.5, 3.10).
-use Rattle.std.specs.Prelude.{◌≡◌, ℕ, ◌+◌, ◌-◌, Bool, true, false, List, [], ◌∷◌, drop, nat_lt, slice_get, Some, Result, Ok, Err, if◌then◌else◌}
+use Rattle.std.specs.Prelude.{◌≡◌, ℕ, ◌+◌, ◌-◌, Bool, true, false, List, [], ◌∷◌, drop, nat_lt, slice_get, Option, Some, None, Result, Ok, Err, if◌then◌else◌}
 use Rattle.ps_language.specs.declared.errors.ErrorName.{ErrorName}
 use Rattle.ps_language.specs.declared.operators.Operator.{Operator}
 use Rattle.ps_language.specs.Access.{elements, part_elements}
@@ -98,6 +98,11 @@ frames_after count rest below =
 -- once the first was
 abbrev pub rest_frames : Part → (below : List Frame) → List Frame
 rest_frames rest below = frames_after 1 rest below
+
+-- what is left of a procedure, where that is the frame
+abbrev pub procedure_in : Option Frame → Option Part
+procedure_in (Some (Procedure rest)) = Some rest
+procedure_in _ = None
 
 -- the element at a place of what is left of a procedure: its word, and the value as which it is
 -- treated over this heap and by this dictionary stack

@@ -122,7 +122,7 @@ fn element_turn<O: Operate, M: Memory>(
 /// The first element that is left of a procedure above the frames is done, where its value is known,
 /// neither sees nor changes frames, raises no error and is made. No frame is pushed. The records go
 /// into the log of a slot.
-#[inline(always)]
+#[inline(never)]
 pub fn element_under<O: Operate, M: Memory>(
     rest: Part,
     first: Option<Element>,

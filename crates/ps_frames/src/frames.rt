@@ -3,7 +3,7 @@
 ghost use Rattle.std.specs.Prelude.{◌≡◌, ◌∷◌, ◌+◌, ◌-◌, ◌<◌, ◌≤◌, ◌^◌, List, Some, drop, length};
 ghost use Rattle.ps_control.specs.declared.frames.Frame.{Frame as TheFrame};
 ghost use Rattle.ps_stacks.specs.Tops.{first_of};
-ghost use Rattle.ps_frames.specs.Steps.{frames_after, rest_frames};
+ghost use Rattle.ps_frames.specs.Steps.{frames_after, procedure_in, rest_frames};
 
 use ps_control::frames::{Frame, Frames};
 use ps_word::values::Part;
@@ -16,6 +16,17 @@ pub fn drop_top(frames: &mut Frames)
 {
     if frames.len() > 0 {
         frames.discard(1);
+    }
+}
+
+/// What is left of the procedure that is the topmost frame, where one is.
+#[inline(always)]
+pub fn top_procedure(frames: &Frames) -> Option<Part>
+    ensures { result ≡ procedure_in (first_of frames.now) }
+{
+    match frames.top() {
+        Some(Frame::Procedure { rest }) => Some(rest),
+        _ => None,
     }
 }
 

@@ -236,6 +236,12 @@ impl<W: Words> Memory for CollectedSpace<W> {
             .load(&mut gc.table, &mut gc.seat, address, place)
     }
 
+    fn load_at(&mut self, address: u32, at: usize) -> Word {
+        let gc = &mut self.collector.gc;
+        self.mirror
+            .load_at(&mut gc.table, &mut gc.seat, address, at)
+    }
+
     fn fill(&mut self, address: u32, place: u32, word: Word) {
         let gc = &mut self.collector.gc;
         self.mirror

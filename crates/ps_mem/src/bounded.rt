@@ -219,6 +219,10 @@ impl Memory for BoundedMemory {
         self.region.load(address, place)
     }
 
+    fn load_at(&mut self, address: u32, at: usize) -> Word {
+        self.region.load_at(address, at)
+    }
+
     fn fill(&mut self, address: u32, place: u32, word: Word) {
         self.region.put(address, place, word);
     }

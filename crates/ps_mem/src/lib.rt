@@ -1,7 +1,7 @@
 //! The memory of the language: the contract that every memory keeps, and two memories that keep it.
 #![tactic(auto)]
 
-ghost use Rattle.std.specs.Prelude.{◌≡◌, ℕ, ◌+◌, ◌^◌, ◌<◌, ◌≤◌, ◌↔◌, ◌≢◌, List, [], ◌∷◌, Bool, true, false, IsTrue, length, slice_get, Option, Some, None, OnOk, OnErr, IsOk, IsErr, IfSome, IsSome, slice_range};
+ghost use Rattle.std.specs.Prelude.{◌≡◌, ℕ, ◌+◌, ◌-◌, ◌^◌, ◌<◌, ◌≤◌, ◌↔◌, ◌≢◌, List, [], ◌∷◌, Bool, true, false, IsTrue, length, slice_get, Option, Some, None, OnOk, OnErr, IsOk, IsErr, IfSome, IsSome, slice_range};
 ghost use Rattle.ps_word.specs.Headers.{birth_limit};
 ghost use Rattle.ps_mem.specs.Heap.{Heap, Grants, AfterNew, AfterStore, object_at, fields_at, birth_at, stored, made, made_body, IsKind, has_room, standing_words, records_put, IsLogBounded};
 ghost use Rattle.ps_mem.specs.References.{NamesStanding};
@@ -140,6 +140,16 @@ pub trait Memory {
         ensures heap { heap self.new ≡ heap self.old }
         ensures grants { grants self.new ≡ grants self.old }
         ensures answer { slice_get (fields_at (heap self.old) address) place ≡ Some result };
+
+    /// The word in a field, by the sum of the address and the field's place: a loop over fields
+    /// adds nothing to it for each.
+    fn load_at(&mut self, address: u32, at: usize) -> Word
+        requires from { address ≤ at }
+        requires place { at - address < length (fields_at (heap self.old) address) }
+        ensures heap { heap self.new ≡ heap self.old }
+        ensures grants { grants self.new ≡ grants self.old }
+        ensures answer { slice_get (fields_at (heap self.old) address) (at - address)
+            ≡ Some result };
 
     /// Puts a word into a field of an object that may be filled, without a record. What the word
     /// refers to stands.

@@ -96,6 +96,11 @@ impl Memory for PlainMemory {
     }
 
     #[inline]
+    fn load_at(&mut self, address: u32, at: usize) -> Word {
+        self.region.load_at(address, at)
+    }
+
+    #[inline]
     fn fill(&mut self, address: u32, place: u32, word: Word) {
         self.region.put(address, place, word);
     }

@@ -111,7 +111,21 @@ impl Region {
             → slice_get (fields_at (heap_in self.now.words self.now.used self.now.next space)
             address) place ≡ Some result }
     {
-        Word(self.words.load(address as usize + HEADERS + place as usize))
+        self.load_at(address, address as usize + place as usize)
+    }
+
+    /// The word in a field of what stands at an address, by the sum of the address and its place.
+    #[inline]
+    pub(crate) fn load_at(&self, address: u32, at: usize) -> Word
+        requires from { address ≤ at }
+        requires place { (space : Space)
+            → at - address < length (fields_at (heap_in self.now.words self.now.used self.now.next
+            space) address) }
+        ensures { (space : Space)
+            → slice_get (fields_at (heap_in self.now.words self.now.used self.now.next space)
+            address) (at - address) ≡ Some result }
+    {
+        Word(self.words.load(at + HEADERS))
     }
 
     /// The header of what stands at an address.

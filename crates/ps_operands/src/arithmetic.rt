@@ -23,13 +23,7 @@ pub fn two_integers(operands: &Operands) -> Result<(i32, i32), ErrorName>
     let Some((right, left)) = operands.top_two() else {
         return Err(ErrorName::StackUnderflow);
     };
-    let Some(j) = right.as_integer() else {
-        return Err(ErrorName::TypeCheck);
-    };
-    let Some(i) = left.as_integer() else {
-        return Err(ErrorName::TypeCheck);
-    };
-    Ok((i, j))
+    left.both_integers(right).ok_or(ErrorName::TypeCheck)
 }
 
 /// The topmost operand as an integer. Raises `stackunderflow` and `typecheck`.
@@ -104,7 +98,7 @@ pub fn mul(operands: &mut Operands) -> Result<(), ErrorName>
 /// `i j idiv k`. Toward zero. Raises `stackunderflow`, `typecheck`, and `undefinedresult` where `j`
 /// is zero or the quotient doesn't fit 32 bits.
 #[tactic(auto, using(crate::proofs::Sources::sources, crate::proofs::NumberRows::two_lemmas))]
-#[inline]
+#[inline(never)]
 pub fn idiv(operands: &mut Operands) -> Result<(), ErrorName>
     ensures row { Does rows.idiv_row result operands.old operands.new }
     ensures kept { AreFrom operands.old operands.new }
@@ -128,6 +122,7 @@ pub fn modulo(operands: &mut Operands) -> Result<(), ErrorName>
 /// `i neg k`. Raises `stackunderflow`, `typecheck`, and `undefinedresult` where the result doesn't
 /// fit 32 bits.
 #[tactic(auto, using(crate::proofs::Sources::sources, crate::proofs::NumberRows::one_lemmas))]
+#[inline(never)]
 pub fn neg(operands: &mut Operands) -> Result<(), ErrorName>
     ensures row { Does rows.neg_row result operands.old operands.new }
     ensures kept { AreFrom operands.old operands.new }
@@ -139,6 +134,7 @@ pub fn neg(operands: &mut Operands) -> Result<(), ErrorName>
 /// `i abs k`. Raises `stackunderflow`, `typecheck`, and `undefinedresult` where the result doesn't
 /// fit 32 bits.
 #[tactic(auto, using(crate::proofs::Sources::sources, crate::proofs::NumberRows::one_lemmas))]
+#[inline(never)]
 pub fn abs(operands: &mut Operands) -> Result<(), ErrorName>
     ensures row { Does rows.abs_row result operands.old operands.new }
     ensures kept { AreFrom operands.old operands.new }
@@ -150,6 +146,7 @@ pub fn abs(operands: &mut Operands) -> Result<(), ErrorName>
 /// `i j bitshift k`: left where `j` is positive, right where it is negative; zeros come in. Raises
 /// `stackunderflow` and `typecheck`.
 #[tactic(auto, using(crate::proofs::Sources::sources, crate::proofs::NumberRows::two_lemmas))]
+#[inline(never)]
 pub fn bitshift(operands: &mut Operands) -> Result<(), ErrorName>
     ensures row { Does rows.bitshift_row result operands.old operands.new }
     ensures kept { AreFrom operands.old operands.new }

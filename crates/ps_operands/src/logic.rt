@@ -32,6 +32,7 @@ fn conjunction_of(left: Word, right: Word) -> Option<Word>
 
 /// `a b and c`: booleans, or integers bit by bit. Raises `stackunderflow` and `typecheck`.
 #[tactic(auto, using(crate::proofs::LogicRows::logical_lemmas, crate::proofs::Sources::sources))]
+#[inline(never)]
 pub fn and(operands: &mut Operands) -> Result<(), ErrorName>
     ensures row { Does rows.and_row result operands.old operands.new }
     ensures kept { AreFrom operands.old operands.new }
@@ -64,6 +65,7 @@ fn disjunction_of(left: Word, right: Word) -> Option<Word>
 
 /// `a b or c`: booleans, or integers bit by bit. Raises `stackunderflow` and `typecheck`.
 #[tactic(auto, using(crate::proofs::LogicRows::logical_lemmas, crate::proofs::Sources::sources))]
+#[inline(never)]
 pub fn or(operands: &mut Operands) -> Result<(), ErrorName>
     ensures row { Does rows.or_row result operands.old operands.new }
     ensures kept { AreFrom operands.old operands.new }
@@ -96,6 +98,7 @@ fn exclusive_disjunction_of(left: Word, right: Word) -> Option<Word>
 
 /// `a b xor c`: booleans, or integers bit by bit. Raises `stackunderflow` and `typecheck`.
 #[tactic(auto, using(crate::proofs::LogicRows::logical_lemmas, crate::proofs::Sources::sources))]
+#[inline(never)]
 pub fn xor(operands: &mut Operands) -> Result<(), ErrorName>
     ensures row { Does rows.xor_row result operands.old operands.new }
     ensures kept { AreFrom operands.old operands.new }
@@ -126,6 +129,7 @@ fn negation_of(operand: Word) -> Option<Word>
 
 /// `a not c`: a boolean, or an integer bit by bit. Raises `stackunderflow` and `typecheck`.
 #[tactic(auto, using(crate::proofs::LogicRows::logical_lemmas, crate::proofs::Sources::sources))]
+#[inline(never)]
 pub fn not(operands: &mut Operands) -> Result<(), ErrorName>
     ensures row { Does rows.not_row result operands.old operands.new }
     ensures kept { AreFrom operands.old operands.new }

@@ -70,6 +70,7 @@ pub fn dup(operands: &mut Operands) -> Result<(), ErrorName>
 /// `x1 .. xn n copy x1 .. xn x1 .. xn`. Raises `stackunderflow`, `typecheck` where `n` is no
 /// integer, `rangecheck` where it is negative, and `stackoverflow`.
 #[tactic(auto, using(crate::proofs::Sources::sources, crate::proofs::Meanings::readers))]
+#[inline(never)]
 pub fn copy_count(operands: &mut Operands) -> Result<(), ErrorName>
     ensures row { Does copy_number_row result operands.old operands.new }
     ensures kept { AreFrom operands.old operands.new }
@@ -149,6 +150,7 @@ pub fn roll(operands: &mut Operands) -> Result<(), ErrorName>
 
 /// `x1 .. xn clear`.
 #[tactic(auto, using(crate::proofs::Sources::sources))]
+#[inline(never)]
 pub fn clear(operands: &mut Operands) -> Result<(), ErrorName>
     ensures row { Does rows.clear_row result operands.old operands.new }
     ensures kept { AreFrom operands.old operands.new }
@@ -159,6 +161,7 @@ pub fn clear(operands: &mut Operands) -> Result<(), ErrorName>
 
 /// `x1 .. xn count x1 .. xn n`. Raises `stackoverflow`.
 #[tactic(auto, using(crate::proofs::Sources::sources, crate::proofs::StackRows::row_lemmas))]
+#[inline(never)]
 pub fn count(operands: &mut Operands) -> Result<(), ErrorName>
     ensures row { Does rows.count_row result operands.old operands.new }
     ensures kept { AreFrom operands.old operands.new }
@@ -169,6 +172,7 @@ pub fn count(operands: &mut Operands) -> Result<(), ErrorName>
 
 /// `mark m`. Raises `stackoverflow`.
 #[tactic(auto, using(crate::proofs::Sources::sources, crate::proofs::StackRows::row_lemmas))]
+#[inline(never)]
 pub fn mark(operands: &mut Operands) -> Result<(), ErrorName>
     ensures row { Does rows.mark_row result operands.old operands.new }
     ensures kept { AreFrom operands.old operands.new }
@@ -178,6 +182,7 @@ pub fn mark(operands: &mut Operands) -> Result<(), ErrorName>
 
 /// `m x1 .. xn cleartomark`. Raises `unmatchedmark`.
 #[tactic(auto, using(crate::proofs::Sources::sources, crate::proofs::Marks::mark_lemmas))]
+#[inline(never)]
 pub fn cleartomark(operands: &mut Operands) -> Result<(), ErrorName>
     ensures row { Does rows.cleartomark_row result operands.old operands.new }
     ensures kept { AreFrom operands.old operands.new }
@@ -191,6 +196,7 @@ pub fn cleartomark(operands: &mut Operands) -> Result<(), ErrorName>
 
 /// `m x1 .. xn counttomark m x1 .. xn n`. Raises `unmatchedmark` and `stackoverflow`.
 #[tactic(auto, using(crate::proofs::Sources::sources, crate::proofs::Marks::mark_lemmas))]
+#[inline(never)]
 pub fn counttomark(operands: &mut Operands) -> Result<(), ErrorName>
     ensures row { Does rows.counttomark_row result operands.old operands.new }
     ensures kept { AreFrom operands.old operands.new }

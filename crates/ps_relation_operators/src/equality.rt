@@ -28,7 +28,6 @@ use ps_names::Names;
 use ps_operands::Operands;
 use ps_operands::plain::boolean;
 use ps_ops::arrays::is_readable;
-use ps_ops::readers::integer_of;
 use ps_seq::strings::compare_bytes;
 use ps_strings::readers::string_of;
 use ps_word::values::Part;
@@ -138,10 +137,7 @@ pub fn equality_quickly(operands: &mut Operands, wanted: bool) -> bool
     let Some((right, left)) = operands.top_two() else {
         return false;
     };
-    let Some(i) = integer_of(left) else {
-        return false;
-    };
-    let Some(j) = integer_of(right) else {
+    let Some((i, j)) = left.both_integers(right) else {
         return false;
     };
     let equal = i.cmp(&j).is_eq();

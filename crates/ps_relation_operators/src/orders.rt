@@ -118,10 +118,7 @@ pub fn order_quickly(operands: &mut Operands, relation: Relation) -> bool
     let Some((right, left)) = operands.top_two() else {
         return false;
     };
-    let Some(i) = integer_of(left) else {
-        return false;
-    };
-    let Some(j) = integer_of(right) else {
+    let Some((i, j)) = left.both_integers(right) else {
         return false;
     };
     operands.replace(2, boolean(relation.holds(i.cmp(&j))));

@@ -1,7 +1,7 @@
 //! Arrays in any memory, as lists of values (PLRM2, 3.3.6 and 8: get, put, getinterval,
 //! putinterval, array).
 
-ghost use Rattle.std.specs.Prelude.{◌≡◌, ◌≢◌, ℕ, ◌+◌, ◌<◌, ◌≤◌, ◌^◌, ◌++◌, List, [], ◌∷◌, length, map, replicate, slice_get, Some, Option, IsTrue};
+ghost use Rattle.std.specs.Prelude.{◌≡◌, ◌≢◌, ℕ, ◌+◌, ◌-◌, ◌<◌, ◌≤◌, ◌^◌, ◌++◌, List, [], ◌∷◌, length, map, replicate, slice_get, Some, Option, IsTrue};
 ghost use Rattle.ps_language.specs.Value.{Store, array_object};
 ghost use Rattle.ps_language.specs.Access.{elements, part_elements, with_part_elements};
 ghost use Rattle.ps_language.specs.Readers.{null};
@@ -17,24 +17,25 @@ use ps_mem::Memory;
 use ps_word::values::Part;
 use ps_word::words::Word;
 
-/// The element at a place of the array that a part is of, below the part's end. The memory stays as
-/// it is.
+/// The element of a part of an array by the sum of the array's address and its place in the array.
+/// The memory stays as it is.
 #[inline]
-pub fn element_at<M: Memory>(memory: &mut M, part: Part, place: u32) -> Word
+pub fn element_at<M: Memory>(memory: &mut M, part: Part, at: usize) -> Word
     requires sound { IsSound (M.heap memory.old) }
     requires known { StandsAs (M.heap memory.old) Kind.Array part.address
         (part.offset + part.length) }
-    requires place { place < part.offset + part.length }
+    requires from { part.address ≤ at }
+    requires within { at < part.address + part.offset + part.length }
     ensures heap { M.heap memory.new ≡ M.heap memory.old }
     ensures grants { M.grants memory.new ≡ M.grants memory.old }
     ensures held { IsValue (M.heap memory.old) result }
     ensures within { (names : List (List ℕ)) (s : Store) → Shows (M.heap memory.old) names s
         → IsWithin (birth_at (M.heap memory.old)) names s result }
     ensures value { (names : List (List ℕ)) (s : Store) → Shows (M.heap memory.old) names s
-        → slice_get (elements s (birth_at (M.heap memory.old) part.address)) place
+        → slice_get (elements s (birth_at (M.heap memory.old) part.address)) (at - part.address)
         ≡ Some (value_of (birth_at (M.heap memory.old)) names result) }
 {
-    memory.load(part.address, place)
+    memory.load_at(part.address, at)
 }
 
 /// The element at an index of a part of an array. The memory stays as it is.
@@ -53,7 +54,8 @@ pub fn element<M: Memory>(memory: &mut M, part: Part, index: u16) -> Word
         → slice_get (elements s (birth_at (M.heap memory.old) part.address)) (part.offset + index)
         ≡ Some (value_of (birth_at (M.heap memory.old)) names result) }
 {
-    element_at(memory, part, part.offset as u32 + index as u32)
+    let start = part.address as usize + part.offset as usize;
+    element_at(memory, part, start + index as usize)
 }
 
 /// Puts a value at an index of a part of an array, with one record in a cycle.

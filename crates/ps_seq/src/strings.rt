@@ -70,10 +70,6 @@ fn append_some(
     ensures full { OnErr result (vec_capacity output.old < vec_len output.old + count) }
     ensures room { vec_capacity output.old ≤ vec_capacity output.new }
 {
-    // a whole word is one store
-    if count == BYTES {
-        return output.extend_from_slice(&bytes);
-    }
     output.extend_from_slice(&bytes[first as usize..(first + count) as usize])
 }
 
@@ -105,9 +101,15 @@ pub fn append_bytes<M: Memory>(
     while place < end {
         let bytes = memory.load(part.address, place / BYTES).0.to_le_bytes();
         let first = place % BYTES;
-        let count = (BYTES - first).min(end - place);
-        append_some(bytes, first, count, output)?;
-        place += count;
+        if first == 0 && end - place >= BYTES {
+            // a whole word is one store
+            output.extend_from_slice(&bytes)?;
+            place += BYTES;
+        } else {
+            let count = (BYTES - first).min(end - place);
+            append_some(bytes, first, count, output)?;
+            place += count;
+        }
     }
     Ok(())
 }

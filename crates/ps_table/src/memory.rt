@@ -1,6 +1,6 @@
 //! The mutator's seat as a memory. Each call's clauses are the memory's; beside them its seat stays
 //! at its table.
-ghost use Rattle.std.specs.Prelude.{[], ◌∷◌, ◌≡◌, ◌≢◌, ◌<◌, ◌≤◌, ◌+◌, ◌^◌, ◌↔◌, ℕ, None, Some, Err, length, slice_get, slice_range, IsTrue, IsSome, IfSome, IsOk, IsErr, OnOk, OnErr};
+ghost use Rattle.std.specs.Prelude.{[], ◌∷◌, ◌≡◌, ◌≢◌, ◌<◌, ◌≤◌, ◌+◌, ◌-◌, ◌^◌, ◌↔◌, ℕ, None, Some, Err, length, slice_get, slice_range, IsTrue, IsSome, IfSome, IsOk, IsErr, OnOk, OnErr};
 ghost use Rattle.ps_word.specs.Headers.{birth_limit};
 ghost use Rattle.ps_record.specs.Format.{head_place};
 ghost use Rattle.ps_mem.specs.Stands.{IsAddressed};
@@ -138,6 +138,19 @@ impl Memory for VmSeat {
     {
         self.mirror
             .load(&mut self.table, &mut self.seat, address, place)
+    }
+
+    fn load_at(&mut self, address: u32, at: usize) -> Word
+        requires from { address ≤ at }
+        requires place { at - address < length (fields_at (heap_of self.old.seat.me.0.vm) address) }
+        ensures heap { heap_of self.new.seat.me.0.vm ≡ heap_of self.old.seat.me.0.vm }
+        ensures grants { grants_of self.new.seat.me.0.vm ≡ grants_of self.old.seat.me.0.vm }
+        ensures answer { slice_get (fields_at (heap_of self.old.seat.me.0.vm) address)
+            (at - address) ≡ Some result }
+        ensures table { self.new.seat.table_id ≡ self.old.seat.table_id }
+    {
+        self.mirror
+            .load_at(&mut self.table, &mut self.seat, address, at)
     }
 
     fn fill(&mut self, address: u32, place: u32, word: Word)

@@ -1,5 +1,5 @@
 //! Loads by the mutator's seat, at any words.
-ghost use Rattle.std.specs.Prelude.{◌∷◌, slice_set, slice_get, ◌≡◌, ◌<◌, true, Some, length, IsSome, IfSome};
+ghost use Rattle.std.specs.Prelude.{◌∷◌, slice_set, slice_get, ◌≡◌, ◌-◌, ◌<◌, ◌≤◌, true, Some, length, IsSome, IfSome};
 ghost use Rattle.ps_word.specs.Headers.{kind_in, fields_in, birth_in, birth_limit};
 ghost use Rattle.ps_record.specs.Format.{head_place};
 ghost use Rattle.ps_mem.specs.Heap.{fields_at, object_at};
@@ -159,6 +159,30 @@ impl Mirror {
         ensures answer { slice_get (fields_at (heap_of seat.old.me.0.vm) address) place
             ≡ Some result }
     {
-        Word(self.read(words, seat, address as u64 + 2 + place as u64))
+        self.load_at(words, seat, address, address as usize + place as usize)
+    }
+
+    /// A field of a standing object, by the sum of the address and the field's place.
+    #[inline]
+    pub fn load_at<W: Words>(
+        &self,
+        words: &mut W,
+        seat: &mut Seat<(), View>,
+        address: u32,
+        at: usize,
+    ) -> Word
+        requires sits { W.seats words.old seat.old
+            × Sits (W.id words.old).words seat.old.me self.now }
+        requires from { address ≤ at }
+        requires place { at - address < length (fields_at (heap_of seat.old.me.0.vm) address) }
+        ensures sits { W.seats words.new seat.new
+            × Sits (W.id words.new).words seat.new.me self.now }
+        ensures same { W.id words.new ≡ W.id words.old }
+        ensures gc { KeepsGc seat.old.me.0 seat.new.me.0 }
+        ensures part { seat.new.me.0.vm ≡ seat.old.me.0.vm }
+        ensures answer { slice_get (fields_at (heap_of seat.old.me.0.vm) address) (at - address)
+            ≡ Some result }
+    {
+        Word(self.read(words, seat, at as u64 + 2))
     }
 }

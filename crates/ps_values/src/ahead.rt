@@ -11,8 +11,6 @@ use crate::operates::Operate;
 use crate::pushes::push_quickly;
 use ps_control::ahead::{Ahead, enter_ahead};
 use ps_operands::Operands;
-use ps_ops::arrays::is_executable;
-use ps_word::values::Content;
 use ps_word::words::Word;
 
 /// Treats a value by operands and frames alone, where that raises no error: a literal one becomes an
@@ -36,14 +34,8 @@ pub fn treat_ahead<O: Operate>(
     if let Some(operator) = value.executable_operator() {
         return operators.operate_ahead(operator, operands, may_enter);
     }
-    match value.content() {
-        Content::Array(part) => {
-            if may_enter && is_executable(part.access) {
-                enter_ahead(part)
-            } else {
-                Ahead::Left
-            }
-        }
+    match value.as_enterable() {
+        Some(part) if may_enter => enter_ahead(part),
         _ => Ahead::Left,
     }
 }

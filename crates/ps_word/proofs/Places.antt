@@ -213,6 +213,3 @@ operator_below w word is =
     + content_bits c ≡ w) content word.exact in
     let below = operator_number-below operator in
     omega (arith, exact, below)
-
-pub operator_low : (w : ℕ) → IsWord w → w / 2 ^ 60 ≡ 5 → w % 2 ^ 8 < 99
-operator_low w word is = omega (arith, operator_below w word is)

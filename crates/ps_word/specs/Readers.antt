@@ -1,5 +1,6 @@
 -- What a value is, one reader for each type; and the places that the collector changes.
-use Rattle.std.specs.Prelude.{ℕ, ℤ, ◌+◌, ◌*◌, ◌/◌, ◌%◌, ◌^◌, ◌&&◌, Bool, true, false, Option, Some, None, nat_le}
+use Rattle.std.specs.Prelude.{ℕ, ℤ, ◌+◌, ◌*◌, ◌/◌, ◌%◌, ◌^◌, ◌&&◌, Bool, true, false, Option, Some, None, nat_le, if◌then◌else◌}
+use Rattle.ps_language.specs.Access.{is_executable}
 use Rattle.ps_language.specs.declared.access.Access.{Access}
 use Rattle.ps_language.specs.declared.operators.Operator.{Operator as OperatorName}
 use Rattle.ps_language.specs.declared.kinds.Kind.{Kind}
@@ -20,6 +21,11 @@ abbrev pub as_integer : Content → Option ℤ
 as_integer (Integer i) = Some i
 as_integer _ = None
 
+-- two integers
+abbrev pub both_integers : Content → Content → Option (ℤ × ℤ)
+both_integers (Integer i) (Integer j) = Some (i, j)
+both_integers _ _ = None
+
 abbrev pub as_boolean : Content → Option Bool
 as_boolean (Boolean b) = Some b
 as_boolean _ = None
@@ -35,6 +41,11 @@ as_operator _ = None
 abbrev pub as_array : Content → Option Part
 as_array (Array part) = Some part
 as_array _ = None
+
+-- a procedure, an executable array, whose access permits execution
+abbrev pub as_enterable : (executable : Bool) → Content → Option Part
+as_enterable true (Array part) = if is_executable part.access then Some part else None
+as_enterable _ _ = None
 
 abbrev pub as_text : Content → Option Part
 as_text (Text part) = Some part

@@ -17,6 +17,9 @@ pub(crate) const EXECUTABLE: u64 = 1 << 59;
 /// The word of the first operator, executable.
 pub(crate) const OPERATOR: u64 = 5 * TYPE + EXECUTABLE;
 
+/// The word of a procedure whose other bits are zero: an executable array with every access.
+pub(crate) const PROCEDURE: u64 = 6 * TYPE + EXECUTABLE;
+
 /// The lowest bit of the access's number.
 pub(crate) const ACCESS: u64 = 1 << 57;
 

@@ -7,7 +7,8 @@ ghost use Rattle.ps_word.specs.Format.{value_in, content_in, IsWord, IsInFormat,
 ghost use Rattle.ps_word.specs.Readers as readers;
 
 use crate::bits::{
-    ACCESS, ADDRESS, EXECUTABLE, OFFSET, OPERATOR, REFERENCE, TYPE, content_bits, type_number,
+    ACCESS, ADDRESS, EXECUTABLE, OFFSET, OPERATOR, PROCEDURE, REFERENCE, TYPE, content_bits,
+    type_number,
 };
 use crate::operators::{operator_at, operator_of};
 use crate::values::{Content, Part, Value, access_number, access_of};
@@ -187,6 +188,20 @@ impl Word {
         }
     }
 
+    /// The part of a procedure that may be executed, where it is one: by one test of the type, the
+    /// attribute and the access (PLRM2, 3.3.2, 3.3.3).
+    #[inline]
+    pub fn as_enterable(self) -> Option<Part>
+        ensures { result ≡ readers.as_enterable (layout.executable_in self.0)
+            (content_in self.0) }
+    {
+        if (self.0 / ACCESS).wrapping_sub(PROCEDURE / ACCESS) < 3 {
+            Some(self.part())
+        } else {
+            None
+        }
+    }
+
     /// Whether the value is executable.
     #[inline]
     pub fn is_executable(self) -> bool
@@ -253,6 +268,18 @@ impl Word {
     {
         if self.0 / TYPE == 1 {
             Some(self.low_integer())
+        } else {
+            None
+        }
+    }
+
+    /// The integers, where both are integers: by one test of the types.
+    #[inline]
+    pub fn both_integers(self, other: Word) -> Option<(i32, i32)>
+        ensures { result ≡ readers.both_integers (content_in self.0) (content_in other.0) }
+    {
+        if self.0.wrapping_sub(TYPE) | other.0.wrapping_sub(TYPE) < TYPE {
+            Some((self.low_integer(), other.low_integer()))
         } else {
             None
         }

@@ -68,6 +68,10 @@ impl<M: CollectedMemory + Drop, G: Gate> Memory for Gated<'_, M, G> {
         self.memory.load(address, place)
     }
 
+    fn load_at(&mut self, address: u32, at: usize) -> Word {
+        self.memory.load_at(address, at)
+    }
+
     fn fill(&mut self, address: u32, place: u32, word: Word) {
         self.memory.fill(address, place, word);
     }

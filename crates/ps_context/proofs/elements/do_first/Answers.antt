@@ -5,10 +5,10 @@ use Rattle.ps_context.specs.Elements.{DoesTo}
 use Rattle.ps_context.proofs.Ahead.{does_into, does_more, does_none, read_at}
 use Rattle.ps_context.proofs.elements.do_first.Goals as goal
 
-pub loop-place-init : goal.loop-place-init
-loop-place-init g c =
-    let none : c.args.from ≡ (c.args.rest.offset + c.args.from) - c.args.rest.offset =
-    omega arith in
+pub loop-at-init : goal.loop-at-init
+loop-at-init g c =
+    let start : ℕ = c.args.rest.address + c.args.rest.offset in
+    let none : c.args.from ≡ (start + c.args.from) - start = omega arith in
     record {
       heap = refl;
       grants = refl;
@@ -17,66 +17,69 @@ loop-place-init g c =
           c.args.operands.now) none (does_none _ _ _ _ _);
     }
 
-pub loop-place-preserved : goal.loop-place-preserved
-loop-place-preserved g c =
+pub loop-at-preserved : goal.loop-at-preserved
+loop-at-preserved g c =
     let heap = g.M.Memory.heap c.args.memory.now in
-    let same = c.element_at-word.ensures.heap ∙ c.loop-place.invariant.heap in
-    let done : ℕ = c.loop-place.place - c.args.rest.offset in
-    let from : c.args.rest.offset + c.args.from ≤ c.loop-place.place = c.loop-place.auto.place in
+    let same = c.element_at-word.ensures.heap ∙ c.loop-at.invariant.heap in
+    let start : ℕ = c.args.rest.address + c.args.rest.offset in
+    let done : ℕ = c.loop-at.at - start in
+    let from : start + c.args.from ≤ c.loop-at.at = c.loop-at.auto.at in
     let after : c.args.from ≤ done = omega (arith, from) in
     let some : done < c.args.rest.length =
-    omega (arith, from, c.loop-place-test.true, c.requires.most) in
-    let more : done + 1 ≡ (c.loop-place.place + 1) - c.args.rest.offset = omega (arith, from) in
+    omega (arith, from, c.loop-at-test.true, c.requires.most) in
+    let more : done + 1 ≡ (c.loop-at.at + 1) - start = omega (arith, from) in
     record {
       heap = c.do_quickly.ensures.heap ∙ same;
       grants = c.do_quickly.ensures.grants
-          ∙ (c.element_at-word.ensures.grants ∙ c.loop-place.invariant.grants);
+          ∙ (c.element_at-word.ensures.grants ∙ c.loop-at.invariant.grants);
       does = subst (λ (done : ℕ). DoesTo heap c.args.dictionaries.now c.args.rest c.args.from done
           c.args.operands.now c.do_quickly.new.operands) more
           (does_more heap c.args.dictionaries.now c.args.rest
           c.args.from c.args.operands.now g.O.Operate.asks done _ _
           c.element_at-word.result after some
-          (rw c.loop-place.invariant.heap at c.element_at-word.ensures.held)
-          (rw c.loop-place.invariant.heap at c.element_at-word.ensures.within)
-          (read_at heap c.args.rest c.element_at-word.result c.loop-place.place (omega (arith, from))
-          (rw c.loop-place.invariant.heap at c.element_at-word.ensures.value))
-          c.loop-place.invariant.does
+          (rw c.loop-at.invariant.heap at c.element_at-word.ensures.held)
+          (rw c.loop-at.invariant.heap at c.element_at-word.ensures.within)
+          (read_at heap c.args.rest c.element_at-word.result c.loop-at.at (omega (arith, from))
+          (rw c.loop-at.invariant.heap at c.element_at-word.ensures.value))
+          c.loop-at.invariant.does
           (rw (same, c.in-Done.is) at c.do_quickly.ensures.comes));
     }
 
 pub returns-in-Enters-clause-does : goal.returns-in-Enters-clause-does
 returns-in-Enters-clause-does g c =
     let heap = g.M.Memory.heap c.args.memory.now in
-    let same = c.element_at-word.ensures.heap ∙ c.loop-place.invariant.heap in
-    let done : ℕ = c.loop-place.place - c.args.rest.offset in
-    let from : c.args.rest.offset + c.args.from ≤ c.loop-place.place = c.loop-place.auto.place in
+    let same = c.element_at-word.ensures.heap ∙ c.loop-at.invariant.heap in
+    let start : ℕ = c.args.rest.address + c.args.rest.offset in
+    let done : ℕ = c.loop-at.at - start in
+    let from : start + c.args.from ≤ c.loop-at.at = c.loop-at.auto.at in
     let after : c.args.from ≤ done = omega (arith, from) in
     let some : done < c.args.rest.length =
-    omega (arith, from, c.loop-place-test.true, c.requires.most) in
+    omega (arith, from, c.loop-at-test.true, c.requires.most) in
     rw c.index_of-done.ensures (does_into heap c.args.dictionaries.now c.args.rest c.args.from
     c.args.operands.now g.O.Operate.asks done _ _ c.element_at-word.result after some
-    (rw c.loop-place.invariant.heap at c.element_at-word.ensures.held)
-    (rw c.loop-place.invariant.heap at c.element_at-word.ensures.within)
-    (read_at heap c.args.rest c.element_at-word.result c.loop-place.place (omega (arith, from))
-    (rw c.loop-place.invariant.heap at c.element_at-word.ensures.value)) c.in-Enters.body
-    c.loop-place.invariant.does (rw (same, c.in-Enters.is) at c.do_quickly.ensures.comes))
+    (rw c.loop-at.invariant.heap at c.element_at-word.ensures.held)
+    (rw c.loop-at.invariant.heap at c.element_at-word.ensures.within)
+    (read_at heap c.args.rest c.element_at-word.result c.loop-at.at (omega (arith, from))
+    (rw c.loop-at.invariant.heap at c.element_at-word.ensures.value)) c.in-Enters.body
+    c.loop-at.invariant.does (rw (same, c.in-Enters.is) at c.do_quickly.ensures.comes))
 
 pub returns-in-Treats-clause-does : goal.returns-in-Treats-clause-does
 returns-in-Treats-clause-does g c =
     let heap = g.M.Memory.heap c.args.memory.now in
-    let same = c.element_at-word.ensures.heap ∙ c.loop-place.invariant.heap in
-    let from : c.args.rest.offset + c.args.from ≤ c.loop-place.place = c.loop-place.auto.place in
+    let same = c.element_at-word.ensures.heap ∙ c.loop-at.invariant.heap in
+    let start : ℕ = c.args.rest.address + c.args.rest.offset in
+    let from : start + c.args.from ≤ c.loop-at.at = c.loop-at.auto.at in
     let came = rw (same, c.in-Treats.is) at c.do_quickly.ensures.comes in
     rw c.index_of-done-in-Treats.ensures (
       subst (λ (now : List Word). DoesTo heap c.args.dictionaries.now c.args.rest c.args.from
-          (c.loop-place.place - c.args.rest.offset) c.args.operands.now now)
-          (sym came.0) c.loop-place.invariant.does,
+          (c.loop-at.at - start) c.args.operands.now now)
+          (sym came.0) c.loop-at.invariant.does,
       record {
-        held = rw c.loop-place.invariant.heap at c.element_at-word.ensures.held;
-        reads = read_at heap c.args.rest c.element_at-word.result c.loop-place.place
+        held = rw c.loop-at.invariant.heap at c.element_at-word.ensures.held;
+        reads = read_at heap c.args.rest c.element_at-word.result c.loop-at.at
             (omega (arith, from))
-            (rw c.loop-place.invariant.heap at c.element_at-word.ensures.value);
-        within = rw c.loop-place.invariant.heap at c.element_at-word.ensures.within;
+            (rw c.loop-at.invariant.heap at c.element_at-word.ensures.value);
+        within = rw c.loop-at.invariant.heap at c.element_at-word.ensures.within;
         value_held = came.1.0;
         treats = came.1.1;
       },
@@ -84,17 +87,18 @@ returns-in-Treats-clause-does g c =
 
 pub returns-in-Left-clause-does : goal.returns-in-Left-clause-does
 returns-in-Left-clause-does g c =
-    let same = c.element_at-word.ensures.heap ∙ c.loop-place.invariant.heap in
+    let same = c.element_at-word.ensures.heap ∙ c.loop-at.invariant.heap in
+    let start : ℕ = c.args.rest.address + c.args.rest.offset in
     rw c.index_of-done-in-Left.ensures
     (subst (λ (now : List Word). DoesTo (g.M.Memory.heap c.args.memory.now)
-    c.args.dictionaries.now c.args.rest c.args.from (c.loop-place.place - c.args.rest.offset)
-    c.args.operands.now now)
-    (sym (rw (same, c.in-Left.is) at c.do_quickly.ensures.comes)) c.loop-place.invariant.does)
+    c.args.dictionaries.now c.args.rest c.args.from (c.loop-at.at - start) c.args.operands.now now)
+    (sym (rw (same, c.in-Left.is) at c.do_quickly.ensures.comes)) c.loop-at.invariant.does)
 
 pub returns-clause-does : goal.returns-clause-does
 returns-clause-does g c =
-    let all : c.loop-place.place - c.args.rest.offset ≡ c.args.most =
-    omega (arith, c.loop-place-test.false, c.loop-place.auto.place-end) in
+    let start : ℕ = c.args.rest.address + c.args.rest.offset in
+    let all : c.loop-at.at - start ≡ c.args.most =
+    omega (arith, c.loop-at-test.false, c.loop-at.auto.at-end) in
     subst (λ (done : ℕ). DoesTo (g.M.Memory.heap c.args.memory.now) c.args.dictionaries.now
-    c.args.rest c.args.from done c.args.operands.now c.loop-place.operands) all
-    c.loop-place.invariant.does
+    c.args.rest c.args.from done c.args.operands.now c.loop-at.operands) all
+    c.loop-at.invariant.does

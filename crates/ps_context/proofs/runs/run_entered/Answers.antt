@@ -1,13 +1,15 @@
 -- Element after element, procedure after procedure.
-use Rattle.std.proofs.Common.{◌≡◌, ℕ, ◌+◌, ◌-◌, ◌<◌, ◌≤◌, List, [], ◌∷◌, arith, sym, ap, subst, length, ◌∙◌}
+use Rattle.std.proofs.Common.{◌≡◌, ℕ, ◌+◌, ◌-◌, ◌<◌, ◌≤◌, List, [], ◌∷◌, arith, sym, ap, subst, drop, length, ◌∙◌}
+use Rattle.std.proofs.lemmas.List.{length-drop}
 use Rattle.ps_control.specs.declared.frames.Frame.{Frame}
 use Rattle.ps_control.specs.declared.frames.Frame.TheVariants.{Procedure}
+use Rattle.ps_ops.proofs.Operands.{first_split}
 use Rattle.ps_acts.proofs.Kept.{frames-good}
 use Rattle.ps_acts.specs.Lent.{Lent, lent}
 use Rattle.ps_frames.specs.Steps.{above, frames_after, part_behind, with_frames}
 use Rattle.ps_interpreter.specs.OwnSteps.{HasRun}
 use Rattle.ps_interpreter.proofs.Running.{run_none}
-use Rattle.ps_context.proofs.Ahead.{done_above, done_to, element_first, entered_to, none_taken, one_taken, turned_above}
+use Rattle.ps_context.proofs.Ahead.{all_taken, done_above, done_to, element_first, entered_to, none_taken, one_taken, procedure_top, turned_above}
 use Rattle.ps_context.proofs.Behind.{step_behind, told_behind}
 use Rattle.ps_context.proofs.runs.run_entered.Goals as goal
 
@@ -33,8 +35,8 @@ loop-from-init g c =
           (sym (none_taken c.args.entered c.args.context.now.frames some)) made);
     }
 
-pub loop-from-preserved-in-All : goal.loop-from-preserved-in-All
-loop-from-preserved-in-All g c =
+pub loop-from-preserved-in_default : goal.loop-from-preserved-in_default
+loop-from-preserved-in_default g c =
     let start : Lent = above c.args.entered (lent (g.M.Memory.heap c.args.memory.now)
     (g.M.Memory.grants c.args.memory.now) c.args.context.now c.args.shared.now) in
     let l : Lent = lent (g.M.Memory.heap c.loop-from.memory) (g.M.Memory.grants c.loop-from.memory)
@@ -53,6 +55,66 @@ loop-from-preserved-in-All g c =
           (done_to start l c.loop-from.rest (c.args.most - c.loop-from.left) c.loop-from.from
           c.loop-from.end c.do_first.new.operands known.from known.makes
           (rw c.in-All.is at c.do_first.ensures.does));
+    }
+
+pub loop-from-preserved-else-end-rest : goal.loop-from-preserved-else-end-rest
+loop-from-preserved-else-end-rest g c =
+    let start : Lent = above c.args.entered (lent (g.M.Memory.heap c.args.memory.now)
+    (g.M.Memory.grants c.args.memory.now) c.args.context.now c.args.shared.now) in
+    let l : Lent = lent (g.M.Memory.heap c.loop-from.memory) (g.M.Memory.grants c.loop-from.memory)
+    c.loop-from.context c.loop-from.shared in
+    let known = c.loop-from.invariant in
+    record {
+      few = known.few;
+      from = omega arith;
+      within = known.within;
+      part = known.part;
+      room = known.room;
+      ahead = known.ahead;
+      some = known.some;
+      held = rw c.do_first.ensures.heap known.held;
+      makes = rw (c.do_first.ensures.heap, c.do_first.ensures.grants)
+          (done_to start l c.loop-from.rest (c.args.most - c.loop-from.left) c.loop-from.from
+          c.loop-from.end c.do_first.new.operands known.from known.makes
+          (rw c.in-All.is at c.do_first.ensures.does));
+    }
+
+pub loop-from-preserved-in-Some : goal.loop-from-preserved-in-Some
+loop-from-preserved-in-Some g c =
+    let start : Lent = above c.args.entered (lent (g.M.Memory.heap c.args.memory.now)
+    (g.M.Memory.grants c.args.memory.now) c.args.context.now c.args.shared.now) in
+    let l : Lent = lent (g.M.Memory.heap c.loop-from.memory) (g.M.Memory.grants c.loop-from.memory)
+    c.loop-from.context c.loop-from.shared in
+    let now : Lent = record l { operands = c.do_first.new.operands } in
+    let known = c.loop-from.invariant in
+    let rest = c.loop-from.rest in
+    let end = c.loop-from.end in
+    let below = c.in-Some.below in
+    let some : 1 ≤ end = omega (arith, c.loop-from-test.true) in
+    let made = (c.args.most - c.loop-from.left) + end in
+    let makes : HasRun made start (with_frames (Procedure below ∷ drop 1 l.frames) now) =
+    subst (λ (frames : List Frame). HasRun made start (with_frames frames now))
+    (all_taken rest l.frames end c.if-end-rest.true
+    ∙ first_split l.frames (Procedure below) (procedure_top _ below c.in-Some.ensures))
+    (done_to start l rest (c.args.most - c.loop-from.left) c.loop-from.from end
+    c.do_first.new.operands known.from known.makes (rw c.in-All.is at c.do_first.ensures.does)) in
+    let shorter = length-drop 1 l.frames in
+    let count : made ≡ (c.args.most - (c.loop-from.left - end)) + 0 =
+    omega (arith, known.within, known.few) in
+    record {
+      few = omega (arith, known.few);
+      from = omega arith;
+      within = omega (arith, c.least-end-in-Some.ensures);
+      part = omega (arith, c.least-end-in-Some.ensures);
+      room = rw c.drop_top.ensures.frames (omega (arith, shorter, known.room));
+      ahead = λ any. rw c.drop_top.ensures.frames (omega (arith, shorter, known.ahead some));
+      some = λ any. omega (arith, some, known.within, known.few);
+      held = rw c.do_first.ensures.heap makes.good.frames.0.0;
+      makes = rw (c.do_first.ensures.heap, c.do_first.ensures.grants, c.drop_top.ensures.frames)
+          (subst (λ (n : ℕ). HasRun n start
+          (with_frames (frames_after 0 below (drop 1 l.frames)) now)) count
+          (subst (λ (frames : List Frame). HasRun made start (with_frames frames now))
+          (sym (none_taken below (drop 1 l.frames) makes.good.frames.0.1)) makes));
     }
 
 pub do_known-known-requires-clause-good : goal.do_known-known-requires-clause-good

@@ -25,23 +25,25 @@ pub returns-in-Ok-None : goal.returns-in-Ok-None
 returns-in-Ok-None g c =
     let l : Lent = lent (g.M.Memory.heap c.args.memory.now) (g.M.Memory.grants c.args.memory.now)
     c.args.context.now c.args.shared.now in
-    let top : l.frames ≡ Text c.args.source c.args.at ∷ drop 1 l.frames =
+    let top : l.frames ≡ Text c.args.source.now c.args.at ∷ drop 1 l.frames =
     first_split _ _ (sym c.requires.top) in
     rw c.drop_top.ensures.frames
     (goes_on l l.operands (drop 1 l.frames)
-    (text_asks g.O.Operate.asks c.args.source c.args.at (drop 1 l.frames)) running_turn c.args.trial
+    (text_asks g.O.Operate.asks c.args.source.now c.args.at (drop 1 l.frames)) running_turn
+    c.args.trial
     (below_good l c.requires.good)
-    (λ s shown. exhausted_is l c.args.source c.args.at (drop 1 l.frames) top s
+    (λ s shown. exhausted_is l c.args.source.now c.args.at (drop 1 l.frames) top s
     (rw (c.in-Ok-None.is, c.in-Ok-None.field-0-is) at (c.requires.scanned s shown))) c.requires.good)
 
 pub returns-in-Ok-Some : goal.returns-in-Ok-Some
 returns-in-Ok-Some g c =
     let l : Lent = lent (g.M.Memory.heap c.args.memory.now) (g.M.Memory.grants c.args.memory.now)
     c.args.context.now c.args.shared.now in
-    listed_turns (λ (m : Lent) (s : Store). scanned_asks g.O.Operate.asks c.args.source
-    (drop 1 l.frames) (scan_at c.args.source c.args.at m s) m s)
-    (text_asks g.O.Operate.asks c.args.source c.args.at (drop 1 l.frames)) running_turn c.args.trial
+    listed_turns (λ (m : Lent) (s : Store). scanned_asks g.O.Operate.asks c.args.source.now
+    (drop 1 l.frames) (scan_at c.args.source.now c.args.at m s) m s)
+    (text_asks g.O.Operate.asks c.args.source.now c.args.at (drop 1 l.frames)) running_turn
+    c.args.trial
     c.take_token.result l _
-    (λ s shown. source_records l _ (source_of (birth_at l.heap) c.args.source) _)
-    (λ s shown. source_rooms l _ (source_of (birth_at l.heap) c.args.source) _)
+    (λ s shown. source_records l _ (source_of (birth_at l.heap) c.args.source.now) _)
+    (λ s shown. source_rooms l _ (source_of (birth_at l.heap) c.args.source.now) _)
     c.take_token.ensures

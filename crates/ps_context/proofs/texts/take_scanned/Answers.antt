@@ -10,7 +10,7 @@ returns-in-Some-clause-takes g c =
     c.args.context.now c.args.shared.now in
     let reads = c.literal_ahead.ensures.reads g.O.Operate.asks l.heap l.dictionaries in (
       refl,
-      read_taken g.O.Operate.asks c.args.source c.args.at l c.requires.good c.args.text.now
+      read_taken g.O.Operate.asks c.args.source.now c.args.at l c.requires.good c.args.text.now
           c.args.scanned c.requires.scanned c.requires.token c.args.trial
           c.literal_ahead.new.operands c.in-Some.end (rw c.in-Some.is at reads),
     )

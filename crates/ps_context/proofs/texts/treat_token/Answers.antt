@@ -12,7 +12,8 @@ treat-requires-clause-good g c =
     c.args.context.now c.args.shared.now in
     let read = c.requires.read in
     rw c.replace_top.ensures
-    (over_good g.O.Operate.asks c.args.source c.args.at l c.requires.good c.args.trial read.token
+    (over_good g.O.Operate.asks c.args.source.now c.args.at l c.requires.good c.args.trial
+    read.token
     c.args.end read.further read.scanned)
 
 pub treat-requires-clause-word : goal.treat-requires-clause-word
@@ -26,9 +27,10 @@ returns-in-Ok g c =
     let l : Lent = lent (g.M.Memory.heap c.args.memory.now) (g.M.Memory.grants c.args.memory.now)
     c.args.context.now c.args.shared.now in
     let read = c.requires.read in
-    text_goes g.O.Operate.asks c.args.source c.args.at l c.requires.good c.args.trial read.token
+    text_goes g.O.Operate.asks c.args.source.now c.args.at l c.requires.good c.args.trial
+    read.token
     c.args.end read.further read.scanned c.in-Ok.turned _
-    (token_treated g.O.Operate.asks c.args.source c.args.at l c.requires.good c.args.trial
+    (token_treated g.O.Operate.asks c.args.source.now c.args.at l c.requires.good c.args.trial
     read.token c.args.end read.further read.scanned c.args.word c.args.value read.is read.treats
     (Ok c.in-Ok.turned) _ (rw (c.replace_top.ensures, c.in-Ok.is) at c.treat.ensures))
 
@@ -39,9 +41,10 @@ returns-in-Err g c =
     let read = c.requires.read in
     let turns = rw (c.replace_top.ensures, c.in-Err.is) at c.treat.ensures in
     rw (c.replace_top-in-Err.ensures
-    ∙ ap (λ (fs : List Frame). Text c.args.source c.args.at ∷ drop 1 fs) turns.framed)
-    (text_unmade g.O.Operate.asks c.args.source c.args.at l c.requires.good c.args.trial read.token
+    ∙ ap (λ (fs : List Frame). Text c.args.source.now c.args.at ∷ drop 1 fs) turns.framed)
+    (text_unmade g.O.Operate.asks c.args.source.now c.args.at l c.requires.good c.args.trial
+    read.token
     c.args.end read.further read.scanned c.in-Err.reason _
-    (token_treated g.O.Operate.asks c.args.source c.args.at l c.requires.good c.args.trial
+    (token_treated g.O.Operate.asks c.args.source.now c.args.at l c.requires.good c.args.trial
     read.token c.args.end read.further read.scanned c.args.word c.args.value read.is read.treats
     (Err c.in-Err.reason) _ turns))

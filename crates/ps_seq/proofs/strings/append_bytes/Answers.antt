@@ -1,5 +1,6 @@
-use Rattle.std.proofs.Common.{◌≡◌, ◌+◌, ◌/◌, ◌%◌, ◌++◌, Some, length, arith, rules, ap, ◌∙◌, subst, refl}
+use Rattle.std.proofs.Common.{◌≡◌, ◌+◌, ◌/◌, ◌%◌, ◌++◌, Some, length, arith, rules, sym, ap, ◌∙◌, subst, refl}
 use Rattle.std.specs.Prelude.{slice_get, slice_range}
+use Rattle.std.specs.Int.{w64, to_le_bytes}
 use Rattle.ps_language.specs.Access.{bytes}
 use Rattle.ps_mem.specs.Heap.{Heap, birth_at, fields_at}
 use Rattle.ps_mem.specs.References.{words_for}
@@ -43,6 +44,38 @@ loop-place-preserved g c = record {
       ∙ loaded_more h p.address s text (place / 8) c.load.result read c.args.output.now.items
       c.loop-place.output.items p.offset place count refl from
       (omega (arith, least, test)) (omega (arith, least)) (omega (arith, least, upto, within))
+      (c.loop-place.invariant.value names s shows within));
+}
+
+pub loop-place-preserved-then-end-place-ge-BYTES :
+    goal.loop-place-preserved-then-end-place-ge-BYTES
+loop-place-preserved-then-end-place-ge-BYTES g c = record {
+  heap = search rules;
+  grants = search rules;
+  from = search rules;
+  upto = search rules;
+  count = search rules;
+  room = search rules;
+  kept = search rules;
+  value = λ names s shows within.
+      let h = g.M.Memory.heap c.args.memory.now in
+      let p = c.args.part in
+      let place = c.loop-place.place in
+      let first = c.if-first-eq0.true in
+      let enough = c.if-end-place-ge-BYTES.true in
+      let from = c.loop-place.invariant.from in
+      let text = text_at h p.address (words_for (p.offset + p.length)) c.requires.known names s
+      shows in
+      let read = subst (λ (k : Heap). slice_get (fields_at k p.address) (place / 8)
+      ≡ Some c.load.result) c.loop-place.invariant.heap c.load.ensures.answer in
+      let word = to_le_bytes w64 c.load.result.0 in
+      let whole : c.to_le_bytes-bytes.result ≡ slice_range word (place % 8) (place % 8 + 8) =
+      c.to_le_bytes-bytes.ensures ∙ sym (ap (λ k. slice_range word k (k + 8)) first) in
+      c.in_ok-extend_from_slice.ensures.items
+      ∙ (ap (λ bs. c.loop-place.output.items ++ bs) whole
+      ∙ loaded_more h p.address s text (place / 8) c.load.result read c.args.output.now.items
+      c.loop-place.output.items p.offset place 8 refl from
+      (omega arith) (omega (arith, first)) (omega (arith, enough, within))
       (c.loop-place.invariant.value names s shows within));
 }
 

@@ -1,5 +1,6 @@
 -- A literal value is pushed, a procedure is entered, and an operator acts.
 use Rattle.std.proofs.Common.{sym, ◌∙◌}
+use Rattle.ps_word.proofs.Reading.{enterable}
 use Rattle.ps_values.proofs.Alone.{literal_treated, operator_treated}
 use Rattle.ps_values.proofs.Entering.{procedure_enters}
 use Rattle.ps_values.proofs.ahead.treat_ahead.Goals as goal
@@ -10,13 +11,11 @@ returns-then-not-is_executable-clause-comes g c = λ command.
     (sym c.is_executable.ensures ∙ c.if-not-is_executable.true) c.push_quickly.result c.of.ensures
     (c.push_quickly.ensures command)
 
-pub returns-then-is_executable-clause-comes : goal.returns-then-is_executable-clause-comes
-returns-then-is_executable-clause-comes g c = λ command.
-    procedure_enters g.O.Operate.asks command c.args.value
-    (sym c.is_executable.ensures ∙ c.if-not-is_executable.false) c.in-Array.part
-    (sym c.content.ensures ∙ c.in-Array.is)
-    (sym c.is_executable-then-may_enter.ensures ∙ c.if-is_executable.true) c.args.operands.now _
-    c.enter_ahead.ensures
+pub returns-in-Some-as_enterable-clause-comes : goal.returns-in-Some-as_enterable-clause-comes
+returns-in-Some-as_enterable-clause-comes g c = λ command.
+    let read = enterable _ _ _ c.in-Some-as_enterable.ensures in
+    procedure_enters g.O.Operate.asks command c.args.value read.flag c.in-Some-as_enterable.part
+    read.array read.may c.args.operands.now _ c.enter_ahead.ensures
 
 pub returns-in-Some-clause-comes : goal.returns-in-Some-clause-comes
 returns-in-Some-clause-comes g c = λ command.

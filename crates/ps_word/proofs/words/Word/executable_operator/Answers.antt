@@ -1,4 +1,4 @@
-use Rattle.std.proofs.Common.{◌≡◌, ℕ, ◌+◌, slice_index_or, ◌%◌, ◌/◌, ◌^◌, arith, ap, sym, ◌∙◌, nat_eq}
+use Rattle.std.proofs.Common.{◌≡◌, ℕ, ◌+◌, ◌-◌, ◌*◌, slice_index_or, ◌%◌, ◌/◌, ◌^◌, arith, ap, sym, ◌∙◌, nat_eq}
 use Rattle.std.proofs.lemmas.Bool.Decides.{nat_tests}
 use Rattle.ps_word.specs.declared.values.Content.TheVariants.{Operator}
 use Rattle.ps_language.specs.OperatorList.{every_operator}
@@ -9,7 +9,7 @@ use Rattle.ps_word.proofs.words.Word.executable_operator.Goals as goal
 
 -- what the word has above the least of an executable operator
 abbrev number_of : ℕ → ℕ
-number_of w = (w + 12105675798371893248) % 18446744073709551616
+number_of w = (w + (2 ^ 64 - 11 * 2 ^ 59)) % 2 ^ 64
 
 pub returns-then-number-lt99-clause-operator : goal.returns-then-number-lt99-clause-operator
 unfolding executable_in
