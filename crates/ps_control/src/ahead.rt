@@ -107,13 +107,26 @@ pub fn repeat_ahead(operands: &Operands, frames: &mut Frames, count: usize, body
     Ahead::Enters(body)
 }
 
-/// Writes the control value of the next turn into the topmost frame, in place.
+/// Writes the control value of the next turn into the topmost frame, in place, and pushes that of this
+/// turn. The frame is found first, so that no load of it is made again behind the push.
 #[inline(always)]
-fn set_control(frames: &mut Frames, control: i64, increment: i32, limit: i32, body: Part, next: i64)
+fn push_control(
+    operands: &mut Operands,
+    frames: &mut Frames,
+    control: i64,
+    increment: i32,
+    limit: i32,
+    body: Part,
+    next: i64,
+    word: Word,
+)
     requires top { first_of frames.old ≡ Some (Frame.For control increment limit body) }
-    ensures { frames.new ≡ Frame.For next increment limit body ∷ drop 1 frames.old }
+    requires room { length operands.old < 500 }
+    ensures frames { frames.new ≡ Frame.For next increment limit body ∷ drop 1 frames.old }
+    ensures operands { operands.new ≡ word ∷ operands.old }
 {
     if let Frame::For { control, .. } = frames.top_mut() {
+        push_within(operands, word);
         *control = next;
     }
 }
@@ -145,8 +158,10 @@ pub fn for_ahead(
         return Ahead::Left;
     }
     let next = control + increment as i64;
-    set_control(frames, control, increment, limit, body, next);
-    push_within(operands, control_word(control));
+    let word = control_word(control);
+    push_control(
+        operands, frames, control, increment, limit, body, next, word,
+    );
     Ahead::Enters(body)
 }
 

@@ -39,24 +39,24 @@ returns-clause-turns c =
     let increment_wide : SFits w64 increment = search rules in
     let going = sym past ∙ c.if-is_past.false in
     let top = sym c.requires.top in
-    let written = simp to_z-of_z at c.set_control.ensures in
-    let word = c.control_word.result in
+    let written = simp to_z-of_z at c.push_control.ensures.frames in
+    let word = c.control_word-word.result in
     λ h size ready.
-    rw (c.push_within.ensures, written)
+    rw (c.push_control.ensures.operands, written)
     (turns_entered ForOperator h size operands frames ready
     (some_frame frames (For control increment limit body) top) (word ∷ [])
     (For (control +ℤ increment) increment limit body) body
     (for_held h size operands frames ready control increment limit body top word
-    (plain_value h _ c.control_word.ensures.plain)
-    (λ names store. plain_within (birth_at h) names store _ c.control_word.ensures.plain)
+    (plain_value h _ c.control_word-word.ensures.plain)
+    (λ names store. plain_within (birth_at h) names store _ c.control_word-word.ensures.plain)
     (course_goes control increment limit c.requires.course increment_fits limit_fits going))
     (for_is h size operands frames ready control increment limit body top word
-    (λ births names. simp to_z-of_z at c.control_word.ensures.value births names) going)
+    (λ births names. simp to_z-of_z at c.control_word-word.ensures.value births names) going)
     (c.may_enter.ensures.operands c.if-not-may_enter.false)
     (c.may_enter.ensures.body c.if-not-may_enter.false)
     (one_fits frames (c.may_enter.ensures.frames c.if-not-may_enter.false)))
 
 pub returns-clause-room : goal.returns-clause-room
 returns-clause-room c =
-    rw (c.set_control.ensures)
+    rw (c.push_control.ensures.frames)
     (room_kept c.args.frames.now (c.may_enter.ensures.frames c.if-not-may_enter.false))
