@@ -246,7 +246,7 @@ pub fn if_ahead(operands: &mut Operands) -> Ahead
 
 /// `t P1 P2 ifelse`: the first procedure is entered where `t` is true, else the second, if its frame
 /// has room.
-#[inline(always)]
+#[inline]
 pub fn if_else_ahead(operands: &mut Operands) -> Ahead
     ensures controls { (h : Heap) (size : ℕ) (frames : List TheFrame) → HasRoom 1 result frames
         → IsReadyFor h size (stacks operands.old frames)

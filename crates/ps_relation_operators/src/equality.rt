@@ -127,7 +127,7 @@ pub fn equality<M: Memory>(
 
 /// `i j eq t` where `wanted`, else `i j ne t`, of two integers, by operands alone. Of everything
 /// else nothing changes, and the answer is no.
-#[inline(always)]
+#[inline]
 pub fn equality_quickly(operands: &mut Operands, wanted: bool) -> bool
     ensures done { result ≡ true → (h : Heap)
         → Observes (relations.equality_row_as wanted) (Ok tt) h operands.old operands.new }

@@ -108,7 +108,7 @@ pub fn order<M: Memory>(
 
 /// `i j gt t`, `ge`, `lt` or `le` of two integers, by operands alone. Of everything else nothing
 /// changes, and the answer is no.
-#[inline(always)]
+#[inline]
 pub fn order_quickly(operands: &mut Operands, relation: Relation) -> bool
     ensures done { result ≡ true → (h : Heap)
         → Observes (relations.order_row_as relation) (Ok tt) h operands.old operands.new }
