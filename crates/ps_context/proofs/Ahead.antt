@@ -61,6 +61,7 @@ module _ (rest : Part) (below : List Frame) where
       some_left 0 some
       ∙ (λ i. Procedure (record rest { offset = offset_is i; length = length_is i }) ∷ below)
 
+  -- one more is taken of what is left
   pub one_taken : (made : ℕ) → made < rest.length
       → rest_frames (rest_from made) below ≡ frames_after (made + 1) rest below
   one_taken made some =
@@ -68,6 +69,15 @@ module _ (rest : Part) (below : List Frame) where
       grind (arith, nat_tests, some) in
       let offset_is : (rest.offset + made) + 1 ≡ rest.offset + (made + 1) = omega arith in
       let length_is : (rest.length - made) - 1 ≡ rest.length - (made + 1) = omega arith in
+      λ i. Frames_by (test_is i) (record rest { offset = offset_is i; length = length_is i })
+
+  -- what is left is a procedure of its own
+  pub own_taken : (made : ℕ) → frames_after made rest below ≡ frames_after 0 (rest_from made) below
+  own_taken made =
+      let test_is : nat_lt made rest.length ≡ nat_lt 0 (rest.length - made) =
+      grind (arith, nat_tests) in
+      let offset_is : rest.offset + made ≡ (rest.offset + made) + 0 = omega arith in
+      let length_is : rest.length - made ≡ (rest.length - made) - 0 = omega arith in
       λ i. Frames_by (test_is i) (record rest { offset = offset_is i; length = length_is i })
 
 -- what is read by the sum of the array's address and a place there is the element at its index in
@@ -86,14 +96,12 @@ read_at heap rest word sum from reads names s shows =
     omega (arith, from) in
     ap (slice_get (elements s (birth_at heap rest.address))) there ∙ reads names s shows
 
-module _ (heap : Heap) (dictionaries : List Word) (rest : Part) (from : ℕ) (old : List Word) where
-  pub does_none : DoesTo heap dictionaries rest from from old old
+module _ (heap : Heap) (dictionaries : List Word) (rest : Part) (old : List Word) where
+  pub does_none : DoesTo heap dictionaries rest 0 old old
   does_none l below good =
-      let before : Lent = stacked heap dictionaries old (frames_after from rest below) l in
-      let none : 0 ≡ from - from = omega arith in
-      subst (λ (n : ℕ). HasRun n before before) none (run_none before good)
+      run_none (stacked heap dictionaries old (frames_after 0 rest below) l) good
 
-  module _ (asks : Asks) (made : ℕ) (now next : List Word) (word : Word) (after : from ≤ made)
+  module _ (asks : Asks) (made : ℕ) (now next : List Word) (word : Word)
       (some : made < rest.length) (value : IsValue heap word)
       (within : (names : List (List ℕ)) (s : Store) → Shows heap names s
       → IsWithin (birth_at heap) names s word)
@@ -113,7 +121,7 @@ module _ (heap : Heap) (dictionaries : List Word) (rest : Part) (from : ℕ) (ol
       left = rest_from rest below made
 
       abbrev before : Lent
-      before = stacked heap dictionaries old (frames_after from rest below) l
+      before = stacked heap dictionaries old (frames_after 0 rest below) l
 
       abbrev mid : Lent
       mid = stacked heap dictionaries now (Procedure left ∷ below) l
@@ -141,23 +149,21 @@ module _ (heap : Heap) (dictionaries : List Word) (rest : Part) (from : ℕ) (ol
           element_made mid left below refl word element_read good
           (λ s shown. within l.names s shown.shows) asks trial Goes (with_stacks frames) turns
 
-      made_one : (frames : List Frame) → HasRun (made - from) before mid
+      made_one : (frames : List Frame) → HasRun made before mid
           → TurnsWith (word ∷ word ∷ []) [] (executed_asks asks word) (done_turn word word) trial
           (Ok Goes) (record mid { frames = rest_frames left below }) (with_stacks frames)
-          → HasRun ((made + 1) - from) before (with_stacks frames)
+          → HasRun (made + 1) before (with_stacks frames)
       made_one frames so_far turns =
-          let count : (made - from) + 1 ≡ (made + 1) - from = omega (arith, after) in
-          subst (λ (n : ℕ). HasRun n before (with_stacks frames)) count
-          (run_more (own_asks asks) 0 (made - from) before mid (with_stacks frames) so_far
+          run_more (own_asks asks) 0 made before mid (with_stacks frames) so_far
           (λ none. absurd (cc))
           (turns_as (frame_asks asks) (asks_in (own_asks asks) None) running_turn (own_turn None)
           trial (Ok Goes) mid (with_stacks frames) (λ s shown. refl) (λ s shown. refl)
-          (one_turn frames so_far.good turns)))
+          (one_turn frames so_far.good turns))
 
-      so_made : DoesTo heap dictionaries rest from made old now → IsGood before
-          → HasRun (made - from) before mid
+      so_made : DoesTo heap dictionaries rest made old now → IsGood before
+          → HasRun made before mid
       so_made so_far good =
-          subst (λ (frames : List Frame). HasRun (made - from) before
+          subst (λ (frames : List Frame). HasRun made before
           (stacked heap dictionaries now frames l)) (some_left rest below made some)
           (so_far l below good)
 
@@ -168,22 +174,22 @@ module _ (heap : Heap) (dictionaries : List Word) (rest : Part) (from : ℕ) (ol
           by true = omega (arith, room)
           by false = omega (arith, room)
 
-    pub does_more : DoesTo heap dictionaries rest from made old now → Comes ahead.Goes
-        → DoesTo heap dictionaries rest from (made + 1) old next
+    pub does_more : DoesTo heap dictionaries rest made old now → Comes ahead.Goes
+        → DoesTo heap dictionaries rest (made + 1) old next
     does_more so_far goes l below good =
         let done = so_made l below so_far good in
-        subst (λ (frames : List Frame). HasRun ((made + 1) - from) (before l below)
+        subst (λ (frames : List Frame). HasRun (made + 1) (before l below)
         (with_stacks l below frames)) (one_taken rest below made some)
         (made_one l below (rest_frames (left l below) below) done
         (goes.1 (record (mid l below) { frames = rest_frames (left l below) below }) trial
         (rest_mid l below done.good) (value, (value, tt)) tt))
 
-    pub does_into : (body : Part) → DoesTo heap dictionaries rest from made old now
+    pub does_into : (body : Part) → DoesTo heap dictionaries rest made old now
         → Comes (ahead.Enters body)
-        → DoesInto heap dictionaries rest from made body old next
+        → DoesInto heap dictionaries rest made body old next
     does_into body so_far goes l below room good =
         let done = so_made l below so_far good in
-        subst (λ (frames : List Frame). HasRun ((made + 1) - from) (before l below)
+        subst (λ (frames : List Frame). HasRun (made + 1) (before l below)
         (with_stacks l below (Procedure body ∷ frames))) (one_taken rest below made some)
         (made_one l below (Procedure body ∷ rest_frames (left l below) below) done
         (goes.1 (record (mid l below) { frames = rest_frames (left l below) below }) trial
@@ -320,37 +326,45 @@ runs_then asks slot first second (Some result) old mid new one behind = record {
 
 -- ---- of a procedure above the frames
 
--- behind steps that were made, its elements are done from a place to another
-module _ (start l : Lent) (rest : Part) (made from to : ℕ) (operands : List Word)
-    (further : from ≤ to)
-    (makes : HasRun (made + from) start (with_frames (frames_after from rest l.frames) l)) where
+-- behind steps that were made, its elements are done up to a place
+module _ (start l : Lent) (rest : Part) (made to : ℕ) (operands : List Word)
+    (makes : HasRun made start (with_frames (frames_after 0 rest l.frames) l)) where
   abbrev now : Lent
   now = record l { operands = operands }
 
-  pub done_to : DoesTo l.heap l.dictionaries rest from to l.operands operands
+  pub done_to : DoesTo l.heap l.dictionaries rest to l.operands operands
       → HasRun (made + to) start (with_frames (frames_after to rest l.frames) now)
-  done_to does =
-      let count : (made + from) + (to - from) ≡ made + to = omega (arith, further) in
-      subst (λ (n : ℕ). HasRun n start (with_frames (frames_after to rest l.frames) now)) count
-      (run_then (made + from) (to - from) start _ _ makes (does l l.frames makes.good))
+  done_to does = run_then made to start _ _ makes (does l l.frames makes.good)
 
   pub done_above : to < rest.length
-      → DoesTo l.heap l.dictionaries rest from to l.operands operands
+      → DoesTo l.heap l.dictionaries rest to l.operands operands
       → HasRun (made + to) start (above (part_behind to rest) now)
   done_above some does =
       subst (λ (frames : List Frame). HasRun (made + to) start (with_frames frames now))
       (some_left rest l.frames to some) (done_to does)
 
   pub entered_to : (body : Part) → 2 + length l.frames ≤ 250
-      → DoesInto l.heap l.dictionaries rest from to body l.operands operands
+      → DoesInto l.heap l.dictionaries rest to body l.operands operands
       → HasRun (made + (to + 1)) start
       (with_frames (Procedure body ∷ frames_after (to + 1) rest l.frames) now)
   entered_to body room does =
-      let count : (made + from) + ((to + 1) - from) ≡ made + (to + 1) = omega (arith, further) in
-      subst (λ (n : ℕ). HasRun n start
-      (with_frames (Procedure body ∷ frames_after (to + 1) rest l.frames) now)) count
-      (run_then (made + from) ((to + 1) - from) start _ _ makes
-      (does l l.frames room makes.good))
+      run_then made (to + 1) start _ _ makes (does l l.frames room makes.good)
+
+-- behind so many more, what is left of it is a procedure of its own
+pub left_behind : (start l : Lent) (rest : Part) (most left count : ℕ) (operands : List Word)
+    → left ≤ most → count ≤ left
+    → HasRun ((most - left) + count) start
+    (with_frames (frames_after count rest l.frames) (record l { operands = operands }))
+    → HasRun (most - (left - count)) start
+    (with_frames (frames_after 0 (part_behind count rest) l.frames)
+    (record l { operands = operands }))
+left_behind start l rest most left count operands few within makes =
+    let now : Lent = record l { operands = operands } in
+    let made : (most - left) + count ≡ most - (left - count) = omega (arith, few, within) in
+    subst (λ (n : ℕ). HasRun n start (with_frames (frames_after 0 (part_behind count rest) l.frames)
+    now)) made
+    (subst (λ (frames : List Frame). HasRun ((most - left) + count) start (with_frames frames now))
+    (own_taken rest l.frames count) makes)
 
 -- behind steps that were made, its first element is done
 module _ (asks : Asks) (start l : Lent) (rest : Part) (made : ℕ)

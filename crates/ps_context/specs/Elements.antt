@@ -1,5 +1,5 @@
 -- Elements of a procedure that operands alone do (PLRM2, 3.5).
-use Rattle.std.specs.Prelude.{◌≡◌, ℕ, ◌+◌, ◌-◌, ◌≤◌, ◌<◌, Option, Some, None, Result, List, ◌∷◌, length}
+use Rattle.std.specs.Prelude.{◌≡◌, ℕ, ◌+◌, ◌≤◌, ◌<◌, Option, Some, None, Result, List, ◌∷◌, length}
 use Rattle.ps_language.specs.Effect.{Around, Scene}
 use Rattle.ps_language.specs.World.{Status}
 use Rattle.ps_word.specs.declared.values.Part.{Part}
@@ -27,44 +27,44 @@ abbrev pub stacked : Heap → (dictionaries operands : List Word) → (frames : 
 stacked heap dictionaries operands frames l =
     record l { heap = heap; dictionaries = dictionaries; operands = operands; frames = frames }
 
--- whatever else is lent, the elements of a procedure from one place to another are a step each, and
--- change operands alone
-abbrev pub DoesTo : Heap → (dictionaries : List Word) → Part → (from to : ℕ)
+-- whatever else is lent, the first elements of a procedure, so many, are a step each, and change
+-- operands alone
+abbrev pub DoesTo : Heap → (dictionaries : List Word) → Part → (count : ℕ)
     → (old new : List Word) → Type 0
-DoesTo heap dictionaries rest from to old new =
+DoesTo heap dictionaries rest count old new =
     (l : Lent) (below : List Frame)
-    → IsGood (stacked heap dictionaries old (frames_after from rest below) l)
-    → HasRun (to - from) (stacked heap dictionaries old (frames_after from rest below) l)
-    (stacked heap dictionaries new (frames_after to rest below) l)
+    → IsGood (stacked heap dictionaries old (frames_after 0 rest below) l)
+    → HasRun count (stacked heap dictionaries old (frames_after 0 rest below) l)
+    (stacked heap dictionaries new (frames_after count rest below) l)
 
 -- and the one behind them enters this procedure, if its frame and that of what is left have room
-abbrev pub DoesInto : Heap → (dictionaries : List Word) → Part → (from to : ℕ) → (body : Part)
+abbrev pub DoesInto : Heap → (dictionaries : List Word) → Part → (count : ℕ) → (body : Part)
     → (old new : List Word) → Type 0
-DoesInto heap dictionaries rest from to body old new =
+DoesInto heap dictionaries rest count body old new =
     (l : Lent) (below : List Frame) → 2 + length below ≤ 250
-    → IsGood (stacked heap dictionaries old (frames_after from rest below) l)
-    → HasRun ((to + 1) - from) (stacked heap dictionaries old (frames_after from rest below) l)
-    (stacked heap dictionaries new (Procedure body ∷ frames_after (to + 1) rest below) l)
+    → IsGood (stacked heap dictionaries old (frames_after 0 rest below) l)
+    → HasRun (count + 1) (stacked heap dictionaries old (frames_after 0 rest below) l)
+    (stacked heap dictionaries new (Procedure body ∷ frames_after (count + 1) rest below) l)
 
 -- the one behind these is within those that may be done
-abbrev pub IsBehind : (from most : ℕ) → First → Type 0
-IsBehind from most All = Unit {0}
-IsBehind from most (first.Enters done body) = (from ≤ done) × (done < most)
-IsBehind from most (first.Treats done element) = (from ≤ done) × (done < most)
-IsBehind from most (first.Left done) = (from ≤ done) × (done < most)
+abbrev pub IsBehind : (most : ℕ) → First → Type 0
+IsBehind most All = Unit {0}
+IsBehind most (first.Enters done body) = done < most
+IsBehind most (first.Treats done element) = done < most
+IsBehind most (first.Left done) = done < most
 
 -- how far they came
-abbrev pub DoesFirst : Asks → Heap → (dictionaries : List Word) → Part → (from most : ℕ) → First
+abbrev pub DoesFirst : Asks → Heap → (dictionaries : List Word) → Part → (most : ℕ) → First
     → (old new : List Word) → Type 0
-DoesFirst asks heap dictionaries rest from most All old new =
-    DoesTo heap dictionaries rest from most old new
-DoesFirst asks heap dictionaries rest from most (first.Enters done body) old new =
-    DoesInto heap dictionaries rest from done body old new
-DoesFirst asks heap dictionaries rest from most (first.Treats done element) old new =
-    DoesTo heap dictionaries rest from done old new
+DoesFirst asks heap dictionaries rest most All old new =
+    DoesTo heap dictionaries rest most old new
+DoesFirst asks heap dictionaries rest most (first.Enters done body) old new =
+    DoesInto heap dictionaries rest done body old new
+DoesFirst asks heap dictionaries rest most (first.Treats done element) old new =
+    DoesTo heap dictionaries rest done old new
     × IsElement asks heap dictionaries rest done element
-DoesFirst asks heap dictionaries rest from most (first.Left done) old new =
-    DoesTo heap dictionaries rest from done old new
+DoesFirst asks heap dictionaries rest most (first.Left done) old new =
+    DoesTo heap dictionaries rest done old new
 
 -- so many steps were made, one at most, and the frame of the procedure that is above the frames has
 -- room, with one above it

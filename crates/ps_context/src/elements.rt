@@ -37,13 +37,12 @@ fn index_of(start: usize, at: usize) -> u16
     (at - start) as u16
 }
 
-/// Does elements of a procedure from an index on, up to another, as far as operands and frames alone do
+/// Does the first elements of a procedure, at most so many, as far as operands and frames alone do
 /// them, names looked up among them. The memory stays as it is. It counts by sums of the array's
 /// address and the places there, so that nothing is added for each.
 #[inline(always)]
 pub fn do_first<O: Operate, M: Memory>(
     rest: Part,
-    from: u16,
     most: u16,
     operators: &O,
     dictionaries: &Dictionaries,
@@ -53,16 +52,15 @@ pub fn do_first<O: Operate, M: Memory>(
     requires sound { IsSound (M.heap memory.old) }
     requires dictionaries { AreValues (M.heap memory.old) dictionaries.now }
     requires part { IsHeld (M.heap memory.old) rest }
-    requires from { from ≤ most }
     requires most { most ≤ rest.length }
     ensures heap { M.heap memory.new ≡ M.heap memory.old }
     ensures grants { M.grants memory.new ≡ M.grants memory.old }
-    ensures behind { IsBehind from most result }
-    ensures does { DoesFirst O.asks (M.heap memory.old) dictionaries.now rest from most result
+    ensures behind { IsBehind most result }
+    ensures does { DoesFirst O.asks (M.heap memory.old) dictionaries.now rest most result
         operands.old operands.new }
 {
     let start = rest.address as usize + rest.offset as usize;
-    for at in start + from as usize..start + most as usize {
+    for at in start..start + most as usize {
         let word = element_at(memory, rest, at);
         match do_quickly(word, operators, dictionaries, operands, memory, true) {
             Quick::Done => {}

@@ -122,18 +122,15 @@ fn do_known<O: Operate, M: Memory>(
     }
 }
 
-/// Pushes what is left of a procedure behind so many elements, for whose frame there is room. It is
-/// a call, so that a frame's bytes are written apart from the steps. It gets the procedure by a
-/// reference: so this stays in memory, and leaves its registers to the elements.
+/// Pushes what is left of a procedure, for whose frame there is room. It is a call, so that a frame's
+/// bytes are written apart from the steps. It gets the procedure by a reference: so this stays in
+/// memory, and leaves its registers to the elements.
 #[inline(never)]
-fn push_left(frames: &mut Frames, rest: &Part, count: u16)
+fn push_left(frames: &mut Frames, rest: &Part)
     requires room { length frames.old < 250 }
-    requires within { count ≤ rest.now.length }
-    requires end { rest.now.offset + rest.now.length < 2 ^ 16 }
-    ensures { frames.new ≡ Frame.Procedure (part_behind count rest.now) ∷ frames.old }
+    ensures { frames.new ≡ Frame.Procedure rest.now ∷ frames.old }
 {
-    let rest = left_of(*rest, count);
-    push_frame(frames, Frame::Procedure { rest });
+    push_frame(frames, Frame::Procedure { rest: *rest });
 }
 
 /// How many elements of so many may be done ahead within a budget: none where the frames have no room
@@ -179,19 +176,18 @@ fn run_entered<O: Operate, M: Memory>(
 {
     let mut rest = entered;
     let mut left = most;
-    let mut from = 0;
     let mut end = least(left, rest.length);
-    while from < end {
+    while end > 0 {
         let dictionaries = &context.dictionaries;
         let operands = &mut context.operands;
-        match do_first(rest, from, end, operators, dictionaries, operands, memory) {
+        match do_first(rest, end, operators, dictionaries, operands, memory) {
             First::All => {
-                from = end;
-                if end == rest.length {
+                left -= end as u32;
+                rest = left_of(rest, end);
+                end = 0;
+                if rest.length == 0 {
                     if let Some(below) = top_procedure(&context.frames) {
                         rest = below;
-                        from = 0;
-                        left -= end as u32;
                         drop_top(&mut context.frames);
                         end = least(left, rest.length);
                     }
@@ -201,7 +197,6 @@ fn run_entered<O: Operate, M: Memory>(
                 push_rest(&mut context.frames, left_of(rest, done));
                 left -= done as u32 + 1;
                 rest = body;
-                from = 0;
                 end = may_do(&context.frames, left, rest.length);
             }
             First::Treats { done, element } => {
@@ -213,7 +208,9 @@ fn run_entered<O: Operate, M: Memory>(
                         next: known,
                     };
                 }
-                from = done + 1;
+                left -= done as u32 + 1;
+                rest = left_of(behind, 1);
+                end -= done + 1;
             }
             First::Left { done } => {
                 let trial = Trial {
@@ -229,11 +226,11 @@ fn run_entered<O: Operate, M: Memory>(
             }
         }
     }
-    if end < rest.length {
-        push_left(&mut context.frames, &rest, end);
+    if rest.length > 0 {
+        push_left(&mut context.frames, &rest);
     }
     Run {
-        made: most - left + end as u32,
+        made: most - left,
         next: None,
     }
 }

@@ -88,7 +88,7 @@ fn treat_apart<O: Operate, M: Memory>(
 /// of the procedure is pushed before. Raises what the value raises, with the element as the command.
 ///
 /// Not made, with nothing changed but for the frame, which is pushed whole: as the value.
-#[inline(always)]
+#[inline(never)]
 fn element_turn<O: Operate, M: Memory>(
     rest: Part,
     element: Element,

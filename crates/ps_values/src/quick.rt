@@ -74,11 +74,12 @@ pub fn do_quickly<O: Operate, M: Memory>(
         let came = operators.operate_ahead(operator, operands, may_enter);
         return Quick::or(came, Quick::Treats(word));
     }
+    // Before the name, so that a procedure's way keeps its registers.
+    if let Content::Array(_) = word.content() {
+        let came = Ahead::of(push_quickly(word, operands));
+        return Quick::or(came, Quick::Left);
+    }
     match word.content() {
-        Content::Array(_) => {
-            let came = Ahead::of(push_quickly(word, operands));
-            Quick::or(came, Quick::Left)
-        }
         Content::Name(_) => {
             let Ok(Some(found)) = look_up(memory, dictionaries, Some(word)) else {
                 return Quick::Left;

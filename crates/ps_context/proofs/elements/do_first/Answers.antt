@@ -8,13 +8,13 @@ use Rattle.ps_context.proofs.elements.do_first.Goals as goal
 pub loop-at-init : goal.loop-at-init
 loop-at-init g c =
     let start : ℕ = c.args.rest.address + c.args.rest.offset in
-    let none : c.args.from ≡ (start + c.args.from) - start = omega arith in
+    let none : 0 ≡ start - start = omega arith in
     record {
       heap = refl;
       grants = refl;
       does = subst (λ (done : ℕ). DoesTo (g.M.Memory.heap c.args.memory.now)
-          c.args.dictionaries.now c.args.rest c.args.from done c.args.operands.now
-          c.args.operands.now) none (does_none _ _ _ _ _);
+          c.args.dictionaries.now c.args.rest done c.args.operands.now
+          c.args.operands.now) none (does_none _ _ _ _);
     }
 
 pub loop-at-preserved : goal.loop-at-preserved
@@ -23,8 +23,7 @@ loop-at-preserved g c =
     let same = c.element_at-word.ensures.heap ∙ c.loop-at.invariant.heap in
     let start : ℕ = c.args.rest.address + c.args.rest.offset in
     let done : ℕ = c.loop-at.at - start in
-    let from : start + c.args.from ≤ c.loop-at.at = c.loop-at.auto.at in
-    let after : c.args.from ≤ done = omega (arith, from) in
+    let from : start ≤ c.loop-at.at = c.loop-at.auto.at in
     let some : done < c.args.rest.length =
     omega (arith, from, c.loop-at-test.true, c.requires.most) in
     let more : done + 1 ≡ (c.loop-at.at + 1) - start = omega (arith, from) in
@@ -32,11 +31,11 @@ loop-at-preserved g c =
       heap = c.do_quickly.ensures.heap ∙ same;
       grants = c.do_quickly.ensures.grants
           ∙ (c.element_at-word.ensures.grants ∙ c.loop-at.invariant.grants);
-      does = subst (λ (done : ℕ). DoesTo heap c.args.dictionaries.now c.args.rest c.args.from done
+      does = subst (λ (done : ℕ). DoesTo heap c.args.dictionaries.now c.args.rest done
           c.args.operands.now c.do_quickly.new.operands) more
           (does_more heap c.args.dictionaries.now c.args.rest
-          c.args.from c.args.operands.now g.O.Operate.asks done _ _
-          c.element_at-word.result after some
+          c.args.operands.now g.O.Operate.asks done _ _
+          c.element_at-word.result some
           (rw c.loop-at.invariant.heap at c.element_at-word.ensures.held)
           (rw c.loop-at.invariant.heap at c.element_at-word.ensures.within)
           (read_at heap c.args.rest c.element_at-word.result c.loop-at.at (omega (arith, from))
@@ -51,12 +50,11 @@ returns-in-Enters-clause-does g c =
     let same = c.element_at-word.ensures.heap ∙ c.loop-at.invariant.heap in
     let start : ℕ = c.args.rest.address + c.args.rest.offset in
     let done : ℕ = c.loop-at.at - start in
-    let from : start + c.args.from ≤ c.loop-at.at = c.loop-at.auto.at in
-    let after : c.args.from ≤ done = omega (arith, from) in
+    let from : start ≤ c.loop-at.at = c.loop-at.auto.at in
     let some : done < c.args.rest.length =
     omega (arith, from, c.loop-at-test.true, c.requires.most) in
-    rw c.index_of-done.ensures (does_into heap c.args.dictionaries.now c.args.rest c.args.from
-    c.args.operands.now g.O.Operate.asks done _ _ c.element_at-word.result after some
+    rw c.index_of-done.ensures (does_into heap c.args.dictionaries.now c.args.rest
+    c.args.operands.now g.O.Operate.asks done _ _ c.element_at-word.result some
     (rw c.loop-at.invariant.heap at c.element_at-word.ensures.held)
     (rw c.loop-at.invariant.heap at c.element_at-word.ensures.within)
     (read_at heap c.args.rest c.element_at-word.result c.loop-at.at (omega (arith, from))
@@ -68,10 +66,10 @@ returns-in-Treats-clause-does g c =
     let heap = g.M.Memory.heap c.args.memory.now in
     let same = c.element_at-word.ensures.heap ∙ c.loop-at.invariant.heap in
     let start : ℕ = c.args.rest.address + c.args.rest.offset in
-    let from : start + c.args.from ≤ c.loop-at.at = c.loop-at.auto.at in
+    let from : start ≤ c.loop-at.at = c.loop-at.auto.at in
     let came = rw (same, c.in-Treats.is) at c.do_quickly.ensures.comes in
     rw c.index_of-done-in-Treats.ensures (
-      subst (λ (now : List Word). DoesTo heap c.args.dictionaries.now c.args.rest c.args.from
+      subst (λ (now : List Word). DoesTo heap c.args.dictionaries.now c.args.rest
           (c.loop-at.at - start) c.args.operands.now now)
           (sym came.0) c.loop-at.invariant.does,
       record {
@@ -91,7 +89,7 @@ returns-in-Left-clause-does g c =
     let start : ℕ = c.args.rest.address + c.args.rest.offset in
     rw c.index_of-done-in-Left.ensures
     (subst (λ (now : List Word). DoesTo (g.M.Memory.heap c.args.memory.now)
-    c.args.dictionaries.now c.args.rest c.args.from (c.loop-at.at - start) c.args.operands.now now)
+    c.args.dictionaries.now c.args.rest (c.loop-at.at - start) c.args.operands.now now)
     (sym (rw (same, c.in-Left.is) at c.do_quickly.ensures.comes)) c.loop-at.invariant.does)
 
 pub returns-clause-does : goal.returns-clause-does
@@ -100,5 +98,5 @@ returns-clause-does g c =
     let all : c.loop-at.at - start ≡ c.args.most =
     omega (arith, c.loop-at-test.false, c.loop-at.auto.at-end) in
     subst (λ (done : ℕ). DoesTo (g.M.Memory.heap c.args.memory.now) c.args.dictionaries.now
-    c.args.rest c.args.from done c.args.operands.now c.loop-at.operands) all
+    c.args.rest done c.args.operands.now c.loop-at.operands) all
     c.loop-at.invariant.does

@@ -7,7 +7,7 @@ abbrev pub invariant-loop-at : goal.invariant-loop-at
 invariant-loop-at g l = record {
   heap : g.M.Memory.heap l.memory ≡ g.M.Memory.heap l.initial.memory;
   grants : g.M.Memory.grants l.memory ≡ g.M.Memory.grants l.initial.memory;
-  does : DoesTo (g.M.Memory.heap l.initial.memory) l.dictionaries l.rest l.from
+  does : DoesTo (g.M.Memory.heap l.initial.memory) l.dictionaries l.rest
       (l.at - (l.rest.address + l.rest.offset))
       l.initial.operands l.operands;
 }

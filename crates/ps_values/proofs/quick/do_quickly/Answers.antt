@@ -32,7 +32,7 @@ returns-in-Array-clause-comes g c =
 pub returns-in-Ok-Some-clause-comes : goal.returns-in-Ok-Some-clause-comes
 returns-in-Ok-Some-clause-comes g c =
     let may = sym c.is_executable.ensures ∙ c.if-not-is_executable.false in
-    let content = sym c.content.ensures ∙ c.in-Name.is in
+    let content = sym c.content-2.ensures ∙ c.in-Name.is in
     let is = c.in-Ok-Some.is ∙ ap Ok c.in-Ok-Some.field-0-is in
     treated_comes g.O.Operate.asks (g.M.Memory.heap c.args.memory.now) c.args.dictionaries.now
     c.args.word c.args.operands.now c.treat_ahead-came.new.operands c.treat_ahead-came.result
@@ -46,8 +46,8 @@ returns-in-Ok-Some-clause-comes g c =
     c.look_up.result c.in-Ok-Some.found is c.look_up.ensures.value c.look_up.ensures.within)
     (c.treat_ahead-came.ensures.comes c.args.word)
 
-pub returns-in_default-content : goal.returns-in_default-content
-returns-in_default-content g c =
+pub returns-in_default-content-2 : goal.returns-in_default-content-2
+returns-in_default-content-2 g c =
     let may = sym c.is_executable.ensures ∙ c.if-not-is_executable.false in
     record {
       heap = refl;
@@ -60,8 +60,8 @@ returns-in_default-content g c =
               c.args.word
               (λ births names. unmade births names c.args.word c.content.result
               c.content.ensures may c.in_default-content.not-Array)
-              (λ births names. unnamed births names c.args.word c.content.result
-              c.content.ensures may c.in_default-content.not-Name),
+              (λ births names. unnamed births names c.args.word c.content-2.result
+              c.content-2.ensures may c.in_default-content-2.not-Name),
         ),
       );
       enters = λ body is. absurd (cc is);
