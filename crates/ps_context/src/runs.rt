@@ -238,7 +238,7 @@ fn run_entered<O: Operate, M: Memory>(
 /// Steps that were made, and what the turn behind them came to: where it goes on it is a step more.
 /// Where it is an `exit`, above whose loop procedures alone stand, their frames and the loop's are
 /// taken off, a step each, if so many more may be made.
-#[inline(always)]
+#[inline]
 fn with_turn(made: u32, turn: Result<Turned, NotMade>, most: u32, frames: &mut Frames) -> Run
     requires few { made < most }
     ensures within { result.made ≤ most }
@@ -381,7 +381,7 @@ pub enum Begin {
 
 /// The procedure that is the topmost frame is taken off, or a loop turns, up to the frame of the
 /// procedure that it enters, where two more have room. The memory stays as it is.
-#[inline(always)]
+#[inline]
 fn begin_with<M: Memory>(
     top: Frame,
     context: &mut Context,
