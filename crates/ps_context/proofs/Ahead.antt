@@ -61,23 +61,14 @@ module _ (rest : Part) (below : List Frame) where
       some_left 0 some
       ∙ (λ i. Procedure (record rest { offset = offset_is i; length = length_is i }) ∷ below)
 
-  -- one more is taken of what is left
-  pub one_taken : (made : ℕ) → made < rest.length
-      → rest_frames (rest_from made) below ≡ frames_after (made + 1) rest below
-  one_taken made some =
-      let test_is : nat_lt 1 (rest.length - made) ≡ nat_lt (made + 1) rest.length =
-      grind (arith, nat_tests, some) in
-      let offset_is : (rest.offset + made) + 1 ≡ rest.offset + (made + 1) = omega arith in
-      let length_is : (rest.length - made) - 1 ≡ rest.length - (made + 1) = omega arith in
-      λ i. Frames_by (test_is i) (record rest { offset = offset_is i; length = length_is i })
-
-  -- what is left is a procedure of its own
-  pub own_taken : (made : ℕ) → frames_after made rest below ≡ frames_after 0 (rest_from made) below
-  own_taken made =
-      let test_is : nat_lt made rest.length ≡ nat_lt 0 (rest.length - made) =
-      grind (arith, nat_tests) in
-      let offset_is : rest.offset + made ≡ (rest.offset + made) + 0 = omega arith in
-      let length_is : rest.length - made ≡ (rest.length - made) - 0 = omega arith in
+  -- so many more are taken of what is left
+  pub then_taken : (made more all : ℕ) → made + more ≡ all
+      → frames_after more (rest_from made) below ≡ frames_after all rest below
+  then_taken made more all sum =
+      let test_is : nat_lt more (rest.length - made) ≡ nat_lt all rest.length =
+      grind (arith, nat_tests, sum) in
+      let offset_is : (rest.offset + made) + more ≡ rest.offset + all = omega (arith, sum) in
+      let length_is : (rest.length - made) - more ≡ rest.length - all = omega (arith, sum) in
       λ i. Frames_by (test_is i) (record rest { offset = offset_is i; length = length_is i })
 
 -- what is read by the sum of the array's address and a place there is the element at its index in
@@ -179,7 +170,7 @@ module _ (heap : Heap) (dictionaries : List Word) (rest : Part) (old : List Word
     does_more so_far goes l below good =
         let done = so_made l below so_far good in
         subst (λ (frames : List Frame). HasRun (made + 1) (before l below)
-        (with_stacks l below frames)) (one_taken rest below made some)
+        (with_stacks l below frames)) (then_taken rest below made 1 (made + 1) refl)
         (made_one l below (rest_frames (left l below) below) done
         (goes.1 (record (mid l below) { frames = rest_frames (left l below) below }) trial
         (rest_mid l below done.good) (value, (value, tt)) tt))
@@ -190,7 +181,7 @@ module _ (heap : Heap) (dictionaries : List Word) (rest : Part) (old : List Word
     does_into body so_far goes l below room good =
         let done = so_made l below so_far good in
         subst (λ (frames : List Frame). HasRun (made + 1) (before l below)
-        (with_stacks l below (Procedure body ∷ frames))) (one_taken rest below made some)
+        (with_stacks l below (Procedure body ∷ frames))) (then_taken rest below made 1 (made + 1) refl)
         (made_one l below (Procedure body ∷ rest_frames (left l below) below) done
         (goes.1 (record (mid l below) { frames = rest_frames (left l below) below }) trial
         (rest_mid l below done.good) (value, (value, tt)) (rest_room l below room)))
@@ -364,7 +355,7 @@ left_behind start l rest most left count operands few within makes =
     subst (λ (n : ℕ). HasRun n start (with_frames (frames_after 0 (part_behind count rest) l.frames)
     now)) made
     (subst (λ (frames : List Frame). HasRun ((most - left) + count) start (with_frames frames now))
-    (own_taken rest l.frames count) makes)
+    (sym (then_taken rest l.frames count 0 count (omega arith))) makes)
 
 -- behind steps that were made, its first element is done
 module _ (asks : Asks) (start l : Lent) (rest : Part) (made : ℕ)

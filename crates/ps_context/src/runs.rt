@@ -69,11 +69,10 @@ fn left_of(rest: Part, count: u16) -> Part
     requires end { rest.offset + rest.length < 2 ^ 16 }
     ensures { result ≡ part_behind count rest }
 {
-    Part {
-        offset: rest.offset + count,
-        length: rest.length - count,
-        ..rest
-    }
+    let mut left = rest;
+    left.offset += count;
+    left.length -= count;
+    left
 }
 
 /// The least of a budget and of how many elements there are.

@@ -1,5 +1,5 @@
 -- Element after element, procedure after procedure.
-use Rattle.std.proofs.Common.{◌≡◌, ℕ, ◌+◌, ◌-◌, ◌<◌, ◌≤◌, List, [], ◌∷◌, arith, sym, ap, subst, drop, length, ◌∙◌}
+use Rattle.std.proofs.Common.{◌≡◌, ℕ, ◌+◌, ◌-◌, ◌<◌, ◌≤◌, List, ◌∷◌, arith, refl, sym, ap, subst, drop, length, ◌∙◌}
 use Rattle.std.proofs.lemmas.List.{length-drop}
 use Rattle.ps_control.specs.declared.frames.Frame.{Frame}
 use Rattle.ps_control.specs.declared.frames.Frame.TheVariants.{Procedure}
@@ -8,7 +8,7 @@ use Rattle.ps_acts.specs.Lent.{Lent, lent, IsGood}
 use Rattle.ps_frames.specs.Steps.{above, frames_after, part_behind, with_frames}
 use Rattle.ps_interpreter.specs.OwnSteps.{HasRun}
 use Rattle.ps_interpreter.proofs.Running.{run_none}
-use Rattle.ps_context.proofs.Ahead.{all_taken, done_above, done_to, element_first, entered_to, left_behind, none_taken, one_taken, own_taken, procedure_top, turned_above}
+use Rattle.ps_context.proofs.Ahead.{all_taken, done_above, done_to, element_first, entered_to, left_behind, none_taken, procedure_top, then_taken, turned_above}
 use Rattle.ps_context.proofs.Behind.{step_behind, told_behind}
 use Rattle.ps_context.proofs.runs.run_entered.Goals as goal
 
@@ -239,7 +239,7 @@ loop-end-preserved g c =
           (subst (λ (n : ℕ). HasRun n start (with_frames
           (frames_after 0 (part_behind 1 (part_behind done rest)) after.frames) after)) count
           (subst (λ (frames : List Frame). HasRun made start (with_frames frames after))
-          (own_taken (part_behind done rest) after.frames 1) came.1.0));
+          (sym (then_taken (part_behind done rest) after.frames 1 0 1 refl)) came.1.0));
     }
 
 pub loop-end-preserved-in-Enters : goal.loop-end-preserved-in-Enters
@@ -253,14 +253,14 @@ loop-end-preserved-in-Enters g c =
     let done = c.in-Enters.done in
     let body = c.in-Enters.body in
     let behind = rw c.in-Enters.is at c.do_first.ensures.behind in
-    let some : done < rest.length = omega (arith, behind, known.part) in
     let room : 2 + length l.frames ≤ 250 = known.ahead (omega (arith, behind)) in
     let makes = entered_to start l rest (c.args.most - c.loop-end.left) done
     c.do_first.new.operands known.makes body room
     (rw c.in-Enters.is at c.do_first.ensures.does) in
     let now : Lent = record l { operands = c.do_first.new.operands } in
     let left : frames_after (done + 1) rest l.frames ≡ c.push_rest.new.frames =
-    sym (rw c.left_of.ensures at c.push_rest.ensures.frames ∙ one_taken rest l.frames done some) in
+    sym (rw c.left_of.ensures at c.push_rest.ensures.frames
+    ∙ then_taken rest l.frames done 1 (done + 1) refl) in
     let frames : Procedure body ∷ frames_after (done + 1) rest l.frames
     ≡ frames_after 0 body c.push_rest.new.frames =
     ap (λ (fs : List Frame). Procedure body ∷ fs) left
