@@ -40,19 +40,14 @@ use Rattle.ps_context.specs.Elements.{stacked, DoesTo, DoesInto}
 use Rattle.ps_context.specs.Steps.{own_asks}
 
 module _ (rest : Part) (below : List Frame) where
-  -- the rest of a procedure
-  abbrev pub rest_from : ℕ → Part
-  rest_from made =
-      record rest { offset = rest.offset + made; length = rest.length - made }
-
   abbrev Frames_by : Bool → Part → List Frame
   Frames_by some part = if some then Procedure part ∷ below else below
 
   pub some_left : (made : ℕ) → made < rest.length
-      → frames_after made rest below ≡ Procedure (rest_from made) ∷ below
+      → frames_after made rest below ≡ Procedure (part_behind made rest) ∷ below
   some_left made some =
       let more : nat_lt made rest.length ≡ true = grind (arith, nat_tests, some) in
-      ap (λ (b : Bool). Frames_by b (rest_from made)) more
+      ap (λ (b : Bool). Frames_by b (part_behind made rest)) more
 
   pub none_taken : 1 ≤ rest.length → frames_after 0 rest below ≡ Procedure rest ∷ below
   none_taken some =
@@ -63,7 +58,7 @@ module _ (rest : Part) (below : List Frame) where
 
   -- so many more are taken of what is left
   pub then_taken : (made more all : ℕ) → made + more ≡ all
-      → frames_after more (rest_from made) below ≡ frames_after all rest below
+      → frames_after more (part_behind made rest) below ≡ frames_after all rest below
   then_taken made more all sum =
       let test_is : nat_lt more (rest.length - made) ≡ nat_lt all rest.length =
       grind (arith, nat_tests, sum) in
@@ -109,7 +104,7 @@ module _ (heap : Heap) (dictionaries : List Word) (rest : Part) (old : List Word
 
     module _ (l : Lent) (below : List Frame) where
       abbrev left : Part
-      left = rest_from rest below made
+      left = part_behind made rest
 
       abbrev before : Lent
       before = stacked heap dictionaries old (frames_after 0 rest below) l
@@ -188,10 +183,9 @@ module _ (heap : Heap) (dictionaries : List Word) (rest : Part) (old : List Word
 
 -- the element at a place is the first of what is left
 pub element_first : (asks : Asks) (heap : Heap) (dictionaries : List Word) (rest : Part)
-    (below : List Frame) (made : ℕ) (element : Element)
-    → IsElement asks heap dictionaries rest made element
-    → IsElement asks heap dictionaries (rest_from rest below made) 0 element
-element_first asks heap dictionaries rest below made element is = record {
+    (made : ℕ) (element : Element) → IsElement asks heap dictionaries rest made element
+    → IsElement asks heap dictionaries (part_behind made rest) 0 element
+element_first asks heap dictionaries rest made element is = record {
   held = is.held;
   reads = λ names s shows.
       let place_is : (rest.offset + made) + 0 ≡ rest.offset + made = omega arith in
@@ -206,7 +200,7 @@ pub all_taken : (rest : Part) (below : List Frame) (made : ℕ) → made ≡ res
     → frames_after made rest below ≡ below
 all_taken rest below made all =
     let none : nat_lt made rest.length ≡ false = grind (arith, nat_tests, all) in
-    ap (λ (b : Bool). Frames_by rest below b (rest_from rest below made)) none
+    ap (λ (b : Bool). Frames_by rest below b (part_behind made rest)) none
 
 -- what is left of a procedure is told where that is the topmost frame
 pub procedure_top : (top : Option Frame) (rest : Part) → Some rest ≡ procedure_in top

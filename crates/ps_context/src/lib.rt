@@ -4,6 +4,7 @@
 
 mod elements;
 pub mod laws;
+mod procedures;
 mod runs;
 mod sources;
 pub mod steps;

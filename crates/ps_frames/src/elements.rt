@@ -86,6 +86,7 @@ fn treat_apart<O: Operate, M: Memory>(
 
 /// The first element of a procedure above the frames is done, as its value is treated; what is left
 /// of the procedure is pushed before. Raises what the value raises, with the element as the command.
+/// It is a call: in line it would take registers of the loop of elements that are done ahead.
 ///
 /// Not made, with nothing changed but for the frame, which is pushed whole: as the value.
 #[inline(never)]

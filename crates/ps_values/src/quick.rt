@@ -74,7 +74,7 @@ pub fn do_quickly<O: Operate, M: Memory>(
         let came = operators.operate_ahead(operator, operands, may_enter);
         return Quick::or(came, Quick::Treats(word));
     }
-    // Before the name, so that a procedure's way keeps its registers.
+    // Asked for before a name: what a look-up keeps would else be kept beside a procedure.
     if let Content::Array(_) = word.content() {
         let came = Ahead::of(push_quickly(word, operands));
         return Quick::or(came, Quick::Left);

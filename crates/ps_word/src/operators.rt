@@ -8,6 +8,9 @@ ghost use Rattle.ps_word.specs.OperatorNumbers.{operator_number};
 
 use ps_language::operators::Operator;
 
+/// How many operators there are.
+pub const OPERATORS: u8 = 99;
+
 /// The operator's number, from 0 to 98: its place in the order of `systemdict`.
 #[inline]
 pub fn number_of(operator: Operator) -> u8
@@ -21,7 +24,7 @@ pub fn number_of(operator: Operator) -> u8
 pub fn operator_of(number: u8) -> Operator
     ensures { result ≡ slice_index_or every_operator number Pop }
 {
-    if number < 99 {
+    if number < OPERATORS {
         operator_at(number)
     } else {
         Operator::Pop
@@ -31,7 +34,7 @@ pub fn operator_of(number: u8) -> Operator
 /// The operator of a number that one has: no test is made of it.
 #[inline]
 pub fn operator_at(number: u8) -> Operator
-    requires some { number < 99 }
+    requires some { number < OPERATORS }
     ensures { result ≡ slice_index_or every_operator number Pop }
 {
     match number {

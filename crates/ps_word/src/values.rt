@@ -1,7 +1,7 @@
 //! Values as words hold them.
 #![tactic(auto)]
 
-ghost use Rattle.std.specs.Prelude.{◌≡◌};
+ghost use Rattle.std.specs.Prelude.{◌≡◌, ◌↔◌, IsTrue};
 ghost use Rattle.ps_word.specs.Format as format;
 
 use ps_language::access::Access;
@@ -39,6 +39,16 @@ pub struct Part {
     /// At most 65,535 less the offset.
     pub length: u16,
     pub access: Access,
+}
+
+impl Part {
+    /// Whether the address is below 2^24 and the part ends at or below 65,535.
+    #[inline]
+    pub fn is_in_format(self) -> bool
+        ensures { IsTrue result ↔ format.IsPart self }
+    {
+        self.address < 1 << 24 && self.offset as u32 + (self.length as u32) < 1 << 16
+    }
 }
 
 /// What a value is, but for its attribute.

@@ -10,7 +10,7 @@ use crate::bits::{
     ACCESS, ADDRESS, EXECUTABLE, OFFSET, OPERATOR, PROCEDURE, REFERENCE, TYPE, content_bits,
     type_number,
 };
-use crate::operators::{operator_at, operator_of};
+use crate::operators::{OPERATORS, operator_at, operator_of};
 use crate::values::{Content, Part, Value, access_number, access_of};
 use ps_language::access::Access;
 use ps_language::kinds::Kind;
@@ -55,16 +55,6 @@ impl Value {
                 + self.executable as u64 * EXECUTABLE
                 + content_bits(self.content),
         )
-    }
-}
-
-impl Part {
-    /// Whether the address is below 2^24 and the part ends at or below 65,535.
-    #[inline]
-    pub fn is_in_format(self) -> bool
-        ensures { IsTrue result ↔ layout.IsPart self }
-    {
-        self.address < 1 << 24 && self.offset as u32 + (self.length as u32) < 1 << 16
     }
 }
 
@@ -181,7 +171,7 @@ impl Word {
             → readers.as_operator (content_in self.0) ≡ None }
     {
         let number = self.0.wrapping_sub(OPERATOR);
-        if number < 99 {
+        if number < OPERATORS as u64 {
             Some(operator_at(number as u8))
         } else {
             None

@@ -2,7 +2,7 @@ use Rattle.std.proofs.Common.{◌+◌, ◌-◌, ◌≤◌, length}
 use Rattle.ps_acts.specs.Lent.{lent}
 use Rattle.ps_frames.specs.Steps.{above, frames_after, with_frames}
 use Rattle.ps_interpreter.specs.OwnSteps.{HasRun}
-use Rattle.ps_context.proofs.runs.run_entered.Given as goal
+use Rattle.ps_context.proofs.procedures.run_entered.Given as goal
 
 -- so many were made, and what is left of the procedure is above the frames
 abbrev pub invariant-loop-end : goal.invariant-loop-end

@@ -7,7 +7,7 @@ use Rattle.ps_interpreter.proofs.Running.{run_none}
 use Rattle.ps_turns.specs.Turns.{Turns}
 use Rattle.ps_context.proofs.Ahead.{turned_above}
 use Rattle.ps_context.proofs.Behind.{step_above, undone_good, undone_turned}
-use Rattle.ps_context.proofs.runs.do_known.Goals as goal
+use Rattle.ps_context.proofs.procedures.do_known.Goals as goal
 
 pub returns-in-Done : goal.returns-in-Done
 returns-in-Done g c =

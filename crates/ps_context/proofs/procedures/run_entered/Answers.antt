@@ -10,7 +10,7 @@ use Rattle.ps_interpreter.specs.OwnSteps.{HasRun}
 use Rattle.ps_interpreter.proofs.Running.{run_none}
 use Rattle.ps_context.proofs.Ahead.{all_taken, done_above, done_to, element_first, entered_to, left_behind, none_taken, procedure_top, then_taken, turned_above}
 use Rattle.ps_context.proofs.Behind.{step_behind, told_behind}
-use Rattle.ps_context.proofs.runs.run_entered.Goals as goal
+use Rattle.ps_context.proofs.procedures.run_entered.Goals as goal
 
 pub loop-end-init : goal.loop-end-init
 loop-end-init g c =
@@ -145,8 +145,8 @@ pub do_known-known-requires-clause-first : goal.do_known-known-requires-clause-f
 do_known-known-requires-clause-first g c =
     rw (c.do_first.ensures.heap, c.left_of-behind.ensures)
     (element_first g.O.Operate.asks (g.M.Memory.heap c.loop-end.memory)
-    c.loop-end.context.dictionaries c.loop-end.rest c.loop-end.context.frames c.in-Treats.done
-    c.in-Treats.element (rw c.in-Treats.is at c.do_first.ensures.does).1)
+    c.loop-end.context.dictionaries c.loop-end.rest c.in-Treats.done c.in-Treats.element
+    (rw c.in-Treats.is at c.do_first.ensures.does).1)
 
 pub returns-then-is_some-clause-runs : goal.returns-then-is_some-clause-runs
 returns-then-is_some-clause-runs g c =
