@@ -6,40 +6,82 @@ ghost use Rattle.std.specs.Prelude.{◌≤◌, ◌^◌, IfOk, vec_len};
 use ps_context::steps::Steps;
 use ps_deeds::operators::WorldOperators;
 use ps_dispatch::operators::Operators;
-use ps_run::{FileSet, Flushed, ReadFault, WriteFault, drive};
+use ps_run::{FileSet, Flushed, ReadFault, WriteFault, drive, refuse_no_text};
 use std::alloc::Global;
 use std::env;
 use std::fs::{self, File};
 use std::hash::RandomState;
-use std::io::{self, Read};
+use std::io::{self, Lock, Read, StdinLock};
 use std::process::ExitCode;
 use std::sync::Wait;
 use std::thread::Threads;
 
-/// The files of the system.
+/// The name that stands for standard input where a file is read.
+const STANDARD_INPUT: &str = "-";
+
+/// The file that is open, if one is.
+#[derive(Drop)]
+enum Opened {
+    Nothing,
+    File(File),
+    Input(StdinLock<'static>),
+}
+
+impl Opened {
+    /// Appends the next bytes of the file, up to `most` of them.
+    fn read_part(&mut self, most: usize, bytes: &mut Vec<u8>) -> Result<(), ReadFault> {
+        match self {
+            Opened::Nothing => Err(ReadFault::NoRead),
+            Opened::File(file) => read_part(file, most, bytes),
+            Opened::Input(input) => read_part(input, most, bytes),
+        }
+    }
+}
+
+/// The files of the system. Where one is read, `-` is standard input.
 #[derive(Drop)]
 struct SystemFiles<'a> {
     rt: &'a HostRuntime,
+    opened: Opened,
     /// Why the last read that failed did.
     last_fault: Option<ReadFault>,
     /// Whether a write failed.
     unwritten: bool,
 }
 
+/// The most bytes that are read by one call.
+const PART_BYTES: usize = 65_536;
+
+/// Appends the next bytes of a reader, up to `most` of them, by one read that isn't interrupted.
+fn read_part<R: Read>(reader: &mut R, most: usize, bytes: &mut Vec<u8>) -> Result<(), ReadFault> {
+    let mut buffer = [0; PART_BYTES];
+    let part = &mut buffer[..most.min(PART_BYTES)];
+    for _ in 0..u64::MAX {
+        match reader.read(part) {
+            Ok(count) => {
+                return match bytes.extend_from_slice(&part[..count]) {
+                    Ok(()) => Ok(()),
+                    Err(_) => Err(ReadFault::Memory),
+                };
+            }
+            Err(error) if error.kind() == io::ErrorKind::Interrupted => {}
+            Err(error) if error.kind() == io::ErrorKind::OutOfMemory => {
+                return Err(ReadFault::Memory);
+            }
+            Err(_) => return Err(ReadFault::NoRead),
+        }
+    }
+    Err(ReadFault::NoRead)
+}
+
 impl SystemFiles<'_> {
-    /// The bytes of a file of at most so many.
-    fn bytes_of(&self, alloc: Global, name: &str, most: usize) -> Result<Vec<u8>, ReadFault>
-        requires { most ≤ 2 ^ 40 }
-        ensures { IfOk result (λ bytes. vec_len bytes ≤ most) }
-    {
-        let mut bytes = Vec::new(alloc);
-        let Ok(file) = File::open(self.rt, name) else {
-            return Err(ReadFault::NoRead);
-        };
-        match file.take(most as u64 + 1).read_to_end(&mut bytes) {
-            Ok(_) if bytes.len() > most => Err(ReadFault::TooLong),
-            Ok(_) => Ok(bytes),
-            Err(error) if error.kind() == io::ErrorKind::OutOfMemory => Err(ReadFault::Memory),
+    /// The file of a name, opened.
+    fn opened(&self, name: &str) -> Result<Opened, ReadFault> {
+        if name == STANDARD_INPUT {
+            return Ok(Opened::Input(self.rt.stdin().lock()));
+        }
+        match File::open(self.rt, name) {
+            Ok(file) => Ok(Opened::File(file)),
             Err(_) => Err(ReadFault::NoRead),
         }
     }
@@ -50,8 +92,21 @@ impl FileSet for SystemFiles<'_> {
 
     ghost is_unwritten = { λ files. files.unwritten };
 
-    fn read(&mut self, alloc: Global, name: &str, most: usize) -> Result<Vec<u8>, ReadFault> {
-        let read = self.bytes_of(alloc, name, most);
+    fn open(&mut self, name: &str) -> Result<(), ReadFault> {
+        match self.opened(name) {
+            Ok(opened) => {
+                self.opened = opened;
+                Ok(())
+            }
+            Err(fault) => {
+                self.last_fault = Some(fault);
+                Err(fault)
+            }
+        }
+    }
+
+    fn read_on(&mut self, most: usize, bytes: &mut Vec<u8>) -> Result<(), ReadFault> {
+        let read = self.opened.read_part(most, bytes);
         if let Err(fault) = &read {
             self.last_fault = Some(*fault);
         }
@@ -71,10 +126,17 @@ impl FileSet for SystemFiles<'_> {
 /// Fails where the command line, or the keys of the table of names, can't be had.
 fn run<R: Threads + Wait + Sync>(rt: &HostRuntime, workers: &R) -> io::Result<u8> {
     let alloc = rt.alloc();
-    let arguments: Vec<String> = env::args(rt)?.skip(1).collect(alloc)?;
+    let given = match env::args(rt) {
+        Err(error) if error.kind() == io::ErrorKind::InvalidData => {
+            return Ok(refuse_no_text(alloc, &mut rt.stderr()));
+        }
+        given => given?,
+    };
+    let arguments: Vec<String> = given.skip(1).collect(alloc)?;
     let words: Vec<&str> = arguments.iter().map(|word| word.as_str()).collect(alloc)?;
     let mut files = SystemFiles {
         rt,
+        opened: Opened::Nothing,
         last_fault: None,
         unwritten: false,
     };

@@ -1,5 +1,7 @@
 -- The command line of the program, as rules of clap.
-use Rattle.std.specs.Prelude.{◌≡◌, ◌<◌, ◌^◌, ℕ, Bool, ◌&&◌, ◌||◌, List, [], ◌∷◌, Option, Some, None, is_some, true, false, codes, unwrap_or, if◌then◌else◌}
+use Rattle.std.specs.Prelude.{◌≡◌, ◌==◌, ◌<◌, ◌^◌, ℕ, Bool, ◌&&◌, ◌||◌, List, [], ◌∷◌, Option, Some, None, is_some, true, false, length, drop, nat_eq, codes, unwrap_or, if◌then◌else◌}
+use Rattle.std.specs.Char.{is_ascii_digit}
+use Rattle.std.specs.List.{list_all, starts_with}
 use Rattle.std.specs.Str.{bytes_eq}
 use Rattle.std.specs.Str.Parse.{IsNumeral, digits_value, without_leading_plus}
 use Rattle.clap.specs.Kinds.{Kinds, or_else}
@@ -55,10 +57,14 @@ with_schedules app = with_rule
 abbrev pub nameless : App → App
 nameless app = record app { top = record app.top { no_binary_name = true } }
 
+-- it answers for its version
+abbrev pub versioned : App → App
+versioned app = record app { top = record app.top { has_version = true } }
+
 -- the whole: its words come without the program's name
 abbrev pub command_line : App
 command_line = with_rule (with_schedules (with_flags
-    (with_limits (with_sizes (nameless (new_app (codes "dpsrun"))))))) file_rule
+    (with_limits (with_sizes (nameless (versioned (new_app (codes "dpsrun")))))))) file_rule
 
 -- the name of the program's file in such words
 abbrev pub file_in : List Text → Text
@@ -82,10 +88,35 @@ abbrev pub is_excluded : List Text → Bool
 is_excluded words = excludes (named_in (codes "replay") words) (named_in (codes "plain") words)
     (named_in (codes "record") words) (named_in (codes "explore") words)
 
--- the faults of such words: those by the rules, or that a schedule is excluded
+-- a number in decimal, of any size
+abbrev pub is_number : Text → Bool
+is_number [] = false
+is_number (first ∷ rest) = list_all is_ascii_digit (first ∷ rest)
+
+-- a full stop and a number
+abbrev pub is_extension : Text → Bool
+is_extension [] = false
+is_extension (byte ∷ number) = (byte == 46) && is_number number
+
+-- a name that is another with a full stop and a number behind it: that of an ending's record
+abbrev pub is_numbered : (prefix name : Text) → Bool
+is_numbered prefix name = starts_with nat_eq name prefix && is_extension (drop (length prefix) name)
+
+-- a record is written to the program's own file, as far as the names tell
+abbrev pub overwrites : (recorded explored file : Option Text) → Bool
+overwrites (Some name) None (Some file) = bytes_eq file name
+overwrites (Some prefix) (Some count) (Some file) = is_numbered prefix file
+overwrites _ _ _ = false
+
+abbrev pub is_overwritten : List Text → Bool
+is_overwritten words = overwrites (named_in (codes "record") words)
+    (named_in (codes "explore") words) (named_in (codes "FILE") words)
+
+-- the faults of such words: those by the rules, or that a schedule is excluded, or that the program
+-- would be written over
 abbrev pub faults_in : List Text → Kinds
 faults_in words = or_else (fault_of command_line words)
-    (if is_excluded words then ArgumentConflict ∷ [] else [])
+    (if is_excluded words || is_overwritten words then ArgumentConflict ∷ [] else [])
 
 -- the text of a flag in such words
 abbrev pub flag_in : Text → List Text → Option Text

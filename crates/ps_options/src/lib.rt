@@ -4,4 +4,4 @@
 
 mod options;
 
-pub use options::{Options, parse};
+pub use options::{Options, VERSION, no_text, parse};

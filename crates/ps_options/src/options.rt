@@ -2,6 +2,7 @@
 
 ghost use Rattle.std.specs.Prelude.{◌≡◌, ◌≤◌, Some, true, false, codes, map, IfOk, IfSome};
 ghost use Rattle.std.specs.Option.{option_map};
+ghost use Rattle.clap.specs.Values.{kind_of};
 ghost use Rattle.clap.specs.Words.{app_of, rule_of, with_rule, first_value, found_of, FailsBy};
 ghost use Rattle.ps_options.specs.CommandLine as spec;
 
@@ -10,9 +11,18 @@ use clap::error::ErrorKind;
 use clap::{Arg, ArgAction, ArgMatches, Command, Error};
 use std::alloc::{AllocError, Global};
 
+/// The version of the program, which `--version` tells.
+pub const VERSION: &str = "0.1.0";
+
 /// What is told of a schedule that is given beside what excludes it.
 const EXCLUDED: &str = "the argument '--replay <FILE>' cannot be used with '--plain', \
     '--record <FILE>' or '--explore <N>'";
+
+/// What is told of a record that would take the place of the program.
+const OVERWRITTEN: &str = "the argument '--record <FILE>' would write over the program";
+
+/// What is told of words that are no text.
+const NO_TEXT: &str = "invalid UTF-8 was detected in one or more arguments";
 
 /// What the command line asks for.
 #[derive(Debug, Drop)]
@@ -37,7 +47,7 @@ pub struct Options<'a> {
     /// The name of the file whose schedule is followed, if one is. Nothing is recorded then, and
     /// nothing is chosen by chance.
     pub replay_file: Option<&'a str>,
-    /// The name of the program's file.
+    /// The name of the program's file; `-` is standard input.
     pub file: &'a str,
 }
 
@@ -47,6 +57,7 @@ fn command<'a>(alloc: Global) -> Result<Command<'a>, AllocError>
 {
     let command = Command::new(alloc, "dpsrun")
         .about("Runs a program in the PostScript language.")
+        .version(VERSION)
         .no_binary_name(true);
     let numbered = with_limits(alloc, with_sizes(alloc, command)?)?;
     with_file(alloc, with_schedules(alloc, with_flags(alloc, numbered)?)?)
@@ -120,7 +131,11 @@ fn with_schedules<'a>(alloc: Global, command: Command<'a>) -> Result<Command<'a>
 fn with_file<'a>(alloc: Global, command: Command<'a>) -> Result<Command<'a>, AllocError>
     ensures { IfOk result (λ made. app_of made ≡ with_rule (app_of command.entry) spec.file_rule) }
 {
-    command.arg(Arg::new(alloc, "FILE").help("the program").required(true))
+    command.arg(
+        Arg::new(alloc, "FILE")
+            .help("the program; '-' is standard input")
+            .required(true),
+    )
 }
 
 /// An option with a value, which the help calls `value`.
@@ -184,9 +199,63 @@ fn is_excluded(matches: &ArgMatches<'_>) -> bool
             || matches.get_str("explore").is_some())
 }
 
+/// Whether a text is a number in decimal, of any size.
+fn is_number(text: &[u8]) -> bool
+    ensures { result ≡ spec.is_number text.now }
+{
+    for byte in text {
+        if !byte.is_ascii_digit() {
+            return false;
+        }
+    }
+    !text.is_empty()
+}
+
+/// Whether a text is a full stop and a number.
+fn is_extension(text: &[u8]) -> bool
+    ensures { result ≡ spec.is_extension text.now }
+{
+    match text {
+        [b'.', number @ ..] => is_number(number),
+        _ => false,
+    }
+}
+
+/// Whether a name is that of the record of an ending, where such names begin with `prefix`.
+fn is_numbered(name: &str, prefix: &str) -> bool
+    ensures { result ≡ spec.is_numbered prefix.now name.now }
+{
+    let (name, prefix) = (name.as_bytes(), prefix.as_bytes());
+    name.starts_with(prefix) && is_extension(&name[prefix.len()..])
+}
+
+/// Whether a record that is asked for in the words of the matches takes the place of the program.
+fn is_overwritten(matches: &ArgMatches<'_>) -> bool
+    ensures { result ≡ spec.overwrites (first_value (found_of matches.now) (codes "record"))
+        (first_value (found_of matches.now) (codes "explore"))
+        (first_value (found_of matches.now) (codes "FILE")) }
+{
+    let (Some(record), Some(file)) = (matches.get_str("record"), matches.get_str("FILE")) else {
+        return false;
+    };
+    if matches.get_str("explore").is_some() {
+        is_numbered(file, record)
+    } else {
+        file == record
+    }
+}
+
+/// The error for words of a command line that are no text. Fails for want of memory.
+pub fn no_text(alloc: Global) -> Result<Error, AllocError>
+    ensures { IfOk result (λ error. kind_of error ≡ ErrorKind.InvalidValue) }
+{
+    command(alloc)?.error(ErrorKind::InvalidValue, NO_TEXT)
+}
+
 /// Reads the words of a command line, without the program's name. The error is the first fault of
-/// the words by the rules of the command line, or that a schedule is given and `--plain`,
-/// `--record` or `--explore` stands there too, or want of memory.
+/// the words by the rules of the command line; or that a schedule is given and `--plain`,
+/// `--record` or `--explore` stands there too; or that a record would be written over the program,
+/// as far as the names tell; or want of memory.
 pub fn parse<'a>(alloc: Global, words: &'a [&'a str]) -> Result<Options<'a>, Error>
     ensures fault { FailsBy (spec.faults_in (map (λ word. word.now) words.entry.now)) result }
     ensures file { IfOk result
@@ -217,6 +286,9 @@ pub fn parse<'a>(alloc: Global, words: &'a [&'a str]) -> Result<Options<'a>, Err
     let matches = line.try_get_matches_from_mut(words)?;
     if is_excluded(&matches) {
         return Err(line.error(ErrorKind::ArgumentConflict, EXCLUDED)?);
+    }
+    if is_overwritten(&matches) {
+        return Err(line.error(ErrorKind::ArgumentConflict, OVERWRITTEN)?);
     }
     Ok(Options {
         space: matches.get_one::<u32>("space").unwrap_or(65536),

@@ -94,10 +94,27 @@ fn config_of(numbers: &[u32]) -> Option<Config> {
 /// Why a file is not read.
 fn fault_of(text: &str) -> ReadFault {
     match text {
-        "too-long" => ReadFault::TooLong,
         "memory" => ReadFault::Memory,
         _ => ReadFault::NoRead,
     }
+}
+
+/// These bytes, so many times.
+fn repeated(alloc: Global, bytes: &[u8], times: u32) -> Result<Vec<u8>, AllocError> {
+    let mut all = Vec::new(alloc);
+    for _ in 0..times {
+        all.extend_from_slice(bytes)?;
+    }
+    Ok(all)
+}
+
+/// As many lines `1 1 0` as the first word says, and the rest of the text behind them.
+fn lines_of(alloc: Global, text: &str) -> Result<Vec<u8>, AllocError> {
+    let (number, rest) = text.split_once(' ').unwrap_or((text, ""));
+    let mut lines = repeated(alloc, b"1 1 0\n", number_of(number))?;
+    let rest = bytes_of(alloc, rest)?;
+    lines.extend_from_slice(rest.as_slice())?;
+    Ok(lines)
 }
 
 impl<'a> Case<'a> {
@@ -155,6 +172,8 @@ impl<'a> Case<'a> {
         match kind {
             "program" => self.program = Ok(bytes_of(alloc, text)?),
             "schedule" => self.schedule = Ok(bytes_of(alloc, text)?),
+            "blank" => self.program = Ok(repeated(alloc, b" ", number_of(text))?),
+            "lines" => self.schedule = Ok(lines_of(alloc, text)?),
             "bad-program" => self.program = Err(fault_of(text)),
             "bad-schedule" => self.schedule = Err(fault_of(text)),
             "unwritable" => self.takes_writes = false,

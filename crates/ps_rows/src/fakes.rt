@@ -3,6 +3,7 @@
 ghost use Rattle.std.specs.Prelude.{◌≡◌, ◌≢◌, ◌≤◌, ◌+◌, ℕ, List, [], true, Some, None, Err, OnOk, OnErr, IsErr, IfOk, IfErr, IfSome, length, vec_len};
 ghost use Rattle.std.specs.Io.{WritesAtMost};
 ghost use Rattle.std.specs.Io.KnownBytes.{WriteAppends, Keeps};
+ghost use Rattle.ps_run.specs.Parts.{ReadsNext};
 ghost use Rattle.ps_rows.specs.Fakes.{bytes_in, known_in};
 
 use ps_context::steps::Steps;
@@ -25,29 +26,14 @@ pub fn deeds_in(alloc: Global) -> WorldOperators {
     WorldOperators { alloc }
 }
 
-/// What is read, of at most so many bytes, of a file that has these, or a fault in their place.
-fn copied(alloc: Global, bytes: Result<&[u8], ReadFault>, most: usize) -> Result<Vec<u8>, ReadFault>
-    ensures few { IfOk result (λ copy. vec_len copy ≤ most) }
-    ensures bytes { IfOk result (λ copy. bytes_in bytes.entry ≡ Some copy.items) }
-    ensures fault { IfErr result (λ fault. IfSome (bytes_in bytes.entry)
-        (λ known. length known ≤ most → fault ≡ ReadFault.Memory)) }
-{
-    match bytes {
-        Ok(bytes) if bytes.len() > most => Err(ReadFault::TooLong),
-        Ok(bytes) => match Vec::from_slice(alloc, bytes) {
-            Ok(copy) => Ok(copy),
-            Err(_) => Err(ReadFault::Memory),
-        },
-        Err(fault) => Err(fault),
-    }
-}
-
 /// The program's file `f` and a schedule's file `s`, each with its bytes or a fault in their place,
 /// and one file that can be written, of any other name.
 #[derive(Drop)]
 pub struct Files<'a> {
     pub program: Result<&'a [u8], ReadFault>,
     pub schedule: Result<&'a [u8], ReadFault>,
+    /// What is left of the file that is open.
+    pub left: Result<&'a [u8], ReadFault>,
     pub alloc: Global,
     /// What was written.
     pub written: Option<Vec<u8>>,
@@ -69,6 +55,7 @@ impl<'a> Files<'a> {
         Files {
             program,
             schedule,
+            left: Err(ReadFault::NoRead),
             alloc,
             written: None,
             takes_writes: true,
@@ -78,7 +65,38 @@ impl<'a> Files<'a> {
     }
 }
 
-impl Files<'_> {
+impl<'a> Files<'a> {
+    /// What the file of a name holds, or why it can't be read.
+    fn named(&self, name: &str) -> Result<&'a [u8], ReadFault>
+        ensures { bytes_in result ≡ known_in self.now.program self.now.schedule name.now }
+    {
+        if name == "f" {
+            self.program
+        } else if name == "s" {
+            self.schedule
+        } else {
+            Err(ReadFault::NoRead)
+        }
+    }
+
+    /// Appends the next bytes of the file that is open, up to `most` of them.
+    fn read_next(&mut self, most: usize, bytes: &mut Vec<u8>) -> Result<(), ReadFault>
+        requires some { 1 ≤ most }
+        ensures next { OnOk result (IfSome (bytes_in self.old.left) (λ known.
+            ReadsNext known (bytes_in self.new.left) bytes.old.items bytes.new.items)) }
+        ensures fault { IfErr result
+            (λ fault. IfSome (bytes_in self.old.left) (λ known. fault ≡ ReadFault.Memory)) }
+        ensures same { self.new ≡ record self.old { left = self.new.left } }
+    {
+        let left = self.left?;
+        let (next, rest) = left.split_at(most.min(left.len()));
+        if bytes.extend_from_slice(next).is_err() {
+            return Err(ReadFault::Memory);
+        }
+        self.left = Ok(rest);
+        Ok(())
+    }
+
     /// Writes the record. Fails where it can't be written, or memory is wanted.
     fn put(&mut self, name: &str, bytes: &[u8]) -> Result<(), WriteFault>
         ensures reads { self.new ≡ record self.old { written = self.new.written } }
@@ -98,18 +116,25 @@ impl Files<'_> {
 impl FileSet for Files<'_> {
     ghost contents = { λ files name. known_in files.program files.schedule name };
 
+    ghost left = { λ files. bytes_in files.left };
+
     ghost last_fault = { λ files. files.last_fault };
 
     ghost is_unwritten = { λ files. files.unwritten };
 
-    fn read(&mut self, alloc: Global, name: &str, most: usize) -> Result<Vec<u8>, ReadFault> {
-        let read = if name == "f" {
-            copied(alloc, self.program, most)
-        } else if name == "s" {
-            copied(alloc, self.schedule, most)
-        } else {
-            Err(ReadFault::NoRead)
-        };
+    fn open(&mut self, name: &str) -> Result<(), ReadFault> {
+        self.left = self.named(name);
+        match self.left {
+            Ok(_) => Ok(()),
+            Err(fault) => {
+                self.last_fault = Some(fault);
+                Err(fault)
+            }
+        }
+    }
+
+    fn read_on(&mut self, most: usize, bytes: &mut Vec<u8>) -> Result<(), ReadFault> {
+        let read = self.read_next(most, bytes);
         if let Err(fault) = &read {
             self.last_fault = Some(*fault);
         }

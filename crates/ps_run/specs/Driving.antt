@@ -84,12 +84,9 @@ counts_of stats report = if stats then count_lines report else []
 
 -- ---- a run of a file
 
--- how many bytes a file may have that is read
+-- how many bytes a program's file may have
 abbrev pub most_program_bytes : ℕ
 most_program_bytes = 16777215
-
-abbrev pub most_schedule_bytes : ℕ
-most_schedule_bytes = 2 ^ 40
 
 -- what the words ask for of a run; plain: whether over memory that is never collected, whatever the
 -- space; explored: under how many schedules, if they are chosen by chance
@@ -171,7 +168,6 @@ abbrev pub IsGiven : Contents → Option Text → Option (List Entry) → Type 0
 IsGiven contents None None = ⊤
 IsGiven contents (Some name) (Some given) = AreEntries given
     × IfSome (contents name) (λ bytes. text_of given ≡ bytes)
-    × (length (text_of given) ≤ most_schedule_bytes)
 IsGiven contents _ _ = ⊥
 
 -- a file holds the text of a schedule, if one is named
@@ -318,21 +314,19 @@ AreWritten recorded runs endings told outputs =
 
 -- ---- faults
 
--- the file can't be read for what it holds: more than so many bytes
-abbrev pub IsTooLong : (most : ℕ) → (known : Option (List ℕ)) → Type 0
-IsTooLong most known = IfSome known (λ bytes. most < length bytes)
+-- a program's file can't be read for what it holds: more bytes than one may have
+abbrev pub IsTooLong : (known : Option (List ℕ)) → Type 0
+IsTooLong known = IfSome known (λ bytes. most_program_bytes < length bytes)
 
 -- the line that standard error has of a bad line of a schedule
 abbrev pub bad_line : ℕ → List ℕ
 bad_line line = number_line (codes "dpsrun: bad schedule line ") line
 
--- no schedule can be read of the file that is named: it is too long, or has a bad line, which is
--- told
+-- no schedule can be read of the file that is named: it has a bad line, which is told
 abbrev pub HasNoSchedule : Contents → Option Text → (err_old err_new : Option (List ℕ)) → Type 0
 HasNoSchedule contents None err_old err_new = ⊥
 HasNoSchedule contents (Some name) err_old err_new =
-    IsTooLong most_schedule_bytes (contents name)
-    ⊎ ((line : ℕ) × IfSome (contents name) (λ bytes. IsBadAt bytes line)
+    IfSome (contents name) (λ bytes. (line : ℕ) × IsBadAt bytes line
     × AppendsPart err_old err_new (bad_line line))
 
 module _ (asks : world.Status → Around → Scene → acts.Asked) (names : Names)

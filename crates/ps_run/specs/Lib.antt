@@ -1,1 +1,2 @@
 pub mod Driving
+pub mod Parts

@@ -5,18 +5,18 @@ ghost use Rattle.ps_options.specs.CommandLine.{faults_in, named_in};
 ghost use Rattle.clap.specs.Values.{kind_of};
 ghost use Rattle.ps_vault.specs.Reports.{IsWithin};
 ghost use Rattle.ps_run.specs.Driving as driving;
-ghost use Rattle.ps_run.specs.Driving.{AreAsked, AreOutOfRange, HasNoSchedule, IsDriven, IsMade, IsRecordName, IsTooLong, asked_of, config_in, most_program_bytes, names_in, names_of};
+ghost use Rattle.ps_run.specs.Driving.{AreAsked, AreOutOfRange, HasNoSchedule, IsDriven, IsMade, IsRecordName, IsTooLong, asked_of, config_in, names_in, names_of};
 
 use crate::exploring::explore;
-use crate::files::{FileSet, MOST_PROGRAM_BYTES};
+use crate::files::FileSet;
 use crate::finishing::finish;
 use crate::outputs::Flushing;
-use crate::reading::{read, read_given};
+use crate::reading::{read_given, read_program};
 use crate::statuses::{Status, end, number_of};
 use clap::Error;
 use clap::error::ErrorKind;
 use ps_interpreter::interprets::Interpret;
-use ps_options::{Options, parse};
+use ps_options::{Options, no_text, parse};
 use ps_vault::{Config, Entry, Report, RunFault, replay, run_plain};
 use ps_world::deeds::Deeds;
 use std::alloc::Global;
@@ -80,7 +80,7 @@ pub fn drive<
         × IsDriven S.asks (names_in (map (λ word. word.now) words.now))
         (AreAsked (map (λ word. word.now) words.now))
         ((faults_in (map (λ word. word.now) words.now) ≢ [])
-        ⊎ (IsTooLong most_program_bytes
+        ⊎ (IsTooLong
         (F.contents files.old (names_in (map (λ word. word.now) words.now)).file)
         ⊎ (HasNoSchedule (F.contents files.old)
         (names_in (map (λ word. word.now) words.now)).replayed (X.contents err.old)
@@ -104,6 +104,17 @@ pub fn drive<
             )),
         },
         Err(error) => number_of(refuse(&error, err)),
+    }
+}
+
+/// Tells that the words of a command line are no text, and gives the exit status: 2, or 5 where there
+/// is no memory to tell it.
+pub fn refuse_no_text<X: Write>(alloc: Global, err: &mut X) -> u8
+    ensures { (result ≡ 2) ⊎ (result ≡ 5) }
+{
+    match no_text(alloc) {
+        Ok(error) => number_of(refuse(&error, err)),
+        Err(_) => number_of(end(err, Status::Memory)),
     }
 }
 
@@ -148,7 +159,7 @@ fn run<
         → result ≡ Status.Usage }
     ensures run { IsDriven S.asks (names_of options.now)
         (λ asked. asked ≡ asked_of options.now)
-        (IsTooLong most_program_bytes (F.contents files.old (names_of options.now).file)
+        (IsTooLong (F.contents files.old (names_of options.now).file)
         ⊎ (HasNoSchedule (F.contents files.old) (names_of options.now).replayed
         (X.contents err.old) (X.contents err.new)
         ⊎ ¬ IsWithin (config_in options.now)))
@@ -162,7 +173,7 @@ fn run<
           flushed = W.is_flushed out.new;
         }) }
 {
-    let program = match read(alloc, options.file, MOST_PROGRAM_BYTES, files, err) {
+    let program = match read_program(alloc, options.file, files, err) {
         Ok(program) => program,
         Err(status) => return status,
     };

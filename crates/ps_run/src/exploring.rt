@@ -3,14 +3,14 @@
 ghost use Rattle.std.specs.Prelude.{◌≡◌, ◌≤◌, ◌⊎◌, ℕ, List, true, false, Some, None, IfSome};
 ghost use Rattle.ps_vault.specs.Reports.{IsWithin};
 ghost use Rattle.ps_run.specs.Driving as driving;
-ghost use Rattle.ps_run.specs.Driving.{HasNoSchedule, IsDriven, IsRecordName, IsTooLong, asked_of, config_in, most_program_bytes, names_of};
+ghost use Rattle.ps_run.specs.Driving.{HasNoSchedule, IsDriven, IsRecordName, IsTooLong, asked_of, config_in, names_of};
 
 use crate::chances::Chances;
 use crate::driver::config_of;
 use crate::endings::finish_all;
-use crate::files::{FileSet, MOST_PROGRAM_BYTES};
+use crate::files::FileSet;
 use crate::outputs::Flushing;
-use crate::reading::read;
+use crate::reading::read_program;
 use crate::statuses::{Status, end};
 use ps_interpreter::interprets::Interpret;
 use ps_options::Options;
@@ -48,7 +48,7 @@ pub(crate) fn explore<
         → result ≡ Status.Usage }
     ensures run { IsDriven S.asks (names_of options.now)
         (λ asked. asked ≡ asked_of options.now)
-        (IsTooLong most_program_bytes (F.contents files.old (names_of options.now).file)
+        (IsTooLong (F.contents files.old (names_of options.now).file)
         ⊎ (HasNoSchedule (F.contents files.old) (names_of options.now).replayed
         (X.contents err.old) (X.contents err.new)
         ⊎ ¬ IsWithin (config_in options.now)))
@@ -62,7 +62,7 @@ pub(crate) fn explore<
           flushed = W.is_flushed out.new;
         }) }
 {
-    let program = match read(alloc, options.file, MOST_PROGRAM_BYTES, files, err) {
+    let program = match read_program(alloc, options.file, files, err) {
         Ok(program) => program,
         Err(status) => return status,
     };

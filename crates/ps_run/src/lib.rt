@@ -13,6 +13,6 @@ mod reading;
 mod statuses;
 mod writing;
 
-pub use driver::drive;
-pub use files::{FileSet, MOST_PROGRAM_BYTES, MOST_SCHEDULE_BYTES, ReadFault, WriteFault};
+pub use driver::{drive, refuse_no_text};
+pub use files::{FileSet, MOST_PROGRAM_BYTES, ReadFault, WriteFault};
 pub use outputs::{Flushed, Flushing};

@@ -1,48 +1,142 @@
-//! The files that a run is made of: the program's, and that of a schedule to follow.
+//! The files that a run is made of: the program's, and that of a schedule to follow, whose lines are
+//! judged while they are read.
 
-ghost use Rattle.std.specs.Prelude.{◌≡◌, ◌⊎◌, ◌≤◌, ◌^◌, Some, None, OnOk, IfOk, IfErr, IfSome, option_map, vec_len};
+ghost use Rattle.std.specs.Prelude.{◌≡◌, ◌≢◌, ◌⊎◌, ◌≤◌, ℕ, Some, None, Ok, Err, OnOk, IfOk, IfErr, IfSome, option_map, vec_len};
+ghost use Rattle.ps_schedules.specs.Texts.{AreEntries, IsBadAt, text_of};
 ghost use Rattle.ps_run.specs.Driving as driving;
-ghost use Rattle.ps_run.specs.Driving.{HasNoSchedule, IsGiven, IsTooLong, names_of};
+ghost use Rattle.ps_run.specs.Driving.{HasNoSchedule, IsGiven, IsTooLong, most_program_bytes, names_of};
 
-use crate::files::{FileSet, MOST_SCHEDULE_BYTES, ReadFault};
+use crate::files::{FileSet, MOST_PROGRAM_BYTES, ReadFault};
 use crate::statuses::{Status, end};
 use crate::writing::write_number;
 use ps_options::Options;
-use ps_schedules::{ScheduleFault, read_schedule};
+use ps_schedules::{ScheduleFault, read_entries};
 use ps_vault::Entry;
 use std::alloc::Global;
 use std::io::Write;
 
-/// The bytes of a file of at most so many. Where they can't be read that is told, and the status is
-/// the error.
-pub(crate) fn read<F: FileSet, X: Write>(
+/// The most bytes that are read at a time.
+const PART_BYTES: usize = 65_536;
+
+/// Why a file gave no schedule.
+#[derive(Clone, Copy, Debug, PartialEq, Eq)]
+enum NoSchedule {
+    Unread(ReadFault),
+    Bad(ScheduleFault),
+}
+
+/// Tells why a file was not read, and gives the status.
+fn tell_unread<X: Write>(fault: ReadFault, name: &str, err: &mut X) -> Status
+    ensures { result ≡ driving.unread fault }
+{
+    match fault {
+        ReadFault::Memory => end(err, Status::Memory),
+        ReadFault::NoRead => {
+            let _ = writeln!(err, "dpsrun: cannot read {name}");
+            Status::Usage
+        }
+    }
+}
+
+/// The bytes of the file that is open; none where it has more than a program may. Fails where they
+/// can't be read.
+fn read_whole<F: FileSet>(alloc: Global, files: &mut F) -> Result<Option<Vec<u8>>, ReadFault>
+    ensures few { IfOk result
+        (λ read. IfSome read (λ bytes. vec_len bytes ≤ most_program_bytes)) }
+    ensures bytes { IfOk result (λ read. IfSome (F.left files.old)
+        (λ known. IfSome read (λ bytes. bytes.items ≡ known))) }
+    ensures long { result ≡ Ok None → IsTooLong (F.left files.old) }
+    ensures fault { IfErr result
+        (λ fault. IfSome (F.left files.old) (λ known. fault ≡ ReadFault.Memory)) }
+    ensures kept { F.contents files.new ≡ F.contents files.old }
+    ensures failed { IfErr result (λ fault. (fault ≡ ReadFault.Memory)
+        ⊎ (F.last_fault files.new ≡ Some fault)) }
+    ensures unread { F.last_fault files.old ≡ None → IfErr result
+        (λ fault. IfSome (F.last_fault files.new) (λ last. last ≡ fault)) }
+    ensures succeeded { OnOk result (F.last_fault files.new ≡ F.last_fault files.old) }
+    ensures writes { F.is_unwritten files.new ≡ F.is_unwritten files.old }
+{
+    let mut bytes = Vec::new(alloc);
+    for _ in 0..u64::MAX {
+        let before = bytes.len();
+        files.read_on(PART_BYTES, &mut bytes)?;
+        if bytes.len() > MOST_PROGRAM_BYTES {
+            return Ok(None);
+        }
+        if bytes.len() == before {
+            return Ok(Some(bytes));
+        }
+    }
+    Err(ReadFault::Memory)
+}
+
+/// The bytes of the program's file, of at most 16,777,215. Where they can't be read that is told,
+/// and the status is the error.
+pub(crate) fn read_program<F: FileSet, X: Write>(
     alloc: Global,
     name: &str,
-    most: usize,
     files: &mut F,
     err: &mut X,
 ) -> Result<Vec<u8>, Status>
-    requires most { most ≤ 2 ^ 40 }
-    ensures few { IfOk result (λ bytes. vec_len bytes ≤ most) }
+    ensures few { IfOk result (λ bytes. vec_len bytes ≤ most_program_bytes) }
     ensures bytes { IfOk result
         (λ bytes. IfSome (F.contents files.old name.now) (λ known. bytes.items ≡ known)) }
     ensures told { OnOk result (err.new ≡ err.old) }
     ensures kept { F.contents files.new ≡ F.contents files.old }
     ensures succeeded { OnOk result (F.last_fault files.new ≡ F.last_fault files.old) }
     ensures writes { F.is_unwritten files.new ≡ F.is_unwritten files.old }
-    ensures unread { IfErr result
+    ensures unread { F.last_fault files.old ≡ None → IfErr result
         (λ told. IfSome (F.last_fault files.new) (λ fault. told ≡ driving.unread fault)) }
     ensures fault { IfErr result (λ told. (told ≡ Status.Memory)
-        ⊎ ((told ≡ Status.Usage) × IsTooLong most (F.contents files.old name.now))) }
+        ⊎ ((told ≡ Status.Usage) × IsTooLong (F.contents files.old name.now))) }
 {
-    match files.read(alloc, name, most) {
-        Ok(bytes) => Ok(bytes),
-        Err(ReadFault::Memory) => Err(end(err, Status::Memory)),
-        Err(ReadFault::NoRead | ReadFault::TooLong) => {
-            let _ = writeln!(err, "dpsrun: cannot read {name}");
-            Err(Status::Usage)
-        }
+    if let Err(fault) = files.open(name) {
+        return Err(tell_unread(fault, name, err));
     }
+    match read_whole(alloc, files) {
+        Ok(Some(bytes)) => Ok(bytes),
+        Ok(None) => Err(tell_unread(ReadFault::NoRead, name, err)),
+        Err(fault) => Err(tell_unread(fault, name, err)),
+    }
+}
+
+/// The schedule of the file that is open. The fault is its first bad line, and then nothing behind
+/// that is read but what came with it; or want of memory, or why the file can't be read.
+fn read_schedule<F: FileSet>(alloc: Global, files: &mut F) -> Result<Vec<Entry>, NoSchedule>
+    ensures entries { IfOk result (λ schedule. AreEntries schedule.items) }
+    ensures text { IfOk result (λ schedule. IfSome (F.left files.old)
+        (λ known. text_of schedule.items ≡ known)) }
+    ensures bad { (line : ℕ) → result ≡ Err (NoSchedule.Bad (ScheduleFault.BadLine line))
+        → IfSome (F.left files.old) (λ known. IsBadAt known line) }
+    ensures unread { (fault : ReadFault) → result ≡ Err (NoSchedule.Unread fault)
+        → (F.last_fault files.new ≡ Some fault)
+        × IfSome (F.left files.old) (λ known. fault ≡ ReadFault.Memory) }
+    ensures read { ((fault : ReadFault) → result ≢ Err (NoSchedule.Unread fault))
+        → F.last_fault files.new ≡ F.last_fault files.old }
+    ensures kept { F.contents files.new ≡ F.contents files.old }
+    ensures writes { F.is_unwritten files.new ≡ F.is_unwritten files.old }
+{
+    let mut entries = Vec::new(alloc);
+    let mut text = Vec::new(alloc);
+    for _ in 0..u64::MAX {
+        let before = text.len();
+        if let Err(fault) = files.read_on(PART_BYTES, &mut text) {
+            return Err(NoSchedule::Unread(fault));
+        }
+        let is_last = text.len() == before;
+        let rest = match read_entries(text.as_slice(), is_last, &mut entries) {
+            Ok(rest) => rest,
+            Err(fault) => return Err(NoSchedule::Bad(fault)),
+        };
+        if is_last {
+            return Ok(entries);
+        }
+        let Ok(copy) = Vec::from_slice(alloc, rest) else {
+            break;
+        };
+        text = copy;
+    }
+    Err(NoSchedule::Bad(ScheduleFault::Memory))
 }
 
 /// The schedule to follow, if a file is named for one. Where it can't be read that is told, with
@@ -70,11 +164,14 @@ pub(crate) fn read_given<F: FileSet, X: Write>(
     let Some(name) = options.replay_file else {
         return Ok(None);
     };
-    let bytes = read(alloc, name, MOST_SCHEDULE_BYTES, files, err)?;
-    match read_schedule(alloc, bytes.as_slice()) {
+    if let Err(fault) = files.open(name) {
+        return Err(tell_unread(fault, name, err));
+    }
+    match read_schedule(alloc, files) {
         Ok(schedule) => Ok(Some(schedule)),
-        Err(ScheduleFault::Memory) => Err(end(err, Status::Memory)),
-        Err(ScheduleFault::BadLine(line)) => {
+        Err(NoSchedule::Unread(fault)) => Err(tell_unread(fault, name, err)),
+        Err(NoSchedule::Bad(ScheduleFault::Memory)) => Err(end(err, Status::Memory)),
+        Err(NoSchedule::Bad(ScheduleFault::BadLine(line))) => {
             let _ = write_number(err, b"dpsrun: bad schedule line ", line as u64);
             Err(Status::Usage)
         }

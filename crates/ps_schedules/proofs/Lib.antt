@@ -2,3 +2,4 @@ pub mod Beginnings
 pub mod Once
 pub mod Nones
 pub mod Appended
+pub mod WholeLines

@@ -1,6 +1,6 @@
 -- The text of a schedule: a line for each entry.
-use Rattle.std.specs.Prelude.{◌≡◌, ◌≢◌, ◌+◌, ◌≤◌, ⊤, ℕ, ℤ, pos, negsuc, Bool, true, false, Option, Some, None, List, [], ◌∷◌, ◌++◌, length}
-use Rattle.std.specs.List.{AllByRecursion}
+use Rattle.std.specs.Prelude.{◌≡◌, ◌≢◌, ◌+◌, ◌<◌, ◌≤◌, ◌⊎◌, ◌==◌, ⊤, ℕ, ℤ, pos, negsuc, Bool, true, false, Option, Some, None, List, [], ◌∷◌, ◌++◌, length}
+use Rattle.std.specs.List.{AllByRecursion, list_any}
 use Rattle.std.specs.Fmt.{decimal, signed_decimal}
 use Rattle.ps_language.specs.declared.schedules.Entry.{Entry}
 
@@ -60,6 +60,10 @@ abbrev pub line_of : Entry → List ℕ
 line_of entry = field_of space entry.context
     ++ (field_of space entry.steps ++ flag_of entry.refused ∷ ending_of entry.shown)
 
+-- the most bytes of a line: four numbers of ten digits, with a byte behind each, and two more
+abbrev pub most_line_bytes : ℕ
+most_line_bytes = 46
+
 abbrev pub text_of : List Entry → List ℕ
 text_of [] = []
 text_of (entry ∷ entries) = line_of entry ++ text_of entries
@@ -70,6 +74,19 @@ text_of (entry ∷ entries) = line_of entry ++ text_of entries
 abbrev pub BeginsNoLine : List ℕ → Type 0
 BeginsNoLine bytes =
     (entry : Entry) → IsEntry entry → (rest : List ℕ) → bytes ≢ line_of entry ++ rest
+
+-- bytes that tell whether a text begins with a line, whatever follows them: they have a whole line,
+-- or as many bytes as one may have
+abbrev pub has_line_feed : List ℕ → Bool
+has_line_feed bytes = list_any (λ byte. byte == line_feed) bytes
+
+abbrev pub TellsLine : List ℕ → Type 0
+TellsLine bytes = (most_line_bytes ≤ length bytes) ⊎ (has_line_feed bytes ≡ true)
+
+-- bytes that don't
+pub record IsPartOfLine (bytes : List ℕ) : Type 0 where
+  pub short : length bytes < most_line_bytes
+  pub open_ended : has_line_feed bytes ≡ false
 
 -- the lines before the one of this number, counted from 1, are those of entries, and no entry's
 -- line follows

@@ -8,5 +8,5 @@ mod reading;
 mod writing;
 
 pub use laws::schedule_text_laws;
-pub use reading::{ScheduleFault, read_schedule};
+pub use reading::{MOST_LINE_BYTES, ScheduleFault, read_entries};
 pub use writing::append_schedule;

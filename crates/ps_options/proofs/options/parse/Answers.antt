@@ -1,5 +1,5 @@
 use Rattle.std.proofs.Common.{◌≡◌, ◌<◌, ◌≤◌, ◌^◌, ℕ, ap, sym, subst, ◌∙◌, refl, arith, codes, rules, true, true≢false, map, List, [], ◌∷◌, Bool, false, Option, Some, None, is_some, IfSome, inl, inr}
-use Rattle.std.specs.Prelude.{find, option_and_then, option_map, slice_get, unwrap_or, Result, Err, if◌then◌else◌}
+use Rattle.std.specs.Prelude.{◌||◌, find, option_and_then, option_map, slice_get, unwrap_or, Result, Err, if◌then◌else◌}
 use Rattle.std.specs.List.{list_all}
 use Rattle.std.specs.Str.{bytes_eq}
 use Rattle.std.specs.Str.Parse.{IsNumeral, ParsesUnsigned, ExplainsUnsignedError, HasUnsignedDigitsIfOk, digits_value, without_leading_plus}
@@ -16,7 +16,7 @@ use Rattle.clap.specs.declared.builder.value_parser.Reading.{Reading}
 use Rattle.clap.proofs.OnLiterals.{clap_on_literals}
 use Rattle.clap.proofs.WalkLemmas.{first_value-rows, one_text-rows}
 use Rattle.clap.proofs.SimpleLemmas.{plain_fields, simple_groups}
-use Rattle.ps_options.specs.CommandLine.{IsExplored, command_line, flag_in, excludes, is_excluded}
+use Rattle.ps_options.specs.CommandLine.{IsExplored, command_line, faults_in, flag_in, excludes, is_excluded, overwrites, is_overwritten}
 use Rattle.ps_options.proofs.Ranges.{HasRange, text_in_range}
 use Rattle.ps_options.proofs.options.parse.Goals as goal
 
@@ -97,6 +97,37 @@ excluded_is made words m is has =
     let explored = name_is made words m (codes "explore") is has in
     λ i. excludes (replay i) (plain i) (recorded i) (explored i)
 
+-- whether a record is written over the program
+overwritten_is : (made : Command) (words : List Text) (m : ArgMatches)
+    → app_of made ≡ command_line → HasMatchesOf (app_of made) words m
+    → overwrites (first_value (found_of m) (codes "record"))
+    (first_value (found_of m) (codes "explore")) (first_value (found_of m) (codes "FILE"))
+    ≡ is_overwritten words
+overwritten_is made words m is has =
+    let recorded = name_is made words m (codes "record") is has in
+    let explored = name_is made words m (codes "explore") is has in
+    let file = name_is made words m (codes "FILE") is has in
+    λ i. overwrites (recorded i) (explored i) (file i)
+
+-- the faults beside those by the rules
+abbrev others : (excluded overwritten : Bool) → Kinds
+others excluded overwritten = if excluded || overwritten then ArgumentConflict ∷ [] else []
+
+or_true : (b : Bool) → (b || true) ≡ true
+or_true true = refl
+or_true false = refl
+
+-- words that the rules take have the others alone
+faults_are : (made : Command) (words : List Text) (excluded overwritten : Bool)
+    → app_of made ≡ command_line
+    → (is_simple_and_free (app_of made) ≡ true → fault_of (app_of made) words ≡ [])
+    → is_excluded words ≡ excluded → is_overwritten words ≡ overwritten
+    → faults_in words ≡ others excluded overwritten
+faults_are made words excluded overwritten is none one two =
+    no_first (fault_of command_line words) (others (is_excluded words) (is_overwritten words))
+    (no_fault made words is none)
+    ∙ (λ i. others (one i) (two i))
+
 pub returns-then-is_excluded-clause-fault : goal.returns-then-is_excluded-clause-fault
 returns-then-is_excluded-clause-fault c =
     let words : List Text = map {A = Bor Text} {B = Text} (λ (word : Bor Text). word.now)
@@ -104,12 +135,23 @@ returns-then-is_excluded-clause-fault c =
     let told : is_excluded words ≡ true =
     sym (excluded_is c.in_ok-line.line words c.in_ok-matches.matches c.in_ok-line.ensures
     c.in_ok-matches.ensures.ok.2) ∙ sym c.is_excluded.ensures ∙ c.if-is_excluded.true in
-    let faults = no_first (fault_of command_line words)
-    (if is_excluded words then ArgumentConflict ∷ [] else [])
-    (no_fault c.in_ok-line.line words c.in_ok-line.ensures c.in_ok-matches.ensures.kinds)
-    ∙ ap (λ (b : Bool). if b then ArgumentConflict ∷ [] else []) told in
+    let faults = faults_are c.in_ok-line.line words true (is_overwritten words)
+    c.in_ok-line.ensures c.in_ok-matches.ensures.kinds told refl in
     subst (λ (kinds : Kinds). HasKind kinds c.in_ok-error.field-0) (sym faults)
     (inr (inl c.in_ok-error.ensures.kind))
+
+pub returns-then-is_overwritten-clause-fault : goal.returns-then-is_overwritten-clause-fault
+returns-then-is_overwritten-clause-fault c =
+    let words : List Text = map {A = Bor Text} {B = Text} (λ (word : Bor Text). word.now)
+    c.args.words.now in
+    let told : is_overwritten words ≡ true =
+    sym (overwritten_is c.in_ok-line.line words c.in_ok-matches.matches c.in_ok-line.ensures
+    c.in_ok-matches.ensures.ok.2) ∙ sym c.is_overwritten.ensures ∙ c.if-is_overwritten.true in
+    let faults = faults_are c.in_ok-line.line words (is_excluded words) true
+    c.in_ok-line.ensures c.in_ok-matches.ensures.kinds refl told
+    ∙ ap (λ (b : Bool). if b then ArgumentConflict ∷ [] else []) (or_true (is_excluded words)) in
+    subst (λ (kinds : Kinds). HasKind kinds c.in_ok-error-2.field-0) (sym faults)
+    (inr (inl c.in_ok-error-2.ensures.kind))
 
 pub returns-clause-fault : goal.returns-clause-fault
 returns-clause-fault c =
@@ -118,9 +160,11 @@ returns-clause-fault c =
     let free : is_excluded words ≡ false =
     sym (excluded_is c.in_ok-line.line words c.in_ok-matches.matches c.in_ok-line.ensures
     c.in_ok-matches.ensures.ok.2) ∙ sym c.is_excluded.ensures ∙ c.if-is_excluded.false in
-    no_first (fault_of command_line words) _ (no_fault c.in_ok-line.line words c.in_ok-line.ensures
-    c.in_ok-matches.ensures.kinds)
-    ∙ ap (λ (b : Bool). if b then ArgumentConflict ∷ [] else []) free
+    let apart : is_overwritten words ≡ false =
+    sym (overwritten_is c.in_ok-line.line words c.in_ok-matches.matches c.in_ok-line.ensures
+    c.in_ok-matches.ensures.ok.2) ∙ sym c.is_overwritten.ensures ∙ c.if-is_overwritten.false in
+    faults_are c.in_ok-line.line words false false c.in_ok-line.ensures
+    c.in_ok-matches.ensures.kinds free apart
 
 pub returns-clause-record_file : goal.returns-clause-record_file
 returns-clause-record_file c = c.get_str.ensures

@@ -3,7 +3,7 @@ use Rattle.std.specs.Prelude.{codes, ◌⊎◌}
 use Rattle.clap.specs.Words.{Text}
 use Rattle.ps_options.specs.CommandLine.{IsExplored, IsFlag}
 use Rattle.ps_vault.specs.Reports.{IsWithin}
-use Rattle.ps_run.specs.Driving.{AreAsked, AreOutOfRange, Asked, HasNoSchedule, IsTooLong, asked_of, config_in, most_program_bytes, names_in, names_of}
+use Rattle.ps_run.specs.Driving.{AreAsked, AreOutOfRange, Asked, HasNoSchedule, IsTooLong, asked_of, config_in, names_in, names_of}
 use Rattle.ps_run.proofs.Driven.{driven_more, faulty, none_explored, record_named, some_explored}
 use Rattle.ps_run.proofs.driver.drive.Given as givens
 use Rattle.ps_run.proofs.driver.drive.Goals as goal
@@ -40,11 +40,11 @@ are_asked g c asked is = (
 )
 
 is_fault : (g : givens.Over) (c : In-Ok g) (err : Option (List ℕ))
-    → IsTooLong most_program_bytes
+    → IsTooLong
     (g.F.FileSet.contents c.args.files.now (names_of c.in-Ok.options).file)
     ⊎ (HasNoSchedule (g.F.FileSet.contents c.args.files.now) (names_of c.in-Ok.options).replayed
     (g.X.Write.contents c.args.err.now) err ⊎ ¬ IsWithin (config_in c.in-Ok.options))
-    → IsTooLong most_program_bytes (g.F.FileSet.contents c.args.files.now
+    → IsTooLong (g.F.FileSet.contents c.args.files.now
     (names_in (map (λ word. word.now) c.args.words.now)).file)
     ⊎ (HasNoSchedule (g.F.FileSet.contents c.args.files.now)
     (names_in (map (λ word. word.now) c.args.words.now)).replayed
@@ -52,7 +52,7 @@ is_fault : (g : givens.Over) (c : In-Ok g) (err : Option (List ℕ))
     ⊎ AreOutOfRange (map (λ word. word.now) c.args.words.now))
 is_fault g c err fault = elim fault [
   | inl long ↦
-      inl (subst (λ (name : Text). IsTooLong most_program_bytes
+      inl (subst (λ (name : Text). IsTooLong
       (g.F.FileSet.contents c.args.files.now name)) c.in-Ok.ensures.file long)
   | inr other ↦ inr (elim other [
     | inl none ↦
