@@ -2,11 +2,14 @@
 use Rattle.std.proofs.Common.{◌≡◌, ◌≢◌, ℕ, ◌+◌, ◌-◌, ◌<◌, ◌≤◌, ◌&&◌, Bool, true, false, true≢false, not, List, [], ◌∷◌, ◌++◌, length, Some, None, Option, is_some, refl, sym, ap, ◌∙◌, inl, inr, subst, arith, cond}
 use Rattle.std.specs.Prelude.{◌==◌, slice_get}
 use Rattle.std.proofs.lemmas.List.{append-nil}
+use Rattle.std.proofs.Math.Logic.{∥∥₁_elim}
+use Rattle.std.proofs.Props.{props}
 use Rattle.std.proofs.lemmas.Option.{slice_get_within}
 use Rattle.std.proofs.lemmas.List.Sums.{sum_by-append}
 use Rattle.ps_record.specs.declared.Record.{Record}
 use Rattle.ps_record.specs.declared.Record.TheVariants.{Close}
 use Rattle.ps_record.specs.Format.{read_record}
+use Rattle.ps_core_parts.specs.declared.events.Event.{Event}
 use Rattle.ps_core_parts.specs.declared.events.Event.TheVariants.{VmLoad, RecordStore}
 use Rattle.ps_core_parts.specs.declared.events.Vm.{Vm}
 use Rattle.ps_core_parts.specs.declared.events.Gc.{Gc}
@@ -15,6 +18,7 @@ use Rattle.ps_core_parts.specs.Objects.{pair_of, log_of, closes, is_close}
 use Rattle.ps_core_parts.specs.Steps.{is_open}
 use Rattle.ps_core_laws.specs.Kept.{VmKnows, ends_closed}
 use Rattle.ps_core_laws.specs.Laws.{IsBeginningOf}
+use Rattle.ps_core_laws.specs.Runs.{run, IsRun, IsSpace}
 use Rattle.ps_core_laws.proofs.HeapTests.{bool_cases, and_parts, and_both, eq_true, number_is, number_not}
 use Rattle.ps_core_laws.proofs.KeptFacts.{kept}
 use Rattle.ps_mem.proofs.Lists.{slice_get-append_end}
@@ -24,7 +28,7 @@ use Rattle.ps_parts_memory.specs.Memory.{is_shut}
 use Rattle.ps_parts_memory.proofs.Logged.{length_here, log_there}
 use Rattle.ps_table.specs.declared.plays.View.{View}
 use Rattle.ps_table.specs.Mirrored.{KeepsGc, KeepsVm}
-use Rattle.ps_table.specs.Shown.{BothRun, vm_did}
+use Rattle.ps_table.specs.Shown.{BothRun, GcRuns, vm_did}
 use Rattle.ps_table.proofs.Facts.{taken}
 use Rattle.ps_gc.specs.declared.collector.Drained.{Drained}
 use Rattle.ps_gc.specs.declared.collector.Drained.TheVariants.{Nothing, Took, Closed}
@@ -192,8 +196,8 @@ ends_some (r ∷ s ∷ rest) e =
 
 -- a log that is closed and whose close was taken was taken whole
 whole_taken : (log got rest : List Record) → log ≡ got ++ rest → ends_closed log ≡ true
-    → closes log ≡ closes got → length got ≡ length log
-whole_taken log got [] is ends same = ap length (sym (is ∙ append-nil got))
+    → closes log ≡ closes got → got ≡ log
+whole_taken log got [] is ends same = sym (is ∙ append-nil got)
 whole_taken log got (r ∷ rest) is ends same =
     let last = sym (ends_append got r rest) ∙ (ap ends_closed (sym is) ∙ ends) in
     let some = ends_some (r ∷ rest) last in
@@ -215,8 +219,8 @@ module _ (m : View) (r : BothRun m.vm m.gc) (opened : is_open m.vm ≡ true) whe
       let closed = number_is (closes (log_of m.vm.logs slot)) m.vm.epoch shut in
       let got = number_is (closes (log_of m.gc.taken slot)) (m.gc.cycle + 1) e.drained in (
         closed,
-        whole_taken (log_of m.vm.logs slot) (log_of m.gc.taken slot) b.0 b.1
-            ((k.logs.each slot lt).shut (omega arith) closed) (omega arith),
+        ap length (whole_taken (log_of m.vm.logs slot) (log_of m.gc.taken slot) b.0 b.1
+            ((k.logs.each slot lt).shut (omega arith) closed) (omega arith)),
       )
 
   -- so a flip finds all logs closed and drained
@@ -225,6 +229,33 @@ module _ (m : View) (r : BothRun m.vm m.gc) (opened : is_open m.vm ≡ true) whe
     λ slot lt. (log_ended slot lt (all slot lt)).0,
     all_drained m.vm m.gc r (λ slot lt. (log_ended slot lt (all slot lt)).1),
   )
+
+-- ---- what was taken of a log whose close was
+
+ends_taken : (space : ℕ) → IsSpace space → (events : List Event) → IsRun space events
+    → (slot : ℕ) → slot < 32 → let g = (run space events).gc in
+    closes (log_of g.taken slot) ≡ g.cycle + 1 → ends_closed (log_of g.taken slot) ≡ true
+ends_taken space size events is_run slot lt got =
+    let s = run space events in
+    let k = kept space size events is_run in
+    let b = taken space size events is_run slot lt in
+    let log = k.mutator.logs.each slot lt in
+    let high = k.mutator.cycles.high in
+    let cycle = k.both.cycle in
+    let sum = ap closes b.1 ∙ closes_append (log_of s.gc.taken slot) b.0 in
+    let most = log.opened in
+    let closed : closes (log_of s.vm.logs slot) ≡ s.vm.epoch = omega arith in
+    let ends = log.shut (omega arith) closed in
+    ap ends_closed (whole_taken (log_of s.vm.logs slot) (log_of s.gc.taken slot) b.0 b.1 ends
+    (omega arith)) ∙ ends
+
+-- it ends with that close
+pub drained_ends : (g : Gc) (slot : ℕ) → ∥ GcRuns g ∥₁ → slot < 32
+    → closes (log_of g.taken slot) ≡ g.cycle + 1 → ends_closed (log_of g.taken slot) ≡ true
+drained_ends g slot t lt got = ∥∥₁_elim t (hlevel props) (λ r. subst
+    (λ (x : Gc). closes (log_of x.taken slot) ≡ x.cycle + 1
+    → ends_closed (log_of x.taken slot) ≡ true) r.is
+    (ends_taken g.space r.size r.events r.is_run slot lt) got)
 
 -- ---- a full ring
 

@@ -8,6 +8,7 @@ ghost use Rattle.ps_core_parts.specs.declared.events.Event.TheVariants.{GcLoad};
 ghost use Rattle.ps_core_parts.specs.declared.events.Pair.{Pair};
 ghost use Rattle.ps_core_parts.specs.Objects.{pair_of, log_of, closes, is_close, all_filled, renamed_value, value_has_replica, values_have_replicas};
 ghost use Rattle.ps_core_parts.specs.Steps.{start, knows_open};
+ghost use Rattle.ps_core_laws.specs.Kept.{ends_closed};
 ghost use Rattle.ps_core_laws.specs.Runs.{IsSpace};
 ghost use Rattle.ps_parts_memory.specs.Stores.{numbers};
 ghost use Rattle.ps_table.specs.Events.{gc_did_all};
@@ -35,7 +36,7 @@ pub enum Drained {
     Nothing,
     /// This record was taken, which is no close.
     Took(Record),
-    /// The log's close of the open cycle was taken, now or before.
+    /// The log's close of the open cycle was taken, now or before: it is the last that was taken.
     Closed,
 }
 
@@ -183,8 +184,9 @@ impl<W: Words> Collector<W> {
             → DrainedOf self.old.gc.seat.me.0.gc self.new.gc.seat.me.0.gc slot r
             × (is_close r ≡ false) }
         ensures closed { result ≡ Drained.Closed
-            → closes (log_of self.new.gc.seat.me.0.gc.taken slot)
-            ≡ self.new.gc.seat.me.0.gc.cycle + 1 }
+            → (closes (log_of self.new.gc.seat.me.0.gc.taken slot)
+            ≡ self.new.gc.seat.me.0.gc.cycle + 1)
+            × (ends_closed (log_of self.new.gc.seat.me.0.gc.taken slot) ≡ true) }
         ensures already { is_drained self.old.gc.seat.me.0.gc slot ≡ true
             → (result ≡ Drained.Closed) × (self.new ≡ self.old) }
         ensures close { is_drained self.old.gc.seat.me.0.gc slot ≡ false

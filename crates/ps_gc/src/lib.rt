@@ -5,6 +5,7 @@
 mod collector;
 mod copies;
 mod drains;
+mod endings;
 mod flips;
 mod replicas;
 mod scans;
@@ -13,6 +14,7 @@ mod taken;
 mod to_space;
 
 pub use collector::{Collector, Drained};
+pub use endings::joined_end_cycle;
 pub use flips::{Flip, Unready};
 pub use space::{CollectedSpace, SerialSpaces, SharedSpaces};
 pub use taken::Taken;

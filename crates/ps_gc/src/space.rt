@@ -11,16 +11,14 @@ ghost use Rattle.ps_core_parts.specs.Objects.{all_filled, values_have_replicas};
 ghost use Rattle.ps_core_parts.specs.Steps.{is_open, knows_open};
 ghost use Rattle.ps_core_laws.specs.Runs.{IsSpace};
 ghost use Rattle.ps_parts_memory.specs.Laws.{AfterOpen};
-ghost use Rattle.ps_parts_memory.specs.Memory.{heap_of, grants_of, is_shut};
+ghost use Rattle.ps_parts_memory.specs.Memory.{heap_of, grants_of};
 ghost use Rattle.ps_parts_memory.specs.Stores.{numbers};
 ghost use Rattle.ps_flips.specs.Collected.{IsCollected, IsQuiet, may_open, one_more_if};
 ghost use Rattle.ps_table.specs.Mirrored.{KeepsVm, Sits};
-ghost use Rattle.ps_gc.specs.Ending.{IsEnded, KeepsReplicas, StaysBut};
-ghost use Rattle.ps_gc.specs.Events.{is_drained};
 ghost use Rattle.ps_gc.specs.Keeps.{taken_in_all};
 
 use crate::collector::{Collector, Drained};
-use crate::flips::Flip;
+use crate::endings::{hand, joined_end_cycle};
 use ps_flips::collected::{CollectedMemory, Counts};
 use ps_language::kinds::Kind;
 use ps_mem::{Memory, NeedFault, Permit, SLOTS};
@@ -73,24 +71,6 @@ impl<W: Words> CollectedSpace<W> {
         })
     }
 
-    /// Hands roots over, and gives what they refer to replicas.
-    fn hand(&mut self, roots: &[Word])
-        requires open { is_open self.old.collector.gc.seat.me.0.vm ≡ true }
-        requires values { AreValues (heap_of self.old.collector.gc.seat.me.0.vm) roots.now }
-        ensures heap { heap_of self.new.collector.gc.seat.me.0.vm
-            ≡ heap_of self.old.collector.gc.seat.me.0.vm }
-        ensures grants { grants_of self.new.collector.gc.seat.me.0.vm
-            ≡ record (grants_of self.old.collector.gc.seat.me.0.vm) { fresh = λ a. false } }
-        ensures flips { self.new.collector.gc.seat.me.0.vm.cycle
-            ≡ self.old.collector.gc.seat.me.0.vm.cycle }
-        ensures knows { knows_open self.new.collector.gc.seat.me.0.gc ≡ true }
-        ensures copied { values_have_replicas self.new.collector.gc.seat.me.0.gc.pairs
-            (numbers roots.now) ≡ true }
-    {
-        self.collector.joined_hand_over(&mut self.mirror, roots);
-        self.collector.add_roots(roots);
-    }
-
     /// A look at the log of the next slot, which stays the next where a record was taken.
     fn look(&mut self)
         requires open { knows_open self.old.collector.gc.seat.me.0.gc ≡ true }
@@ -128,68 +108,6 @@ impl<W: Words> CollectedSpace<W> {
             }
         }
         fields > 0
-    }
-
-    /// Closes the log of a slot; where its ring is full, a record is taken of it first.
-    fn close_one(&mut self, slot: u32)
-        requires slot { slot < SLOTS }
-        requires open { is_open self.old.collector.gc.seat.me.0.vm ≡ true }
-        requires knows { knows_open self.old.collector.gc.seat.me.0.gc ≡ true }
-        ensures heap { heap_of self.new.collector.gc.seat.me.0.vm
-            ≡ heap_of self.old.collector.gc.seat.me.0.vm }
-        ensures stays { StaysBut slot self.old.collector.gc.seat.me.0
-            self.new.collector.gc.seat.me.0 }
-        ensures shut { is_shut self.new.collector.gc.seat.me.0.vm slot ≡ true }
-    {
-        let gc = &mut self.collector.gc;
-        match self.mirror.close(&mut gc.table, &mut gc.seat, slot) {
-            Closing::Closed => {}
-            Closing::LogFull => {
-                self.collector.drain_one(slot);
-                let gc = &mut self.collector.gc;
-                self.mirror.close(&mut gc.table, &mut gc.seat, slot);
-            }
-        }
-    }
-
-    /// Takes the records of a slot's log, which is closed, up to its close.
-    fn drain_closed(&mut self, slot: u32)
-        requires slot { slot < SLOTS }
-        requires shut { is_shut self.old.collector.gc.seat.me.0.vm slot ≡ true }
-        requires knows { knows_open self.old.collector.gc.seat.me.0.gc ≡ true }
-        ensures vm { KeepsVm self.old.collector.gc.seat.me.0 self.new.collector.gc.seat.me.0 }
-        ensures stays { StaysBut slot self.old.collector.gc.seat.me.0
-            self.new.collector.gc.seat.me.0 }
-        ensures drained { is_drained self.new.collector.gc.seat.me.0.gc slot ≡ true }
-    {
-        'drain: loop {
-            match self.collector.drain_one(slot) {
-                Drained::Closed => return,
-                Drained::Took(_) => {}
-                Drained::Nothing => unreachable!(),
-            }
-        }
-    }
-
-    /// Closes and drains all logs.
-    fn end_logs(&mut self)
-        requires open { is_open self.old.collector.gc.seat.me.0.vm ≡ true }
-        requires knows { knows_open self.old.collector.gc.seat.me.0.gc ≡ true }
-        ensures heap { heap_of self.new.collector.gc.seat.me.0.vm
-            ≡ heap_of self.old.collector.gc.seat.me.0.vm }
-        ensures flips { self.new.collector.gc.seat.me.0.vm.cycle
-            ≡ self.old.collector.gc.seat.me.0.vm.cycle }
-        ensures open { is_open self.new.collector.gc.seat.me.0.vm ≡ true }
-        ensures knows { knows_open self.new.collector.gc.seat.me.0.gc ≡ true }
-        ensures ended { (slot : ℕ) → slot < slots
-            → IsEnded self.new.collector.gc.seat.me.0 slot }
-        ensures pairs { KeepsReplicas self.old.collector.gc.seat.me.0.gc.pairs
-            self.new.collector.gc.seat.me.0.gc.pairs }
-    {
-        for slot in 0..SLOTS {
-            self.close_one(slot);
-            self.drain_closed(slot);
-        }
     }
 }
 
@@ -301,7 +219,7 @@ impl<W: Words> CollectedMemory for CollectedSpace<W> {
         if !self.mirror.open_cycle(&mut gc.table, &mut gc.seat) {
             return false;
         }
-        self.hand(roots);
+        hand(&mut self.collector, &mut self.mirror, roots);
         true
     }
 
@@ -363,15 +281,8 @@ impl<W: Words> CollectedMemory for CollectedSpace<W> {
         if !self.mirror.cycle_open {
             return false;
         }
-        self.hand(roots);
-        self.end_logs();
-        self.collector.scan_all();
-        // So both sides are known to be those of one run, in which all is taken then.
-        self.collector.gc.meet(&self.mirror);
-        match self.collector.joined_try_flip(&mut self.mirror, roots) {
-            Flip::Done => true,
-            Flip::NotReady(_) => unreachable!(),
-        }
+        joined_end_cycle(&mut self.collector, &mut self.mirror, roots);
+        true
     }
 
     /// As the memory's: the cycle word, and the sum of the heads, at most 2^64 - 1.

@@ -4,19 +4,17 @@ use Rattle.ps_parts_memory.specs.Memory.{heap_of, grants_of}
 use Rattle.ps_table.specs.Shown.{SeatState}
 use Rattle.ps_table.proofs.Kept.{keeps_vm, sits_on}
 use Rattle.ps_gc.proofs.Spaces.{values_name}
-use Rattle.ps_gc.proofs.space.CollectedSpace.hand.Goals as goal
+use Rattle.ps_gc.proofs.endings.hand.Goals as goal
 
 pub joined_hand_over-requires-clause-stand : goal.joined_hand_over-requires-clause-stand
 joined_hand_over-requires-clause-stand g c =
-    values_name c.args.self.now.collector.gc.seat.me.0.vm c.args.roots.now c.requires.values
+    values_name c.args.collector.now.gc.seat.me.0.vm c.args.roots.now c.requires.values
 
-pub invariant_of-self : goal.invariant_of-self
-invariant_of-self g c =
-    let did = c.add_roots.ensures.did in record {
-      sits = sits_on _ _ _ _ _ (ap (λ t. t.words) c.add_roots.ensures.same)
-          c.joined_hand_over.ensures.sits (keeps_vm _ _ did.0 did.1) c.add_roots.new.self.gc.empty;
-      is_slot = c.args.self.now.is_slot;
-    }
+pub returns-clause-sits : goal.returns-clause-sits
+returns-clause-sits g c =
+    let did = c.add_roots.ensures.did in
+    sits_on _ _ _ _ _ (ap (λ t. t.words) c.add_roots.ensures.same)
+    c.joined_hand_over.ensures.sits (keeps_vm _ _ did.0 did.1) c.add_roots.new.self.gc.empty
 
 pub returns-clause-heap : goal.returns-clause-heap
 returns-clause-heap g c =

@@ -13,13 +13,13 @@ use Rattle.ps_gc.specs.Flipping.{MayFlip}
 use Rattle.ps_gc.proofs.Ending.{ended_scanned, logs_ended, must_flip}
 use Rattle.ps_gc.proofs.Roots.{still_have}
 use Rattle.ps_gc.proofs.Spaces.{values_name}
-use Rattle.ps_gc.proofs.space.CollectedSpaceCollectedMemory.end_cycle.Goals as goal
+use Rattle.ps_gc.proofs.endings.joined_end_cycle.Goals as goal
 
 pub meet-requires : goal.meet-requires
 meet-requires g c =
     let did = c.scan_all.ensures.did in record {
       sits = sits_on _ _ _ _ _ (ap (λ t. t.words) c.scan_all.ensures.same)
-          c.end_logs.new.self.sits (keeps_vm _ _ did.0 did.1) c.scan_all.new.self.gc.empty;
+          c.end_logs.ensures.sits (keeps_vm _ _ did.0 did.1) c.scan_all.new.self.gc.empty;
     }
 
 pub joined_try_flip-requires-clause-stand : goal.joined_try_flip-requires-clause-stand
@@ -34,7 +34,7 @@ pub unreachable-requires : goal.unreachable-requires
 unreachable-requires g c =
     let m = c.scan_all.new.self.gc.seat.me.0 in
     let did = c.scan_all.ensures.did in
-    let keeps = keeps_vm c.end_logs.new.self.collector.gc.seat.me.0 m did.0 did.1 in
+    let keeps = keeps_vm c.end_logs.new.collector.gc.seat.me.0 m did.0 did.1 in
     let opened = ap is_open keeps.part ∙ c.end_logs.ensures.«open» in
     let drained = logs_ended m c.meet.ensures.runs opened
     (λ slot lt. ended_scanned slot _ m keeps c.scan_all.ensures.scans
@@ -57,7 +57,7 @@ returns-clause-moved g c =
     let did = c.scan_all.ensures.did in
     let heap = ap heap_of c.meet.ensures.parts.0 ∙ (ap heap_of (keeps_vm _ _ did.0 did.1).part
     ∙ (c.end_logs.ensures.heap ∙ c.hand.ensures.heap)) in
-    λ yes. subst (λ (h : Heap). IsCollected h
+    subst (λ (h : Heap). IsCollected h
     (heap_of c.joined_try_flip.new.self.gc.seat.me.0.vm) c.args.roots.now
     c.joined_try_flip.new.roots) heap
     (c.joined_try_flip.ensures.moved c.in-Done.is)

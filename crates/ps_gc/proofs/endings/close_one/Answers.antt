@@ -9,7 +9,7 @@ use Rattle.ps_gc.specs.Events.{is_drained}
 use Rattle.ps_gc.specs.Keeps.{Copies, IsAtField, Takes}
 use Rattle.ps_gc.proofs.Ending.{close_stays, drains_but, full_takes, is_closed, looks_but, not_drained, one_free, stays_then}
 use Rattle.ps_gc.proofs.Spaces.{taken_wide}
-use Rattle.ps_gc.proofs.space.CollectedSpace.close_one.Goals as goal
+use Rattle.ps_gc.proofs.endings.close_one.Goals as goal
 
 pub close-requires-in-LogFull-clause-sits : goal.close-requires-in-LogFull-clause-sits
 close-requires-in-LogFull-clause-sits g c =
@@ -24,22 +24,15 @@ close-requires-in-LogFull-clause-open g c =
     let did = c.drain_one.ensures.did in
     ap is_open (keeps_vm _ _ did.0 did.1).part ∙ c.close.ensures.still_open
 
-pub invariant_of-self-in-LogFull : goal.invariant_of-self-in-LogFull
-invariant_of-self-in-LogFull g c =
+pub invariant_of-collector-in-LogFull : goal.invariant_of-collector-in-LogFull
+invariant_of-collector-in-LogFull g c =
     let same = c.close-in-LogFull.ensures.gc.part in
-    let was = c.drain_one.new.self in (
-      (
-        subst (λ (x : Gc). Copies x was.to) (sym same) was.copies,
-        (
-          subst (λ (x : Gc). IsAtField x was.to) (sym same) was.field,
-          (
-            subst (λ (x : Gc). Takes x was.taken) (sym same) was.takes,
-            (subst (λ (x : Gc). (x.taking ≡ None) × (x.copying ≡ None)) (sym same) was.idle, tt),
-          ),
-        ),
-      ),
-      (c.close-in-LogFull.ensures.sits.1, (c.args.self.now.is_slot, tt)),
-    )
+    let was = c.drain_one.new.self in record {
+      copies = subst (λ (x : Gc). Copies x was.to) (sym same) was.copies;
+      field = subst (λ (x : Gc). IsAtField x was.to) (sym same) was.field;
+      takes = subst (λ (x : Gc). Takes x was.taken) (sym same) was.takes;
+      idle = subst (λ (x : Gc). (x.taking ≡ None) × (x.copying ≡ None)) (sym same) was.idle;
+    }
 
 pub returns-in-LogFull-clause-heap : goal.returns-in-LogFull-clause-heap
 returns-in-LogFull-clause-heap g c =
@@ -49,9 +42,9 @@ returns-in-LogFull-clause-heap g c =
 
 pub returns-in-LogFull-clause-stays : goal.returns-in-LogFull-clause-stays
 returns-in-LogFull-clause-stays g c =
-    let s = c.args.self.now in
+    let s = c.args.collector.now in
     let slot = c.args.slot in
-    let m = s.collector.gc.seat.me.0 in
+    let m = s.gc.seat.me.0 in
     let seen = c.close.new.seat.me.0 in
     let taken = c.drain_one.new.self.gc.seat.me.0 in
     let last = c.close-in-LogFull.new.seat.me.0 in
@@ -61,11 +54,11 @@ returns-in-LogFull-clause-stays g c =
     let looked = c.close.ensures.looked c.in-LogFull.is in
     let left : is_drained seen.gc slot ≡ false = ap (λ (x : Gc). is_drained x slot) same
     ∙ not_drained m.vm m.gc slot c.requires.slot
-    (c.close.ensures.runs c.in-LogFull.is s.collector.gc.acts) c.requires.open
+    (c.close.ensures.runs c.in-LogFull.is s.gc.acts) c.requires.open
     (c.close.ensures.not_shut c.in-LogFull.is) in
     let full : length (log_of seen.vm.logs slot) ≡ length (log_of seen.gc.taken slot) + 256 =
     ap (λ (x : View). length (log_of x.vm.logs slot)) looked.1
-    ∙ (c.close.ensures.taken c.in-LogFull.is s.collector.gc.acts
+    ∙ (c.close.ensures.taken c.in-LogFull.is s.gc.acts
     ∙ ap (λ (x : Gc). length (log_of x.taken slot) + 256) (sym same)) in
     let d = full_takes seen.vm seen.gc taken.gc slot c.requires.slot full c.drain_one.result
     (c.drain_one.ensures.next c.close.ensures.sits.1.acts left) c.drain_one.ensures.took
@@ -78,9 +71,9 @@ returns-in-LogFull-clause-stays g c =
 
 pub returns-in-LogFull-clause-shut : goal.returns-in-LogFull-clause-shut
 returns-in-LogFull-clause-shut g c =
-    let s = c.args.self.now in
+    let s = c.args.collector.now in
     let slot = c.args.slot in
-    let m = s.collector.gc.seat.me.0 in
+    let m = s.gc.seat.me.0 in
     let seen = c.close.new.seat.me.0 in
     let taken = c.drain_one.new.self.gc.seat.me.0 in
     let did = c.drain_one.ensures.did in
@@ -89,16 +82,16 @@ returns-in-LogFull-clause-shut g c =
     let looked = c.close.ensures.looked c.in-LogFull.is in
     let left : is_drained seen.gc slot ≡ false = ap (λ (x : Gc). is_drained x slot) same
     ∙ not_drained m.vm m.gc slot c.requires.slot
-    (c.close.ensures.runs c.in-LogFull.is s.collector.gc.acts) c.requires.open
+    (c.close.ensures.runs c.in-LogFull.is s.gc.acts) c.requires.open
     (c.close.ensures.not_shut c.in-LogFull.is) in
     let full : length (log_of seen.vm.logs slot) ≡ length (log_of seen.gc.taken slot) + 256 =
     ap (λ (x : View). length (log_of x.vm.logs slot)) looked.1
-    ∙ (c.close.ensures.taken c.in-LogFull.is s.collector.gc.acts
+    ∙ (c.close.ensures.taken c.in-LogFull.is s.gc.acts
     ∙ ap (λ (x : Gc). length (log_of x.taken slot) + 256) (sym same)) in
     let d = full_takes seen.vm seen.gc taken.gc slot c.requires.slot full c.drain_one.result
     (c.drain_one.ensures.next c.close.ensures.sits.1.acts left) c.drain_one.ensures.took
     (c.drain_one.ensures.close left) in
-    let wide = ap (λ (x : Gc). length x.taken) same ∙ taken_wide m.gc s.collector.gc.runs in
+    let wide = ap (λ (x : Gc). length x.taken) same ∙ taken_wide m.gc s.gc.runs in
     is_closed (is_shut c.close-in-LogFull.new.seat.me.0.vm slot ≡ true) c.close-in-LogFull.result
     c.close-in-LogFull.ensures.shut
     (λ e. one_free seen.vm taken.vm seen.gc taken.gc slot d.0 c.requires.slot wide keeps.part full
