@@ -16,6 +16,7 @@ ghost use Rattle.ps_flips.specs.Moves.{IsMovedTo, OfMoves, KeepsObjects, KeepsRo
 ghost use Rattle.ps_flips.specs.Moves.{KeepsWords, KeepsSound, KeepsShown};
 
 pub mod collected;
+pub mod sides;
 
 use ps_core_laws::law;
 
