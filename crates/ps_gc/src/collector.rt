@@ -29,6 +29,9 @@ use ps_table::{GcSeat, SharedWords, Words};
 use ps_word::headers::fields_in;
 use ps_word::words::Word;
 
+/// Of so many actions of a collector one looks at a log, and the others scan.
+pub const ACTIONS_A_LOOK: u32 = 8;
+
 /// What a look at a log came to.
 #[derive(Clone, Copy, Debug, PartialEq, Eq)]
 pub enum Drained {

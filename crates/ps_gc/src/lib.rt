@@ -13,7 +13,7 @@ mod space;
 mod taken;
 mod to_space;
 
-pub use collector::{Collector, Drained};
+pub use collector::{ACTIONS_A_LOOK, Collector, Drained};
 pub use endings::joined_end_cycle;
 pub use flips::{Flip, Unready};
 pub use space::{CollectedSpace, SerialSpaces, SharedSpaces};

@@ -17,7 +17,7 @@ ghost use Rattle.ps_flips.specs.Collected.{IsCollected, IsQuiet, may_open, one_m
 ghost use Rattle.ps_table.specs.Mirrored.{KeepsVm, Sits};
 ghost use Rattle.ps_gc.specs.Keeps.{taken_in_all};
 
-use crate::collector::{Collector, Drained};
+use crate::collector::{ACTIONS_A_LOOK, Collector, Drained};
 use crate::endings::{hand, joined_end_cycle};
 use ps_flips::collected::{CollectedMemory, Counts};
 use ps_language::kinds::Kind;
@@ -27,9 +27,6 @@ use ps_table::{GcSeat, Mirror, PlainWords, SharedWords, Words};
 use ps_word::headers::Header;
 use ps_word::words::Word;
 use std::alloc::{AllocError, Global};
-
-/// Of so many actions of the collector one looks at a log.
-const ACTIONS_A_LOOK: u32 = 8;
 
 /// A memory with its collector, at words of any kind.
 #[derive(Drop)]
