@@ -79,8 +79,8 @@ impl<J: Naming> Copier<J> {
     }
 
     /// One action: a root gets a replica, a field is copied, or a log is looked at. False: no root
-    /// was left, each log was looked at in a row and none had a record, and no field is unfilled; or
-    /// no cycle is open that it knows of.
+    /// was left, each log was looked at in a row and none had a record, and no field is unfilled.
+    /// It is false too where it knows of no open cycle.
     fn act_once(&mut self) -> bool
         ensures filled { result ≡ false → self.old.in_cycle ≡ true
             → all_filled self.new.collector.gc.seat.me.0.gc.pairs ≡ true }

@@ -1,5 +1,5 @@
-//! A memory and its collector as two values at one table, each with a seat of its own: whoever makes
-//! steps has the mutator's seat, and the collector works beside it. No call waits.
+//! A memory and its collector as two values at one table, each with a seat of its own: whoever
+//! makes steps has the mutator's seat, and the collector works beside it. No call waits.
 //!
 //! The name of the table is a type parameter of both (`Naming`), so that they are known to belong
 //! together wherever both come to hand.
