@@ -20,7 +20,7 @@ use std::alloc::{AllocError, Global};
 /// A list with room for the roots of all contexts.
 #[derive(Drop)]
 pub struct Roots {
-    words: Vec<Word>,
+    pub(crate) words: Vec<Word>,
     ghost room: { ROOT_LIMIT ≤ vec_capacity words },
 }
 

@@ -5,6 +5,7 @@
 
 mod collecting;
 pub mod laws;
+pub mod lent;
 mod reading;
 mod writing;
 

@@ -1,7 +1,7 @@
 //! A vault over a memory that is collected: what the collector does between steps leaves the world,
 //! and the schedule.
 
-ghost use Rattle.std.specs.Prelude.{◌≡◌, ◌↔◌, ◌<◌, true, false, IsTrue, slice_index_or};
+ghost use Rattle.std.specs.Prelude.{◌≡◌, ◌<◌, true, false, slice_index_or};
 ghost use Rattle.ps_flips.specs.Collected.{one_more_if, stopped};
 ghost use Rattle.ps_vault.specs.Cycles.{Flips, IsFull, Opens};
 ghost use Rattle.ps_vault.specs.Stories.{SameRun, with_closed, with_cycle};
@@ -21,20 +21,6 @@ impl<M: CollectedMemory + Drop, S: Interpret + Drop, D: Deeds + Drop> Vault<'_, 
         ensures answer { result ≡ self.old.cycle_open }
     {
         self.memory.is_open()
-    }
-
-    /// The words that are used of the space.
-    pub fn used(&mut self) -> u32
-        ensures { self.new ≡ self.old }
-    {
-        self.memory.used()
-    }
-
-    /// Whether more than half is used of what was free of the space while so many words were used.
-    pub fn is_half_used(&mut self, kept: u32) -> bool
-        ensures { self.new ≡ self.old }
-    {
-        self.memory.used() > kept / 2 + self.memory.size() / 2
     }
 
     /// Opens a cycle exactly where none is open and cycles are left: the collector is handed the
@@ -88,13 +74,6 @@ impl<M: CollectedMemory + Drop, S: Interpret + Drop, D: Deeds + Drop> Vault<'_, 
         ensures flips { Flips M.flips M.grants self.old.cycle_open (stopped self.old.cycle_open) }
     {
         stop_all(&mut self.memory, &mut self.world.contexts, roots);
-    }
-
-    /// Whether it is a vault of this program.
-    pub fn is_of(&self, program: &[u8]) -> bool
-        ensures { IsTrue result ↔ self.now.program ≡ program.now }
-    {
-        self.world.contexts.shared.program == program
     }
 
     /// How much the collector has done: the cycles that were flipped in the memory, and the records

@@ -203,6 +203,27 @@ impl<M: Memory + Drop, S: Interpret + Drop, D: Deeds + Drop> Vault<'_, M, S, D> 
         rest.min(left)
     }
 
+    /// The words that are used of the space.
+    pub fn used(&mut self) -> u32
+        ensures { self.new ≡ self.old }
+    {
+        self.memory.used()
+    }
+
+    /// Whether more than half is used of what was free of the space while so many words were used.
+    pub fn is_half_used(&mut self, kept: u32) -> bool
+        ensures { self.new ≡ self.old }
+    {
+        self.memory.used() > kept / 2 + self.memory.size() / 2
+    }
+
+    /// Whether it is a vault of this program.
+    pub fn is_of(&self, program: &[u8]) -> bool
+        ensures { IsTrue result ↔ self.now.program ≡ program.now }
+    {
+        self.world.contexts.shared.program == program
+    }
+
     /// Room for two entries of the schedule. `AllocError`: it can't be had; nothing has changed.
     pub fn reserve_entries(&mut self) -> Result<(), AllocError>
         ensures program { self.new.program ≡ self.old.program }

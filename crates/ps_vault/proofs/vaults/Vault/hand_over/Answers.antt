@@ -1,0 +1,8 @@
+-- All contexts are at the world that they were at.
+use Rattle.ps_vault.proofs.Collected.{keeps_collected}
+use Rattle.ps_vault.proofs.vaults.Vault.hand_over.Goals as goal
+
+pub invariant_of-self : goal.invariant_of-self
+invariant_of-self g c =
+    keeps_collected _ _ c.self.inside.schedule.items
+    (c.hand_over.ensures.kept c.self.inside.world.calling) c.self.invariant
