@@ -42,7 +42,7 @@ pub struct Copier<J: Naming> {
     ended: u32,
     /// How many actions there were since the last look.
     since: u32,
-    /// How many words were copied.
+    /// How many words were copied, at most.
     copied: u64,
     of: PhantomData<J>,
     pub ghost named: { collector.gc.seat.table_id ≡ J.table },
@@ -164,7 +164,7 @@ impl<J: Naming> Copier<J> {
 
 impl<J: Naming> Collects<MutatorSeat<J>> for Copier<J> {
     /// As the collector's: it knows then whether a cycle is open, and in one what the roots name.
-    /// Those that find no room are left to the next hand-over.
+    /// Where they find no room in the list, none of them is replicated before the next hand-over.
     fn hand_over(&mut self, memory: &mut MutatorSeat<J>, roots: &[Word])
         requires values { AreValues (heap_of memory.old.vm.seat.me.0.vm) roots.now }
         ensures knows { knows_open self.new.collector.gc.seat.me.0.gc
@@ -228,6 +228,7 @@ impl<J: Naming> Works for Copier<J> {
         self.act_once()
     }
 
+    /// At most: a root counts as two words, and a record as the fields that it names.
     fn copied(&self) -> u64 {
         self.copied
     }
