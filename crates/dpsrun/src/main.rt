@@ -1,7 +1,10 @@
 //! `dpsrun`: runs a program in the PostScript language, in one context or many.
+//!
+//! Why so:
+//! - This crate brings together, as the tests of `ps_rows` do, who makes steps (`Steps` over
+//!   `Operators`) and who does the operators of the world. So runs and vaults are proved beside the
+//!   operators.
 #![tactic(auto)]
-
-ghost use Rattle.std.specs.Prelude.{◌≤◌, ◌^◌, IfOk, vec_len};
 
 use ps_context::steps::Steps;
 use ps_deeds::operators::WorldOperators;

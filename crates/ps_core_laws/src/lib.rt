@@ -4,6 +4,17 @@
 //! told of the state that it leads to (`Always`), of the state in which an event of some form comes
 //! (`Whenever`), or of the run itself (`EveryRun`); each for every size of a space from 4,096 to
 //! 1,048,576 words (`IsSpace`).
+//!
+//! Why so:
+//! - Neither the laws nor the seats' code stands on the other, so they are proved side by side. A
+//!   change of a seat's code checks no law again.
+//! - What a seat may rest on is one clause, `kept`, in three records: the mutator's part, the
+//!   collector's part, and what ties them. A fact such as "outside a cycle nothing is unlogged" is
+//!   a field there.
+//! - What is reachable is told of the stores and roots in the list of events, and `noted` says that
+//!   the parts note just these. It costs two definitions over lists of events.
+//! - A body's birth number is asked for where the body is made (`made`). A flip may leave a body
+//!   whose dictionary has no replica, so nothing is asked of a standing one.
 #![tactic(auto)]
 
 ghost use Rattle.std.specs.Prelude.{ℕ};

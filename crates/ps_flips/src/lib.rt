@@ -6,6 +6,15 @@
 //! addresses, whatever moved them; then of every run of the collector's machine at its flip, which
 //! is such a move. Of runs nothing is used but the clauses of `law`, and that no event changes the
 //! size of a space.
+//!
+//! Why so:
+//! - A collected memory is a trait (`CollectedMemory`) said of heaps alone, so roots, vault and
+//!   workers know no seat and no table. What only a seat can say, such as each event, is in none of
+//!   its clauses.
+//! - `flips` is a number of this trait and not of `Memory`, or every crate over a memory would
+//!   carry it. So no clause outside says that a step leaves it.
+//! - A flip is described for two heaps first, so that the description serves any collector that
+//!   moves all that a moved object refers to. It costs two lists of clauses.
 #![tactic(auto)]
 
 ghost use Rattle.ps_core_parts.specs.declared.events.Event.TheVariants.{CycleStore};

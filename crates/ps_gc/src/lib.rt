@@ -1,5 +1,15 @@
 //! The collector: it copies what the program can reach into the other space, while the program
 //! runs, by the steps of its seat at words of any kind. No call waits or takes memory.
+//!
+//! Why so:
+//! - One seat has both parts while the collector has no thread (`CollectedSpace`). The calls of two
+//!   seats join them, run the same bodies and part them, so no step is written twice.
+//! - `CollectedSpace` takes any kind of words: plain ones, where workers take turns and the
+//!   collector acts between steps, or shared ones, where each step is atomic and dearer.
+//! - One action in `ACTIONS_A_LOOK` looks at a log and the others scan, so a scan isn't slowed by
+//!   empty logs. A record may wait some actions for it.
+//! - What is written or not yet taken names fields of a standing object; this crate has an
+//!   induction over runs for it, since no clause of `law` says so.
 #![tactic(auto)]
 
 mod collector;

@@ -2,6 +2,12 @@
 //! names, dictionaries, and runs of the collector's machine. Prints which rows differ from what they
 //! say, and how many there are. With words behind its name it tells how long a layer takes: `scan`, of
 //! the input as one text; `dictionary SIZE STEP ROUNDS`, of puts and look-ups.
+//!
+//! Why so:
+//! - Rows are input of a program and no constants in tests: tables of constants are costly to
+//!   prove, and data is free. A row that differs is told by a line of output.
+//! - A second reading of the grammar is a script on random texts (`bench/texts`), of which some are
+//!   rows here. No contract could say anything of it.
 #![tactic(auto)]
 
 mod events;

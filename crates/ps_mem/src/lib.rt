@@ -1,4 +1,26 @@
 //! The memory of the language: the contract that every memory keeps, and two memories that keep it.
+//!
+//! Why so:
+//! - Size, used words, birth numbers and what stands are one value, `heap`. So one equation says
+//!   all that a call leaves as it was.
+//! - The heap is read off the words: objects lie one after another, and a walk finds the one at an
+//!   address. No table beside the words can disagree with them, and the proofs are longer for it.
+//! - Behind a `store` or a `copy` no clause lets an older object be filled. A store can put its
+//!   address where a collector reads, and a fill without a record would then be missed.
+//! - What is put into a log is seen as a count (`put`), since a memory without a table has no list
+//!   to show. So no clause of the trait refuses a record of a wrong place.
+//! - What is put and what is granted are together at most 2^63 for a slot (`IsLogBounded`). The
+//!   bound is on `permit`, and a store keeps the sum.
+//! - `used` is the sum of what stands, by a clause. So a collector has to leave no gap between the
+//!   objects.
+//! - An object has fewer than 65,536 fields, so that a record can name each of them.
+//! - `load_at` takes the sum of address and place, so that a loop over fields adds nothing for
+//!   each; `load` rests on it.
+//! - A key's place in an index goes by the numbers of names and by birth numbers, so it stays where
+//!   objects move. A position takes the first free place from there on, else the first before it
+//!   (`placed`).
+//! - The names and lengths that words stand for are told relative to a store: eight bytes of a
+//!   string share a word, so a word alone doesn't say how many there are.
 #![tactic(auto)]
 
 ghost use Rattle.std.specs.Prelude.{◌≡◌, ℕ, ◌+◌, ◌-◌, ◌^◌, ◌<◌, ◌≤◌, ◌↔◌, ◌≢◌, List, [], ◌∷◌, Bool, true, false, IsTrue, length, slice_get, Option, Some, None, OnOk, OnErr, IsOk, IsErr, IfSome, IsSome, slice_range};

@@ -4,6 +4,11 @@
 //! What such a seat keeps is that its part is the part of some run. Everything here follows from
 //! that, and it is so again after each event that the part permits. Of runs nothing is used but the
 //! clauses of `law`.
+//!
+//! Why so:
+//! - One definition ties the machine's objects, which are lists of numbers, to the heap of
+//!   `ps_mem`. It knows no table, so a seat over shared words and one over plain words rest on it
+//!   alike.
 #![tactic(auto)]
 
 ghost use Rattle.std.specs.Prelude.{ℕ};

@@ -1,4 +1,10 @@
 //! A run of machine words, reached through raw pointers.
+//!
+//! Why so:
+//! - A run of words is a `Vec` of the toolchain's library. A block of our own would need proofs
+//!   about layout and freeing, and would make no step faster.
+//! - A word is read and written through a raw pointer without a test of bounds, in small functions
+//!   whose contracts name slices and numbers alone.
 #![tactic(auto)]
 
 ghost use Rattle.std.specs.Prelude.{◌≡◌, ◌+◌, ◌-◌, ◌<◌, ◌≤◌, ℕ, List, [], ◌++◌, length, slice_index, slice_set, slice_range, take, drop, replicate, IfOk, OnOk, OnErr, IsTrue, ◌↔◌};

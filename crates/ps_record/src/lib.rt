@@ -1,5 +1,13 @@
 //! Records of the collector's log (Nettles and O'Toole, PLDI 1993, 2: the mutation log), and the
 //! places of its rings.
+//!
+//! Why so:
+//! - The numbers of the table stand here once: slots, ring, control words, heads and where the
+//!   spaces begin. Definitions and code name them; only proofs may write the numerals.
+//! - `read` answers the record of a number by its lap bit, so a reader needs no second word to know
+//!   whether a place of the ring is fresh.
+//! - A record names a range of at least one field of one object, and 16 bits hold where the range
+//!   ends. So an object has fewer than 65,536 fields.
 #![tactic(auto)]
 
 ghost use Rattle.std.specs.Prelude.{◌≡◌, ◌≢◌, ◌<◌, ◌+◌, ◌==◌, ℕ};

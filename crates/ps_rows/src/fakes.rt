@@ -1,6 +1,6 @@
 //! Files and outputs in memory, and who makes the steps of a run.
 
-ghost use Rattle.std.specs.Prelude.{◌≡◌, ◌≢◌, ◌≤◌, ◌+◌, ℕ, List, [], true, Some, None, Err, OnOk, OnErr, IsErr, IfOk, IfErr, IfSome, length, vec_len};
+ghost use Rattle.std.specs.Prelude.{◌≡◌, ◌≤◌, ◌+◌, [], true, Some, None, Err, OnOk, OnErr, IsErr, IfOk, IfErr, IfSome, length};
 ghost use Rattle.std.specs.Io.{WritesAtMost};
 ghost use Rattle.std.specs.Io.KnownBytes.{WriteAppends, Keeps};
 ghost use Rattle.ps_run.specs.Parts.{ReadsNext};

@@ -1,6 +1,14 @@
 //! Runs the rows and the cases of its input, and prints how many there are, and which of them differ
 //! from what they say. A row is a line with tabs; a case is the lines up to an empty one; a line
 //! behind `#` is a remark.
+//!
+//! Why so:
+//! - Rows of programs are run by the command line, over plain memory and in a space, and again
+//!   under the schedule that came back; or step by step in a bounded memory.
+//! - Tests stand in crates of their own, since a library's tests are proved as a second program
+//!   over all its functions.
+//! - Refused allocations are tried from outside, by `bench/allocations`, which runs each row once
+//!   for each allocation that it makes. The gate doesn't run it.
 #![tactic(auto)]
 
 mod cases;

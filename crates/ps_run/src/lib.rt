@@ -1,5 +1,26 @@
 //! The program's work over any files and outputs: the command line, the run, and what is written
 //! (the profile's own).
+//!
+//! Why so:
+//! - Files and outputs are traits with a ghost of their contents, which an implementation may leave
+//!   unknown, as the system's do. Over those a promise says no more than the traits do.
+//! - Outputs are written by `write` in a loop of our own (`write_part`), since nothing is said of
+//!   what `write_all` wrote before it failed.
+//! - `Flushing` tells whether all was handed on; `Flushed` makes one of any output, and that it
+//!   flushes the output below is for a reader to see.
+//! - A file set remembers why a read failed and that a write did (`last_fault`, `is_unwritten`), so
+//!   that clauses tie the status to it.
+//! - The record is written whole, behind the printed bytes, so no file has half a record by our
+//!   doing. Its text is in memory once, and may want memory after all was printed.
+//! - A file is opened and then read part by part (`FileSet::open`, `read_on`). So a schedule, which
+//!   may be far longer than a program, is judged line by line, and an endless file ends at its
+//!   first bad line.
+//! - Chance stands here alone, as a generator with a fixed seed. An ending is what was printed with
+//!   the outcome (`AreEndings`); how often each came isn't counted.
+//! - A run that wants memory ends an exploration, since it tells of the machine and not of a
+//!   schedule. A program that grows without end needs a smaller `--steps` there.
+//! - Counts are written as they are counted, and a number out of its range has a case in the clause
+//!   of `drive` although the words' rules refuse it.
 #![tactic(auto)]
 
 mod chances;

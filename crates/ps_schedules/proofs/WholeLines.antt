@@ -1,9 +1,8 @@
 -- Bytes that have a whole line, or as many as a line may have, tell whether they begin with one.
-use Rattle.std.proofs.Common.{◌≡◌, ◌≢◌, ◌<◌, ◌≤◌, ◌+◌, ◌^◌, ◌⊎◌, ℕ, Bool, Option, Some, None, List, [], ◌∷◌, ◌++◌, take, drop, length, arith, refl, sym, ap, subst, ◌∙◌, true, false, true≢false, inl, inr, length-append, append_assoc, append-nil}
+use Rattle.std.proofs.Common.{◌≡◌, ◌≢◌, ◌<◌, ◌≤◌, ◌+◌, ℕ, Bool, Option, Some, None, List, [], ◌∷◌, ◌++◌, take, drop, length, arith, refl, sym, ap, subst, ◌∙◌, true, false, true≢false, inl, inr, length-append, append_assoc, append-nil}
 use Rattle.std.specs.Prelude.{ℤ, pos, negsuc, ◌==◌, ◌||◌}
 use Rattle.std.specs.Char.{digit_value}
 use Rattle.std.specs.Fmt.{decimal}
-use Rattle.std.specs.List.{list_any}
 use Rattle.std.specs.Str.Parse.{AllDigits}
 use Rattle.std.proofs.lemmas.Fmt.{decimal_is_IsNumeral, length-decimal-le}
 use Rattle.std.proofs.lemmas.List.{take_at, take-append-drop, take-append-le}

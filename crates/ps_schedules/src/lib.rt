@@ -1,4 +1,11 @@
 //! The text of a schedule: a line for each entry, written and read (the profile's own).
+//!
+//! Why so:
+//! - A text is a schedule's exactly where writing that schedule gives it: no leading zeros, one
+//!   space, a line feed behind each line. So a file has one schedule. An editor that drops the last
+//!   line feed has it refused.
+//! - A line is judged as soon as what follows can't change the answer (`TellsLine`): where it is
+//!   whole, or as long as a line may be. So `read_entries` takes a text in parts of any size.
 #![tactic(auto)]
 
 mod fields;

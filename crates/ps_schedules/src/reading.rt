@@ -1,6 +1,6 @@
 //! The schedule of a text that comes part by part.
 
-ghost use Rattle.std.specs.Prelude.{◌≡◌, ◌≢◌, ◌<◌, ◌≤◌, ◌++◌, ℕ, List, [], true, false, Err, IfOk, OnOk, length};
+ghost use Rattle.std.specs.Prelude.{◌≡◌, ◌≢◌, ◌<◌, ◌++◌, ℕ, List, [], true, false, Err, IfOk, OnOk};
 ghost use Rattle.ps_schedules.specs.Texts.{AreEntries, IsBadAt, IsPartOfLine, TellsLine, text_of};
 
 use crate::lines::entry;

@@ -1,4 +1,12 @@
 //! The bounded stacks of a context: operands, dictionaries and frames (PLRM2, 3.4).
+//!
+//! Why so:
+//! - A stack's items lie with the topmost last, as the elements of an array do. So `]` and `astore`
+//!   hand a slice of the stack to the memory.
+//! - All room is reserved when a stack is made, so a push takes no memory and its only fault is the
+//!   limit.
+//! - `roll` turns by reversals in place, and moves one item past the others in one loop
+//!   (`last_to_front`, `first_to_end`). The library's rotation clears a large buffer at each call.
 #![tactic(auto)]
 
 mod stack;

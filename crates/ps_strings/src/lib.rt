@@ -1,4 +1,10 @@
 //! The operators on strings (PLRM2, 8 'Operators': String).
+//!
+//! Why so:
+//! - A string is sought by the kit's `memchr` over both strings, read into lists: its time grows
+//!   with their sum, and a search in place would take their product. The lists may want memory.
+//! - At a full operand stack `search` reads onto the machine's stack: whether the string is found
+//!   decides between errors, and an error must not want memory. That takes up to 128 KB there.
 #![tactic(auto)]
 
 pub mod changes;

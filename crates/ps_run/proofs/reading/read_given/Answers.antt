@@ -1,4 +1,4 @@
-use Rattle.std.proofs.Common.{◌≡◌, ◌⊎◌, ℕ, Option, Some, List, Err, inr, refl, ap, sym, subst, rules, Bor, IfSome}
+use Rattle.std.proofs.Common.{◌≡◌, ◌⊎◌, ℕ, Option, Some, List, Err, inr, refl, sym, subst, rules, Bor, IfSome}
 use Rattle.std.specs.Option.{option_map}
 use Rattle.ps_schedules.specs.Texts.{IsBadAt}
 use Rattle.ps_schedules.specs.declared.reading.ScheduleFault.{ScheduleFault}

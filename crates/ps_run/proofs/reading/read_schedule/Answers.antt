@@ -1,9 +1,9 @@
-use Rattle.std.proofs.Common.{◌≡◌, ◌++◌, ℕ, Some, List, [], Err, length, refl, ap, sym, subst, ◌∙◌, rules, true, append_assoc, append-nil, IfSome}
+use Rattle.std.proofs.Common.{◌≡◌, ◌++◌, Some, [], Err, length, refl, ap, sym, subst, ◌∙◌, rules, append_assoc, append-nil, IfSome}
 use Rattle.ps_schedules.specs.Texts.{IsBadAt, text_of}
 use Rattle.ps_schedules.specs.declared.reading.ScheduleFault.{ScheduleFault}
 use Rattle.ps_run.specs.declared.files.ReadFault.{ReadFault}
 use Rattle.ps_run.specs.declared.files.ReadFault.TheVariants.{Memory}
-use Rattle.ps_run.proofs.ReadParts.{IsReadTo, all_read, if_known, none_left, of_known, read_more}
+use Rattle.ps_run.proofs.ReadParts.{all_read, if_known, none_left, of_known, read_more}
 use Rattle.ps_run.proofs.reading.read_schedule.Goals as goal
 
 pub returns-in-Err-clause-unread : goal.returns-in-Err-clause-unread
@@ -13,8 +13,8 @@ returns-in-Err-clause-unread g c fault is =
     × IfSome (g.F.FileSet.left c.args.files.now) (λ known. it ≡ Memory)) same (
       c.in-Err.ensures.failed,
       if_known (g.F.FileSet.left c.args.files.now) _ (λ known known_is.
-      let read = c.loop.invariant.read known known_is in
-      of_known (g.F.FileSet.left c.loop.files) _ read.rest read.is_left c.in-Err.ensures.fault),
+          let read = c.loop.invariant.read known known_is in
+          of_known (g.F.FileSet.left c.loop.files) _ read.rest read.is_left c.in-Err.ensures.fault),
     )
 
 pub returns-in-Err-clause-read : goal.returns-in-Err-clause-read

@@ -1,4 +1,4 @@
-use Rattle.std.proofs.Common.{◌≡◌, ◌<◌, ◌≤◌, ◌+◌, ◌++◌, ℕ, List, [], Err, length, arith, ap, sym, ◌∙◌, rules, length-append}
+use Rattle.std.proofs.Common.{◌≡◌, ◌<◌, ℕ, List, [], Err, length, arith, ap, sym, ◌∙◌, rules, length-append}
 use Rattle.ps_run.specs.Driving.{most_program_bytes}
 use Rattle.ps_run.proofs.ReadParts.{all_read, if_known, of_known, read_more}
 use Rattle.ps_run.proofs.reading.read_whole.Goals as goal
