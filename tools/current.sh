@@ -10,11 +10,12 @@ is_current() {
 build_checked() {
     ! is_current "$top/out/$1" || return 0
     command -v python3 > /dev/null || { echo "$1: the build needs python3" >&2; return 2; }
-    mkdir -p "$top/out" && started=$(mktemp "$top/out/$1.XXXXXX") || { echo "$1: $top/out can not be written" >&2; return 2; }
-    if "$top/tools/checked" "$top/out/$1" "$1"; then
+    mkdir -p "$top/out" 2> /dev/null && [ -w "$top/out" ] || { echo "$1: $top/out can not be written" >&2; return 2; }
+    (
+        started=$(mktemp "$top/out/$1.XXXXXX") || exit 2
+        trap 'rm -f "$started"' EXIT
+        trap 'exit 130' INT TERM HUP
+        "$top/tools/checked" "$top/out/$1" "$1" || exit 2
         mv "$started" "$top/out/$1.built"
-    else
-        rm -f "$started"
-        return 2
-    fi
+    )
 }
