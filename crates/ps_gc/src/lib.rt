@@ -2,7 +2,7 @@
 //! runs, by the steps of its seat at words of any kind. No call waits or takes memory.
 //!
 //! Why so:
-//! - One seat has both parts while the collector has no thread (`CollectedSpace`). The calls of two
+//! - One seat has both parts where the collector has no thread (`CollectedSpace`). The calls of two
 //!   seats join them, run the same bodies and part them, so no step is written twice.
 //! - `CollectedSpace` takes any kind of words: plain ones, where workers take turns and the
 //!   collector acts between steps, or shared ones, where each step is atomic and dearer.

@@ -18,6 +18,7 @@ mod driven;
 mod fakes;
 mod held;
 mod judges;
+mod meetings;
 mod plays;
 mod rows;
 mod runs;

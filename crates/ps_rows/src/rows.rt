@@ -8,6 +8,8 @@
 //! `collected SPACE`: in a space of so many words that is collected, by some numbers of workers, and
 //! again under the schedule of each run; `flipped SPACE`: so too, and the spaces are exchanged at
 //! least once; `stressed SPACE`: at least 100 times.
+//! `collector_copies_while_a_put_is_half_done SPACE`: so too, where the first word that is copied
+//! waits for the first store in an open cycle, and that store for a hundred words more.
 //! `held SPACE`: in such a space too, step by step, and the log of the first context is closed before
 //! its first step; a store waits until the cycle has ended.
 //! `bounded SIZE`, `full SIZE`, `closed SIZE`: step by step in a space of so many words, with
@@ -15,8 +17,9 @@
 //! not made.
 
 use crate::chances::scheduled;
-use crate::collected::{MANY, worked};
+use crate::collected::{MANY, Wanted, worked};
 use crate::held::held_up;
+use crate::meetings::collector_copies_while_a_put_is_half_done;
 use crate::plays::{Log, Play};
 use crate::runs::{Words, ran, replayed};
 use anyhow::Result;
@@ -24,6 +27,9 @@ use std::alloc::{AllocError, Global};
 use std::hash::RandomState;
 use std::sync::Wait;
 use std::thread::Threads;
+
+/// The row whose worker and collector wait for each other.
+const MEETING: &str = "collector_copies_while_a_put_is_half_done";
 
 /// What a row came to.
 #[derive(Clone, Copy, Debug, PartialEq, Eq)]
@@ -121,21 +127,22 @@ pub fn verdict_of<R: Threads + Wait + Sync>(
                 (number % 256) as u8,
             ));
         }
-        "collected" | "flipped" | "stressed" => {
+        "collected" | "flipped" | "stressed" | MEETING => {
             let least = match name {
-                "flipped" => 1,
+                "collected" => 0,
                 "stressed" => MANY,
-                _ => 0,
+                _ => 1,
             };
-            return Ok(worked(
-                rt,
-                alloc,
-                keys,
-                program.as_slice(),
-                wanted.as_slice(),
-                number,
+            let row = Wanted {
+                program: program.as_slice(),
+                printed: wanted.as_slice(),
+                space: number,
                 least,
-            ));
+            };
+            if name == MEETING {
+                return Ok(collector_copies_while_a_put_is_half_done(rt, alloc, keys, row));
+            }
+            return Ok(worked(rt, alloc, keys, row));
         }
         "held" => {
             let (program, wanted) = (program.as_slice(), wanted.as_slice());

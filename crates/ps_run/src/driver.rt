@@ -18,6 +18,7 @@ use clap::error::ErrorKind;
 use ps_interpreter::interprets::Interpret;
 use ps_options::{Options, no_text, parse};
 use ps_vault::{Config, Entry, Report, RunFault, replay, run_plain};
+use ps_workers::Job;
 use ps_world::deeds::Deeds;
 use std::alloc::Global;
 use std::hash::RandomState;
@@ -198,7 +199,7 @@ fn run<
 }
 
 /// The report of a run of the program: under the schedule that is given, or with the budget that is
-/// asked for, over plain memory or in a space that is collected.
+/// asked for, over plain memory or in a space that is collected meanwhile.
 fn make<S: Interpret + Drop + Send, D: Deeds + Drop + Send, R: Threads + Wait + Sync>(
     rt: &R,
     alloc: Global,
@@ -217,7 +218,16 @@ fn make<S: Interpret + Drop + Send, D: Deeds + Drop + Send, R: Threads + Wait + 
     match given {
         Some(schedule) => replay(alloc, interpret, deeds, program, schedule.as_slice(), keys),
         None if options.plain => run_plain(alloc, interpret, deeds, program, config, keys),
-        None => ps_workers::run(rt, alloc, interpret, deeds, program, config, keys),
+        None => {
+            let job = Job {
+                interpret,
+                deeds,
+                program,
+                config,
+                keys,
+            };
+            ps_workers::run(rt, alloc, job)
+        }
     }
 }
 

@@ -1,50 +1,52 @@
-//! The baton: a vault with all that a worker needs to make a turn. Who holds it makes steps, and
-//! lets the collector work between them.
+//! The baton: a vault with all that a worker needs to make a turn. Who holds it makes steps.
 //!
 //! It keeps (`Keeps`) that the steps made are counted and within the budget, and that an outcome,
 //! once it stands, is that of the vault's world.
 
-ghost use Rattle.std.specs.Prelude.{◌≡◌, ◌<◌, ◌≢◌, false, IfOk, IfSome, IfNone, IsSome, None, Err};
+ghost use Rattle.std.specs.Prelude.{◌≡◌, ◌+◌, ◌<◌, ◌≤◌, ◌≢◌, true, false, IfErr, IfOk, IfSome, IfNone, IsErr, IsSome, None, Err};
 ghost use Rattle.ps_mem.specs.Bounded.{bounded_space};
 ghost use Rattle.ps_start.specs.Starts.{IsEmptyHeap};
+ghost use Rattle.ps_vault.specs.Holds.{IsHeldUp};
 ghost use Rattle.ps_vault.specs.Order.{IsNoneAbove};
 ghost use Rattle.ps_vault.specs.Reports.{IsRunIn, IsWithin};
 ghost use Rattle.ps_vault.specs.Stories.{world_at};
+ghost use Rattle.ps_world.specs.Needs.{step_wants};
 ghost use Rattle.ps_workers.specs.Batons.{GoesOn, MayGoOn};
 
-use ps_flips::collected::CollectedMemory;
+use crate::paces::Pace;
+use crate::waits::Waits;
+use ps_flips::collected::Counts;
 use ps_interpreter::interprets::Interpret;
-use ps_vault::{Config, FIRST_ENTRIES, Outcome, Report, Roots, RunFault, Vault};
+use ps_mem::Memory;
+use ps_ops::failure::NotMade;
+use ps_vault::{Config, FIRST_ENTRIES, Outcome, Report, RunFault, Told, Vault};
 use ps_world::deeds::Deeds;
 use std::alloc::{AllocError, Global};
 use std::hash::RandomState;
 use std::marker::Model;
 
 /// The most turns of one hold of the baton: to hand it on costs as much as some turns.
-const TURNS: u32 = 1024;
+pub(crate) const TURNS: u32 = 1024;
 
 /// The vault, and whose turn is next.
 #[derive(Drop)]
-pub struct Baton<'a, M: CollectedMemory + Drop, S: Interpret + Drop, D: Deeds + Drop> {
+pub(crate) struct Baton<'a, M: Memory + Drop, S: Interpret + Drop, D: Deeds + Drop> {
     pub(crate) vault: Vault<'a, M, S, D>,
-    /// Room for the roots of all contexts.
-    pub(crate) roots: Roots,
     pub(crate) config: Config,
     /// How many steps were made.
     pub(crate) made: u32,
     /// Whose turn was the last.
     pub(crate) after: u32,
-    /// Whether a cycle is opened where more than half is used of what was free after the last.
-    pub(crate) may_open: bool,
-    /// The words that were used after the last cycle.
-    pub(crate) kept: u32,
     pub(crate) outcome: Option<Outcome>,
     /// A thread could not be started.
     pub(crate) refused: bool,
+    /// When a cycle is opened.
+    pub(crate) pace: Pace,
+    /// What workers and the collector's thread wait for.
+    pub(crate) waits: Waits,
 }
 
-impl<'a, M: CollectedMemory + Drop, S: Interpret + Drop, D: Deeds + Drop> Model
-    for Baton<'a, M, S, D> {
+impl<'a, M: Memory + Drop, S: Interpret + Drop, D: Deeds + Drop> Model for Baton<'a, M, S, D> {
     ghost use Rattle.ps_workers.specs.Batons.{Progress, Keeps};
 
     ghost Value = { Progress };
@@ -64,10 +66,10 @@ impl<'a, M: CollectedMemory + Drop, S: Interpret + Drop, D: Deeds + Drop> Model
     }) };
 }
 
-impl<'a, M: CollectedMemory + Drop, S: Interpret + Drop, D: Deeds + Drop> Baton<'a, M, S, D> {
+impl<'a, M: Memory + Drop, S: Interpret + Drop, D: Deeds + Drop> Baton<'a, M, S, D> {
     /// A baton for the run of a program, over a memory of the configuration's size in which nothing
     /// stands. `AllocError`: the room that the run starts with can't be had.
-    pub fn new(
+    pub(crate) fn new(
         alloc: Global,
         memory: M,
         interpret: S,
@@ -84,7 +86,6 @@ impl<'a, M: CollectedMemory + Drop, S: Interpret + Drop, D: Deeds + Drop> Baton<
         ensures outcome { IfOk result (λ baton. baton.outcome ≡ None) }
     {
         prove!(config.steps <= u32::MAX);
-        let roots = Roots::new(alloc)?;
         let vault = Vault::new(
             alloc,
             memory,
@@ -96,57 +97,52 @@ impl<'a, M: CollectedMemory + Drop, S: Interpret + Drop, D: Deeds + Drop> Baton<
         )?;
         Ok(Baton {
             vault,
-            roots,
             config,
             made: 0,
             after: 0,
-            may_open: true,
-            kept: 0,
             outcome: None,
             refused: false,
+            pace: Pace::new(config.space),
+            waits: Waits::new(),
         })
     }
 }
 
-impl<M: CollectedMemory + Drop, S: Interpret + Drop, D: Deeds + Drop> Baton<'_, M, S, D> {
-    /// The turns of one hold of the baton. True: the run is over, or a thread could not be started.
-    pub fn turns(&mut self) -> bool
-        ensures goes_on { GoesOn self.old self.new }
-        ensures over { IsSome self.old.outcome → self.new ≡ self.old }
+impl<M: Memory + Drop, S: Interpret + Drop, D: Deeds + Drop> Baton<'_, M, S, D> {
+    /// Whether the run is over, or a thread could not be started.
+    pub(crate) fn is_over(&self) -> bool
+        ensures going { result ≡ false → self.now.outcome ≡ None }
+        ensures over { IsSome self.now.outcome → result ≡ true }
     {
-        for _ in 0..TURNS {
-            if self.turn() {
-                return true;
-            }
-        }
-        false
-    }
-
-    /// A turn of the next context: at most a quantum of its steps, and only one while a cycle is
-    /// open. True: the run is over, or a thread could not be started.
-    fn turn(&mut self) -> bool
-        ensures goes_on { GoesOn self.old self.new }
-        ensures over { IsSome self.old.outcome → self.new ≡ self.old }
-    {
-        if self.refused || self.outcome.is_some() {
-            return true;
-        }
-        if self.made == self.config.steps {
-            self.judge();
-            return true;
-        }
-        match self.next() {
-            Some(context) => self.go(context),
-            None => self.judge(),
-        }
-        self.outcome.is_some()
+        self.refused || self.outcome.is_some()
     }
 
     /// A thread could not be started, and no further turn is made.
-    pub fn refuse(&mut self)
+    pub(crate) fn refuse(&mut self)
         ensures { self.new ≡ self.old }
     {
         self.refused = true;
+    }
+
+    /// The context whose turn is next. None: the run is over, or it ends here.
+    pub(crate) fn turn_of(&mut self) -> Option<u32>
+        ensures goes_on { GoesOn self.old self.new }
+        ensures over { IsSome self.old.outcome → self.new ≡ self.old }
+        ensures may { IfSome result (MayGoOn self.new) }
+        ensures outcome { IsSome result → self.new.outcome ≡ None }
+    {
+        if self.is_over() {
+            return None;
+        }
+        if self.made == self.config.steps {
+            self.judge();
+            return None;
+        }
+        let next = self.next();
+        if next.is_none() {
+            self.judge();
+        }
+        next
     }
 
     /// The context whose call waits; else the ready one of the least identifier above that of the
@@ -167,6 +163,20 @@ impl<M: CollectedMemory + Drop, S: Interpret + Drop, D: Deeds + Drop> Baton<'_, 
         }
     }
 
+    /// Whether a context is ready, no other's call waits, and steps are left.
+    pub(crate) fn may_go_on(&mut self, context: u32) -> bool
+        ensures same { self.new ≡ self.old }
+        ensures may { result ≡ true → MayGoOn self.old context }
+    {
+        if self.made >= self.config.steps {
+            return false;
+        }
+        match self.vault.caller() {
+            Some(caller) => caller == context,
+            None => self.vault.is_ready(context),
+        }
+    }
+
     /// The run has ended: its steps are used up, or no context is ready.
     fn judge(&mut self)
         requires calling { self.old.story.caller ≡ None }
@@ -179,29 +189,88 @@ impl<M: CollectedMemory + Drop, S: Interpret + Drop, D: Deeds + Drop> Baton<'_, 
         self.outcome = Some(outcome);
     }
 
-    /// Steps of a context: at most a quantum, and one alone while a cycle is open.
-    fn go(&mut self, context: u32)
+    /// Steps of a context, at most so many: the number of the `vmreclaim` that the last was, if it
+    /// was one. The error is why the next was held up. Where the schedule has no room the run ends.
+    pub(crate) fn advance(&mut self, context: u32, most: u32) -> Result<Option<i32>, NotMade>
         requires may { MayGoOn self.old context }
         requires outcome { self.old.outcome ≡ None }
+        requires some { 1 ≤ most }
+        requires left { most + self.old.made ≤ self.old.config.steps }
         ensures goes_on { GoesOn self.old self.new }
+        ensures may { IsErr result → MayGoOn self.new context }
+        ensures outcome { IsErr result → self.new.outcome ≡ None }
+        ensures held_up { IfErr result
+            (IsHeldUp M.heap M.grants S.asks context false (world_at self.new.story)) }
     {
-        let left = self.config.steps - self.made;
-        let most = if self.vault.is_open() {
-            1
-        } else {
-            self.config.quantum.min(left)
-        };
-        self.make_steps(context, most);
+        if self.vault.reserve_entries().is_err() {
+            self.outcome = Some(Outcome::Memory);
+            return Ok(None);
+        }
+        let advanced = self.vault.advance(context, most, true);
+        self.made += advanced.made;
+        match advanced.told {
+            Told::HeldUp(reason) => Err(reason),
+            Told::Goes | Told::TurnEnds => {
+                self.after = context;
+                Ok(advanced.wish)
+            }
+        }
     }
 
-    /// The run's report, if it is over and was one of this program with these numbers.
-    pub fn into_report(self, program: &[u8], config: Config) -> Result<Report, RunFault>
+    /// A step that was held up, where the collector can do nothing more for it: one that found no
+    /// room is made refused, and for want of memory the run ends. What a log held up is tried again
+    /// later.
+    pub(crate) fn give_up(&mut self, context: u32, reason: NotMade)
+        requires may { MayGoOn self.old context }
+        requires outcome { self.old.outcome ≡ None }
+        requires bounded { (m : M) → (M.heap m).space.grows ≡ false }
+        requires held_up { IsHeldUp M.heap M.grants S.asks context false
+            (world_at self.old.story) reason }
+        ensures goes_on { GoesOn self.old self.new }
+    {
+        match reason {
+            NotMade::Memory => self.outcome = Some(Outcome::Memory),
+            NotMade::NeedSpace(_) => self.refuse_step(context),
+            NotMade::LogFull | NotMade::LogClosed => {}
+        }
+    }
+
+    /// A step that makes objects, and found no room for them, is made refused.
+    fn refuse_step(&mut self, context: u32)
+        requires may { MayGoOn self.old context }
+        requires outcome { self.old.outcome ≡ None }
+        requires bounded { (m : M) → (M.heap m).space.grows ≡ false }
+        requires makes { 1 ≤ (step_wants S.asks context false (world_at self.old.story)).words }
+        ensures goes_on { GoesOn self.old self.new }
+    {
+        if self.vault.reserve_entries().is_err() {
+            self.outcome = Some(Outcome::Memory);
+            return;
+        }
+        match self.vault.step(context, true, None) {
+            Ok(()) => {
+                self.made += 1;
+                self.after = context;
+            }
+            Err(NotMade::Memory) => self.outcome = Some(Outcome::Memory),
+            Err(_) => {}
+        }
+    }
+
+    /// The run's report with these counts, if it is over and was one of this program with these
+    /// numbers.
+    pub(crate) fn report(
+        self,
+        program: &[u8],
+        config: Config,
+        counts: Counts,
+    ) -> Result<Report, RunFault>
         ensures run { IfOk result (IsRunIn S.asks (bounded_space config.space) program.now
             config.steps) }
         ensures fault { result ≢ Err RunFault.Config }
     {
         let Baton {
-            mut vault,
+            vault,
             config: own,
             outcome,
             refused,
@@ -213,7 +282,6 @@ impl<M: CollectedMemory + Drop, S: Interpret + Drop, D: Deeds + Drop> Baton<'_, 
         if refused || own != config || !vault.is_of(program) {
             return Err(RunFault::Memory);
         }
-        let counts = vault.counts();
         Ok(vault.into_report(config.steps, outcome, counts))
     }
 }

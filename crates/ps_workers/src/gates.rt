@@ -1,28 +1,42 @@
-//! A memory that tells a gate of each store before it makes it.
+//! A memory that tells a gate of each store before it makes it, and what is told of the collector.
 
 ghost use Rattle.std.specs.Prelude.{◌≡◌};
 
-use ps_flips::collected::{CollectedMemory, Counts};
+use ps_flips::collected::Counts;
+use ps_flips::sides::{Collects, LoggedMemory, Works};
 use ps_language::kinds::Kind;
 use ps_mem::{Memory, NeedFault, Permit};
 use ps_parts_memory::Closing;
 use ps_word::headers::Header;
 use ps_word::words::Word;
 
-/// What is told of the work on a memory. A test can wait there, and so choose where a run stops.
+/// What is told of the work on a memory. A test can wait in these calls, and so choose where a run
+/// stops. Both must return.
 pub trait Gate {
-    /// A store or a copy comes next; whether a cycle of the collector is open. It must return.
+    /// A store or a copy comes next; whether a cycle of the collector is open.
     fn store(&self, cycle_open: bool);
+
+    /// The collector's thread has copied so many words so far.
+    fn copied(&self, words: u64);
+}
+
+/// No one is told.
+pub struct Nobody;
+
+impl Gate for Nobody {
+    fn store(&self, _cycle_open: bool) {}
+
+    fn copied(&self, _words: u64) {}
 }
 
 /// A memory that is collected, with its gate.
 #[derive(Drop)]
-pub struct Gated<'g, M: CollectedMemory + Drop, G: Gate> {
+pub struct Gated<'g, M: LoggedMemory + Drop, G: Gate> {
     memory: M,
     gate: &'g G,
 }
 
-impl<'g, M: CollectedMemory + Drop, G: Gate> Gated<'g, M, G> {
+impl<'g, M: LoggedMemory + Drop, G: Gate> Gated<'g, M, G> {
     /// A memory whose stores are told to this gate.
     pub fn new(memory: M, gate: &'g G) -> Gated<'g, M, G>
         ensures { result.memory ≡ memory }
@@ -31,7 +45,7 @@ impl<'g, M: CollectedMemory + Drop, G: Gate> Gated<'g, M, G> {
     }
 }
 
-impl<M: CollectedMemory + Drop, G: Gate> Memory for Gated<'_, M, G> {
+impl<M: LoggedMemory + Drop, G: Gate> Memory for Gated<'_, M, G> {
     ghost heap = { λ g. M.heap g.memory };
 
     ghost grants = { λ g. M.grants g.memory };
@@ -94,27 +108,19 @@ impl<M: CollectedMemory + Drop, G: Gate> Memory for Gated<'_, M, G> {
     }
 }
 
-impl<M: CollectedMemory + Drop, G: Gate> CollectedMemory for Gated<'_, M, G> {
+impl<M: LoggedMemory + Drop, G: Gate> LoggedMemory for Gated<'_, M, G> {
     ghost flips = { λ g. M.flips g.memory };
 
     fn is_open(&mut self) -> bool {
         self.memory.is_open()
     }
 
-    fn open_cycle(&mut self, roots: &[Word]) -> bool {
-        self.memory.open_cycle(roots)
-    }
-
-    fn work(&mut self, actions: u32) -> bool {
-        self.memory.work(actions)
+    fn open_cycle(&mut self) -> bool {
+        self.memory.open_cycle()
     }
 
     fn close_log(&mut self, slot: u32) -> Closing {
         self.memory.close_log(slot)
-    }
-
-    fn end_cycle(&mut self, roots: &mut [Word]) -> bool {
-        self.memory.end_cycle(roots)
     }
 
     fn counts(&mut self) -> Counts {
@@ -122,4 +128,36 @@ impl<M: CollectedMemory + Drop, G: Gate> CollectedMemory for Gated<'_, M, G> {
     }
 
     ghost bounded = { λ g. M.bounded g.memory };
+}
+
+/// The collector of a memory with a gate. It reaches past the gate.
+#[derive(Drop)]
+pub struct Past<C>(pub C);
+
+impl<'g, M: LoggedMemory + Drop, G: Gate, C: Collects<M>> Collects<Gated<'g, M, G>> for Past<C> {
+    fn hand_over(&mut self, memory: &mut Gated<'g, M, G>, roots: &[Word]) {
+        self.0.hand_over(&mut memory.memory, roots);
+    }
+
+    fn try_flip(&mut self, memory: &mut Gated<'g, M, G>, roots: &mut [Word]) -> bool {
+        self.0.try_flip(&mut memory.memory, roots)
+    }
+
+    fn end_cycle(&mut self, memory: &mut Gated<'g, M, G>, roots: &mut [Word]) -> bool {
+        self.0.end_cycle(&mut memory.memory, roots)
+    }
+}
+
+impl<C: Works> Works for Past<C> {
+    fn act(&mut self) -> bool {
+        self.0.act()
+    }
+
+    fn copied(&self) -> u64 {
+        self.0.copied()
+    }
+
+    fn look_anew(&mut self) {
+        self.0.look_anew();
+    }
 }

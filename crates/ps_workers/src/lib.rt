@@ -1,27 +1,41 @@
-//! Runs of a program in a space that is collected, by workers that take turns under one lock.
+//! Runs of a program in a space that is collected, by workers that take turns under one lock, with a
+//! collector on a thread of its own beside them.
+//!
+//! One lock, the baton, is round the vault and the mutator's seat. The collector and its seat are its
+//! thread's. It is lent to the vault, under the lock, to be handed roots and to flip.
 //!
 //! Why so:
 //! - A worker makes up to `TURNS` turns in one hold of the baton, since handing it on costs as much
-//!   as some turns. Nothing is lost by it: one worker steps at a time.
+//!   as some turns. Nothing is lost by it: one worker steps at a time. In a cycle a hold ends after
+//!   `STEPS_IN_CYCLE`, for the collector's thread.
 //! - A cycle is opened behind a turn and not behind a step: a test in the loop of a turn would cost
-//!   each step. While one is open each turn is one step, and the collector acts behind it.
-//! - A cycle is opened where more than half is used of what the last one left free. Where most of a
-//!   space lives for good, a cycle behind each turn would free nothing.
-//! - A step that finds no room is tried again after a whole collection, and then refused. A full
-//!   log is drained by many actions (`DRAIN_ACTIONS`), and a closed log ends its cycle.
+//!   each step. It is opened where more than half is used of what the last one left free. Where most
+//!   of a space lives for good, a cycle behind each turn would free nothing.
+//! - Workers that ran unchecked would fill the space before it is copied, and each cycle would end in
+//!   one long hold. So they wait where they are ahead of the collector (`Pace`).
+//! - A busy program would put the flip off for ever: its roots of now are never all copied. So where
+//!   a try finds one that isn't, workers wait until what the roots of now reach is copied (`Stop`).
+//! - The collector's thread looks whether it is called where the lock happens to be free
+//!   (`try_lock`). It may not wait for it: a worker may stand in the middle of an operator, and what
+//!   it waits for may be the collector.
+//! - A step that finds no room is tried again after a whole collection, and then refused, in the hold
+//!   that collects: else another context could take the room.
 //! - The baton keeps that its outcome is that of its vault's world, since what a lock holds is
-//!   known by its type alone. So program and numbers are compared at the end (`into_report`).
-//! - `run` is over plain words, and `run_gated` over shared ones behind a gate. Nothing is shared
-//!   while workers take turns, and each step at shared words is dearer.
+//!   known by its type alone. So program and numbers are compared at the end (`report`).
+//! - `run_serial` is over plain words, and its collector works between steps: a host that wants no
+//!   thread needs no shared word, each of which is dearer. The baton is the same.
 //! - A gate is a memory around a memory (`Gated`), so a run without one pays nothing. That it is
 //!   told of each store is shown by tests alone.
 #![tactic(auto)]
 
 mod batons;
 mod gates;
-mod relief;
+mod loops;
+mod paces;
 mod runs;
+mod serial;
+mod serving;
+mod waits;
 
-pub use batons::Baton;
-pub use gates::{Gate, Gated};
-pub use runs::{run, run_gated, run_in};
+pub use gates::{Gate, Gated, Nobody, Past};
+pub use runs::{Job, run, run_beside, run_gated, run_serial, run_serial_in};

@@ -6,11 +6,11 @@ use Rattle.ps_workers.proofs.runs.space_of.Goals as goal
 
 pub returns-clause-empty : goal.returns-clause-empty
 unfolding empty_heap
-returns-clause-empty g c =
+returns-clause-empty c =
     IfOk-weaker c.new.result _ _ (λ space is.
     is ∙ ap empty_heap (sym (ap (λ (h : Heap). h.space) is))) c.new.ensures.heap
 
 pub returns-clause-sized : goal.returns-clause-sized
 unfolding empty_heap
-returns-clause-sized g c =
+returns-clause-sized c =
     IfOk-weaker c.new.result _ _ (λ space is. ap (λ (h : Heap). h.space.size) is) c.new.ensures.heap

@@ -76,5 +76,5 @@ invariant_of-self-in-Err-Memory g c =
     (λ _. subst (λ (p : Progress). MakesObjects g.S.Interpret.asks c.args.context
     (world_at p.story)) (sym c.self.view_is) c.requires.makes)
     (memory_wanted g.M.Memory.heap g.M.Memory.grants g.S.Interpret.asks c.args.context true
-    (world_at c.step.new.self) false g.met.M.CollectedMemory.bounded
+    (world_at c.step.new.self) false c.requires.bounded
     (rw c.in-Err-Memory.field-0-is at c.in-Err-Memory.ensures.held_up))

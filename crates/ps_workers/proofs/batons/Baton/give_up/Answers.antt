@@ -6,7 +6,7 @@ use Rattle.ps_vault.specs.Stories.{world_at}
 use Rattle.ps_vault.proofs.Keeping.{memory_wanted}
 use Rattle.ps_workers.specs.Batons.{Progress, MayGoOn}
 use Rattle.ps_workers.proofs.Keeping.{progress, keeps_wanted}
-use Rattle.ps_workers.proofs.batons.Baton.relieve.Goals as goal
+use Rattle.ps_workers.proofs.batons.Baton.give_up.Goals as goal
 
 pub invariant_of-self : goal.invariant_of-self
 invariant_of-self g c =
@@ -18,7 +18,7 @@ invariant_of-self g c =
     subst (λ (p : Progress). MayWant g.S.Interpret.asks false c.args.context false
     (world_at p.story)) (sym c.self.view_is)
     (memory_wanted g.M.Memory.heap g.M.Memory.grants g.S.Interpret.asks c.args.context false _
-    false g.met.M.CollectedMemory.bounded (rw c.in-Memory.is at c.requires.held_up)) in
+    false c.requires.bounded (rw c.in-Memory.is at c.requires.held_up)) in
     keeps_wanted g.S.Interpret.asks here c.self.inside.vault c.args.context false
     c.self.invariant may refl refl refl may.calling (omega arith)
     (λ is. absurd (true≢false (sym is))) wanted

@@ -1,0 +1,354 @@
+//! Turns of a run whose collector has a thread of its own, and what that thread does when it has the
+//! baton: roots that are handed over, logs that are closed, the flip, and room for who found none.
+
+ghost use Rattle.std.specs.Prelude.{◌≡◌, ◌+◌, ◌<◌, ◌≤◌, ◌≢◌, true, false, None, Err, IfOk, IsSome};
+ghost use Rattle.ps_mem.specs.Bounded.{bounded_space};
+ghost use Rattle.ps_vault.specs.Holds.{IsHeldUp};
+ghost use Rattle.ps_vault.specs.Reports.{IsRunIn};
+ghost use Rattle.ps_vault.specs.Stories.{world_at};
+ghost use Rattle.ps_workers.specs.Batons.{GoesOn, SameProgress, MayGoOn};
+
+use crate::batons::{Baton, TURNS};
+use crate::waits::Wanting;
+use ps_flips::collected::Counts;
+use ps_flips::sides::{Collects, LoggedMemory, Works};
+use ps_interpreter::interprets::Interpret;
+use ps_mem::SLOTS;
+use ps_ops::failure::NotMade;
+use ps_parts_memory::Closing;
+use ps_vault::{Config, Outcome, Report, Roots, RunFault};
+use ps_world::deeds::Deeds;
+
+/// The most steps of one hold of the baton while a cycle is open: the collector's thread may want
+/// it.
+const STEPS_IN_CYCLE: u32 = 1024;
+
+/// How far the collector's thread is.
+#[derive(Clone, Copy, Debug, PartialEq, Eq)]
+pub(crate) enum Stage {
+    /// It waits for a cycle.
+    Rest,
+    /// It copies; it closes the logs then.
+    Copy,
+    /// It takes what is left of the logs, which are closed.
+    Drain,
+    /// It copies what the roots of a while ago reach, and tries to flip then.
+    Last,
+    /// It copies what the roots of now reach, since no worker makes a step, and flips then.
+    Stop,
+    /// The run is over.
+    Over,
+}
+
+/// What the collector's thread has for itself.
+#[derive(Drop)]
+pub(crate) struct Lent<C> {
+    pub(crate) collector: C,
+    /// Room for the roots of all contexts.
+    pub(crate) roots: Roots,
+    pub(crate) stage: Stage,
+}
+
+impl<M: LoggedMemory + Drop, S: Interpret + Drop, D: Deeds + Drop> Baton<'_, M, S, D> {
+    /// Whether a worker has to wait for the collector's thread, which has copied so many words so
+    /// far: a cycle is asked for, or the roots of the open one weren't handed over yet, or all turns
+    /// were held up for a log, or steps are ahead of the collector.
+    pub(crate) fn must_wait(&mut self, copied: u64) -> bool
+        ensures { self.new ≡ self.old }
+    {
+        if self.is_idle() || self.is_over() {
+            return false;
+        }
+        if self.waits.are_held() {
+            return true;
+        }
+        let used = self.vault.used();
+        let ahead = self.pace.is_ahead(used, copied);
+        if ahead {
+            self.waits.ahead = true;
+        }
+        ahead
+    }
+
+    /// Whether the collector's thread has nothing to do. So no worker waits for it then.
+    pub(crate) fn is_idle(&mut self) -> bool
+        ensures { self.new ≡ self.old }
+    {
+        !self.is_called() && !self.vault.has_cycle()
+    }
+
+    /// Whether the collector's thread is called away from its copying.
+    pub(crate) fn is_called(&self) -> bool {
+        self.waits.is_wanted() || self.is_over()
+    }
+
+    /// Whether the collector's thread may sleep until it is rung for.
+    pub(crate) fn rests(&mut self) -> bool
+        ensures { self.new ≡ self.old }
+    {
+        let idle = self.is_idle();
+        self.waits.rest(idle)
+    }
+
+    /// Whether the collector's thread sleeps and has something to do.
+    pub(crate) fn rings(&mut self) -> bool
+        ensures { self.new ≡ self.old }
+    {
+        let idle = self.is_idle();
+        self.waits.ring(idle)
+    }
+
+    /// Whether workers that wait may go on, since the collector, which has copied so many words so
+    /// far, has looked at the logs or caught up.
+    pub(crate) fn wakes(&mut self, copied: u64) -> bool
+        ensures { self.new ≡ self.old }
+    {
+        let full = self.waits.wake_full();
+        let used = self.vault.used();
+        let caught_up = self.waits.ahead && self.pace.may_go_on(used, copied);
+        if caught_up {
+            self.waits.ahead = false;
+        }
+        full || caught_up
+    }
+
+    /// The turns of one hold of the baton, where the collector's thread has copied so many words so
+    /// far. True: the run is over, or a thread could not be started.
+    pub(crate) fn turns(&mut self, copied: u64) -> bool
+        ensures goes_on { GoesOn self.old self.new }
+        ensures over { IsSome self.old.outcome → self.new ≡ self.old }
+    {
+        let most = self.made.saturating_add(STEPS_IN_CYCLE);
+        for _ in 0..TURNS {
+            if self.turn() {
+                return true;
+            }
+            if self.must_wait(copied) || (self.made >= most && !self.is_idle()) {
+                return false;
+            }
+        }
+        false
+    }
+
+    /// A turn of the next context: at most a quantum of its steps. True: the run is over, or a
+    /// thread could not be started.
+    fn turn(&mut self) -> bool
+        ensures goes_on { GoesOn self.old self.new }
+        ensures over { IsSome self.old.outcome → self.new ≡ self.old }
+    {
+        let Some(context) = self.turn_of() else {
+            return true;
+        };
+        let left = self.config.steps - self.made;
+        let most = self.config.quantum.min(left);
+        self.make_steps(context, most);
+        self.outcome.is_some()
+    }
+
+    /// Steps of a context, at most so many; where the next is held up, it is put off.
+    fn make_steps(&mut self, context: u32, most: u32)
+        requires may { MayGoOn self.old context }
+        requires outcome { self.old.outcome ≡ None }
+        requires some { 1 ≤ most }
+        requires left { most + self.old.made ≤ self.old.config.steps }
+        ensures goes_on { GoesOn self.old self.new }
+    {
+        match self.advance(context, most) {
+            Ok(wish) => {
+                self.waits.let_go();
+                self.want(wish);
+            }
+            Err(reason) => self.put_off(context, reason),
+        }
+    }
+
+    /// A step that was held up is put off: the collector's thread is asked for room, or the step is
+    /// tried again later. For want of memory the run ends.
+    fn put_off(&mut self, context: u32, reason: NotMade)
+        requires may { MayGoOn self.old context }
+        requires outcome { self.old.outcome ≡ None }
+        requires held_up { IsHeldUp M.heap M.grants S.asks context false
+            (world_at self.old.story) reason }
+        ensures goes_on { GoesOn self.old self.new }
+    {
+        match reason {
+            NotMade::Memory => self.give_up(context, reason),
+            NotMade::NeedSpace(_) => self.waits.wanting = Wanting::Room(context),
+            NotMade::LogFull | NotMade::LogClosed => {
+                self.waits.hold_up(reason == NotMade::LogFull);
+                self.after = context;
+            }
+        }
+    }
+
+    /// What steps leave for the collector's thread: a cycle is asked for, or opened; wish: the
+    /// number of the `vmreclaim` that was made.
+    fn want(&mut self, wish: Option<i32>)
+        ensures { SameProgress self.old self.new }
+    {
+        match wish {
+            Some(1) | Some(2) => self.waits.wanting = Wanting::Cycle,
+            Some(number) => self.pace.may_open = number == 0,
+            None => {}
+        }
+        if self.pace.may_open
+            && self.vault.is_half_used(self.pace.kept)
+            && self.vault.begin_cycle()
+        {
+            self.waits.end();
+        }
+    }
+
+    /// What the collector's thread does with the baton: room for the step that wants it, and what is
+    /// next of the open cycle. The stage tells what it goes on with.
+    pub(crate) fn attend<C: Collects<M> + Works>(&mut self, lent: &mut Lent<C>)
+        ensures goes_on { GoesOn self.old self.new }
+        ensures over { IsSome self.old.outcome → self.new ≡ self.old }
+    {
+        if self.is_over() {
+            lent.stage = Stage::Over;
+        } else if self.waits.is_wanted() {
+            self.serve(&mut lent.collector, &mut lent.roots);
+            lent.stage = Stage::Rest;
+        } else {
+            lent.stage = self.go_on(&mut lent.collector, &mut lent.roots, lent.stage);
+        }
+    }
+
+    /// The open cycle goes on, if there is one.
+    fn go_on<C: Collects<M> + Works>(
+        &mut self,
+        collector: &mut C,
+        roots: &mut Roots,
+        stage: Stage,
+    ) -> Stage
+        ensures { SameProgress self.old self.new }
+    {
+        if !self.vault.has_cycle() {
+            return Stage::Rest;
+        }
+        self.waits.wake_full();
+        if !self.waits.handed {
+            self.vault.hand_over(collector, roots);
+            self.waits.hand();
+            let used = self.vault.used();
+            self.pace.begin(used, collector.copied());
+            return Stage::Copy;
+        }
+        match stage {
+            Stage::Rest | Stage::Over | Stage::Copy => {
+                if self.close_logs() {
+                    Stage::Drain
+                } else {
+                    Stage::Copy
+                }
+            }
+            Stage::Drain => {
+                self.vault.hand_over(collector, roots);
+                Stage::Last
+            }
+            Stage::Last | Stage::Stop => self.flip(collector, roots, stage),
+        }
+    }
+
+    /// Closes all logs. False: one was full.
+    fn close_logs(&mut self) -> bool
+        requires open { self.old.story.cycle_open ≡ true }
+        ensures same { SameProgress self.old self.new }
+        ensures open { self.new.story.cycle_open ≡ true }
+    {
+        for slot in 0..SLOTS {
+            if !self.close_slot(slot) {
+                return false;
+            }
+        }
+        true
+    }
+
+    /// Closes a log. False: it was full.
+    fn close_slot(&mut self, slot: u32) -> bool
+        requires slot { slot < SLOTS }
+        requires open { self.old.story.cycle_open ≡ true }
+        ensures same { SameProgress self.old self.new }
+        ensures open { self.new.story.cycle_open ≡ true }
+    {
+        match self.vault.close_slot(slot) {
+            Closing::Closed => true,
+            Closing::LogFull => false,
+        }
+    }
+
+    /// The flip is tried. Where it can't come the roots of now are handed over, and workers wait
+    /// until what they reach is copied. Where it can't come then either, the cycle is ended in this
+    /// hold.
+    fn flip<C: Collects<M>>(&mut self, collector: &mut C, roots: &mut Roots, stage: Stage) -> Stage
+        requires open { self.old.story.cycle_open ≡ true }
+        ensures { SameProgress self.old self.new }
+    {
+        if !self.vault.try_flip(collector, roots) {
+            if stage == Stage::Last {
+                self.vault.hand_over(collector, roots);
+                self.waits.stopped = true;
+                return Stage::Stop;
+            }
+            self.vault.finish_cycle(collector, roots);
+        }
+        self.rest();
+        Stage::Rest
+    }
+
+    /// A whole cycle, all stopped; and the step that wanted room, which is refused where it finds
+    /// none again.
+    fn serve<C: Collects<M>>(&mut self, collector: &mut C, roots: &mut Roots)
+        requires outcome { self.old.outcome ≡ None }
+        ensures goes_on { GoesOn self.old self.new }
+    {
+        let wanting = self.waits.take();
+        self.vault.stop_all_by(collector, roots);
+        self.rest();
+        if let Wanting::Room(context) = wanting {
+            self.make_wanted(context);
+        }
+    }
+
+    /// No cycle is open any more.
+    fn rest(&mut self)
+        ensures { self.new ≡ self.old }
+    {
+        let used = self.vault.used();
+        self.pace.end(used);
+        self.waits.end();
+    }
+
+    /// The step that wanted room, behind the collector's cycle.
+    fn make_wanted(&mut self, context: u32)
+        requires outcome { self.old.outcome ≡ None }
+        ensures goes_on { GoesOn self.old self.new }
+    {
+        if !self.may_go_on(context) {
+            return;
+        }
+        match self.advance(context, 1) {
+            Ok(wish) => self.want(wish),
+            Err(reason) => self.give_up(context, reason),
+        }
+    }
+
+    /// The run's report, if it is over and was one of this program with these numbers.
+    pub(crate) fn into_report(self, program: &[u8], config: Config) -> Result<Report, RunFault>
+        ensures run { IfOk result (IsRunIn S.asks (bounded_space config.space) program.now
+            config.steps) }
+        ensures fault { result ≢ Err RunFault.Config }
+    {
+        let mut baton = self;
+        let counts = baton.tally();
+        baton.report(program, config, counts)
+    }
+
+    /// How much the collector has done, by the words.
+    fn tally(&mut self) -> Counts
+        ensures { self.new ≡ self.old }
+    {
+        self.vault.tally()
+    }
+}
