@@ -21,6 +21,7 @@ use Rattle.ps_acts.specs.declared.lent.Trial.{Trial}
 use Rattle.ps_acts.specs.Acts.{Acts, nothing_asked, effect_in}
 use Rattle.ps_acts.proofs.Meeting.{keeps-same, lacks_for_same, logs-same}
 use Rattle.ps_acts.specs.Lent.{Lent, scene_of}
+use Rattle.ps_turns.specs.Turns.{calling_of}
 use Rattle.ps_contexts.specs.declared.members.Course.TheVariants.{Running}
 use Rattle.ps_contexts.specs.declared.members.Member.{Member}
 use Rattle.ps_contexts.specs.Seats.{item_at}
@@ -244,8 +245,8 @@ module _ (caller : ℕ) (trial : Trial) (shown : Option (ℤ × ℤ)) (d : Desk)
   status_held : (reason : Reason)
       → Acts nothing_asked (vmstatus_caller shown) trial (Err (NotMade reason))
       (lent_to d member.context) new → (w : World) → IsWorld d w
-      → IsHeldUpAs (call_wants VmStatus caller trial.refused w (context_of d.heap d.names member))
-      trial.slot new.heap new.grants reason
+      → IsHeldUpAs (call_wants (calling_of VmStatus) caller trial.refused w
+      (context_of d.heap d.names member)) trial.slot new.heap new.grants reason
   status_held reason acts w at =
       held_so VmStatus caller trial shown d steady member found runs nothing_asked nothing_few
       (vmstatus_caller shown) status_plain status_next (λ any. any ≡ shown)

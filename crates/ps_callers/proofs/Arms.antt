@@ -1,11 +1,11 @@
 -- An operator that changes its caller alone does what the definitions say.
-use Rattle.std.proofs.Common.{◌≡◌, ℕ, ◌≤◌, ℤ, Bool, false, List, [], Option, Some, None, Ok, Err, refl, sym, ap, subst, ◌∙◌}
-use Rattle.std.specs.Prelude.{Result, not}
+use Rattle.std.proofs.Common.{◌≡◌, ℕ, ◌≤◌, ℤ, Bool, false, List, [], length, Option, Some, None, Ok, Err, refl, sym, ap, subst, ◌∙◌}
+use Rattle.std.specs.Prelude.{Result, not, drop}
 use Rattle.ps_language.specs.declared.errors.ErrorName.{ErrorName}
 use Rattle.ps_language.specs.declared.errors.ErrorName.TheVariants.{VmError}
 use Rattle.ps_language.specs.declared.operators.Operator.{Operator}
 use Rattle.ps_language.specs.Contexts.{context_at}
-use Rattle.ps_language.specs.Effect.{Scene, Deed, does, waits, Effect, makes}
+use Rattle.ps_language.specs.Effect.{Scene, Deed, does, waits, Calling, Effect, makes}
 use Rattle.ps_language.specs.Objects.{made_between, lacks_room}
 use Rattle.ps_language.specs.Outcome.{Outcome, leaves, fails, given_that}
 use Rattle.ps_language.specs.Rows.{Row}
@@ -31,17 +31,22 @@ use Rattle.ps_world.specs.declared.notes.Note.{Note}
 use Rattle.ps_world.specs.Notes.{note_of}
 use Rattle.ps_world.specs.Calls.{RunsAt, AreFramedBut, IsHeldUpAs, call_by, call_wants, deed_wants}
 use Rattle.ps_world.specs.Growth.{Growth}
+use Rattle.ps_world.proofs.Asked.{IsAsked}
+use Rattle.ps_world.proofs.Owning.{same_desk}
 use Rattle.ps_context_operators.specs.Deeds.{part_at, with_scene_of, after_part, scene_deed}
 use Rattle.ps_callers.specs.Done.{IsLeftAs, ComesTo, outcome_of, noted, DoesBy}
-use Rattle.ps_callers.proofs.Parts.{IsPlain, IsWithStore, IsFew, same_desk, part_runs, part_framed, part_steady, part_is, made_by, raised_by, unmade_by, held_up_by, unwinds_not}
+use Rattle.ps_callers.proofs.Parts.{IsPlain, IsWithStore, IsFew, part_runs, part_framed, part_steady, part_is, made_by, raised_by, unmade_by, held_up_by, unwinds_not}
 
 -- what makes objects wants memory for them
-words_by : (operator : Operator) (w : World) (context : Context) (scene : Scene)
+asked_by : (calling : Calling) (w : World) (context : Context) (scene : Scene)
     (outcome : Outcome Deed) → IsWithStore scene outcome
-    → (deed_wants operator w context outcome).words ≡ made_between w.store scene.store
-words_by operator w context scene (leaves (does note next)) same = ap (made_between w.store) same
-words_by operator w context scene (leaves waits) same = absurd same
-words_by operator w context scene (fails error) same = absurd same
+    → IsAsked (deed_wants calling w context outcome) w.store scene.store
+asked_by calling w context scene (leaves (does note next)) same = record {
+  words = ap (made_between w.store) same;
+  births = ap (λ (store : Store). length (drop (length w.store) store)) same;
+}
+asked_by calling w context scene (leaves waits) same = absurd same
+asked_by calling w context scene (fails error) same = absurd same
 
 -- with room it is left
 room_for_it : (refused : Bool) (w : World) (scene : Scene) (outcome : Outcome Deed)
@@ -131,8 +136,7 @@ module _ (operator : Operator) (caller : ℕ) (trial : Trial) (shown : Option (�
       → IsWorld d w → (wanted : Growth) → ((scene : Scene)
       → effect_in row (lent_to d member.context) w.store ≡ makes scene []
       → lacks_room trial.refused w.store scene.store ≡ false
-      → 1 ≤ made_between w.store scene.store
-      → wanted.words ≡ made_between w.store scene.store)
+      → 1 ≤ made_between w.store scene.store → IsAsked wanted w.store scene.store)
       → IsHeldUpAs wanted trial.slot new.heap new.grants reason
   held_so reason acts w at =
       let why = Err (NotMade reason) in
@@ -175,8 +179,8 @@ module _ (operator : Operator) (caller : ℕ) (trial : Trial) (shown : Option (�
       → outcome_of operator caller trial.refused w here any ≡ fails error)
       (held : (reason : Reason)
       → Acts asks row trial (Err (NotMade reason)) (lent_to d member.context) new → (w : World)
-      → IsWorld d w → IsHeldUpAs (call_wants operator caller trial.refused w here) trial.slot
-      new.heap new.grants reason) where
+      → IsWorld d w → IsHeldUpAs (call_wants (calling_of operator) caller trial.refused w here)
+      trial.slot new.heap new.grants reason) where
     comes_so : (why : Break) → Acts asks row trial (Err why) (lent_to d member.context) new
         → (w : World) → IsWorld d w
         → ComesTo (Err why) shown (outcome_of operator caller trial.refused w here) w
@@ -204,8 +208,9 @@ module _ (operator : Operator) (caller : ℕ) (trial : Trial) (shown : Option (�
       same = λ w at. same_desk d caller member new found (same_so why acts says w at);
       held_up = λ reason is w context at there.
           let same : why ≡ NotMade reason = cc in
-          subst (λ (one : Context). IsHeldUpAs (call_wants operator caller trial.refused w one)
-          trial.slot new.heap new.grants reason) (here_is w context at there) (held reason
+          subst (λ (one : Context). IsHeldUpAs
+          (call_wants (calling_of operator) caller trial.refused w one) trial.slot new.heap
+          new.grants reason) (here_is w context at there) (held reason
           (subst (λ r. Acts asks row trial (Err r) (lent_to d member.context) new) same acts)
           w at);
       logs = acts.logs;
@@ -218,11 +223,12 @@ module _ (operator : Operator) (caller : ℕ) (trial : Trial) (shown : Option (�
   broke_off all =
       broke_off_so (all shown) (λ error acts w at any. (raised_so error acts w at any (all any)).0)
       (λ reason acts w at. held_so reason acts w at
-      (call_wants operator caller trial.refused w here)
-      (λ scene is enough some. ap (λ (outcome : Outcome Deed).
-      (deed_wants operator w here outcome).words)
-      (outcome_is (Err (NotMade reason)) acts w at None scene (all None) is enough)
-      ∙ words_by operator w here scene (next None w scene) (stores None w scene (all None) is)))
+      (call_wants (calling_of operator) caller trial.refused w here)
+      (λ scene is enough some. subst (λ (outcome : Outcome Deed).
+      IsAsked (deed_wants (calling_of operator) w here outcome) w.store scene.store)
+      (sym (outcome_is (Err (NotMade reason)) acts w at None scene (all None) is enough))
+      (asked_by (calling_of operator) w here scene (next None w scene)
+      (stores None w scene (all None) is))))
 
   -- ---- it acted, and others were changed so that the rest of the desk is the same
 

@@ -43,9 +43,10 @@ use Rattle.ps_world.specs.declared.notes.Note.TheVariants.{Nothing}
 use Rattle.ps_world.specs.Calls.{RunsAt, AreFramedBut, IsSameDesk, IsHeldUpAs, CallsTo, Calls, call_wants, deed_wants}
 use Rattle.ps_world.specs.Growth.{Growth, growth_for}
 use Rattle.ps_world.proofs.Called.{same_members}
+use Rattle.ps_world.proofs.Owning.{same_desk}
 use Rattle.ps_world.proofs.Starving.{few_in, held_by}
 use Rattle.ps_callers.specs.Done.{IsLeftAs, outcome_of, DoesBy, own_of}
-use Rattle.ps_callers.proofs.Parts.{or_false, same_desk, same_then, part_runs, part_framed}
+use Rattle.ps_callers.proofs.Parts.{or_false, same_then, part_runs, part_framed}
 
 held_after : (h : Heap) (frames : List Frame) → IsCourseHeld h (course_after Goes frames)
 held_after h [] = tt
@@ -253,7 +254,7 @@ module _ (operator : Operator) (caller : ℕ) (trial : Trial) (shown : Option (�
       -- by the line of the error, of which the output has no room
       line_wants : (w : World) → IsWorld d w
           → growth_for (needs_in trial nothing_more turn (lent_to d member.context) w.store)
-          ≡ deed_wants operator w (context_of d.heap d.names member) (fails error)
+          ≡ deed_wants (calling_of operator) w (context_of d.heap d.names member) (fails error)
       line_wants w at = λ i.
           growth_for (error_needs no_rooms (birth_at d.heap member.context.error_dictionary)
           (record (scene_of (lent_to d member.context) w.store) { names = sym at.names i }) error
@@ -262,8 +263,8 @@ module _ (operator : Operator) (caller : ℕ) (trial : Trial) (shown : Option (�
 
       line_held : (w : World) (context : Context) → IsWorld d w
           → context_at w caller ≡ Some context
-          → IsHeldUpAs (deed_wants operator w context (fails error)) trial.slot new.heap
-          new.grants reason
+          → IsHeldUpAs (deed_wants (calling_of operator) w context (fails error)) trial.slot
+          new.heap new.grants reason
       line_held w context at there =
           let l = lent_to d member.context in
           let by = unmade_by w at in
@@ -274,8 +275,9 @@ module _ (operator : Operator) (caller : ℕ) (trial : Trial) (shown : Option (�
           let here : Some (context_of d.heap d.names member) ≡ Some context =
           sym (context_there d w at caller member found) ∙ there in
           let same : context_of d.heap d.names member ≡ context = cc in
-          subst (λ (one : Context). IsHeldUpAs (deed_wants operator w one (fails error))
-          trial.slot new.heap new.grants reason) same
+          subst (λ (one : Context). IsHeldUpAs
+          (deed_wants (calling_of operator) w one (fails error)) trial.slot new.heap new.grants
+          reason) same
           (subst (λ (wanted : Growth). IsHeldUpAs wanted trial.slot new.heap new.grants reason)
           (line_wants w at)
           (held_by needs trial.slot l new reason fewer by.did.1 by.logs.closed by.did.0))
@@ -310,10 +312,12 @@ module _ (operator : Operator) (caller : ℕ) (trial : Trial) (shown : Option (�
         held_up = λ why is w context at there.
             let same : reason ≡ why = cc in
             let to = done.meets w context at there in
-            subst (λ r. IsHeldUpAs (call_wants operator caller trial.refused w context) trial.slot
+            subst (λ r. IsHeldUpAs
+            (call_wants (calling_of operator) caller trial.refused w context) trial.slot
             new.heap new.grants r) same
-            (subst (λ (outcome : Outcome Deed). IsHeldUpAs (deed_wants operator w context outcome)
-            trial.slot new.heap new.grants reason) (sym (to.0 None))
+            (subst (λ (outcome : Outcome Deed). IsHeldUpAs
+            (deed_wants (calling_of operator) w context outcome) trial.slot new.heap new.grants
+            reason) (sym (to.0 None))
             (line_held w context to.1 there));
         logs = logs_then 0 0 0 old.grants d.grants new.grants trial.slot (omega arith) done.logs
             unmade.logs;

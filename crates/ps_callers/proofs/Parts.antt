@@ -1,5 +1,6 @@
 -- The caller's part of an operator, in the world of all.
 use Rattle.std.proofs.Common.{◌≡◌, ℕ, ◌≤◌, ◌-◌, arith, ℤ, Bool, true, false, List, [], ◌∷◌, ◌++◌, length, Option, Some, None, Ok, Err, refl, sym, ap, subst, ◌∙◌}
+use Rattle.std.proofs.lemmas.List.{length-drop}
 use Rattle.std.specs.Prelude.{Result, not, nat_lt, ◌&&◌, ◌||◌}
 use Rattle.ps_language.specs.declared.errors.ErrorName.{ErrorName}
 use Rattle.ps_language.specs.declared.errors.ErrorName.TheVariants.{VmError}
@@ -27,11 +28,12 @@ use Rattle.ps_contexts.specs.declared.members.Member.{Member}
 use Rattle.ps_contexts.specs.Seats.{item_at, with_item}
 use Rattle.ps_contexts.specs.Worlds.{status_of, context_of}
 use Rattle.ps_contexts.specs.Desks.{Desk, lent_to, returned, desk_of, desk_after, desk_unmade, AreFramed, IsWorld, IsLentBy, IsGoodMember, IsSteady}
-use Rattle.ps_contexts.proofs.Places.{with_item-same, with_item-twice, item_at-with_item}
+use Rattle.ps_contexts.proofs.Places.{with_item-twice, item_at-with_item}
 use Rattle.ps_contexts.proofs.Turning.{member_at, went_steady, went_world, same_world}
 use Rattle.ps_world.specs.Calls.{RunsAt, AreFramedBut, IsSameDesk, IsHeldUpAs, call_by}
 use Rattle.ps_world.specs.Growth.{Growth, growth_for}
 use Rattle.ps_interpreter.specs.Needs.{wants_rooms, wants}
+use Rattle.ps_world.proofs.Asked.{IsAsked}
 use Rattle.ps_world.proofs.Calling.{none_left}
 use Rattle.ps_world.proofs.Starving.{held_more, words_part, held_by}
 use Rattle.ps_context_operators.specs.Deeds.{part_at, with_scene_of, after_part}
@@ -74,15 +76,6 @@ words_alone needs bytes names scratch =
     ∙ (or_false _ ∙ and_false (nat_lt 0 needs.words))
 
 -- ---- desks where nothing has changed
-
-pub same_desk : (d : Desk) (caller : ℕ) (member : Member) (new : Lent)
-    → item_at d.members caller ≡ Some member → IsSame (lent_to d member.context) new
-    → IsSameDesk d (desk_unmade d caller member new)
-same_desk d caller member new found same =
-    ap (λ (l : Lent). desk_unmade d caller member l) same
-    ∙ ap (λ (members : List (Option Member)). record d
-    { grants = new.grants; members = members; room = new.room; scratch = new.scratch })
-    (with_item-same d.members caller member found)
 
 pub same_then : (one other last : Desk) → IsSameDesk one other → IsSameDesk other last
     → IsSameDesk one last
@@ -270,21 +263,23 @@ module _ (d : Desk) (caller : ℕ) (member : Member)
             → Did (Err (NotMade reason)) effect lacking → new.grants.closed ≡ d.grants.closed
             → (wanted : Growth) → ((scene : Scene) → effect ≡ makes scene []
             → lacks_room trial.refused w.store scene.store ≡ false
-            → 1 ≤ made_between w.store scene.store
-            → wanted.words ≡ made_between w.store scene.store)
+            → 1 ≤ made_between w.store scene.store → IsAsked wanted w.store scene.store)
             → IsHeldUpAs wanted trial.slot new.heap new.grants reason
         held_up_by reason (makes scene output) false is plain did closed wanted so =
             let needs : Needs = needs_between asked before scene output in
             held_more (growth_for needs) wanted
             (words_part needs wanted
             (words_alone needs (ap length plain.0) (no_names scene plain.1) few.0)
-            (so scene (ap (makes scene) plain.0) is)) trial.slot new.heap new.grants reason
+            (λ some. (so scene (ap (makes scene) plain.0) is some).words)
+            (λ some. (so scene (ap (makes scene) plain.0) is some).births
+            ∙ length-drop (length w.store) scene.store)) trial.slot new.heap new.grants reason
             (held_by needs trial.slot l new reason few.1 did.1 closed did.0)
         held_up_by reason (makes scene output) true is plain did closed wanted so =
             let needs : Needs = needs_of_refused asked.scratch 0 in
             held_more (growth_for needs) wanted
             (words_part needs wanted (words_alone needs refl refl few.0)
-            (λ some. absurd (omega (arith, some)))) trial.slot new.heap new.grants reason
+            (λ some. absurd (omega (arith, some))) (λ some. absurd (omega (arith, some))))
+            trial.slot new.heap new.grants reason
             (held_by needs trial.slot l new reason (omega arith) did.1 closed
             (subst (λ n. IsReason (needs_of_refused asked.scratch n) trial.slot l new reason)
             (no_names scene plain.1) did.0))

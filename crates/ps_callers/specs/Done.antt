@@ -59,8 +59,8 @@ pub record DoesBy (operator : Operator) (caller : ℕ) (trial : Trial) (shown : 
   pub same : (w : World) → IsWorld old w → OnErr result (IsSameDesk old new)
   pub held_up : (reason : Reason) → result ≡ Err (NotMade reason) → (w : World)
       (context : Context) → IsWorld old w → context_at w caller ≡ Some context
-      → IsHeldUpAs (call_wants operator caller trial.refused w context) trial.slot new.heap
-      new.grants reason
+      → IsHeldUpAs (call_wants (calling_of operator) caller trial.refused w context) trial.slot
+      new.heap new.grants reason
   pub logs : KeepsLogsWithin (spent result most_records) old.grants new.grants trial.slot
 
 -- with this note, where it acted

@@ -9,7 +9,7 @@ ghost use Rattle.std.specs.Prelude.{◌≡◌, ◌+◌, ◌<◌, ◌^◌, IfOk, 
 ghost use Rattle.ps_core_parts.specs.Bounds.{Bounded, CanStep, IsSlot};
 ghost use Rattle.ps_core_parts.specs.Conditions as conditions;
 ghost use Rattle.ps_core_parts.specs.Conditions.{Permitted, BothMay};
-ghost use Rattle.ps_core_parts.specs.declared.events.Event.TheVariants.{TakeLoad, HandOver, ClearStore, HeaderStore, FieldStore, RecordStore, EpochStore, ReplicaHeaderStore, ReplicaFieldStore, ForwardStore, HeadStore, CycleStore};
+ghost use Rattle.ps_core_parts.specs.declared.events.Event.TheVariants.{TakeLoad, HandOver, ClearLoad, ClearStore, HeaderStore, FieldStore, RecordStore, EpochStore, ReplicaHeaderStore, ReplicaFieldStore, ForwardStore, HeadStore, CycleStore};
 ghost use Rattle.ps_core_parts.specs.Objects as objects;
 ghost use Rattle.ps_core_parts.specs.Steps as steps;
 ghost use Rattle.ps_record.specs.Format as layout;
@@ -84,16 +84,24 @@ impl Machine {
         self.word(ring_place(slot, self.gc.length_of(slot))) == word
     }
 
+    fn finds_clear(&self) -> bool
+        requires { Bounded self.now }
+        ensures { Decides result (slice_index self.now.words (steps.next_word self.now.vm) ≡ 0) }
+    {
+        self.word(self.vm.next_clear()) == 0
+    }
+
     fn are_drained(&self) -> bool
         ensures { Decides result (self.now.gc.taken ≡ self.now.vm.logs) }
     {
         same_logs(self.gc.taken(), self.vm.logs())
     }
 
-    /// Whether the word that a load finds is the one that it carries, and whether a flip finds all
-    /// logs drained.
+    /// Whether the word that a load finds is the one that it carries, or zero where it carries none,
+    /// and whether a flip finds all logs drained.
     fn both(&self, event: &Event) -> bool
-        requires { conditions.GcMay self.now.gc event.now }
+        requires bounded { Bounded self.now }
+        requires may { conditions.GcMay self.now.gc event.now }
         ensures { Decides result (BothMay self.now.words self.now.vm self.now.gc event.now) }
     {
         match event {
@@ -106,6 +114,7 @@ impl Machine {
                 word,
             } => self.finds_field(*address, *field, *word),
             Event::HandOver { word, .. } => self.word(0) == *word,
+            Event::ClearLoad => self.finds_clear(),
             Event::CycleStore { .. } => self.are_drained(),
             _ => true,
         }
@@ -127,6 +136,13 @@ impl Machine {
             .hand_over(self.vm.epoch(), opened, roots.words.as_slice())?;
         self.vm.hand_over();
         Ok(())
+    }
+
+    fn find_clear(&mut self)
+        requires { Bounded self.old }
+        ensures { self.new ≡ happens self.old ClearLoad }
+    {
+        self.vm.clear();
     }
 
     fn clear(&mut self)
@@ -261,6 +277,10 @@ impl Machine {
                 word,
             } => self.gc.copy_from(*address, *field, *word),
             Event::HandOver { word, roots } => self.hand_over(*word, roots),
+            Event::ClearLoad => {
+                self.find_clear();
+                Ok(())
+            }
             Event::ClearStore => {
                 self.clear();
                 Ok(())

@@ -2,7 +2,7 @@
 use Rattle.std.proofs.Common.{◌≡◌, ◌≢◌, ℕ, ◌<◌, ◌≤◌, ◌&&◌, true, false, nat_eq, List, [], ◌∷◌, Some, None, refl, sym, ap, ◌∙◌, inl, inr, subst, arith}
 use Rattle.ps_word.specs.Headers.{kind_in, birth_in}
 use Rattle.ps_core_parts.specs.declared.events.Event.{Event}
-use Rattle.ps_core_parts.specs.declared.events.Event.TheVariants.{VmLoad, GcLoad, TakeLoad, CopyLoad, HandOver, ClearStore, HeaderStore, FieldStore, RecordStore, EpochStore, ReplicaHeaderStore, ReplicaFieldStore, ForwardStore, HeadStore, CycleStore}
+use Rattle.ps_core_parts.specs.declared.events.Event.TheVariants.{VmLoad, GcLoad, TakeLoad, CopyLoad, HandOver, ClearLoad, ClearStore, HeaderStore, FieldStore, RecordStore, EpochStore, ReplicaHeaderStore, ReplicaFieldStore, ForwardStore, HeadStore, CycleStore}
 use Rattle.ps_core_parts.specs.declared.events.Object.{Object}
 use Rattle.ps_core_parts.specs.declared.events.Pair.{Pair}
 use Rattle.ps_core_parts.specs.declared.events.Vm.{Vm}
@@ -169,6 +169,7 @@ module _ (space : ℕ) (s : State) (h : Good space s) (d : SpacedOf s) (k : Birt
   keeps (TakeLoad slot word) p = k
   keeps (CopyLoad a i word) p = k
   keeps (HandOver word roots) p = k
+  keeps ClearLoad p = k
   keeps ClearStore p = k
   keeps (HeaderStore header) p = makes header p
   keeps (FieldStore a i w) p =

@@ -3,7 +3,7 @@ use Rattle.std.proofs.Common.{◌≡◌, ◌≢◌, ℕ, ◌+◌, ◌≤◌, tru
 use Rattle.std.specs.Prelude.{if◌then◌else◌}
 use native.Mathlib.Decide.{ℕ_discrete}
 use Rattle.ps_core_parts.specs.declared.events.Event.{Event}
-use Rattle.ps_core_parts.specs.declared.events.Event.TheVariants.{VmLoad, GcLoad, TakeLoad, CopyLoad, HandOver, ClearStore, HeaderStore, FieldStore, RecordStore, EpochStore, ReplicaHeaderStore, ReplicaFieldStore, ForwardStore, HeadStore, CycleStore}
+use Rattle.ps_core_parts.specs.declared.events.Event.TheVariants.{VmLoad, GcLoad, TakeLoad, CopyLoad, HandOver, ClearLoad, ClearStore, HeaderStore, FieldStore, RecordStore, EpochStore, ReplicaHeaderStore, ReplicaFieldStore, ForwardStore, HeadStore, CycleStore}
 use Rattle.ps_core_parts.specs.declared.events.Vm.{Vm}
 use Rattle.ps_core_parts.specs.Objects.{among, log_of, closes, with_field, widened}
 use Rattle.ps_core_parts.specs.Steps.{State, happens, is_open, field_stored}
@@ -25,6 +25,7 @@ still_on slot old now (GcLoad place word) c h p = h
 still_on slot old now (TakeLoad s word) c h p = h
 still_on slot old now (CopyLoad a i word) c h p = h
 still_on slot old now (HandOver word roots) c h p = record { grows = h.grows; log = h.log; epoch = h.epoch }
+still_on slot old now ClearLoad c h p = record { grows = h.grows; log = h.log; epoch = h.epoch }
 still_on slot old now ClearStore c h p = record { grows = h.grows; log = h.log; epoch = h.epoch }
 still_on slot old now (HeaderStore header) c h p = record { grows = h.grows; log = h.log; epoch = h.epoch }
 still_on slot old now (FieldStore a i w) c h p = elim (bool_cases (among now.vm.fresh a)) [

@@ -7,7 +7,7 @@ use native.Mathlib.Decide.{ℕ_discrete}
 use Rattle.ps_record.specs.declared.Record.{Record}
 use Rattle.ps_record.specs.declared.Record.TheVariants.{Place, Close}
 use Rattle.ps_core_parts.specs.declared.events.Event.{Event}
-use Rattle.ps_core_parts.specs.declared.events.Event.TheVariants.{VmLoad, GcLoad, TakeLoad, CopyLoad, HandOver, ClearStore, HeaderStore, FieldStore, RecordStore, EpochStore, ReplicaHeaderStore, ReplicaFieldStore, ForwardStore, HeadStore, CycleStore}
+use Rattle.ps_core_parts.specs.declared.events.Event.TheVariants.{VmLoad, GcLoad, TakeLoad, CopyLoad, HandOver, ClearLoad, ClearStore, HeaderStore, FieldStore, RecordStore, EpochStore, ReplicaHeaderStore, ReplicaFieldStore, ForwardStore, HeadStore, CycleStore}
 use Rattle.ps_core_parts.specs.declared.events.Vm.{Vm}
 use Rattle.ps_core_parts.specs.Objects.{among, log_of, with_field, closes, is_close}
 use Rattle.ps_core_parts.specs.Steps.{State, happens, field_stored}
@@ -158,6 +158,7 @@ module _ (space : ℕ) (s : State) (h : Good space s) (k : ClosesOf s) where
         elim h.counted.epochs as (λ _. s.gc.cycle ≤ s.vm.epoch)
         [ inl e ↦ omega arith | inr e ↦ omega arith ];
   }
+  keeps ClearLoad p = k
   keeps ClearStore p = k
   keeps (HeaderStore header) p = k
   keeps (FieldStore a i w) p =

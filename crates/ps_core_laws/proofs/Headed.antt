@@ -1,7 +1,7 @@
 -- Each standing object has a kind, and fewer than 2^16 fields.
 use Rattle.std.proofs.Common.{◌≡◌, ◌≢◌, ◌⊎◌, ◌^◌, ℕ, ◌+◌, ◌<◌, ◌≤◌, List, [], ◌∷◌, Some, None, Option, refl, sym, ap, ◌∙◌, inl, inr, subst, arith, replicate}
 use Rattle.ps_core_parts.specs.declared.events.Event.{Event}
-use Rattle.ps_core_parts.specs.declared.events.Event.TheVariants.{VmLoad, GcLoad, TakeLoad, CopyLoad, HandOver, ClearStore, HeaderStore, FieldStore, RecordStore, EpochStore, ReplicaHeaderStore, ReplicaFieldStore, ForwardStore, HeadStore, CycleStore}
+use Rattle.ps_core_parts.specs.declared.events.Event.TheVariants.{VmLoad, GcLoad, TakeLoad, CopyLoad, HandOver, ClearLoad, ClearStore, HeaderStore, FieldStore, RecordStore, EpochStore, ReplicaHeaderStore, ReplicaFieldStore, ForwardStore, HeadStore, CycleStore}
 use Rattle.ps_core_parts.specs.declared.events.Object.{Object}
 use Rattle.ps_core_parts.specs.declared.events.Pair.{Pair}
 use Rattle.ps_core_parts.specs.declared.events.Vm.{Vm}
@@ -62,6 +62,7 @@ module _ (space : ℕ) (s : State) (h : Good space s) (k : AreHeaded s.vm.object
   headed_keeps (TakeLoad slot word) p = k
   headed_keeps (CopyLoad a i word) p = k
   headed_keeps (HandOver word roots) p = k
+  headed_keeps ClearLoad p = k
   headed_keeps ClearStore p = k
   headed_keeps (HeaderStore header) p = makes header p
   headed_keeps (FieldStore a i w) p =

@@ -5,7 +5,7 @@ use Rattle.std.specs.Option.{option_map}
 use Rattle.std.proofs.lemmas.List.{get_or-set_same, get_or-set_other}
 use Rattle.ps_record.specs.declared.Record.{Record}
 use Rattle.ps_core_parts.specs.declared.events.Event.{Event}
-use Rattle.ps_core_parts.specs.declared.events.Event.TheVariants.{VmLoad, GcLoad, TakeLoad, CopyLoad, HandOver, ClearStore, HeaderStore, FieldStore, RecordStore, EpochStore, ReplicaHeaderStore, ReplicaFieldStore, ForwardStore, HeadStore, CycleStore}
+use Rattle.ps_core_parts.specs.declared.events.Event.TheVariants.{VmLoad, GcLoad, TakeLoad, CopyLoad, HandOver, ClearLoad, ClearStore, HeaderStore, FieldStore, RecordStore, EpochStore, ReplicaHeaderStore, ReplicaFieldStore, ForwardStore, HeadStore, CycleStore}
 use Rattle.ps_core_parts.specs.declared.events.Object.{Object}
 use Rattle.ps_core_parts.specs.declared.events.Pair.{Pair}
 use Rattle.ps_core_parts.specs.declared.events.Written.{Written}
@@ -171,6 +171,7 @@ module _ (space : ℕ) (s : State) (h : Good space s) where
   keeps size (TakeLoad slot word) p = first.take_loads space s h slot word p
   keeps size (CopyLoad a i word) p = first.copy_loads space s h a i word p
   keeps size (HandOver word roots) p = first.hands_over space s h word roots p
+  keeps size ClearLoad p = second.finds_clear space s h p
   keeps size ClearStore p = second.clears space s h p
   keeps size (HeaderStore header) p = second.makes space s h header p
   keeps size (FieldStore a i w) p = second.stores space s h a i w p

@@ -4,7 +4,7 @@ use Rattle.std.specs.Prelude.{if◌then◌else◌, slice_index}
 use Rattle.ps_word.specs.Format.{address_in}
 use Rattle.ps_word.specs.Readers.{is_reference}
 use Rattle.ps_core_parts.specs.declared.events.Event.{Event}
-use Rattle.ps_core_parts.specs.declared.events.Event.TheVariants.{VmLoad, GcLoad, TakeLoad, CopyLoad, HandOver, ClearStore, HeaderStore, FieldStore, RecordStore, EpochStore, ReplicaHeaderStore, ReplicaFieldStore, ForwardStore, HeadStore, CycleStore}
+use Rattle.ps_core_parts.specs.declared.events.Event.TheVariants.{VmLoad, GcLoad, TakeLoad, CopyLoad, HandOver, ClearLoad, ClearStore, HeaderStore, FieldStore, RecordStore, EpochStore, ReplicaHeaderStore, ReplicaFieldStore, ForwardStore, HeadStore, CycleStore}
 use Rattle.ps_core_parts.specs.declared.events.Object.{Object}
 use Rattle.ps_core_parts.specs.declared.events.Pair.{Pair}
 use Rattle.ps_core_parts.specs.declared.events.Carried.{Carried}
@@ -159,6 +159,7 @@ module _ (space : ℕ) (s : State) (h : Good space s) (k : Reached s) where
     paired = λ b r e. known_more (if is_open s.vm then addresses_named roots else []) s.gc.known b
         (k.paired b r e);
   }
+  reach_keeps ClearLoad p = record { known = k.known; paired = k.paired }
   reach_keeps ClearStore p = record { known = k.known; paired = k.paired }
   reach_keeps (HeaderStore header) p =
       record { known = λ st. clash true refl st; paired = k.paired }
@@ -243,6 +244,7 @@ notes_keep s events (HandOver word roots) k p = record {
   handed = λ opened. rw opened (ap (λ (xs : List ℕ). roots ++ xs) (k.handed opened));
   shut = λ closed. rw closed (k.shut closed);
 }
+notes_keep s events ClearLoad k p = record { stored = k.stored; handed = k.handed; shut = k.shut }
 notes_keep s events ClearStore k p = record { stored = k.stored; handed = k.handed; shut = k.shut }
 notes_keep s events (HeaderStore header) k p =
     record { stored = refl; handed = k.handed; shut = k.shut }

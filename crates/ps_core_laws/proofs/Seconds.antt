@@ -7,7 +7,7 @@ use Rattle.std.proofs.lemmas.List.{get_or-set_same, get_or-set_other}
 use native.Mathlib.Decide.{ℕ_discrete}
 use Rattle.ps_word.specs.Headers.{cycle_in, fields_in, forward_packed}
 use Rattle.ps_core_parts.specs.declared.events.Event.{Event}
-use Rattle.ps_core_parts.specs.declared.events.Event.TheVariants.{VmLoad, GcLoad, TakeLoad, CopyLoad, HandOver, ClearStore, HeaderStore, FieldStore, RecordStore, EpochStore, ReplicaHeaderStore, ReplicaFieldStore, ForwardStore, HeadStore, CycleStore}
+use Rattle.ps_core_parts.specs.declared.events.Event.TheVariants.{VmLoad, GcLoad, TakeLoad, CopyLoad, HandOver, ClearLoad, ClearStore, HeaderStore, FieldStore, RecordStore, EpochStore, ReplicaHeaderStore, ReplicaFieldStore, ForwardStore, HeadStore, CycleStore}
 use Rattle.ps_core_parts.specs.declared.events.Object.{Object}
 use Rattle.ps_core_parts.specs.declared.events.Pair.{Pair}
 use Rattle.ps_core_parts.specs.declared.events.Half.{Half}
@@ -391,6 +391,7 @@ module _ (space : ℕ) (size : IsSpace space) (s : State) (h : Good space s) (k 
   seconds_keep (TakeLoad slot word) p = k
   seconds_keep (CopyLoad a i word) p = k
   seconds_keep (HandOver word roots) p = k
+  seconds_keep ClearLoad p = k
   seconds_keep ClearStore p = clears p
   seconds_keep (HeaderStore header) p = makes header p
   seconds_keep (FieldStore a i w) p = stores a i w p

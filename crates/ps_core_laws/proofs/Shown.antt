@@ -64,6 +64,21 @@ space_off ws os end making low high j w out h = record {
       (c.0, get_or-set_other ws j (end + m) w 0 (elim out as (λ _. end + m ≢ j) [ inl x ↦ (λ e. omega arith) | inr x ↦ (λ e. omega arith) ]) ∙ c.1);
 }
 
+-- the next word of the object being made is zero already
+pub space_clear : (ws : List ℕ) (os : List Object) (end making low high : ℕ) → end + 1 + making < high → slice_index ws (end + 1 + making) ≡ 0 → SpaceIs ws os end making low high → SpaceIs ws os end (making + 1) low high
+space_clear ws os end making low high room zero h = record {
+  shown = h.shown;
+  apart = h.apart;
+  within = h.within;
+  sized = h.sized;
+  low_end = h.low_end;
+  end_high = h.end_high;
+  cleared = λ m lo hi. elim (ℕ_discrete m (making + 1)) [
+    | yes is ↦ (omega arith, ap (slice_index ws) (let e : end + m ≡ end + 1 + making = omega arith in e) ∙ zero)
+    | no ne ↦ h.cleared m lo (omega arith)
+  ];
+}
+
 -- the next word of the object being made is cleared
 pub space_cleared : (ws : List ℕ) (os : List Object) (end making low high : ℕ) → high ≤ length ws → end + 1 + making < high → SpaceIs ws os end making low high → SpaceIs (slice_set ws (end + 1 + making) 0) os end (making + 1) low high
 space_cleared ws os end making low high wide room h = record {

@@ -2,7 +2,7 @@
 use Rattle.std.proofs.Common.{◌≡◌, ℕ, ◌+◌, ◌^◌, ◌<◌, true, false, Some, None, Option, refl, sym, inl, inr, subst, arith, is_some}
 use native.Mathlib.Decide.{ℕ_discrete}
 use Rattle.ps_core_parts.specs.declared.events.Event.{Event}
-use Rattle.ps_core_parts.specs.declared.events.Event.TheVariants.{VmLoad, GcLoad, TakeLoad, CopyLoad, HandOver, ClearStore, HeaderStore, FieldStore, RecordStore, EpochStore, ReplicaHeaderStore, ReplicaFieldStore, ForwardStore, HeadStore, CycleStore}
+use Rattle.ps_core_parts.specs.declared.events.Event.TheVariants.{VmLoad, GcLoad, TakeLoad, CopyLoad, HandOver, ClearLoad, ClearStore, HeaderStore, FieldStore, RecordStore, EpochStore, ReplicaHeaderStore, ReplicaFieldStore, ForwardStore, HeadStore, CycleStore}
 use Rattle.ps_core_parts.specs.declared.events.Object.{Object}
 use Rattle.ps_core_parts.specs.declared.events.Half.{Half}
 use Rattle.ps_core_parts.specs.Objects.{object_at, seen_at, end_of_replicas}
@@ -107,6 +107,7 @@ module _ (space : ℕ) (size : IsSpace space) (s : State) (h : Good space s) whe
   can_step (TakeLoad slot word) p = tt
   can_step (CopyLoad a i word) p = tt
   can_step (HandOver word roots) p = tt
+  can_step ClearLoad p = tt
   can_step ClearStore p = tt
   can_step (HeaderStore header) p = tt
   can_step (FieldStore a i w) p = field_small (object_at s.vm.objects a) a i w refl p.vm.0

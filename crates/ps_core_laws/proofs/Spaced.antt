@@ -7,7 +7,7 @@ use Rattle.std.proofs.lemmas.List.{length-replicate}
 use Rattle.std.proofs.lemmas.List.Sums.{sum_by-cons}
 use Rattle.ps_word.specs.Headers.{fields_in}
 use Rattle.ps_core_parts.specs.declared.events.Event.{Event}
-use Rattle.ps_core_parts.specs.declared.events.Event.TheVariants.{VmLoad, GcLoad, TakeLoad, CopyLoad, HandOver, ClearStore, HeaderStore, FieldStore, RecordStore, EpochStore, ReplicaHeaderStore, ReplicaFieldStore, ForwardStore, HeadStore, CycleStore}
+use Rattle.ps_core_parts.specs.declared.events.Event.TheVariants.{VmLoad, GcLoad, TakeLoad, CopyLoad, HandOver, ClearLoad, ClearStore, HeaderStore, FieldStore, RecordStore, EpochStore, ReplicaHeaderStore, ReplicaFieldStore, ForwardStore, HeadStore, CycleStore}
 use Rattle.ps_core_parts.specs.declared.events.Object.{Object}
 use Rattle.ps_core_parts.specs.declared.events.Pair.{Pair}
 use Rattle.ps_core_parts.specs.declared.events.Carried.{Carried}
@@ -174,6 +174,7 @@ module _ (space : ℕ) (s : State) (h : Good space s) (k : SpacedOf s) where
   keeps (TakeLoad slot word) p = k
   keeps (CopyLoad a i word) p = k
   keeps (HandOver word roots) p = k
+  keeps ClearLoad p = k
   keeps ClearStore p = k
   keeps (HeaderStore header) p = makes header
   keeps (FieldStore a i w) p =

@@ -8,16 +8,16 @@ use Rattle.ps_word.specs.Headers.{fields_in}
 use Rattle.ps_record.specs.declared.Record.{Record}
 use Rattle.ps_record.specs.declared.Record.TheVariants.{Place, Close}
 use Rattle.ps_record.specs.Format.{ring_place, packed}
-use Rattle.ps_core_parts.specs.declared.events.Event.TheVariants.{ClearStore, HeaderStore, FieldStore, RecordStore, EpochStore}
+use Rattle.ps_core_parts.specs.declared.events.Event.TheVariants.{ClearLoad, ClearStore, HeaderStore, FieldStore, RecordStore, EpochStore}
 use Rattle.ps_core_parts.specs.declared.events.Object.{Object}
 use Rattle.ps_core_parts.specs.declared.events.Pair.{Pair}
 use Rattle.ps_core_parts.specs.declared.events.Written.{Written}
 use Rattle.ps_core_parts.specs.declared.events.Half.{Half}
 use Rattle.ps_core_parts.specs.declared.events.Vm.{Vm}
 use Rattle.ps_core_parts.specs.Objects.{among, object_at, log_of, holds_values, with_field, word_stands, names, is_written, widened, half_of, stored}
-use Rattle.ps_core_parts.specs.Steps.{State, happens, table_size, space_base, other_base, is_open, field_stored}
+use Rattle.ps_core_parts.specs.Steps.{State, happens, table_size, space_base, other_base, is_open, next_word, field_stored}
 use Rattle.ps_core_parts.specs.Bounds.{IsShort}
-use Rattle.ps_core_parts.specs.Conditions.{Permitted, HasField}
+use Rattle.ps_core_parts.specs.Conditions.{Permitted, CanClear, HasField}
 use Rattle.ps_core_laws.proofs.Heap as heap
 use Rattle.ps_core_laws.proofs.Heap.{put2, acted}
 use Rattle.ps_core_laws.proofs.Heap.Word.{Plain}
@@ -25,7 +25,7 @@ use Rattle.ps_core_laws.proofs.HeapKept.{Good as HeapGood, keeps as heap_keeps}
 use Rattle.ps_core_laws.proofs.HeapTests.{bool_cases, clash, number_not, at_number, eq_true}
 use Rattle.ps_core_laws.proofs.Bases.{InTable, in_current, widened-written, logged_all, logged_none, zero_at}
 use Rattle.ps_core_laws.proofs.Rings.{ring_from, ring_in, log_of-same, log_of-other, control_off, rings_far, rings_near, rings_more, logs_more}
-use Rattle.ps_core_laws.proofs.Shown.{space_off, space_cleared, space_made, space_stored, none_at_end}
+use Rattle.ps_core_laws.proofs.Shown.{space_off, space_clear, space_cleared, space_made, space_stored, none_at_end}
 use Rattle.ps_core_laws.proofs.Copies.{copies_off}
 use Rattle.ps_core_laws.proofs.Lookups.{object_at-address, object_at-with_field}
 use Rattle.ps_core_laws.proofs.Views.{word_of, size_in, view, heap_ext, word_stands-is, stands-with_field, size-with_field, word-with_field}
@@ -50,9 +50,28 @@ module _ (space : ℕ) (s : State) (h : Good space s) where
   low_other : (j : ℕ) → j < 8256 → (j < other_base space s.vm.cycle) ⊎ (other_base space s.vm.cycle + space ≤ j)
   low_other = first.low_other space s h
 
+  -- the next word of the object being made is in the space
+  next_in : CanClear s.vm → next_word s.vm < space_base space s.vm.cycle + space
+  next_in may = subst (λ (z : ℕ). next_word s.vm < space_base z s.vm.cycle + z) h.counted.vm_space_is may
+
+  pub finds_clear : Permitted s ClearLoad → Good space (happens s ClearLoad)
+  finds_clear p = record {
+    counted = h.counted;
+    control = h.control;
+    rings = h.rings;
+    logs = h.logs;
+    current = space_clear s.words s.vm.objects s.vm.end s.vm.making (space_base space s.vm.cycle) (space_base space s.vm.cycle + space) (next_in p.vm) p.both h.current;
+    other = h.other;
+    births = h.births;
+    single = h.single;
+    matches = h.matches;
+    headers = h.headers;
+    heap = h.heap;
+  }
+
   pub clears : Permitted s ClearStore → Good space (happens s ClearStore)
   clears p =
-      let here = in_current space s.vm.cycle (s.vm.end + 1 + s.vm.making) (let lo = h.current.low_end in omega arith) (let m = p.vm in let e = h.counted.vm_space_is in subst (λ (z : ℕ). s.vm.end + 1 + s.vm.making < space_base z s.vm.cycle + z) e m) in
+      let here = in_current space s.vm.cycle (s.vm.end + 1 + s.vm.making) (let lo = h.current.low_end in omega arith) (next_in p.vm) in
       let far = here.far in
       record {
         counted = h.counted;
@@ -60,7 +79,7 @@ module _ (space : ℕ) (s : State) (h : Good space s) where
         rings = rings_far s.words s.vm.logs (s.vm.end + 1 + s.vm.making) 0 far h.rings;
         logs = h.logs;
         current = space_cleared s.words s.vm.objects s.vm.end s.vm.making (space_base space s.vm.cycle) (space_base space s.vm.cycle + space) high_wide
-            (subst (λ (z : ℕ). s.vm.end + 1 + s.vm.making < space_base z s.vm.cycle + z) h.counted.vm_space_is p.vm) h.current;
+            (next_in p.vm) h.current;
         other = copies_off s.words s.gc.pairs s.gc.placed (other_base space s.vm.cycle) (other_base space s.vm.cycle + space) (s.vm.end + 1 + s.vm.making) 0 here.off h.other;
         births = h.births;
         single = h.single;

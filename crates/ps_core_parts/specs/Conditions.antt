@@ -8,14 +8,14 @@ use Rattle.ps_record.specs.declared.Record.{Record}
 use Rattle.ps_record.specs.declared.Record.TheVariants.{Place, Close}
 use Rattle.ps_record.specs.Format.{slots, ring_length, ring_place, IsRecord, log_limit}
 use Rattle.ps_core_parts.specs.declared.events.Event.{Event}
-use Rattle.ps_core_parts.specs.declared.events.Event.TheVariants.{VmLoad, GcLoad, TakeLoad, CopyLoad, HandOver, ClearStore, HeaderStore, FieldStore, RecordStore, EpochStore, ReplicaHeaderStore, ReplicaFieldStore, ForwardStore, HeadStore, CycleStore}
+use Rattle.ps_core_parts.specs.declared.events.Event.TheVariants.{VmLoad, GcLoad, TakeLoad, CopyLoad, HandOver, ClearLoad, ClearStore, HeaderStore, FieldStore, RecordStore, EpochStore, ReplicaHeaderStore, ReplicaFieldStore, ForwardStore, HeadStore, CycleStore}
 use Rattle.ps_core_parts.specs.declared.events.Object.{Object}
 use Rattle.ps_core_parts.specs.declared.events.Carried.{Carried}
 use Rattle.ps_core_parts.specs.declared.events.Written.{Written}
 use Rattle.ps_core_parts.specs.declared.events.Vm.{Vm}
 use Rattle.ps_core_parts.specs.declared.events.Gc.{Gc}
 use Rattle.ps_core_parts.specs.Objects.{among, object_at, pair_of, seen_at, log_of, word_has_replica, values_have_replicas, word_stands, values_stand, closes, adjoins, is_done, is_in_replica, end_of_replicas, all_filled}
-use Rattle.ps_core_parts.specs.Steps.{State, table_size, space_base, other_base, is_open, knows_open, header_of, forwarding}
+use Rattle.ps_core_parts.specs.Steps.{State, table_size, space_base, other_base, is_open, knows_open, next_word, header_of, forwarding}
 
 -- a dictionary with this birth stands
 abbrev pub dictionary_stands : List Object → ℕ → Bool
@@ -73,6 +73,10 @@ pub record CanLog (v : Vm) (slot : ℕ) (r : Record) : Type 0 where
   pub fits : IsRecord r
   pub written : IsNamed v.written r
 
+-- the next word of the object being made is in the current space
+abbrev pub CanClear : Vm → Type 0
+CanClear v = next_word v < space_base v.space v.cycle + v.space
+
 -- each log is closed in the open cycle
 abbrev pub AllClosed : Vm → Type 0
 AllClosed v = (slot : ℕ) → slot < slots → closes (log_of v.logs slot) ≡ v.epoch
@@ -81,7 +85,8 @@ AllClosed v = (slot : ℕ) → slot < slots → closes (log_of v.logs slot) ≡ 
 abbrev pub VmMay : Vm → Event → Type 0
 VmMay v (VmLoad place word) = place < table_size v.space
 VmMay v (HandOver word roots) = values_stand v.objects roots ≡ true
-VmMay v ClearStore = v.end + 1 + v.making < space_base v.space v.cycle + v.space
+VmMay v ClearLoad = CanClear v
+VmMay v ClearStore = CanClear v
 VmMay v (HeaderStore header) = CanStand v header
 VmMay v (FieldStore a i w) = CanStoreField v a i w
 VmMay v (RecordStore slot r) = CanLog v slot r
@@ -134,6 +139,7 @@ BothMay ws v g (TakeLoad slot word) =
     slice_index ws (ring_place slot (length (log_of g.taken slot))) ≡ word
 BothMay ws v g (CopyLoad a i word) = slice_index ws (a + 2 + i) ≡ word
 BothMay ws v g (HandOver word roots) = slice_index ws 0 ≡ word
+BothMay ws v g ClearLoad = slice_index ws (next_word v) ≡ 0
 BothMay ws v g (CycleStore roots) = g.taken ≡ v.logs
 BothMay ws v g _ = Unit {0}
 

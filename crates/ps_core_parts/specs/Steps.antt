@@ -6,7 +6,7 @@ use Rattle.ps_record.specs.declared.Record.{Record}
 use Rattle.ps_record.specs.declared.Record.TheVariants.{Place, Close}
 use Rattle.ps_record.specs.Format.{slots, spaces_start, ring_place, packed, read_record, heads_start, head_place}
 use Rattle.ps_core_parts.specs.declared.events.Event.{Event}
-use Rattle.ps_core_parts.specs.declared.events.Event.TheVariants.{VmLoad, GcLoad, TakeLoad, CopyLoad, HandOver, ClearStore, HeaderStore, FieldStore, RecordStore, EpochStore, ReplicaHeaderStore, ReplicaFieldStore, ForwardStore, HeadStore, CycleStore}
+use Rattle.ps_core_parts.specs.declared.events.Event.TheVariants.{VmLoad, GcLoad, TakeLoad, CopyLoad, HandOver, ClearLoad, ClearStore, HeaderStore, FieldStore, RecordStore, EpochStore, ReplicaHeaderStore, ReplicaFieldStore, ForwardStore, HeadStore, CycleStore}
 use Rattle.ps_core_parts.specs.declared.events.Object.{Object}
 use Rattle.ps_core_parts.specs.declared.events.Pair.{Pair}
 use Rattle.ps_core_parts.specs.declared.events.Seen.{Seen}
@@ -82,6 +82,10 @@ heads_after heads place word =
     if nat_le heads_start place && nat_lt place (head_place slots)
     then slice_set heads (place - heads_start) word else heads
 
+-- where the next word of the object being made is, behind its first header and what is cleared
+abbrev pub next_word : Vm → ℕ
+next_word v = v.end + 1 + v.making
+
 -- a body takes no birth of its own
 abbrev pub next_birth_after : ℕ → ℕ → ℕ
 next_birth_after next header = if kind_in header == 11 then next else next + 1
@@ -121,6 +125,7 @@ vm_after v g (GcLoad place word) = v
 vm_after v g (TakeLoad slot word) = v
 vm_after v g (CopyLoad a i word) = v
 vm_after v g (HandOver word roots) = record v { fresh = [] }
+vm_after v g ClearLoad = record v { making = v.making + 1 }
 vm_after v g ClearStore = record v { making = v.making + 1 }
 vm_after v g (HeaderStore header) = record v {
   objects = new_object v.end header ∷ v.objects;
@@ -211,6 +216,7 @@ gc_after g v (HandOver word roots) = record g {
   known = (if is_open v then addresses_named roots else []) ++ g.known;
   handed = (if is_open v then roots else []) ++ g.handed;
 }
+gc_after g v ClearLoad = g
 gc_after g v ClearStore = g
 gc_after g v (HeaderStore header) = g
 gc_after g v (FieldStore a i w) = g
@@ -258,7 +264,8 @@ words_after ws v g (GcLoad place word) = ws
 words_after ws v g (TakeLoad slot word) = ws
 words_after ws v g (CopyLoad a i word) = ws
 words_after ws v g (HandOver word roots) = ws
-words_after ws v g ClearStore = slice_set ws (v.end + 1 + v.making) 0
+words_after ws v g ClearLoad = ws
+words_after ws v g ClearStore = slice_set ws (next_word v) 0
 words_after ws v g (HeaderStore header) = slice_set ws v.end header
 words_after ws v g (FieldStore a i w) = slice_set ws (a + 2 + i) w
 words_after ws v g (RecordStore slot r) = record_stored ws slot (length (log_of v.logs slot)) r

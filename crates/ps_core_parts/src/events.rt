@@ -21,7 +21,7 @@ impl Model for Roots {
 
 /// An atomic step: a load or a store of one word of the table, by the mutator's seat, by the
 /// collector's, or by both joined (Nettles and O'Toole, PLDI 1993,
-/// 2 and 3). A load carries the word that it finds.
+/// 2 and 3). A load carries the word that it finds, but for `ClearLoad`, which finds zero.
 #[derive(Drop)]
 pub enum Event {
     /// Load by the mutator. A head, if it is one, is kept.
@@ -36,6 +36,9 @@ pub enum Event {
     CopyLoad { address: u64, field: u64, word: u64 },
     /// Load of the cycle word by both seats joined, with the roots that the mutator hands over.
     HandOver { word: u64, roots: Roots },
+    /// Load by the mutator of the next word of the object being made, which is found zero: it needs
+    /// no store.
+    ClearLoad,
     /// Field store by the mutator, of the next word of the object being made, which becomes zero:
     /// its second header, then its fields.
     ClearStore,

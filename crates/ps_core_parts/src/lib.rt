@@ -4,12 +4,12 @@
 //! Why so:
 //! - A state is the words of the table and two parts, one for each seat. So what a seat may do
 //!   depends on its own part and on the words that it loads.
-//! - A load says by its event what it is for: `GcLoad`, `TakeLoad`, `CopyLoad` or `HandOver`. So no
-//!   condition has to guess the purpose of a load.
+//! - A load says by its event what it is for: `GcLoad`, `TakeLoad`, `CopyLoad`, `ClearLoad` or
+//!   `HandOver`. So no condition has to guess the purpose of a load.
 //! - An object keeps its first header as one word. So "the same kind, birth number and number of
 //!   fields" is one equation.
-//! - An object is made in order: its words become zero from the second header on, and the first
-//!   header is stored last. So no half-made object stands.
+//! - An object is made in order: its words become zero from the second header on, or are found so,
+//!   and the first header is stored last. So no half-made object stands.
 //! - What is written and not yet logged is one range of one object (`Written`). Another range waits
 //!   for the record.
 //! - A close may be logged while something is written and not logged. Such a cycle can't end, so a

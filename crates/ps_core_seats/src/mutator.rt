@@ -7,7 +7,7 @@
 ghost use Rattle.std.specs.Bool.{Decides};
 ghost use Rattle.std.specs.Prelude.{◌≡◌, ◌+◌, ◌^◌, ◌<◌, ◌++◌, ◌∷◌, false, slice_index, slice_set, IfOk, OnOk, MatchBool, [], length, true};
 ghost use Rattle.ps_core_parts.specs.Bounds.{AllLow, VmBounded, any_gc};
-ghost use Rattle.ps_core_parts.specs.declared.events.Event.TheVariants.{ClearStore, CycleStore, EpochStore, HeaderStore};
+ghost use Rattle.ps_core_parts.specs.declared.events.Event.TheVariants.{CycleStore, EpochStore, HeaderStore};
 ghost use Rattle.ps_core_parts.specs.Conditions as conditions;
 ghost use Rattle.ps_core_parts.specs.Conditions.{VmMay, HasRoom, HasNumber};
 ghost use Rattle.ps_core_parts.specs.Objects as objects;
@@ -210,7 +210,7 @@ impl Mutator {
     /// Whether one more word of the object being made is in the current space.
     fn can_clear(&self) -> bool
         requires { VmBounded self.now }
-        ensures { Decides result (VmMay self.now ClearStore) }
+        ensures { Decides result (conditions.CanClear self.now) }
     {
         self.end + 1 + self.making < SPACES_START + (self.cycle % 2) * self.space + self.space
     }
@@ -240,7 +240,7 @@ impl Mutator {
                 self.objects.as_slice(),
                 roots.words.as_slice(),
             ),
-            Event::ClearStore => self.can_clear(),
+            Event::ClearLoad | Event::ClearStore => self.can_clear(),
             Event::HeaderStore { header } => self.can_stand(*header),
             Event::FieldStore {
                 address,
@@ -300,7 +300,7 @@ impl Mutator {
     /// The index of the next word of the object being made.
     pub fn next_clear(&self) -> u64
         requires { VmBounded self.now }
-        ensures { result ≡ self.now.end + 1 + self.now.making }
+        ensures { result ≡ steps.next_word self.now }
     {
         self.end + 1 + self.making
     }
@@ -336,7 +336,7 @@ impl Mutator {
         self.fresh.clear();
     }
 
-    /// After a word of the object being made was cleared.
+    /// After a word of the object being made was cleared, or found clear.
     pub fn clear(&mut self)
         requires { VmBounded self.old }
         ensures { self.new ≡ record self.old { making = self.old.making + 1 } }

@@ -3,3 +3,4 @@ pub mod Objects
 pub mod Sizes
 pub mod Moved
 pub mod Flipped
+pub mod Reached

@@ -12,7 +12,7 @@ use Rattle.ps_core_parts.specs.Steps.{State, happens}
 use Rattle.ps_core_laws.specs.Reach.{Reach}
 use Rattle.ps_parts_memory.specs.Memory.{heap_of, grants_of}
 use Rattle.ps_parts_memory.specs.Shown.{VmRuns}
-use Rattle.ps_flips.specs.Moves.{Forwarding, SameWords}
+use Rattle.ps_flips.specs.Moves.{Forwarding, SameWords, moved_space}
 
 -- ---- the flip as a move
 
@@ -30,11 +30,11 @@ AtFlip P s roots = P (heap_of s.vm) (heap_of (flipped s roots)) (replica_at s.gc
 
 -- ---- objects
 
--- births go on from the same number and the space is the same; what is used is what stands, and no
--- more than was
+-- births go on from the same number and the space was moved once; what is used is what stands, and
+-- no more than was
 pub record SameNumbers (h now : Heap) : Type 0 where
   pub next : now.next ≡ h.next
-  pub space : now.space ≡ h.space
+  pub space : now.space ≡ moved_space h.space
   pub used : now.used ≡ standing_words now
   pub room : now.used ≤ h.used
 

@@ -1,3 +1,4 @@
 pub mod Flips
 pub mod Moves
 pub mod Collected
+pub mod Reached

@@ -1,6 +1,6 @@
 -- Memories whose objects were moved, by any collector: what moving does, and what a program can't
 -- see of it.
-use Rattle.std.specs.Prelude.{ℕ, ◌≡◌, ◌≢◌, ◌≤◌, true, List, map, Option, Some, None, if◌then◌else◌}
+use Rattle.std.specs.Prelude.{ℕ, ◌+◌, ◌≡◌, ◌≢◌, ◌≤◌, true, List, map, Option, Some, None, if◌then◌else◌}
 use Rattle.std.specs.List.{AllByRecursion}
 use Rattle.ps_language.specs.declared.kinds.Kind.{Kind}
 use Rattle.ps_language.specs.declared.kinds.Kind.TheVariants.{Text}
@@ -8,7 +8,7 @@ use Rattle.ps_language.specs.Value.{Store}
 use Rattle.ps_word.specs.declared.words.Word.{Word}
 use Rattle.ps_word.specs.Format.{IsAddress, address_in}
 use Rattle.ps_word.specs.Readers.{is_reference, readdressed}
-use Rattle.ps_mem.specs.Heap.{Heap, Standing, object_at, birth_at, standing_words}
+use Rattle.ps_mem.specs.Heap.{Heap, Space, Standing, object_at, birth_at, standing_words}
 use Rattle.ps_mem.specs.Keeps.{StandsStill}
 use Rattle.ps_mem.specs.Meaning.{value_of}
 use Rattle.ps_mem.specs.Objects.{word_of}
@@ -58,11 +58,15 @@ pub record IsReplica (h now : Heap) (forward : Forwarding) (a b : ℕ) : Type 0 
   pub to : IsAddress b
   pub complete : object.kind ≢ Text → HaveReplicas forward object.fields
 
--- just the replicas stand now; births go on from the same number, the space is the same, and what
--- is used is what stands
+-- the space after one more move of what stands in it
+abbrev pub moved_space : Space → Space
+moved_space space = record space { flips = space.flips + 1 }
+
+-- just the replicas stand now; births go on from the same number, the space was moved once, and
+-- what is used is what stands
 pub record IsMovedTo (h now : Heap) (forward : Forwarding) : Type 0 where
   pub next : now.next ≡ h.next
-  pub space : now.space ≡ h.space
+  pub space : now.space ≡ moved_space h.space
   pub used : now.used ≡ standing_words now
   pub replicas : (a b : ℕ) → forward a ≡ Some b → IsReplica h now forward a b
   pub only : (b : ℕ) (o : Standing) → object_at now b ≡ Some o → (a : ℕ) × (forward a ≡ Some b)

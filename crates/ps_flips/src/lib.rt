@@ -8,11 +8,11 @@
 //! size of a space.
 //!
 //! Why so:
-//! - A collected memory is a trait (`CollectedMemory`) said of heaps alone, so roots, vault and
+//! - A memory and its collector are traits (`sides`) said of heaps alone, so roots, vault and
 //!   workers know no seat and no table. What only a seat can say, such as each event, is in none of
 //!   its clauses.
-//! - `flips` is a number of this trait and not of `Memory`, or every crate over a memory would
-//!   carry it. So no clause outside says that a step leaves it.
+//! - How often objects were moved is a number of the space (`Space.flips`), so that each call which
+//!   leaves the space, as all of `Memory` do, is known to leave it.
 //! - A flip is described for two heaps first, so that the description serves any collector that
 //!   moves all that a moved object refers to. It costs two lists of clauses.
 #![tactic(auto)]
@@ -23,6 +23,11 @@ ghost use Rattle.ps_flips.specs.Flips.{AtFlip, KeepsNumbers, KeepsReachable};
 ghost use Rattle.ps_flips.specs.Flips.{RenamesWords, RenamesRoots, OpensLogs, GoesOn};
 ghost use Rattle.ps_flips.specs.Moves.{IsMovedTo, OfMoves, KeepsObjects, KeepsRoom};
 ghost use Rattle.ps_flips.specs.Moves.{KeepsWords, KeepsSound, KeepsShown};
+ghost use Rattle.ps_flips.specs.Moves.{Forwarding, HaveReplicas, moved_words};
+ghost use Rattle.ps_flips.specs.Reached.{AreReached, MovesReached};
+ghost use Rattle.ps_mem.specs.Heap.{Heap};
+ghost use Rattle.ps_word.specs.declared.words.Word.{Word};
+ghost use Rattle.std.specs.Prelude.{List};
 
 pub mod collected;
 pub mod sides;
@@ -42,6 +47,10 @@ pub fn moving_laws()
     ensures sound { OfMoves KeepsSound }
     // A memory goes on showing each store that it showed, under the same names.
     ensures shown { OfMoves KeepsShown }
+    // Where just what the roots reach was moved, nothing stands but what the renamed roots reach.
+    ensures reached { (h now : Heap) (forward : Forwarding) (roots : List Word)
+        → IsMovedTo h now forward → HaveReplicas forward roots → MovesReached h forward roots
+        → AreReached now (moved_words forward roots) }
 {}
 
 /// The laws of the flip: of the memory of the mutator's part before it and after it.

@@ -1,11 +1,11 @@
-//! A memory and its collector as two values: whoever makes steps has the memory, and is lent the
-//! collector for the calls that both must make.
+//! A memory and its collector, cycle by cycle (Nettles and O'Toole, PLDI 1993): whoever makes steps
+//! has the memory, and is lent the collector for the calls that both must make.
 
 ghost use Rattle.std.specs.Prelude.{◌≡◌, ◌<◌, ℕ, true, false};
 ghost use Rattle.ps_mem.specs.Shows.{AreValues};
 ghost use Rattle.ps_mem.specs.Stands.{IsAddressed};
 ghost use Rattle.ps_parts_memory.specs.Laws.{AfterClose, AfterOpen};
-ghost use Rattle.ps_flips.specs.Collected.{IsCollected, IsQuiet, may_open, one_more_if};
+ghost use Rattle.ps_flips.specs.Collected.{IsCollected, IsExact, IsQuiet, may_open};
 
 use crate::collected::Counts;
 use ps_mem::{Memory, SLOTS};
@@ -15,15 +15,11 @@ use ps_word::words::Word;
 /// A memory whose stores are logged while a cycle is open. A collector copies it meanwhile, and no
 /// call of this trait speaks of it: only in calls that are lent both do objects move (`Collects`).
 pub trait LoggedMemory: Memory {
-    /// How many cycles were flipped. No call of this trait changes it.
-    ghost flips: { Self → ℕ };
-
     /// Whether a cycle is open: where none is, no log is closed. What stands has an address of 24
     /// bits.
     fn is_open(&mut self) -> bool
         ensures heap { Self.heap self.new ≡ Self.heap self.old }
         ensures grants { Self.grants self.new ≡ Self.grants self.old }
-        ensures flips { flips self.new ≡ flips self.old }
         ensures answer { result ≡ (Self.grants self.old).cycle_open }
         ensures quiet { result ≡ false → IsQuiet (Self.grants self.old) }
         ensures addressed { IsAddressed (Self.heap self.old) };
@@ -31,9 +27,9 @@ pub trait LoggedMemory: Memory {
     /// Opens a cycle exactly where none is open and cycles are left: no log is closed then, and no
     /// object may be filled. False: nothing has changed.
     fn open_cycle(&mut self) -> bool
-        ensures answer { result ≡ may_open (Self.grants self.old).cycle_open (flips self.old) }
+        ensures answer { result
+            ≡ may_open (Self.grants self.old).cycle_open (Self.heap self.old).space.flips }
         ensures heap { Self.heap self.new ≡ Self.heap self.old }
-        ensures flips { flips self.new ≡ flips self.old }
         ensures opened { result ≡ true → AfterOpen (Self.grants self.old) (Self.grants self.new) }
         ensures same { result ≡ false → Self.grants self.new ≡ Self.grants self.old };
 
@@ -44,7 +40,6 @@ pub trait LoggedMemory: Memory {
         requires slot { slot < SLOTS }
         requires open { (Self.grants self.old).cycle_open ≡ true }
         ensures heap { Self.heap self.new ≡ Self.heap self.old }
-        ensures flips { flips self.new ≡ flips self.old }
         ensures already { (Self.grants self.old).closed slot ≡ true
             → (result ≡ Closing.Closed) × (Self.grants self.new ≡ Self.grants self.old) }
         ensures closed { (Self.grants self.old).closed slot ≡ false → result ≡ Closing.Closed
@@ -58,8 +53,7 @@ pub trait LoggedMemory: Memory {
         ensures heap { Self.heap self.new ≡ Self.heap self.old }
         ensures grants { Self.grants self.new ≡ record (Self.grants self.old)
             { records = (Self.grants self.new).records } }
-        ensures flips { flips self.new ≡ flips self.old }
-        ensures flipped { result.flips ≡ flips self.old };
+        ensures flipped { result.flips ≡ (Self.heap self.old).space.flips };
 
     /// It never grows.
     ghost bounded: { (m : Self) → (Self.heap m).space.grows ≡ false };
@@ -74,17 +68,30 @@ pub trait Collects<M: LoggedMemory> {
         requires values { AreValues (M.heap memory.old) roots.now }
         ensures heap { M.heap memory.new ≡ M.heap memory.old }
         ensures grants { M.grants memory.new ≡ record (M.grants memory.old)
-            { fresh = λ a. false } }
-        ensures flips { M.flips memory.new ≡ M.flips memory.old };
+            { fresh = λ a. false } };
 
     /// Ends the open cycle by the flip, where all is ready for it: the words of the roots are
     /// renamed. False: nothing has changed. No clause says when all is ready.
     fn try_flip(&mut self, memory: &mut M, roots: &mut [Word]) -> bool
         requires values { AreValues (M.heap memory.old) roots.old }
         requires open { (M.grants memory.old).cycle_open ≡ true }
-        ensures flips { M.flips memory.new ≡ one_more_if result (M.flips memory.old) }
         ensures moved { result ≡ true
             → IsCollected (M.heap memory.old) (M.heap memory.new) roots.old roots.new }
+        ensures quiet { result ≡ true → IsQuiet (M.grants memory.new) }
+        ensures fresh { result ≡ true → (address : ℕ)
+            → (M.grants memory.new).fresh address ≡ false }
+        ensures heap { result ≡ false → M.heap memory.new ≡ M.heap memory.old }
+        ensures grants { result ≡ false → M.grants memory.new ≡ M.grants memory.old }
+        ensures roots { result ≡ false → roots.new ≡ roots.old };
+
+    /// A whole cycle, where none is open and cycles are left: just what the roots reach is moved,
+    /// and they are renamed. No object may be filled then. False: nothing has changed.
+    fn whole_cycle(&mut self, memory: &mut M, roots: &mut [Word]) -> bool
+        requires values { AreValues (M.heap memory.old) roots.old }
+        ensures answer { result
+            ≡ may_open (M.grants memory.old).cycle_open (M.heap memory.old).space.flips }
+        ensures exact { result ≡ true
+            → IsExact (M.heap memory.old) (M.heap memory.new) roots.old roots.new }
         ensures quiet { result ≡ true → IsQuiet (M.grants memory.new) }
         ensures fresh { result ≡ true → (address : ℕ)
             → (M.grants memory.new).fresh address ≡ false }
@@ -98,7 +105,6 @@ pub trait Collects<M: LoggedMemory> {
     fn end_cycle(&mut self, memory: &mut M, roots: &mut [Word]) -> bool
         requires values { AreValues (M.heap memory.old) roots.old }
         ensures ended { result ≡ (M.grants memory.old).cycle_open }
-        ensures flips { M.flips memory.new ≡ one_more_if result (M.flips memory.old) }
         ensures moved { result ≡ true
             → IsCollected (M.heap memory.old) (M.heap memory.new) roots.old roots.new }
         ensures quiet { IsQuiet (M.grants memory.new) }

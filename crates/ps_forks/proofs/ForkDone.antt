@@ -31,6 +31,7 @@ use Rattle.ps_acts.specs.Acts.{Acts, nothing_asked, effect_in}
 use Rattle.ps_acts.specs.Lent.{Lent, scene_of, IsShown}
 use Rattle.ps_acts.proofs.Meeting.{keeps-same, logs-same}
 use Rattle.ps_turns.specs.declared.turned.Turned.TheVariants.{Goes}
+use Rattle.ps_turns.specs.Turns.{calling_of}
 use Rattle.ps_contexts.specs.declared.members.Course.TheVariants.{Running}
 use Rattle.ps_contexts.specs.declared.members.Member.{Member}
 use Rattle.ps_contexts.specs.Seats.{item_at}
@@ -297,22 +298,25 @@ module _ (caller : ℕ) (trial : Trial) (shown : Option (ℤ × ℤ)) (d : Desk)
   wants_more : (w : World) (scene : Scene) (begun : Option Context) → trial.refused ≡ false
       → IsWithStore scene (given begun TypeCheck λ context.
       doing (with_context_more context (with_scene_of (call_by caller None w here) scene)))
-      → (deed_wants Fork w here (deed_given_room trial.refused w (given begun TypeCheck λ context.
+      → (deed_wants (calling_of Fork) w here (deed_given_room trial.refused w
+      (given begun TypeCheck λ context.
       doing (with_context_more context (with_scene_of (call_by caller None w here) scene))))).beside
       ≡ true
   wants_more w scene None given_it same = absurd same
   wants_more w scene (Some context) given_it same =
-      ap (λ b. (deed_wants Fork w here (deed_given_room b w (doing (with_context_more context
+      ap (λ b. (deed_wants (calling_of Fork) w here (deed_given_room b w
+      (doing (with_context_more context
       (with_scene_of (call_by caller None w here) scene))))).beside) given_it
       ∙ one_more w scene context
 
   starved : (w : World) → IsWorld d w → trial.refused ≡ false → (effect : Effect)
       → effect_in (fork_caller seat) l w.store ≡ effect → IsMaking effect
       → IsPlain (scene_of l w.store) effect
-      → (call_wants Fork caller trial.refused w here).beside ≡ true
+      → (call_wants (calling_of Fork) caller trial.refused w here).beside ≡ true
   starved w at given_it (makes scene output) is making plain =
       let made = is ∙ ap (makes scene) plain.0 in
-      ap (λ (o : Outcome Deed). (deed_wants Fork w here (deed_given_room trial.refused w o)).beside)
+      ap (λ (o : Outcome Deed).
+      (deed_wants (calling_of Fork) w here (deed_given_room trial.refused w o)).beside)
       (law_there None w at
       ∙ ap (λ e. after_part e (fork_next None w)) (part_is_there w at ∙ made))
       ∙ wants_more w scene (forked here here.operands (length w.store)) given_it
@@ -348,10 +352,12 @@ module _ (caller : ℕ) (trial : Trial) (shown : Option (ℤ × ℤ)) (d : Desk)
         same = λ w at. refl;
         held_up = λ reason is w context at there.
             let why : Memory ≡ reason = cc in
-            subst (λ r. IsHeldUpAs (call_wants Fork caller trial.refused w context) trial.slot
-            d.heap d.grants r) why
+            subst (λ r. IsHeldUpAs
+            (call_wants (calling_of Fork) caller trial.refused w context) trial.slot d.heap
+            d.grants r) why
             (subst (λ (one : Context).
-            may_fail d.heap.space.grows (call_wants Fork caller trial.refused w one) ≡ true)
+            may_fail d.heap.space.grows (call_wants (calling_of Fork) caller trial.refused w one)
+            ≡ true)
             (here_is d w at caller member found context there)
             (or_true _ _ (starved w at given_it (effect_in (fork_caller seat) l w.store) refl
             (making w.store (shown_there w at)) (fork_plain l w.store))));

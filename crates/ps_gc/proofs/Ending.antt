@@ -52,13 +52,14 @@ replicas_on ps qs like a some = go (pair_of ps a) refl some
     go (Some p) e found = ap is_some (like a p e).1
 
 pub scans_none : (g : Gc) → Scans g g
-scans_none g = record { cycle = refl; epoch = refl; taken = refl; pairs = λ a e. e }
+scans_none g = record { cycle = refl; epoch = refl; taken = refl; handed = refl; pairs = λ a e. e }
 
 pub scans_one : (f g h : Gc) (a i : ℕ) → Scans f g → Copied g h a i true → Scans f h
 scans_one f g h a i x y = record {
   cycle = y.cycle ∙ x.cycle;
   epoch = y.epoch ∙ x.epoch;
   taken = y.taken ∙ x.taken;
+  handed = y.handed ∙ x.handed;
   pairs = λ b e. replicas_on g.pairs h.pairs y.pairs b (x.pairs b e);
 }
 
@@ -75,6 +76,8 @@ stays_then slot a b c x y = record {
   cycle = y.cycle ∙ x.cycle;
   gc_epoch = y.gc_epoch ∙ x.gc_epoch;
   gc_cycle = y.gc_cycle ∙ x.gc_cycle;
+  handed = y.handed ∙ x.handed;
+  stored = y.stored ∙ x.stored;
   logs = λ s ne. y.logs s ne ∙ x.logs s ne;
   taken = λ s ne. y.taken s ne ∙ x.taken s ne;
   pairs = λ p e. y.pairs p (x.pairs p e);
@@ -86,6 +89,8 @@ stays_same slot m = record {
   cycle = refl;
   gc_epoch = refl;
   gc_cycle = refl;
+  handed = refl;
+  stored = refl;
   logs = λ s ne. refl;
   taken = λ s ne. refl;
   pairs = λ a e. e;
@@ -107,6 +112,8 @@ closes_but slot head old new k did = record {
   cycle = ap (λ (m : View). m.vm.cycle) did;
   gc_epoch = ap (λ (g : Gc). g.epoch) k.part;
   gc_cycle = ap (λ (g : Gc). g.cycle) k.part;
+  handed = ap (λ (g : Gc). g.handed) k.part;
+  stored = ap (λ (m : View). m.vm.stored) did;
   logs = λ s ne. ap (λ (m : View). log_of m.vm.logs s) did
       ∙ log_there old.vm.logs slot Close s ne;
   taken = λ s ne. ap (λ (g : Gc). log_of g.taken s) k.part;
@@ -120,6 +127,8 @@ looks_but slot head old new k did = record {
   cycle = ap (λ (m : View). m.vm.cycle) did;
   gc_epoch = ap (λ (g : Gc). g.epoch) k.part;
   gc_cycle = ap (λ (g : Gc). g.cycle) k.part;
+  handed = ap (λ (g : Gc). g.handed) k.part;
+  stored = ap (λ (m : View). m.vm.stored) did;
   logs = λ s ne. ap (λ (m : View). log_of m.vm.logs s) did;
   taken = λ s ne. ap (λ (g : Gc). log_of g.taken s) k.part;
   pairs = λ a e. ap (λ (g : Gc). is_some (pair_of g.pairs a)) k.part ∙ e;
@@ -133,6 +142,8 @@ drains_but slot what old new k d = record {
   cycle = ap (λ (v : Vm). v.cycle) k.part;
   gc_epoch = d.epoch;
   gc_cycle = d.cycle;
+  handed = d.handed;
+  stored = ap (λ (v : Vm). v.stored) k.part;
   logs = λ s ne. ap (λ (v : Vm). log_of v.logs s) k.part;
   taken = λ s ne. ap (λ (l : List (List Record)). log_of l s) d.taken
       ∙ log_there old.gc.taken slot what s ne;

@@ -1,6 +1,7 @@
 -- Logs that are closed and drained, roots that are handed over, and the flip.
 use Rattle.std.proofs.Common.{◌≡◌, ℕ, ◌+◌, ◌*◌, ◌%◌, ◌<◌, ◌≤◌, true, false, nat_eq, List, [], ◌∷◌, ◌++◌, length, refl, sym, ap, ◌∙◌, inl, inr, subst, arith, length-append, Bool, suc, replicate}
 use Rattle.std.specs.Prelude.{if◌then◌else◌}
+use Rattle.std.specs.List.{list_all}
 use Rattle.std.proofs.lemmas.List.{ext_get_or, get_or-replicate, length-map}
 use Rattle.ps_word.specs.declared.words.Word.{Word}
 use Rattle.ps_word.specs.Format.{address_in}
@@ -29,7 +30,8 @@ use Rattle.ps_flips.proofs.Flipped.{opens-logs}
 use Rattle.ps_table.specs.Shown.{BothRun}
 use Rattle.ps_table.proofs.Facts.{taken}
 use Rattle.ps_table.specs.declared.plays.View.{View}
-use Rattle.ps_table.specs.Events.{gc_did_all, root_looks}
+use Rattle.ps_table.specs.Events.{OnlyLooks, is_look_or_flip, gc_did_all, root_looks}
+use Rattle.ps_table.proofs.Looking.{more_looks, no_looks}
 use Rattle.ps_table.specs.Shown.{gc_did}
 use Rattle.ps_gc.specs.declared.taken.Taken.{Taken}
 use Rattle.ps_gc.specs.Events.{AreKnown}
@@ -143,43 +145,50 @@ module _ (v : Vm) (g : Gc) (roots : List ℕ) (r : BothRun v g) (vm : VmMay v (C
       (opens-logs s roots permitted.vm.0
       (kept v.space r.size (CycleStore roots ∷ r.events) (r.is_run, permitted)).mutator)
 
--- the other space of the next cycle is the current one
-pub turned : (space cycle : ℕ) → 8256 + (cycle % 2) * space ≡ other_base space (cycle + 1)
-turned space cycle = ap (λ (x : ℕ). 8256 + x * space)
-    (let z : cycle % 2 ≡ (cycle + 1 + 1) % 2 = omega arith in z)
-
 -- words as numbers, and back
 pub as_they_are : (ws : List Word) → as_words (numbers ws) ≡ ws
 as_they_are [] = refl
 as_they_are (w ∷ ws) = ap (λ (l : List Word). w ∷ l) (as_they_are ws)
 
--- ---- how many events
+-- ---- which events
 
-length_did : (m : View) (es : List Event)
-    → length (gc_did_all m es).gc_events ≡ length es + length m.gc_events
-length_did m [] = let z : length m.gc_events ≡ 0 + length m.gc_events = omega arith in z
-length_did m (e ∷ es) = length_did (gc_did m e) es
-    ∙ (let z : length es + suc (length m.gc_events) ≡ suc (length es) + length m.gc_events =
-    omega arith in z)
+looks_did : (m : View) (es : List Event) → list_all is_look_or_flip es ≡ true
+    → OnlyLooks (length es) m.gc_events (gc_did_all m es).gc_events
+looks_did m [] all = no_looks 0 m.gc_events
+looks_did m (e ∷ es) all =
+    let parts = and_parts (is_look_or_flip e) (list_all is_look_or_flip es) all in
+    more_looks 1 (length es) (suc (length es)) m.gc_events (e ∷ m.gc_events)
+    (gc_did_all (gc_did m e) es).gc_events (omega arith)
+    (record {
+      more = e ∷ [];
+      is = refl;
+      looks = and_both (is_look_or_flip e) true parts.0 refl;
+      few = omega arith;
+    })
+    (looks_did (gc_did m e) es parts.1)
 
-looks_few : (g : Gc) (ws : List ℕ) → length (root_looks g ws) ≤ length ws
-looks_few g [] = omega arith
+looks_few : (g : Gc) (ws : List ℕ) → (list_all is_look_or_flip (root_looks g ws) ≡ true)
+    × (length (root_looks g ws) ≤ length ws)
+looks_few g [] = (refl, omega arith)
 looks_few g (w ∷ ws) =
-    let rest = looks_few g ws in
+    let rest = looks_few g ws in let few = rest.1 in
     elim (bool_cases (is_reference w)) [
-      | inl t ↦ rw t (omega arith)
-      | inr f ↦ rw f (omega arith)
+      | inl t ↦ rw t (rest.0, omega (arith, few))
+      | inr f ↦ rw f (rest.0, omega (arith, few))
     ]
 
--- a flip of so many words makes at most one event for each, and one more
-pub flip_steps : (m : View) (g : Gc) (ws : List Word)
-    → length (gc_did_all m (root_looks g (numbers ws))).gc_events
-    ≤ length m.gc_events + length ws
-flip_steps m g ws =
-    let all = length_did m (root_looks g (numbers ws)) in
+-- a flip of so many words makes at most one look for each, and the flip
+pub flip_looks : (m : View) (g : Gc) (ws : List Word)
+    → OnlyLooks (length ws + 1) m.gc_events (CycleStore (numbers ws)
+    ∷ (gc_did_all m (root_looks g (numbers ws))).gc_events)
+flip_looks m g ws =
     let few = looks_few g (numbers ws) in
+    let less = few.1 in
     let same : length (numbers ws) ≡ length ws = length-map ws number_of in
-    omega arith
+    more_looks (length (root_looks g (numbers ws))) 1 (length ws + 1) m.gc_events
+    (gc_did_all m (root_looks g (numbers ws))).gc_events _ (omega (arith, less, same))
+    (looks_did m (root_looks g (numbers ws)) few.0)
+    (record { more = CycleStore (numbers ws) ∷ []; is = refl; looks = refl; few = omega arith })
 
 -- ---- the collector's numbers after it
 

@@ -6,7 +6,7 @@ use native.Mathlib.Decide.{ℕ_discrete}
 use Rattle.ps_record.specs.declared.Record.{Record}
 use Rattle.ps_record.specs.declared.Record.TheVariants.{Place, Close}
 use Rattle.ps_core_parts.specs.declared.events.Event.{Event}
-use Rattle.ps_core_parts.specs.declared.events.Event.TheVariants.{VmLoad, GcLoad, TakeLoad, CopyLoad, HandOver, ClearStore, HeaderStore, FieldStore, RecordStore, EpochStore, ReplicaHeaderStore, ReplicaFieldStore, ForwardStore, HeadStore, CycleStore}
+use Rattle.ps_core_parts.specs.declared.events.Event.TheVariants.{VmLoad, GcLoad, TakeLoad, CopyLoad, HandOver, ClearLoad, ClearStore, HeaderStore, FieldStore, RecordStore, EpochStore, ReplicaHeaderStore, ReplicaFieldStore, ForwardStore, HeadStore, CycleStore}
 use Rattle.ps_core_parts.specs.declared.events.Object.{Object}
 use Rattle.ps_core_parts.specs.declared.events.Written.{Written}
 use Rattle.ps_core_parts.specs.declared.events.Half.{Half}
@@ -218,6 +218,7 @@ module _ (s : State) (h : Kept s) (k : NamedIn s) where
   keeps (TakeLoad slot word) p = k
   keeps (CopyLoad a i word) p = k
   keeps (HandOver word roots) p = k
+  keeps ClearLoad p = k
   keeps ClearStore p = k
   keeps (HeaderStore header) p = makes header
   keeps (FieldStore a i w) p = stores a i w p

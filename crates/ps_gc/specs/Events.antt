@@ -1,5 +1,5 @@
 -- The events that a call of the collector makes, the oldest first, and what they make of its part.
-use Rattle.std.specs.Prelude.{◌≡◌, ◌==◌, ℕ, ◌+◌, Bool, true, false, List, [], ◌∷◌, length, Some, None, is_some, slice_index_or, if◌then◌else◌}
+use Rattle.std.specs.Prelude.{◌≡◌, ◌==◌, ◌&&◌, ℕ, ◌+◌, Bool, true, false, nat_le, nat_lt, List, [], ◌∷◌, length, Some, None, is_some, slice_index_or, if◌then◌else◌}
 use Rattle.ps_word.specs.Format.{address_in}
 use Rattle.ps_word.specs.Readers.{is_reference}
 use Rattle.ps_record.specs.declared.Record.{Record}
@@ -16,6 +16,14 @@ use Rattle.ps_table.specs.Shown.{gc_did}
 -- where the next replica goes
 abbrev pub next_replica : Gc → ℕ
 next_replica g = end_of_replicas (other_base g.space g.cycle) g.pairs
+
+-- a word of the other space, by its index there
+abbrev pub other_word : Gc → ℕ → ℕ
+other_word g index = other_base g.space g.cycle + index
+
+-- it is in that space, behind the last replica
+abbrev pub is_free : Gc → ℕ → Bool
+is_free g index = nat_lt index g.space && nat_le (next_replica g) (other_word g index)
 
 -- a replica is made of the object at an address, whose first header is found
 abbrev pub replica_made : Gc → ℕ → ℕ → List Event
@@ -51,6 +59,7 @@ pub record Adds (g h : Gc) : Type 0 where
   pub taking : h.taking ≡ g.taking
   pub copying : h.copying ≡ g.copying
   pub known : h.known ≡ g.known
+  pub handed : h.handed ≡ g.handed
   pub pairs : (a : ℕ) (p : Pair) → pair_of g.pairs a ≡ Some p → pair_of h.pairs a ≡ Some p
 
 -- the value's reference, if it is one, was named to the collector in this cycle
@@ -90,6 +99,7 @@ pub record Copied (g h : Gc) (a i : ℕ) (scans : Bool) : Type 0 where
   pub taking : h.taking ≡ with_load g.taking a i
   pub copying : h.copying ≡ None
   pub known : (b : ℕ) → among g.known b ≡ true → among h.known b ≡ true
+  pub handed : h.handed ≡ g.handed
   pub pairs : (b : ℕ) (p : Pair) → pair_of g.pairs b ≡ Some p
       → (q : Pair) × (pair_of h.pairs b ≡ Some q) × IsLike p q
   pub filled : (p : Pair) → pair_of h.pairs a ≡ Some p → scans ≡ true
@@ -103,6 +113,7 @@ pub record Applied (g h : Gc) : Type 0 where
   pub taken : h.taken ≡ g.taken
   pub copying : h.copying ≡ None
   pub known : (b : ℕ) → among g.known b ≡ true → among h.known b ≡ true
+  pub handed : h.handed ≡ g.handed
   pub pairs : (b : ℕ) (p : Pair) → pair_of g.pairs b ≡ Some p
       → (q : Pair) × (pair_of h.pairs b ≡ Some q) × IsLike p q
 
@@ -116,6 +127,7 @@ pub record DrainedOf (g h : Gc) (slot : ℕ) (what : Record) : Type 0 where
   pub taking : h.taking ≡ None
   pub copying : h.copying ≡ None
   pub known : (b : ℕ) → among g.known b ≡ true → among h.known b ≡ true
+  pub handed : h.handed ≡ g.handed
   pub pairs : (b : ℕ) (p : Pair) → pair_of g.pairs b ≡ Some p
       → (q : Pair) × (pair_of h.pairs b ≡ Some q) × IsLike p q
 

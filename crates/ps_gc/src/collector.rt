@@ -4,7 +4,7 @@
 //! copied; and its numbers are the part's (`Copies`, `Takes`).
 ghost use Rattle.std.specs.Prelude.{◌≡◌, ◌<◌, ◌+◌, ℕ, true, false, not, None, Some, List, length, slice_index_or};
 ghost use Rattle.ps_core_parts.specs.declared.events.Event.{Event};
-ghost use Rattle.ps_core_parts.specs.declared.events.Event.TheVariants.{GcLoad};
+ghost use Rattle.ps_core_parts.specs.declared.events.Event.TheVariants.{GcLoad, ReplicaHeaderStore};
 ghost use Rattle.ps_core_parts.specs.declared.events.Pair.{Pair};
 ghost use Rattle.ps_core_parts.specs.Objects.{pair_of, log_of, closes, is_close, all_filled, renamed_value, value_has_replica, values_have_replicas};
 ghost use Rattle.ps_core_parts.specs.Steps.{start, knows_open};
@@ -13,7 +13,7 @@ ghost use Rattle.ps_core_laws.specs.Runs.{IsSpace};
 ghost use Rattle.ps_parts_memory.specs.Stores.{numbers};
 ghost use Rattle.ps_table.specs.Events.{gc_did_all};
 ghost use Rattle.ps_table.specs.Shown.{gc_did};
-ghost use Rattle.ps_gc.specs.Events.{word_replicated, Adds, IsKnown, AreKnown, Copied, DrainedOf, is_drained, FindsNothing};
+ghost use Rattle.ps_gc.specs.Events.{word_replicated, Adds, IsKnown, AreKnown, Copied, DrainedOf, is_drained, FindsNothing, is_free, other_word};
 ghost use Rattle.ps_record.specs.declared.Record.{Record};
 ghost use Rattle.ps_gc.specs.Ending.{FindsNext, Scans};
 ghost use Rattle.ps_gc.specs.Keeps.{Copies, GoesOnward, IsAtField, Takes};
@@ -173,6 +173,25 @@ impl<W: Words> Collector<W> {
         ensures same { W.id self.new.gc.table ≡ W.id self.old.gc.table }
     {
         'scan: while self.scan_one() {}
+    }
+
+    /// Clears a word of the other space, by its index there, where it is behind the last replica.
+    /// False: it isn't, and nothing changed. So objects that are made there after the next flip may
+    /// find their words zero.
+    pub fn clear(&mut self, index: u32) -> bool
+        ensures answer { result ≡ is_free self.old.gc.seat.me.0.gc index }
+        ensures did { result ≡ true → self.new.gc.seat.me.0 ≡ gc_did self.old.gc.seat.me.0
+            (ReplicaHeaderStore (other_word self.old.gc.seat.me.0.gc index) 0) }
+        ensures none { result ≡ false → self.new ≡ self.old }
+        ensures same { W.id self.new.gc.table ≡ W.id self.old.gc.table }
+    {
+        let index = index as u64;
+        let place = self.to.low() + index;
+        if index >= self.to.space || place < self.to.end {
+            return false;
+        }
+        self.gc.store_to(place, 0);
+        true
     }
 
     /// Looks for the next record of a slot's log, and takes it; the fields that it names are copied

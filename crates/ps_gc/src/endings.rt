@@ -1,12 +1,13 @@
 //! A cycle is ended by a seat that has both sides, whoever has the numbers of the mutator's side.
-ghost use Rattle.std.specs.Prelude.{◌≡◌, ◌<◌, ◌+◌, ℕ, true, false};
+ghost use Rattle.std.specs.Prelude.{◌≡◌, ◌<◌, ◌+◌, ◌++◌, ℕ, true, false};
 ghost use Rattle.ps_record.specs.Format.{slots};
 ghost use Rattle.ps_mem.specs.Shows.{AreValues};
 ghost use Rattle.ps_core_parts.specs.Objects.{values_have_replicas};
 ghost use Rattle.ps_core_parts.specs.Steps.{is_open, knows_open};
+ghost use Rattle.ps_core_laws.specs.Reach.{NameTheSame};
 ghost use Rattle.ps_parts_memory.specs.Memory.{heap_of, grants_of, is_shut};
 ghost use Rattle.ps_parts_memory.specs.Stores.{numbers};
-ghost use Rattle.ps_flips.specs.Collected.{IsCollected, IsQuiet};
+ghost use Rattle.ps_flips.specs.Collected.{IsCollected, IsExact, IsQuiet, may_open, one_more_if};
 ghost use Rattle.ps_table.specs.Mirrored.{KeepsVm, Sits};
 ghost use Rattle.ps_gc.specs.Ending.{IsEnded, KeepsReplicas, StaysBut};
 ghost use Rattle.ps_gc.specs.Events.{is_drained};
@@ -32,6 +33,10 @@ pub(crate) fn hand<W: Words>(collector: &mut Collector<W>, mirror: &mut Mirror, 
     ensures knows { knows_open collector.new.gc.seat.me.0.gc ≡ true }
     ensures copied { values_have_replicas collector.new.gc.seat.me.0.gc.pairs (numbers roots.now)
         ≡ true }
+    ensures handed { collector.new.gc.seat.me.0.gc.handed
+        ≡ numbers roots.now ++ collector.old.gc.seat.me.0.gc.handed }
+    ensures stored { collector.new.gc.seat.me.0.vm.stored
+        ≡ collector.old.gc.seat.me.0.vm.stored }
 {
     collector.joined_hand_over(mirror, roots);
     collector.add_roots(roots);
@@ -94,6 +99,10 @@ fn end_logs<W: Words>(collector: &mut Collector<W>, mirror: &mut Mirror)
     ensures ended { (slot : ℕ) → slot < slots → IsEnded collector.new.gc.seat.me.0 slot }
     ensures pairs { KeepsReplicas collector.old.gc.seat.me.0.gc.pairs
         collector.new.gc.seat.me.0.gc.pairs }
+    ensures handed { collector.new.gc.seat.me.0.gc.handed
+        ≡ collector.old.gc.seat.me.0.gc.handed }
+    ensures stored { collector.new.gc.seat.me.0.vm.stored
+        ≡ collector.old.gc.seat.me.0.vm.stored }
 {
     for slot in 0..SLOTS {
         close_one(collector, mirror, slot);
@@ -102,7 +111,8 @@ fn end_logs<W: Words>(collector: &mut Collector<W>, mirror: &mut Mirror)
 }
 
 /// Ends the open cycle, by a seat that has both sides: all logs are closed and drained, the roots
-/// are copied, and the spaces are exchanged. No object may be filled then.
+/// are copied, and the spaces are exchanged. No object may be filled then. Where nothing was stored
+/// in the cycle, and no other roots were handed over, just what the roots reach was moved.
 pub fn joined_end_cycle<W: Words>(
     collector: &mut Collector<W>,
     mirror: &mut Mirror,
@@ -116,6 +126,10 @@ pub fn joined_end_cycle<W: Words>(
     ensures flips { collector.new.gc.seat.me.0.vm.cycle
         ≡ collector.old.gc.seat.me.0.vm.cycle + 1 }
     ensures moved { IsCollected (heap_of collector.old.gc.seat.me.0.vm)
+        (heap_of collector.new.gc.seat.me.0.vm) roots.old roots.new }
+    ensures exact { collector.old.gc.seat.me.0.vm.stored ≡ false
+        → NameTheSame (numbers roots.old ++ collector.old.gc.seat.me.0.gc.handed)
+        (numbers roots.old) → IsExact (heap_of collector.old.gc.seat.me.0.vm)
         (heap_of collector.new.gc.seat.me.0.vm) roots.old roots.new }
     ensures quiet { IsQuiet (grants_of collector.new.gc.seat.me.0.vm) }
     ensures fresh { (address : ℕ)
@@ -135,7 +149,72 @@ pub fn joined_end_cycle<W: Words>(
     }
 }
 
+/// A whole cycle, by a seat that has both sides, where none is open and cycles are left: just what
+/// the roots reach is moved, and they are renamed. No object may be filled then. False: nothing has
+/// changed.
+pub fn joined_whole_cycle<W: Words>(
+    collector: &mut Collector<W>,
+    mirror: &mut Mirror,
+    roots: &mut [Word],
+) -> bool
+    requires sits { Sits (W.id collector.old.gc.table).words collector.old.gc.seat.me mirror.old }
+    requires values { AreValues (heap_of collector.old.gc.seat.me.0.vm) roots.old }
+    ensures sits { Sits (W.id collector.new.gc.table).words collector.new.gc.seat.me mirror.new }
+    ensures same { W.id collector.new.gc.table ≡ W.id collector.old.gc.table }
+    ensures answer { result ≡ may_open (is_open collector.old.gc.seat.me.0.vm)
+        collector.old.gc.seat.me.0.vm.cycle }
+    ensures flips { collector.new.gc.seat.me.0.vm.cycle
+        ≡ one_more_if result collector.old.gc.seat.me.0.vm.cycle }
+    ensures exact { result ≡ true → IsExact (heap_of collector.old.gc.seat.me.0.vm)
+        (heap_of collector.new.gc.seat.me.0.vm) roots.old roots.new }
+    ensures quiet { result ≡ true → IsQuiet (grants_of collector.new.gc.seat.me.0.vm) }
+    ensures fresh { result ≡ true → (address : ℕ)
+        → (grants_of collector.new.gc.seat.me.0.vm).fresh address ≡ false }
+    ensures heap { result ≡ false → heap_of collector.new.gc.seat.me.0.vm
+        ≡ heap_of collector.old.gc.seat.me.0.vm }
+    ensures grants { result ≡ false → grants_of collector.new.gc.seat.me.0.vm
+        ≡ grants_of collector.old.gc.seat.me.0.vm }
+    ensures roots { result ≡ false → roots.new ≡ roots.old }
+{
+    // So outside a cycle no roots are known to be noted.
+    collector.gc.meet(mirror);
+    let gc = &mut collector.gc;
+    if !mirror.open_cycle(&mut gc.table, &mut gc.seat) {
+        return false;
+    }
+    joined_end_cycle(collector, mirror, roots);
+    true
+}
+
 impl Collector {
+    /// A whole cycle, where none is open and cycles are left: just what the roots reach is moved,
+    /// and they are renamed. No object may be filled then. False: nothing has changed.
+    pub fn whole_cycle(&mut self, vm: &mut VmSeat, roots: &mut [Word]) -> bool
+        requires same { vm.old.seat.table_id ≡ self.old.gc.seat.table_id }
+        requires values { AreValues (heap_of vm.old.seat.me.0.vm) roots.old }
+        ensures answer { result ≡ may_open (is_open vm.old.seat.me.0.vm)
+            vm.old.seat.me.0.vm.cycle }
+        ensures flips { vm.new.seat.me.0.vm.cycle
+            ≡ one_more_if result vm.old.seat.me.0.vm.cycle }
+        ensures exact { result ≡ true → IsExact (heap_of vm.old.seat.me.0.vm)
+            (heap_of vm.new.seat.me.0.vm) roots.old roots.new }
+        ensures quiet { result ≡ true → IsQuiet (grants_of vm.new.seat.me.0.vm) }
+        ensures fresh { result ≡ true → (address : ℕ)
+            → (grants_of vm.new.seat.me.0.vm).fresh address ≡ false }
+        ensures heap { result ≡ false
+            → heap_of vm.new.seat.me.0.vm ≡ heap_of vm.old.seat.me.0.vm }
+        ensures grants { result ≡ false
+            → grants_of vm.new.seat.me.0.vm ≡ grants_of vm.old.seat.me.0.vm }
+        ensures roots { result ≡ false → roots.new ≡ roots.old }
+        ensures same { (self.new.gc.seat.table_id ≡ self.old.gc.seat.table_id)
+            × (vm.new.seat.table_id ≡ vm.old.seat.table_id) }
+    {
+        join(&vm.table, &mut vm.seat, &mut self.gc.seat);
+        let made = joined_whole_cycle(self, &mut vm.mirror, roots);
+        part(&vm.table, &mut vm.seat, &mut self.gc.seat);
+        made
+    }
+
     /// Ends the open cycle, whatever is left to do: all logs are closed and drained, the roots are
     /// copied, and the spaces are exchanged. No object may be filled then.
     pub fn end_cycle(&mut self, vm: &mut VmSeat, roots: &mut [Word])

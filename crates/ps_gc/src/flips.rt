@@ -7,18 +7,19 @@ ghost use Rattle.ps_core_parts.specs.Objects.{log_of, values_have_replicas, valu
 ghost use Rattle.ps_core_parts.specs.Steps.{is_open, knows_open, vm_after, gc_after};
 ghost use Rattle.ps_parts_memory.specs.Memory.{heap_of, grants_of};
 ghost use Rattle.ps_parts_memory.specs.Stores.{numbers};
-ghost use Rattle.ps_flips.specs.Collected.{IsCollected};
+ghost use Rattle.ps_flips.specs.Collected.{IsCollected, IsExact};
 ghost use Rattle.ps_flips.specs.Flips.{AfterFlip};
-ghost use Rattle.ps_table.specs.Events.{gc_did_all, root_looks};
+ghost use Rattle.ps_table.specs.Events.{OnlyLooks, gc_did_all, root_looks};
 ghost use Rattle.ps_table.specs.Mirrored.{Mirrors, Sits};
 ghost use Rattle.ps_table.specs.Shown.{AreJoined, BothDo, BothRun, both_did};
+ghost use Rattle.ps_core_laws.specs.Reach.{NameTheSame};
 ghost use Rattle.ps_gc.specs.Events.{AreKnown};
 ghost use Rattle.ps_gc.specs.Flipping.{Answers, MayFlip};
 
 use crate::collector::Collector;
 use crate::taken::Taken;
 use atomic_table::Seat;
-use ps_record::{SLOTS, SPACES_START};
+use ps_record::SLOTS;
 use ps_table::{GcSeat, Mirror, View, VmSeat, Words, join, part};
 use ps_word::words::Word;
 
@@ -82,8 +83,8 @@ fn have_replicas<W: Words>(gc: &mut GcSeat<W>, mirror: &Mirror, roots: &[Word]) 
     ensures answer { result ≡ values_have_replicas gc.old.seat.me.0.gc.pairs (numbers roots.now) }
     ensures parts { (gc.new.seat.me.0.vm ≡ gc.old.seat.me.0.vm)
         × (gc.new.seat.me.0.gc ≡ gc.old.seat.me.0.gc) }
-    ensures steps { (length gc.new.seat.me.0.vm_events
-        ≤ length gc.old.seat.me.0.vm_events + length roots.now)
+    ensures steps { OnlyLooks (length roots.now) gc.old.seat.me.0.vm_events
+        gc.new.seat.me.0.vm_events
         × (gc.new.seat.me.0.gc_events ≡ gc.old.seat.me.0.gc_events) }
 {
     for root in roots {
@@ -134,16 +135,20 @@ impl<W: Words> Collector<W> {
             self.old.gc.seat.me.0.vm (CycleStore (numbers roots.old))) }
         ensures moved { IsCollected (heap_of self.old.gc.seat.me.0.vm)
             (heap_of self.new.gc.seat.me.0.vm) roots.old roots.new }
+        ensures exact { self.old.gc.seat.me.0.vm.stored ≡ false
+            → NameTheSame self.old.gc.seat.me.0.gc.handed (numbers roots.old)
+            → IsExact (heap_of self.old.gc.seat.me.0.vm)
+            (heap_of self.new.gc.seat.me.0.vm) roots.old roots.new }
         ensures grants { AfterFlip (grants_of self.old.gc.seat.me.0.vm)
             (grants_of self.new.gc.seat.me.0.vm) (heap_of self.new.gc.seat.me.0.vm) }
-        ensures steps { (length self.new.gc.seat.me.0.vm_events
-            ≡ length self.old.gc.seat.me.0.vm_events + 1)
-            × (length self.new.gc.seat.me.0.gc_events
-            ≤ length self.old.gc.seat.me.0.gc_events + length roots.old + 1) }
+        ensures steps { OnlyLooks 1 self.old.gc.seat.me.0.vm_events
+            self.new.gc.seat.me.0.vm_events
+            × OnlyLooks (length roots.old + 1) self.old.gc.seat.me.0.gc_events
+            self.new.gc.seat.me.0.gc_events }
     {
         self.gc.store_cycle(mirror, roots, self.to.end);
-        let low = SPACES_START + (self.to.cycle as u64 % 2) * self.to.space;
         self.to.cycle += 1;
+        let low = self.to.low();
         self.to.end = low;
         self.to.at = low;
         self.to.field = 0;
@@ -168,17 +173,23 @@ impl<W: Words> Collector<W> {
             self.old.gc.seat.me.0.vm (CycleStore (numbers roots.old))) }
         ensures moved { result ≡ Flip.Done → IsCollected (heap_of self.old.gc.seat.me.0.vm)
             (heap_of self.new.gc.seat.me.0.vm) roots.old roots.new }
+        // Where nothing was stored in the cycle, and the roots are those handed over in it, just
+        // what they reach was moved.
+        ensures exact { result ≡ Flip.Done → self.old.gc.seat.me.0.vm.stored ≡ false
+            → NameTheSame self.old.gc.seat.me.0.gc.handed (numbers roots.old)
+            → IsExact (heap_of self.old.gc.seat.me.0.vm)
+            (heap_of self.new.gc.seat.me.0.vm) roots.old roots.new }
         ensures grants { result ≡ Flip.Done → AfterFlip (grants_of self.old.gc.seat.me.0.vm)
             (grants_of self.new.gc.seat.me.0.vm) (heap_of self.new.gc.seat.me.0.vm) }
         ensures kept { (why : Unready) → result ≡ Flip.NotReady why → (roots.new ≡ roots.old)
             × (self.new.gc.seat.me.0.vm ≡ self.old.gc.seat.me.0.vm)
             × (self.new.gc.seat.me.0.gc ≡ self.old.gc.seat.me.0.gc) }
         // A look at the cycle word, one for each root, one more for each where it flips, and the
-        // flip, which both sides make.
-        ensures steps { (length self.new.gc.seat.me.0.vm_events
-            ≤ length self.old.gc.seat.me.0.vm_events + length roots.old + 2)
-            × (length self.new.gc.seat.me.0.gc_events
-            ≤ length self.old.gc.seat.me.0.gc_events + length roots.old + 1) }
+        // flip, which both sides make; so no field is stored.
+        ensures steps { OnlyLooks (length roots.old + 2) self.old.gc.seat.me.0.vm_events
+            self.new.gc.seat.me.0.vm_events
+            × OnlyLooks (length roots.old + 1) self.old.gc.seat.me.0.gc_events
+            self.new.gc.seat.me.0.gc_events }
     {
         if !all_closed(mirror, &self.gc.seat) {
             return Flip::NotReady(Unready::LogOpen);
@@ -232,17 +243,21 @@ impl Collector {
             vm.old.seat.me.0.vm (CycleStore (numbers roots.old))) }
         ensures moved { result ≡ Flip.Done → IsCollected (heap_of vm.old.seat.me.0.vm)
             (heap_of vm.new.seat.me.0.vm) roots.old roots.new }
+        ensures exact { result ≡ Flip.Done → vm.old.seat.me.0.vm.stored ≡ false
+            → NameTheSame self.old.gc.seat.me.0.gc.handed (numbers roots.old)
+            → IsExact (heap_of vm.old.seat.me.0.vm)
+            (heap_of vm.new.seat.me.0.vm) roots.old roots.new }
         ensures grants { result ≡ Flip.Done → AfterFlip (grants_of vm.old.seat.me.0.vm)
             (grants_of vm.new.seat.me.0.vm) (heap_of vm.new.seat.me.0.vm) }
         ensures kept { (why : Unready) → result ≡ Flip.NotReady why → (roots.new ≡ roots.old)
             × (vm.new.seat.me.0.vm ≡ vm.old.seat.me.0.vm)
             × (self.new.gc.seat.me.0.gc ≡ self.old.gc.seat.me.0.gc) }
         // A look at the cycle word, one for each root, one more for each where it flips, and the
-        // flip, which both seats make.
-        ensures steps { (length vm.new.seat.me.0.vm_events
-            ≤ length vm.old.seat.me.0.vm_events + length roots.old + 2)
-            × (length self.new.gc.seat.me.0.gc_events
-            ≤ length self.old.gc.seat.me.0.gc_events + length roots.old + 1) }
+        // flip, which both seats make; so no field is stored.
+        ensures steps { OnlyLooks (length roots.old + 2) vm.old.seat.me.0.vm_events
+            vm.new.seat.me.0.vm_events
+            × OnlyLooks (length roots.old + 1) self.old.gc.seat.me.0.gc_events
+            self.new.gc.seat.me.0.gc_events }
         ensures same { (self.new.gc.seat.table_id ≡ self.old.gc.seat.table_id)
             × (vm.new.seat.table_id ≡ vm.old.seat.table_id) }
     {

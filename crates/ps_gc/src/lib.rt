@@ -17,6 +17,7 @@ mod copies;
 mod drains;
 mod endings;
 mod flips;
+mod inside;
 mod replicas;
 mod scans;
 mod space;
@@ -24,8 +25,9 @@ mod taken;
 mod to_space;
 
 pub use collector::{ACTIONS_A_LOOK, Collector, Drained};
-pub use endings::joined_end_cycle;
+pub use endings::{joined_end_cycle, joined_whole_cycle};
 pub use flips::{Flip, Unready};
+pub use inside::Inside;
 pub use space::{CollectedSpace, SerialSpaces, SharedSpaces};
 pub use taken::Taken;
 pub use to_space::ToSpace;

@@ -6,20 +6,16 @@ ghost use Rattle.std.specs.Prelude.{◌≡◌, ◌<◌, ◌+◌, ◌-◌, ◌^�
 ghost use Rattle.ps_record.specs.Format.{slots};
 ghost use Rattle.ps_mem.specs.Heap.{empty_heap};
 ghost use Rattle.ps_mem.specs.Bounded.{bounded_space};
-ghost use Rattle.ps_mem.specs.Shows.{AreValues};
-ghost use Rattle.ps_core_parts.specs.Objects.{all_filled, values_have_replicas};
+ghost use Rattle.ps_core_parts.specs.Objects.{all_filled};
 ghost use Rattle.ps_core_parts.specs.Steps.{is_open, knows_open};
 ghost use Rattle.ps_core_laws.specs.Runs.{IsSpace};
-ghost use Rattle.ps_parts_memory.specs.Laws.{AfterOpen};
 ghost use Rattle.ps_parts_memory.specs.Memory.{heap_of, grants_of};
-ghost use Rattle.ps_parts_memory.specs.Stores.{numbers};
-ghost use Rattle.ps_flips.specs.Collected.{IsCollected, IsQuiet, may_open, one_more_if};
 ghost use Rattle.ps_table.specs.Mirrored.{KeepsVm, Sits};
 ghost use Rattle.ps_gc.specs.Keeps.{taken_in_all};
 
 use crate::collector::{ACTIONS_A_LOOK, Collector, Drained};
-use crate::endings::{hand, joined_end_cycle};
 use ps_flips::collected::{CollectedMemory, Counts};
+use ps_flips::sides::LoggedMemory;
 use ps_language::kinds::Kind;
 use ps_mem::{Memory, NeedFault, Permit, SLOTS};
 use ps_parts_memory::Closing;
@@ -189,63 +185,14 @@ impl<W: Words> Memory for CollectedSpace<W> {
     }
 }
 
-impl<W: Words> CollectedMemory for CollectedSpace<W> {
-    ghost flips = { λ s. s.collector.gc.seat.me.0.vm.cycle };
-
+impl<W: Words> LoggedMemory for CollectedSpace<W> {
     fn is_open(&mut self) -> bool {
         self.mirror.is_open(&self.collector.gc.seat)
     }
 
-    /// As the memory's; what the roots refer to has replicas then.
-    fn open_cycle(&mut self, roots: &[Word]) -> bool
-        requires values { AreValues (heap_of self.old.collector.gc.seat.me.0.vm) roots.now }
-        ensures answer { result ≡ may_open (is_open self.old.collector.gc.seat.me.0.vm)
-            self.old.collector.gc.seat.me.0.vm.cycle }
-        ensures heap { heap_of self.new.collector.gc.seat.me.0.vm
-            ≡ heap_of self.old.collector.gc.seat.me.0.vm }
-        ensures flips { self.new.collector.gc.seat.me.0.vm.cycle
-            ≡ self.old.collector.gc.seat.me.0.vm.cycle }
-        ensures opened { result ≡ true → AfterOpen (grants_of self.old.collector.gc.seat.me.0.vm)
-            (grants_of self.new.collector.gc.seat.me.0.vm) }
-        ensures copied { result ≡ true → values_have_replicas
-            self.new.collector.gc.seat.me.0.gc.pairs (numbers roots.now) ≡ true }
-        ensures same { result ≡ false → grants_of self.new.collector.gc.seat.me.0.vm
-            ≡ grants_of self.old.collector.gc.seat.me.0.vm }
-    {
+    fn open_cycle(&mut self) -> bool {
         let gc = &mut self.collector.gc;
-        if !self.mirror.open_cycle(&mut gc.table, &mut gc.seat) {
-            return false;
-        }
-        hand(&mut self.collector, &mut self.mirror, roots);
-        true
-    }
-
-    /// As the memory's. One action of eight looks at a log, the others scan; where no field is left
-    /// they look at logs too. False: each log was looked at in a row, nothing was found, and no
-    /// field is unfilled. It is false too where the collector knows of no open cycle.
-    fn work(&mut self, actions: u32) -> bool
-        ensures heap { heap_of self.new.collector.gc.seat.me.0.vm
-            ≡ heap_of self.old.collector.gc.seat.me.0.vm }
-        ensures grants { grants_of self.new.collector.gc.seat.me.0.vm
-            ≡ grants_of self.old.collector.gc.seat.me.0.vm }
-        ensures flips { self.new.collector.gc.seat.me.0.vm.cycle
-            ≡ self.old.collector.gc.seat.me.0.vm.cycle }
-        ensures filled { result ≡ false
-            → knows_open self.new.collector.gc.seat.me.0.gc ≡ true
-            → all_filled self.new.collector.gc.seat.me.0.gc.pairs ≡ true }
-    {
-        if !self.collector.begin_cycle() {
-            return false;
-        }
-        let looks = actions / ACTIONS_A_LOOK;
-        let left = actions - looks;
-        self.drain_some(looks);
-        if self.scan_some(left) {
-            return true;
-        }
-        // The scan that found no field was an action too, and so may be the one below.
-        self.drain_some(left.saturating_sub(2));
-        self.idle < SLOTS || self.collector.scan_one()
+        self.mirror.open_cycle(&mut gc.table, &mut gc.seat)
     }
 
     fn close_log(&mut self, slot: u32) -> Closing {
@@ -253,41 +200,10 @@ impl<W: Words> CollectedMemory for CollectedSpace<W> {
         self.mirror.close(&mut gc.table, &mut gc.seat, slot)
     }
 
-    /// As the memory's; where no cycle is open nothing changes.
-    fn end_cycle(&mut self, roots: &mut [Word]) -> bool
-        requires values { AreValues (heap_of self.old.collector.gc.seat.me.0.vm) roots.old }
-        ensures none { is_open self.old.collector.gc.seat.me.0.vm ≡ false
-            → (result ≡ false) × (self.new ≡ self.old) }
-        ensures flips { self.new.collector.gc.seat.me.0.vm.cycle
-            ≡ one_more_if result self.old.collector.gc.seat.me.0.vm.cycle }
-        ensures moved { result ≡ true → IsCollected (heap_of self.old.collector.gc.seat.me.0.vm)
-            (heap_of self.new.collector.gc.seat.me.0.vm) roots.old roots.new }
-        ensures ended { result ≡ is_open self.old.collector.gc.seat.me.0.vm }
-        ensures quiet { IsQuiet (grants_of self.new.collector.gc.seat.me.0.vm) }
-        ensures fresh { result ≡ true → (address : ℕ)
-            → (grants_of self.new.collector.gc.seat.me.0.vm).fresh address ≡ false }
-        ensures room { result ≡ true → (grants_of self.new.collector.gc.seat.me.0.vm).words
-            + (heap_of self.new.collector.gc.seat.me.0.vm).used
-            ≡ (heap_of self.new.collector.gc.seat.me.0.vm).space.size }
-        ensures heap { result ≡ false → heap_of self.new.collector.gc.seat.me.0.vm
-            ≡ heap_of self.old.collector.gc.seat.me.0.vm }
-        ensures grants { result ≡ false → grants_of self.new.collector.gc.seat.me.0.vm
-            ≡ grants_of self.old.collector.gc.seat.me.0.vm }
-        ensures roots { result ≡ false → roots.new ≡ roots.old }
-    {
-        if !self.mirror.cycle_open {
-            return false;
-        }
-        joined_end_cycle(&mut self.collector, &mut self.mirror, roots);
-        true
-    }
-
     /// As the memory's: the cycle word, and the sum of the heads, at most 2^64 - 1.
     fn counts(&mut self) -> Counts
         ensures flipped { result.flips ≡ self.old.collector.gc.seat.me.0.vm.cycle }
         ensures cycle { result.flips ≡ self.old.collector.gc.seat.me.0.gc.cycle }
-        ensures flips { self.new.collector.gc.seat.me.0.vm.cycle
-            ≡ self.old.collector.gc.seat.me.0.vm.cycle }
         ensures taken { result.taken
             ≡ min (taken_in_all self.old.collector.gc.seat.me.0.gc) (2 ^ 64 - 1) }
         ensures heap { heap_of self.new.collector.gc.seat.me.0.vm
@@ -308,4 +224,32 @@ impl<W: Words> CollectedMemory for CollectedSpace<W> {
     }
 
     ghost bounded = { λ s. refl };
+}
+
+impl<W: Words> CollectedMemory for CollectedSpace<W> {
+    /// As the memory's. One action of eight looks at a log, the others scan; where no field is left
+    /// they look at logs too. False: each log was looked at in a row, nothing was found, and no
+    /// field is unfilled. It is false too where the collector knows of no open cycle.
+    fn work(&mut self, actions: u32) -> bool
+        ensures heap { heap_of self.new.collector.gc.seat.me.0.vm
+            ≡ heap_of self.old.collector.gc.seat.me.0.vm }
+        ensures grants { grants_of self.new.collector.gc.seat.me.0.vm
+            ≡ grants_of self.old.collector.gc.seat.me.0.vm }
+        ensures filled { result ≡ false
+            → knows_open self.new.collector.gc.seat.me.0.gc ≡ true
+            → all_filled self.new.collector.gc.seat.me.0.gc.pairs ≡ true }
+    {
+        if !self.collector.begin_cycle() {
+            return false;
+        }
+        let looks = actions / ACTIONS_A_LOOK;
+        let left = actions - looks;
+        self.drain_some(looks);
+        if self.scan_some(left) {
+            return true;
+        }
+        // The scan that found no field was an action too, and so may be the one below.
+        self.drain_some(left.saturating_sub(2));
+        self.idle < SLOTS || self.collector.scan_one()
+    }
 }

@@ -26,7 +26,8 @@ use Rattle.ps_interpreter.specs.Courses.{Held, held, course_in, has_steps, cours
 use Rattle.ps_interpreter.specs.Interprets.{status_in, own_turn, asks_in}
 use Rattle.ps_interpreter.specs.Needs.{alone_turn_needs, machine_turn, alone_needs}
 use Rattle.ps_interpreter.specs.Steps.{StepsTo, StepsFrom, Steps}
-use Rattle.ps_interpreter.proofs.Reached.{IsLeft, left_by, leaves_whatever, IsMade}
+use Rattle.ps_language.proofs.LeftTurns.{IsLeft, left_by, leaves_whatever}
+use Rattle.ps_interpreter.proofs.Reached.{IsMade}
 use Rattle.ps_interpreter.proofs.Made.{next, came, next_lent, made_at, steady_after}
 use Rattle.ps_interpreter.proofs.Unmade.{at_same, held_up}
 use Rattle.ps_interpreter.proofs.Undefining.{needs_same as undefined_needs_same}

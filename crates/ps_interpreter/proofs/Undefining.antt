@@ -21,7 +21,8 @@ use Rattle.ps_interpreter.specs.Alone.{alone_reached, alone_step}
 use Rattle.ps_interpreter.specs.Courses.{held, course_after, IsCalling, IsAtBy, IsSteady}
 use Rattle.ps_interpreter.specs.Needs.{alone_turn_needs, machine_turn, alone_needs}
 use Rattle.ps_interpreter.specs.Steps.{StepsFrom, Steps}
-use Rattle.ps_interpreter.proofs.Reached.{IsLeft, left_by, made_by}
+use Rattle.ps_language.proofs.LeftTurns.{IsLeft, left_by}
+use Rattle.ps_interpreter.proofs.Reached.{made_by}
 use Rattle.ps_interpreter.proofs.Made.{next, came, made_at, steady_after}
 use Rattle.ps_interpreter.proofs.Unmade.{at_same, held_up}
 

@@ -21,6 +21,12 @@ full_table : printed (codes "31 {mark {} fork pop} repeat (ok) = mark {} fork") 
 unfolding evaluation
 full_table = refl
 
+-- what the procedure allows comes before the limit
+full_table_unreadable : printed (codes "31 {mark {} fork pop} repeat mark {} noaccess fork")
+    (turns 1 170 ∷ []) ≡ codes "%%[ Error: invalidaccess; OffendingCommand: fork ]%%\n"
+unfolding evaluation
+full_table_unreadable = refl
+
 -- nothing is left of a context that was joined
 joined_context : context_at (world (codes "mark {} fork join") (turns 1 4 ∷ [])) 2 ≡ None
 unfolding evaluation

@@ -8,8 +8,11 @@ pub mod EqualityLaws
 mod ErrorExamples
 pub mod Evaluation
 pub mod ExampleScenes
+pub mod Exists
 pub mod Leaving
 pub mod LeftContexts
+pub mod LeftTurns
+mod LiveExamples
 pub mod LiveLaws
 pub mod LowestDeeds
 pub mod LowestRows
@@ -35,6 +38,7 @@ pub mod StringEnds
 pub mod StringLaw
 pub mod StringPlaces
 pub mod Strings
+pub mod Taken
 pub mod WordForms
 pub mod Words
 pub mod WorldLaws

@@ -9,7 +9,7 @@ use Rattle.ps_language.specs.declared.errors.ErrorName.TheVariants.{DictStackOve
 use Rattle.ps_language.specs.Value.{What, name_value, operator_value, dictionary_value, Value, Dictionary, Object, dictionary_object}
 use Rattle.ps_language.specs.World.{from_program, text_frame, running, Context, World}
 use Rattle.ps_language.specs.declared.schedules.Entry.{Entry}
-use Rattle.ps_language.specs.Schedules.{Move, moves, count_of}
+use Rattle.ps_language.specs.Schedules.{Move, moves}
 use Rattle.ps_language.specs.OperatorNames.{operator_name}
 use Rattle.ps_language.specs.OperatorList.{every_operator}
 use Rattle.ps_language.specs.Readers.{literal, executable, null, boolean, literal_name}
@@ -195,8 +195,3 @@ IsFaulted now = IsTrue (is_all_over now && not (nat_eq now.error_lines 0))
 -- a context is left, and none is ready
 abbrev pub IsAllWaiting : World → Type 0
 IsAllWaiting now = IsTrue (not (is_all_over now) && not (is_some_ready now))
-
--- a context is ready, and the steps are used up
-abbrev pub IsStepsOut : World → (schedule : List Entry) → (budget : ℕ) → Type 0
-IsStepsOut now schedule budget =
-    IsTrue (not (is_all_over now) && is_some_ready now && nat_eq (count_of schedule) budget)

@@ -1,18 +1,19 @@
 //! What holds of every step and of every schedule.
 
-ghost use Rattle.std.specs.Prelude.{◌≡◌, ℕ, ℤ, ◌<◌, ◌++◌, true, false, List, [], ◌∷◌, Option, replicate};
-ghost use Rattle.ps_language.specs.Effect.{Around, Scene};
+ghost use Rattle.std.specs.Prelude.{◌≡◌, ℕ, ℤ, ◌<◌, ◌≤◌, ◌++◌, Some, true, false, List, [], ◌∷◌, Option, replicate};
+ghost use Rattle.ps_language.specs.Contexts.{context_at};
+ghost use Rattle.ps_language.specs.Effect.{Around, Calling, Scene};
 ghost use Rattle.ps_language.specs.Keeping.{Keeps, stays};
 ghost use Rattle.ps_language.specs.Live.{Live};
 ghost use Rattle.ps_language.specs.Locks.{is_ready};
 ghost use Rattle.ps_language.specs.Lowest.{HaveFirstDictionaries};
-ghost use Rattle.ps_language.specs.Machines.{turn_as, after_turn, erred};
+ghost use Rattle.ps_language.specs.Machines.{turn_as, after_turn, erred, own_step, leaves_to_world};
 ghost use Rattle.ps_language.specs.Objects.{lacks_room, made_between};
 ghost use Rattle.ps_language.specs.Schedules.{Move, moves, plain_move, added, is_longest, Begins};
-ghost use Rattle.ps_language.specs.Step.{stepped};
+ghost use Rattle.ps_language.specs.Step.{machine_of, stepped, with_machine};
 ghost use Rattle.ps_language.specs.StepValues.{tries};
 ghost use Rattle.ps_language.specs.Value.{Value};
-ghost use Rattle.ps_language.specs.World.{Machine, Status, World};
+ghost use Rattle.ps_language.specs.World.{Context, Machine, Status, World};
 ghost use Rattle.ps_language.specs.Worlds.{starting_world, after_move, after_moves, recorded, world};
 ghost use Rattle.ps_language.specs.declared.errors.ErrorName.TheVariants.{VmError};
 ghost use Rattle.ps_language.specs.declared.schedules.Entry.{Entry};
@@ -50,9 +51,15 @@ pub fn language_laws()
     ensures begins { (before after : List Entry) (entry : Entry) (few : ℕ) (part : List Entry)
         → moves part ≡ replicate few (plain_move entry.context) → few < entry.steps
         → Begins (before ++ part) (before ++ entry ∷ after) }
-    // What a world needs is one number, and at the start it is 528 words.
+    // What a world needs is one number, which there is, and at the start it is 528 words.
     ensures live { (now : World) (m n : ℕ) → Live now m → Live now n → m ≡ n }
     ensures start { (program : List ℕ) → Live (starting_world program) 528 }
+    ensures exists { (now : World) → (words : ℕ) × Live now words }
+    // No more lives once the element of an operator that is left to the world is taken.
+    ensures taken { (now : World) (identifier : ℕ) (context : Context) (calling : Calling)
+        (left : Machine) (m n : ℕ) → context_at now identifier ≡ Some context
+        → own_step now.program false (machine_of now context) ≡ leaves_to_world calling left
+        → Live (with_machine identifier now left) m → Live now n → m ≤ n }
     // Userdict above systemdict are the lowest dictionaries of each context, after every schedule.
     ensures lowest { (program : List ℕ) (steps : List Move)
         → HaveFirstDictionaries (after_moves (starting_world program) steps) }

@@ -40,6 +40,7 @@ fn of_mutator(name: &str, numbers: &[u64]) -> Option<Event> {
             place: first,
             word: second,
         }),
+        "clear-load" => Some(Event::ClearLoad),
         "clear" => Some(Event::ClearStore),
         "header" => Some(Event::HeaderStore { header: first }),
         "field" => Some(Event::FieldStore {

@@ -12,7 +12,7 @@ use Rattle.ps_mem.proofs.HeapLemmas.{standing_at}
 use Rattle.ps_mem.proofs.HeapWalks.{fields_within, field-read, heap-written, wanting-written, headers-written, behind-written, length-written}
 
 abbrev pub some_space : Space
-some_space = record { size = 0; grows = false }
+some_space = record { size = 0; grows = false; flips = 0 }
 
 take_front : {A : Type 0} (words : List A) (used j n : ℕ) → j + n ≤ used → take n (drop j (take used words)) ≡ take n (drop j words)
 take_front words used j n fits =

@@ -5,7 +5,7 @@ use Rattle.ps_word.specs.Headers.{birth_limit}
 use Rattle.ps_mem.specs.Heap.{Space, Grants, unlogged_records}
 
 abbrev pub bounded_space : ℕ → Space
-bounded_space size = record { size = size; grows = false }
+bounded_space size = record { size = size; grows = false; flips = 0 }
 
 -- the logs of the slots: whether a cycle is open, how many records each has places for, how many it
 -- has put, and which are closed

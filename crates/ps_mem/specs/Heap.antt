@@ -16,10 +16,11 @@ pub record Standing : Type 0 where
   pub birth : ℕ
   pub fields : List Word
 
--- the words that there are, and whether more can be had
+-- the words that there are, whether more can be had, and how often what stands was moved
 pub record Space : Type 0 where
   pub size : ℕ
   pub grows : Bool
+  pub flips : ℕ
 
 -- at: the object that stands at an address; used: the words of all that stands, two for each object
 -- and its fields

@@ -5,7 +5,7 @@ use Rattle.ps_mem.specs.Heap.{Space, Grants, unlogged_records}
 
 -- at most so many words
 abbrev pub plain_space : Space
-plain_space = record { size = 16777215; grows = true }
+plain_space = record { size = 16777215; grows = true; flips = 0 }
 
 -- where there are so many words, of which so many stand, and this is the next birth number: no
 -- object ceases to be fresh, and no log is kept

@@ -1,7 +1,7 @@
 -- After each store that the mutator's part permits, and after a load, the part is that of a run.
 use Rattle.std.proofs.Common.{◌≡◌, ℕ, ◌∷◌, refl, sym, ap, ◌∙◌, subst}
 use Rattle.ps_core_parts.specs.declared.events.Event.{Event}
-use Rattle.ps_core_parts.specs.declared.events.Event.TheVariants.{VmLoad, GcLoad, TakeLoad, CopyLoad, HandOver, ClearStore, HeaderStore, FieldStore, RecordStore, EpochStore, ReplicaHeaderStore, ReplicaFieldStore, ForwardStore, HeadStore, CycleStore}
+use Rattle.ps_core_parts.specs.declared.events.Event.TheVariants.{VmLoad, GcLoad, TakeLoad, CopyLoad, HandOver, ClearLoad, ClearStore, HeaderStore, FieldStore, RecordStore, EpochStore, ReplicaHeaderStore, ReplicaFieldStore, ForwardStore, HeadStore, CycleStore}
 use Rattle.ps_core_parts.specs.declared.events.Vm.{Vm}
 use Rattle.ps_core_parts.specs.declared.events.Gc.{Gc}
 use Rattle.ps_core_parts.specs.Steps.{State, vm_after}
@@ -46,6 +46,7 @@ module _ (v : Vm) (r : VmRuns v) where
   goes_on g EpochStore own p =
       on EpochStore g (record { vm = may EpochStore p; gc = tt; both = tt }) refl refl
   goes_on g (VmLoad place word) own p = absurd own
+  goes_on g ClearLoad own p = absurd own
   goes_on g (GcLoad place word) own p = absurd own
   goes_on g (TakeLoad slot word) own p = absurd own
   goes_on g (CopyLoad a i word) own p = absurd own

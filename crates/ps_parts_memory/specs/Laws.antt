@@ -18,7 +18,7 @@ use Rattle.ps_core_parts.specs.declared.events.Vm.{Vm}
 use Rattle.ps_core_parts.specs.declared.events.Gc.{Gc}
 use Rattle.ps_core_parts.specs.Objects.{log_of}
 use Rattle.ps_core_parts.specs.Steps.{start, is_open, table_size, field_stored, vm_after, with_record}
-use Rattle.ps_core_parts.specs.Conditions.{HasRoom, VmMay}
+use Rattle.ps_core_parts.specs.Conditions.{CanClear, HasRoom, VmMay}
 use Rattle.ps_parts_memory.specs.Shown.{VmRuns, VmFinds}
 use Rattle.ps_parts_memory.specs.Memory.{heap_of, grants_of, records_left, is_shut}
 use Rattle.ps_parts_memory.specs.Stores.{number_of, numbers, fields_stored, MayStoreFields, fields_stored_down, MayStoreFieldsDown, part_made}
@@ -221,7 +221,7 @@ pub record CanMake (v : Vm) (header : ℕ) (kind : Kind) (fields : ℕ) : Type 0
 
 -- its words are cleared one by one, and then the first header is stored
 pub record MayMake (v : Vm) (header fields : ℕ) : Type 0 where
-  pub clears : (k : ℕ) → k ≤ fields → VmMay (record v { making = k }) ClearStore
+  pub clears : (k : ℕ) → k ≤ fields → CanClear (record v { making = k })
   pub stands : VmMay (record v { making = fields + 1 }) (HeaderStore header)
   pub made : (g : Gc) → vm_after (record v { making = fields + 1 }) g (HeaderStore header)
       ≡ part_made v header

@@ -21,13 +21,14 @@ standing o = record {
   fields = map word_of o.fields;
 }
 
--- the objects by their addresses; used: from the current space's lowest word to its end of use
+-- the objects by their addresses; used: from the current space's lowest word to its end of use; a
+-- flip moves what stands
 abbrev pub heap_of : Vm → Heap
 heap_of v = record {
   at = λ a. option_map standing (object_at v.objects a);
   next = v.next_birth;
   used = v.end - space_base v.space v.cycle;
-  space = bounded_space v.space;
+  space = record (bounded_space v.space) { flips = v.cycle };
 }
 
 -- ---- what is granted

@@ -4,3 +4,9 @@ pub mod Membering
 pub mod Moving
 pub mod Taking
 pub mod Putting
+pub mod Named
+pub mod Alive
+pub mod Counted
+pub mod Lives
+pub mod Back
+pub mod Whole

@@ -79,7 +79,6 @@ module _ (d : Desk) (now : Heap) (grants : Grants) (forward : Forwarding)
     steady = steady-led;
     framed = framed-led calling;
     program = refl;
-    space = moves.space;
   }
 
 -- ---- other grants
@@ -166,7 +165,6 @@ module _ (d : Desk) (grants : Grants) where
     };
     framed = granted-framed calling;
     program = refl;
-    space = refl;
   }
 
 -- ---- one change after another
@@ -177,7 +175,6 @@ keeps-then a b c first then = record {
   steady = λ steady. then.steady (first.steady steady);
   framed = λ framed. then.framed (first.framed framed);
   program = then.program ∙ first.program;
-  space = then.space ∙ first.space;
 }
 
 -- ---- contexts over a memory

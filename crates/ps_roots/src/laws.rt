@@ -5,11 +5,13 @@ ghost use Rattle.ps_mem.specs.Heap.{Heap, Grants};
 ghost use Rattle.ps_mem.specs.Shows.{AreValues};
 ghost use Rattle.ps_mem.specs.Stands.{IsAddressed};
 ghost use Rattle.ps_flips.specs.Moves.{Forwarding, IsMovedTo, HaveReplicas};
-ghost use Rattle.ps_contexts.specs.Desks.{Desk, IsSteady};
+ghost use Rattle.ps_flips.specs.Reached.{MovesReached};
+ghost use Rattle.ps_language.specs.World.{World};
+ghost use Rattle.ps_contexts.specs.Desks.{Desk, IsSteady, IsWorld};
 ghost use Rattle.ps_world.specs.declared.worlds.Calling.{Calling as ACalling};
 ghost use Rattle.ps_world.specs.Held.{held};
 ghost use Rattle.ps_roots.specs.Formats.{AreInFormat};
-ghost use Rattle.ps_roots.specs.Moved.{KeepsWorlds};
+ghost use Rattle.ps_roots.specs.Moved.{KeepsWorlds, UsesLive};
 ghost use Rattle.ps_roots.specs.Renamed.{moved_desk};
 ghost use Rattle.ps_roots.specs.Roots.{roots_in};
 
@@ -26,6 +28,11 @@ pub fn root_laws()
         (calling : Option ACalling) → IsMovedTo d.heap now forward
         → HaveReplicas forward (roots_in d.members) → IsAddressed d.heap → IsSteady d
         → KeepsWorlds (held d calling) (held (moved_desk d now grants forward) calling) }
+    // After a move of just what the roots reach, what is used is what lives in their world.
+    ensures lives { (d : Desk) (now : Heap) (forward : Forwarding) (w : World)
+        → IsMovedTo d.heap now forward → HaveReplicas forward (roots_in d.members)
+        → MovesReached d.heap forward (roots_in d.members) → IsAddressed d.heap → IsSteady d
+        → IsWorld d w → UsesLive now w }
     // Under other grants, as where a cycle is opened.
     ensures granted { (d : Desk) (grants : Grants) (calling : Option ACalling)
         → KeepsWorlds (held d calling) (held (record d { grants = grants }) calling) }

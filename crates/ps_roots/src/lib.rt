@@ -11,10 +11,9 @@
 
 mod collecting;
 pub mod laws;
-pub mod lent;
 mod reading;
 mod writing;
 
-pub use collecting::{Roots, end_cycle, open_cycle, stop_all};
+pub use collecting::{Roots, end_cycle, hand_over, open_cycle, stop_all, try_flip, whole_cycle};
 pub use reading::{ROOT_LIMIT, read_roots};
 pub use writing::write_roots;

@@ -3,7 +3,7 @@
 use crate::fakes::{deeds_in, steps_in};
 use crate::rows::Verdict;
 use crate::runs::CONFIG;
-use ps_gc::SerialSpaces;
+use ps_gc::{Inside, SerialSpaces};
 use ps_ops::failure::NotMade;
 use ps_vault::{Closing, Config, Roots, Told, Vault};
 use std::alloc::{AllocError, Global};
@@ -33,9 +33,10 @@ pub fn held_up(
     let mut roots = Roots::new(alloc)?;
     let (steps, deeds) = (steps_in(alloc), deeds_in(alloc));
     let mut vault = Vault::new(alloc, memory, steps, deeds, program, keys, 4)?;
-    if vault.is_open() || !vault.open_cycle(&mut roots) {
+    if vault.is_open() || !vault.open_cycle() {
         return Ok(Verdict::Different);
     }
+    vault.hand_over(&mut Inside, &mut roots);
     let first = vault.close_log(SLOT);
     let again = vault.close_log(SLOT);
     vault.reserve_entries()?;
@@ -44,7 +45,7 @@ pub fn held_up(
     }
     let held = vault.advance(FIRST, AMPLE, true);
     let stays_open = vault.is_open();
-    let has_ended = vault.end_cycle(&mut roots);
+    let has_ended = vault.end_cycle(&mut Inside, &mut roots);
     let is_shut = !vault.is_open();
     if vault.caller().is_some() || !vault.is_ready(FIRST) {
         return Ok(Verdict::Different);

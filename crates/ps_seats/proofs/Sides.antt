@@ -5,13 +5,10 @@ use Rattle.ps_word.specs.declared.words.Word.{Word}
 use Rattle.ps_word.specs.Readers.{is_reference}
 use Rattle.ps_core_parts.specs.declared.events.Gc.{Gc}
 use Rattle.ps_core_parts.specs.declared.events.Vm.{Vm}
-use Rattle.ps_core_parts.specs.declared.events.Event.TheVariants.{VmLoad, RecordStore}
+use Rattle.ps_core_parts.specs.declared.events.Event.TheVariants.{VmLoad}
 use Rattle.ps_core_laws.proofs.HeapTests.{bool_cases, and_parts, and_both}
-use Rattle.ps_parts_memory.specs.Memory.{grants_of, is_shut}
+use Rattle.ps_parts_memory.specs.Memory.{grants_of}
 use Rattle.ps_parts_memory.specs.Stores.{numbers}
-use Rattle.ps_parts_memory.specs.declared.closing.Closing.{Closing}
-use Rattle.ps_parts_memory.specs.declared.closing.Closing.TheVariants.{LogFull, Closed}
-use Rattle.ps_record.specs.declared.Record.TheVariants.{Close}
 use Rattle.ps_table.specs.declared.plays.View.{View}
 use Rattle.ps_table.specs.Events.{did_all, head_loads}
 use Rattle.ps_table.specs.Shown.{vm_did}
@@ -60,21 +57,6 @@ pub heads_only : (m : View) (slot : ℕ) (ns : List ℕ) →
     let v = (did_all m (head_loads slot ns)).vm in v ≡ record m.vm { heads = v.heads }
 heads_only m slot [] = refl
 heads_only m slot (n ∷ ns) = heads_only (vm_did m (VmLoad (2 + slot) n)) (slot + 1) ns
-
--- whatever came of closing a log, as many cycles were flipped
-pub closing_flips : (slot : ℕ) (old new : View) (result : Closing)
-    → (is_shut old.vm slot ≡ true → new.vm ≡ old.vm)
-    → (is_shut old.vm slot ≡ false → result ≡ Closed → (head : ℕ) × (new
-    ≡ vm_did (vm_did old (VmLoad (2 + slot) head)) (RecordStore slot Close)))
-    → (result ≡ LogFull → (head : ℕ) × (new ≡ vm_did old (VmLoad (2 + slot) head)))
-    → new.vm.cycle ≡ old.vm.cycle
-closing_flips slot old new LogFull already did looked =
-    ap (λ (m : View). m.vm.cycle) (looked refl).1
-closing_flips slot old new Closed already did looked =
-    elim (bool_cases (is_shut old.vm slot)) [
-      | inl t ↦ ap (λ (v : Vm). v.cycle) (already t)
-      | inr f ↦ ap (λ (m : View). m.vm.cycle) (did f refl).1
-    ]
 
 pub counted_only : (m n : View) (flips : ℕ) (ns : List ℕ)
     → n ≡ did_all m (VmLoad 0 flips ∷ head_loads 0 ns) → n.vm ≡ record m.vm { heads = n.vm.heads }

@@ -3,15 +3,17 @@
 //!
 //! It keeps that the roots that are still to be replicated are known to it, whether it knows of an
 //! open cycle, and that its table is the one of its name.
-ghost use Rattle.std.specs.Prelude.{◌≡◌, ◌<◌, ◌+◌, ◌++◌, ◌∷◌, ◌↔◌, ℕ, IsTrue, true, false, not, []};
+ghost use Rattle.std.specs.Prelude.{◌≡◌, ◌<◌, ◌+◌, ◌-◌, ◌++◌, ◌∷◌, ◌&&◌, ◌↔◌, ℕ, IsTrue, true, false, not, nat_lt, []};
 ghost use Rattle.ps_record.specs.Format.{slots};
+ghost use Rattle.ps_core_parts.specs.declared.events.Event.TheVariants.{ReplicaHeaderStore};
 ghost use Rattle.ps_core_parts.specs.Objects.{all_filled, value_has_replica};
 ghost use Rattle.ps_core_parts.specs.Steps.{is_open, knows_open};
 ghost use Rattle.ps_mem.specs.Shows.{AreValues};
 ghost use Rattle.ps_parts_memory.specs.Memory.{heap_of, grants_of};
 ghost use Rattle.ps_parts_memory.specs.Stores.{numbers};
-ghost use Rattle.ps_flips.specs.Collected.{IsCollected, IsQuiet, one_more_if};
-ghost use Rattle.ps_gc.specs.Events.{AreKnown};
+ghost use Rattle.ps_flips.specs.Collected.{IsCollected, IsQuiet};
+ghost use Rattle.ps_table.specs.Shown.{gc_did};
+ghost use Rattle.ps_gc.specs.Events.{AreKnown, is_free, other_word};
 ghost use Rattle.ps_gc.specs.Flipping.{MayFlip};
 ghost use Rattle.ps_seats.specs.Known.{are_known};
 
@@ -19,7 +21,7 @@ use crate::naming::Naming;
 use crate::seats::MutatorSeat;
 use ps_flips::sides::{Collects, Works};
 use ps_gc::{ACTIONS_A_LOOK, Collector, Drained, Flip};
-use ps_mem::SLOTS;
+use ps_mem::{Memory, SLOTS};
 use ps_record::Record;
 use ps_word::words::Word;
 use std::alloc::{AllocError, Global};
@@ -44,6 +46,8 @@ pub struct Copier<J: Naming> {
     since: u32,
     /// How many words were copied, at most.
     copied: u64,
+    /// How many of the lowest words of the other space may not be clear yet.
+    unclear: u32,
     of: PhantomData<J>,
     pub ghost named: { collector.gc.seat.table_id ≡ J.table },
     ghost is_slot: { slot < slots },
@@ -69,6 +73,7 @@ impl<J: Naming> Copier<J> {
             ended: 0,
             since: 0,
             copied: 0,
+            unclear: 0,
             of: PhantomData,
         })
     }
@@ -80,13 +85,16 @@ impl<J: Naming> Copier<J> {
 
     /// One action: a root gets a replica, a field is copied, or a log is looked at. False: no root
     /// was left, each log was looked at in a row and none had a record, and no field is unfilled.
-    /// It is false too where it knows of no open cycle.
+    /// Where it knows of no open cycle, a word of the space that was left is cleared. False: none is
+    /// left.
     fn act_once(&mut self) -> bool
         ensures filled { result ≡ false → self.old.in_cycle ≡ true
             → all_filled self.new.collector.gc.seat.me.0.gc.pairs ≡ true }
+        ensures cleared { self.old.in_cycle ≡ false → result ≡ (nat_lt 0 self.old.unclear
+            && is_free self.old.collector.gc.seat.me.0.gc (self.old.unclear - 1)) }
     {
         if !self.in_cycle {
-            return false;
+            return self.clear();
         }
         if self.replicate_root() {
             return true;
@@ -101,6 +109,26 @@ impl<J: Naming> Copier<J> {
             return true;
         }
         self.scan()
+    }
+
+    /// The highest word that may not be clear yet is cleared, so that the replicas of a cycle that
+    /// opens meanwhile lie over those that are left. False: none is left.
+    fn clear(&mut self) -> bool
+        requires none { self.old.in_cycle ≡ false }
+        ensures same { self.new.in_cycle ≡ self.old.in_cycle }
+        ensures answer { result ≡ (nat_lt 0 self.old.unclear
+            && is_free self.old.collector.gc.seat.me.0.gc (self.old.unclear - 1)) }
+        ensures did { result ≡ true → (self.new.unclear + 1 ≡ self.old.unclear)
+            × (self.new.collector.gc.seat.me.0 ≡ gc_did self.old.collector.gc.seat.me.0
+            (ReplicaHeaderStore (other_word self.old.collector.gc.seat.me.0.gc self.new.unclear)
+            0)) }
+        ensures none { result ≡ false → self.new.collector ≡ self.old.collector }
+    {
+        if self.unclear == 0 {
+            return false;
+        }
+        self.unclear -= 1;
+        self.collector.clear(self.unclear)
     }
 
     /// The last of the roots that were handed over gets a replica of what it names. False: none is
@@ -174,7 +202,6 @@ impl<J: Naming> Collects<MutatorSeat<J>> for Copier<J> {
         ensures heap { heap_of memory.new.vm.seat.me.0.vm ≡ heap_of memory.old.vm.seat.me.0.vm }
         ensures grants { grants_of memory.new.vm.seat.me.0.vm
             ≡ record (grants_of memory.old.vm.seat.me.0.vm) { fresh = λ a. false } }
-        ensures flips { memory.new.vm.seat.me.0.vm.cycle ≡ memory.old.vm.seat.me.0.vm.cycle }
     {
         self.pending.clear();
         self.collector.hand_over(&mut memory.vm, roots);
@@ -189,8 +216,6 @@ impl<J: Naming> Collects<MutatorSeat<J>> for Copier<J> {
         requires open { is_open memory.old.vm.seat.me.0.vm ≡ true }
         ensures answer { IsTrue result ↔ MayFlip memory.old.vm.seat.me.0.vm
             self.old.collector.gc.seat.me.0.gc (numbers roots.old) }
-        ensures flips { memory.new.vm.seat.me.0.vm.cycle
-            ≡ one_more_if result memory.old.vm.seat.me.0.vm.cycle }
         ensures moved { result ≡ true → IsCollected (heap_of memory.old.vm.seat.me.0.vm)
             (heap_of memory.new.vm.seat.me.0.vm) roots.old roots.new }
         ensures quiet { result ≡ true → IsQuiet (grants_of memory.new.vm.seat.me.0.vm) }
@@ -202,14 +227,30 @@ impl<J: Naming> Collects<MutatorSeat<J>> for Copier<J> {
             → grants_of memory.new.vm.seat.me.0.vm ≡ grants_of memory.old.vm.seat.me.0.vm }
         ensures roots { result ≡ false → roots.new ≡ roots.old }
     {
+        let used = memory.vm.used();
         match self.collector.try_flip(&mut memory.vm, roots) {
             Flip::NotReady(_) => false,
             Flip::Done => {
                 self.pending.clear();
+                self.unclear = used;
                 self.in_cycle = self.collector.begin_cycle();
                 true
             }
         }
+    }
+
+    fn whole_cycle(&mut self, memory: &mut MutatorSeat<J>, roots: &mut [Word]) -> bool {
+        if memory.vm.is_open() {
+            return false;
+        }
+        self.pending.clear();
+        let used = memory.vm.used();
+        let made = self.collector.whole_cycle(&mut memory.vm, roots);
+        if made {
+            self.unclear = used;
+        }
+        self.in_cycle = self.collector.begin_cycle();
+        made
     }
 
     fn end_cycle(&mut self, memory: &mut MutatorSeat<J>, roots: &mut [Word]) -> bool {
@@ -217,6 +258,7 @@ impl<J: Naming> Collects<MutatorSeat<J>> for Copier<J> {
             return false;
         }
         self.pending.clear();
+        self.unclear = memory.vm.used();
         self.collector.end_cycle(&mut memory.vm, roots);
         self.in_cycle = self.collector.begin_cycle();
         true

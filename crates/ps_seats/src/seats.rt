@@ -124,8 +124,6 @@ impl<J: Naming> Memory for MutatorSeat<J> {
 }
 
 impl<J: Naming> LoggedMemory for MutatorSeat<J> {
-    ghost flips = { λ s. s.vm.seat.me.0.vm.cycle };
-
     fn is_open(&mut self) -> bool {
         self.vm.is_open()
     }
@@ -149,7 +147,6 @@ impl<J: Naming> LoggedMemory for MutatorSeat<J> {
         ensures grants { grants_of self.new.vm.seat.me.0.vm
             ≡ record (grants_of self.old.vm.seat.me.0.vm)
             { records = (grants_of self.new.vm.seat.me.0.vm).records } }
-        ensures flips { self.new.vm.seat.me.0.vm.cycle ≡ self.old.vm.seat.me.0.vm.cycle }
         ensures flipped { result.flips ≡ self.old.vm.seat.me.0.vm.cycle }
     {
         let (flips, heads) = self.vm.counts();

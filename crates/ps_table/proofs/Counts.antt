@@ -9,6 +9,7 @@ use Rattle.ps_table.specs.declared.plays.View.{View}
 use Rattle.ps_table.specs.Events.{did_all, head_loads}
 use Rattle.ps_table.specs.Shown.{vm_did}
 use Rattle.ps_table.proofs.Facts.{words}
+use Rattle.ps_table.proofs.Storing.{did_more}
 
 -- the heads before a slot and the one that is loaded next
 take_set : (heads : List ℕ) (slot n : ℕ) → slot < length heads
@@ -17,11 +18,6 @@ take_set [] slot n lt = absurd (omega arith)
 take_set (x ∷ heads) zero n lt = refl
 take_set (x ∷ heads) (suc slot) n lt =
     ap (λ (l : List ℕ). x ∷ l) (take_set heads slot n (omega arith))
-
-did_last : (m : View) (es : List Event) (e : Event)
-    → did_all m (es ++ e ∷ []) ≡ vm_did (did_all m es) e
-did_last m [] e = refl
-did_last m (x ∷ es) e = did_last (vm_did m x) es e
 
 loads_last : (slot : ℕ) (ns : List ℕ) (n : ℕ)
     → head_loads slot (ns ++ n ∷ []) ≡ head_loads slot ns ++ VmLoad (2 + (slot + length ns)) n ∷ []
@@ -40,8 +36,8 @@ one_more_head m flips heads slot n lt =
     let count = length-take slot heads in
     let there : slot ≡ 0 + length (take slot heads) = omega arith in
     ap (λ (k : ℕ). vm_did (did_all first (head_loads 0 (take slot heads))) (VmLoad (2 + k) n)) there
-    ∙ (sym (did_last first (head_loads 0 (take slot heads))
-    (VmLoad (2 + (0 + length (take slot heads))) n))
+    ∙ (sym (did_more first (head_loads 0 (take slot heads))
+    (VmLoad (2 + (0 + length (take slot heads))) n ∷ []))
     ∙ (ap (did_all first) (sym (loads_last 0 (take slot heads) n))
     ∙ (ap (λ (l : List ℕ). did_all first (head_loads 0 l)) (sym (take_set heads slot n lt))
     ∙ ap (λ (k : ℕ). did_all first (head_loads 0 (take k (slice_set heads slot n))))

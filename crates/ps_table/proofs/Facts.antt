@@ -10,8 +10,8 @@ use Rattle.ps_core_parts.specs.declared.events.Object.{Object}
 use Rattle.ps_core_parts.specs.declared.events.Vm.{Vm}
 use Rattle.ps_core_parts.specs.declared.events.Event.TheVariants.{FieldStore, HeaderStore}
 use Rattle.ps_core_parts.specs.Objects.{log_of, object_at}
-use Rattle.ps_core_parts.specs.Steps.{table_size, space_base}
-use Rattle.ps_core_parts.specs.Conditions.{HasField, VmMay}
+use Rattle.ps_core_parts.specs.Steps.{table_size, next_word}
+use Rattle.ps_core_parts.specs.Conditions.{CanClear, HasField, VmMay}
 use Rattle.ps_core_laws.specs.Kept.{VmKnows, LogKept}
 use Rattle.ps_core_laws.specs.Places.{AreDistinct}
 use Rattle.ps_core_laws.specs.Laws.{WordsFollow, TakenBegins}
@@ -129,6 +129,5 @@ header_place v header r may =
     let wide = (spaces_wide v.space v.cycle).0 in
     omega arith
 
-pub clear_place : (v : Vm) → v.end + 1 + v.making < space_base v.space v.cycle + v.space
-    → v.end + 1 + v.making < table_size v.space
+pub clear_place : (v : Vm) → CanClear v → next_word v < table_size v.space
 clear_place v may = let wide = (spaces_wide v.space v.cycle).0 in omega arith

@@ -12,6 +12,7 @@ pub mod Made
 pub mod Meeting
 pub mod Mirrored
 pub mod Moves
+pub mod Looking
 pub mod Originals
 pub mod Plain
 pub mod Seats

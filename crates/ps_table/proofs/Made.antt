@@ -1,43 +1,71 @@
 -- A new object: what the events of its making leave of a view.
-use Rattle.std.proofs.Common.{◌≡◌, ◌≢◌, ◌+◌, ◌<◌, ◌≤◌, ◌^◌, ℕ, zero, suc, false, true, nat_eq, [], ◌∷◌, ◌++◌, replicate, Some, None, Option, refl, ap, ◌∙◌, arith, rules}
-use Rattle.std.specs.Prelude.{IsSome, IfSome}
+use Rattle.std.proofs.Common.{◌≡◌, ◌≢◌, ◌+◌, ◌<◌, ◌≤◌, ◌^◌, ℕ, suc, Bool, false, true, nat_eq, List, [], ◌∷◌, ◌++◌, length, Some, None, Option, refl, sym, ap, ◌∙◌, arith, rules, append_assoc, append-nil, length-append}
+use Rattle.std.specs.Prelude.{IsSome, IfSome, if◌then◌else◌}
 use Rattle.ps_language.specs.declared.kinds.Kind.{Kind}
 use Rattle.ps_language.specs.declared.kinds.Kind.TheVariants.{Body, Dictionary}
 use Rattle.ps_word.specs.Headers.{kind_in, fields_in, birth_in, kind_number, header_packed, IsHeader}
 use Rattle.ps_word.proofs.HeaderPlaces.{kind_in-packed, fields_in-packed, birth_in-packed}
 use Rattle.ps_mem.specs.Heap.{Heap, Standing, IsKind, birth_of, birth_at}
 use Rattle.ps_mem.specs.Heap as memory
-use Rattle.ps_core_parts.specs.declared.events.Event.TheVariants.{ClearStore, HeaderStore}
+use Rattle.ps_core_parts.specs.declared.events.Event.{Event}
+use Rattle.ps_core_parts.specs.declared.events.Event.TheVariants.{VmLoad, ClearLoad}
 use Rattle.ps_core_parts.specs.declared.events.Vm.{Vm}
+use Rattle.ps_core_parts.specs.declared.events.Gc.{Gc}
 use Rattle.ps_core_parts.specs.Steps.{next_birth_after, vm_after}
-use Rattle.ps_parts_memory.specs.Laws.{MayMake, MakesObject, MakesBody, header_of, header_told}
+use Rattle.ps_core_laws.proofs.HeapTests.{number_not}
+use Rattle.ps_parts_memory.specs.Laws.{MakesObject, MakesBody, header_of, header_told}
 use Rattle.ps_parts_memory.specs.Memory.{heap_of, grants_of}
 use Rattle.ps_parts_memory.specs.Shown.{VmRuns, VmFinds}
-use Rattle.ps_parts_memory.specs.Stores.{part_made}
 use Rattle.ps_parts_memory.proofs.Bodies.{makes_bodies}
-use Rattle.ps_parts_memory.proofs.Loads.{header_loads}
+use Rattle.ps_parts_memory.proofs.Loads.{header_loads, behind_heads, stays}
 use Rattle.ps_parts_memory.proofs.Made.{not_body}
 use Rattle.ps_parts_memory.proofs.Stored.{makes}
 use Rattle.ps_table.specs.declared.plays.View.{View}
-use Rattle.ps_table.specs.Events.{did_all, object_stores}
-use Rattle.ps_table.specs.Shown.{vm_did}
+use Rattle.ps_table.specs.Events.{did_all, word_cleared, words_cleared}
+use Rattle.ps_table.specs.Shown.{SeatState, looked}
 use Rattle.ps_table.proofs.Facts.{vm_facts, words}
+use Rattle.ps_table.proofs.Storing.{did_more}
 
--- so many words are cleared, and then the header is stored
-cleared : (m : View) (header n : ℕ)
-    → (did_all m (replicate n ClearStore ++ HeaderStore header ∷ [])).vm
-    ≡ vm_after (record m.vm { making = m.vm.making + n }) m.gc (HeaderStore header)
-cleared m header zero = ap (λ (x : ℕ). vm_after (record m.vm { making = x }) m.gc
-    (HeaderStore header)) (let z : m.vm.making ≡ m.vm.making + 0 = omega arith in z)
-cleared m header (suc n) = cleared (vm_did m ClearStore) header n
-    ∙ ap (λ (x : ℕ). vm_after (record m.vm { making = x }) m.gc (HeaderStore header))
-    (let z : m.vm.making + 1 + n ≡ m.vm.making + suc n = omega arith in z)
+-- a look at a word that isn't zero is a load of a word that is no head
+pub looked_on : (v : Vm) (g : Gc) (place n : ℕ) → 34 ≤ place → n ≢ 0
+    → vm_after v g (looked place n) ≡ v
+looked_on v g place n le ne =
+    ap (λ (b : Bool). vm_after v g (if b then ClearLoad else VmLoad place n)) (number_not n 0 ne)
+    ∙ stays v place (behind_heads place le) g n
 
-pub made_part : (m : View) (header fields : ℕ) → m.vm.making ≡ 0 → MayMake m.vm header fields
-    → (did_all m (object_stores header fields)).vm ≡ part_made m.vm header
-made_part m header fields idle may = cleared m header (fields + 1)
-    ∙ (ap (λ (x : ℕ). vm_after (record m.vm { making = x }) m.gc (HeaderStore header))
-    (let z : m.vm.making + (fields + 1) ≡ fields + 1 = omega arith in z) ∙ may.made m.gc)
+-- one word more is cleared
+cleared_more : (place : ℕ) (ns : List ℕ) (n : ℕ)
+    → words_cleared place (ns ++ n ∷ []) ≡ words_cleared place ns
+    ++ word_cleared (place + length ns) n
+cleared_more place [] n = append-nil (word_cleared place n)
+    ∙ ap (λ (k : ℕ). word_cleared k n) (let z : place ≡ place + 0 = omega arith in z)
+cleared_more place (x ∷ ns) n =
+    ap (λ (es : List Event). word_cleared place x ++ es) (cleared_more (place + 1) ns n
+    ∙ ap (λ (k : ℕ). words_cleared (place + 1) ns ++ word_cleared k n)
+    (let z : place + 1 + length ns ≡ place + suc (length ns) = omega arith in z))
+    ∙ sym (append_assoc (word_cleared place x) (words_cleared (place + 1) ns)
+    (word_cleared (place + suc (length ns)) n))
+
+-- so many words of a new object at an address are cleared
+pub record Cleared (first m : SeatState) (address making : ℕ) : Type 0 where
+  pub found : List ℕ
+  pub count : length found ≡ making
+  pub did : m ≡ (did_all first.0 (words_cleared (address + 1) found), first.1)
+
+pub clears_one : (first m m' : SeatState) (address making n : ℕ) → Cleared first m address making
+    → m' ≡ (did_all m.0 (word_cleared (address + 1 + making) n), m.1)
+    → Cleared first m' address (making + 1)
+clears_one first m m' address making n k did = record {
+  found = k.found ++ n ∷ [];
+  count = length-append k.found (n ∷ []) ∙ ap (λ (x : ℕ). x + 1) k.count;
+  did = did ∙ (ap (λ (x : SeatState). (did_all x.0 (word_cleared (address + 1 + making) n), x.1))
+      k.did ∙ ap (λ (x : View). (x, first.1))
+      (sym (did_more first.0 (words_cleared (address + 1) k.found)
+      (word_cleared (address + 1 + making) n))
+      ∙ ap (did_all first.0)
+      (ap (λ (x : ℕ). words_cleared (address + 1) k.found ++ word_cleared (address + 1 + x) n)
+      (sym k.count) ∙ sym (cleared_more (address + 1) k.found n))));
+}
 
 -- ---- what the header of a new object says
 

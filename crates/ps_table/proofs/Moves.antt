@@ -1,16 +1,17 @@
 -- The steps themselves.
-use Rattle.std.proofs.Common.{◌≡◌, ℕ, ◌+◌, ◌<◌, List, length, refl, sym, ap, ◌∙◌, subst, arith}
+use Rattle.std.proofs.Common.{◌≡◌, ℕ, ◌+◌, ◌<◌, nat_eq, List, length, refl, sym, ap, ◌∙◌, inl, inr, subst, arith}
 use Rattle.std.specs.Prelude.{slice_index, slice_set}
 use Rattle.std.proofs.lemmas.List.{set-get_or}
 use Rattle.ps_record.specs.declared.Record.{Record}
 use Rattle.ps_record.specs.Format.{ring_place, packed}
 use Rattle.ps_core_parts.specs.declared.events.Event.{Event}
-use Rattle.ps_core_parts.specs.declared.events.Event.TheVariants.{VmLoad, ClearStore, HeaderStore, FieldStore, RecordStore, EpochStore}
+use Rattle.ps_core_parts.specs.declared.events.Event.TheVariants.{VmLoad, ClearLoad, ClearStore, HeaderStore, FieldStore, RecordStore, EpochStore}
 use Rattle.ps_core_parts.specs.declared.events.Vm.{Vm}
 use Rattle.ps_core_parts.specs.Objects.{log_of}
-use Rattle.ps_core_parts.specs.Steps.{State, table_size, words_after}
-use Rattle.ps_core_parts.specs.Conditions.{Permitted, VmMay}
-use Rattle.ps_table.specs.Shown.{slot_at}
+use Rattle.ps_core_parts.specs.Steps.{State, table_size, next_word, words_after}
+use Rattle.ps_core_parts.specs.Conditions.{Permitted, CanClear, VmMay}
+use Rattle.ps_table.specs.Shown.{looked, slot_at}
+use Rattle.ps_core_laws.proofs.HeapTests.{bool_cases, number_is}
 use Rattle.ps_table.proofs.Allows.{VmAlone, VmStep}
 
 pub same_word : (ws : List ℕ) (i n : ℕ) → slice_index ws i ≡ n → ws ≡ slice_set ws i n
@@ -43,7 +44,31 @@ vm_store v i word e alone may writes = record {
   writes = λ s n is at. writes s is;
 }
 
-pub vm_clear_step : (v : Vm) (i : ℕ) → VmMay v ClearStore → i ≡ v.end + 1 + v.making
+-- a look at the next word of the object being made
+pub vm_look_step : (v : Vm) (i : ℕ) → CanClear v → i ≡ next_word v → i < table_size v.space
+    → VmStep v i (λ n. n) (λ n. looked i n)
+vm_look_step v i may at inside = record {
+  alone = λ n. elim (bool_cases (nat_eq n 0)) [
+    | inl zero ↦ rw zero (record
+        { vm_makes = refl; gc_not = refl; gc_same = λ g v. refl; vm_own = λ v g h. refl })
+    | inr other ↦ rw other ((vm_load_step v i inside).alone n)
+  ];
+  may = λ s n is found. elim (bool_cases (nat_eq n 0)) [
+    | inl zero ↦ rw zero (record {
+      vm = subst CanClear (sym is) may;
+      gc = tt;
+      both = ap (slice_index s.words) (ap next_word is ∙ sym at)
+          ∙ (found ∙ number_is n 0 zero);
+    })
+    | inr other ↦ rw other ((vm_load_step v i inside).may s n is found)
+  ];
+  writes = λ s n is found. elim (bool_cases (nat_eq n 0)) [
+    | inl zero ↦ rw zero (same_word s.words i n found)
+    | inr other ↦ rw other (same_word s.words i n found)
+  ];
+}
+
+pub vm_clear_step : (v : Vm) (i : ℕ) → CanClear v → i ≡ next_word v
     → VmStep v i (λ _. 0) (λ _. ClearStore)
 vm_clear_step v i may at = vm_store v i 0 ClearStore record {
   vm_makes = refl;
@@ -52,12 +77,11 @@ vm_clear_step v i may at = vm_store v i 0 ClearStore record {
   vm_own = λ v g h. refl;
 }
     (λ s is. record {
-      vm = subst (λ (w : Vm). VmMay w ClearStore) (sym is) may;
+      vm = subst CanClear (sym is) may;
       gc = tt;
       both = tt;
     })
-    (λ s is. ap (λ (k : ℕ). slice_set s.words k 0) (ap (λ (w : Vm). w.end + 1 + w.making) is
-    ∙ sym at))
+    (λ s is. ap (λ (k : ℕ). slice_set s.words k 0) (ap next_word is ∙ sym at))
 
 pub vm_make_step : (v : Vm) (i header : ℕ) → VmMay v (HeaderStore header) → i ≡ v.end
     → VmStep v i (λ _. header) (λ _. HeaderStore header)

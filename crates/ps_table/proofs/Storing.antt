@@ -1,5 +1,5 @@
 -- A store by the mutator's seat: the words, and the record that is owed.
-use Rattle.std.proofs.Common.{◌≡◌, ◌^◌, ℕ, ◌+◌, ◌-◌, ◌<◌, ◌≤◌, Bool, true, false, List, [], ◌∷◌, length, None, refl, sym, ap, ◌∙◌, inl, inr, subst, arith}
+use Rattle.std.proofs.Common.{◌≡◌, ◌^◌, ℕ, ◌+◌, ◌-◌, ◌<◌, ◌≤◌, Bool, true, false, List, [], ◌∷◌, ◌++◌, length, None, refl, sym, ap, ◌∙◌, inl, inr, subst, arith}
 use Rattle.std.specs.Prelude.{slice_index, slice_set, nat_le, nat_lt, if◌then◌else◌}
 use native.Mathlib.Decide.{ℕ_discrete}
 use Rattle.ps_word.specs.declared.words.Word.{Word}
@@ -39,6 +39,11 @@ did_part m a i (w ∷ ws) = did_part (vm_did m (FieldStore a i w)) a (i + 1) ws
 pub did_acts : (m : View) (es : List Event) → (did_all m es).acts_vm ≡ m.acts_vm
 did_acts m [] = refl
 did_acts m (e ∷ es) = did_acts (vm_did m e) es
+
+pub did_more : (m : View) (es fs : List Event)
+    → did_all m (es ++ fs) ≡ did_all (did_all m es) fs
+did_more m [] fs = refl
+did_more m (e ∷ es) fs = did_more (vm_did m e) es fs
 
 -- words stored to fields, one after another
 module _ (m m' : SeatState) (a i : ℕ) (ws : List ℕ)

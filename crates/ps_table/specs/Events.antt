@@ -1,15 +1,16 @@
 -- The events that a call of a seat makes, the oldest first.
-use Rattle.std.specs.Prelude.{ℕ, ◌+◌, List, [], ◌∷◌, ◌++◌, replicate, if◌then◌else◌}
+use Rattle.std.specs.Prelude.{ℕ, ◌≡◌, ◌≤◌, ◌+◌, Bool, true, false, List, [], ◌∷◌, ◌++◌, length, ◌==◌, if◌then◌else◌}
+use Rattle.std.specs.List.{list_all}
 use Rattle.ps_word.specs.Format.{address_in}
 use Rattle.ps_record.specs.Format.{head_place}
 use Rattle.ps_word.specs.Readers.{is_reference}
 use Rattle.ps_core_parts.specs.declared.events.Event.{Event}
-use Rattle.ps_core_parts.specs.declared.events.Event.TheVariants.{VmLoad, GcLoad, ClearStore, HeaderStore, FieldStore}
+use Rattle.ps_core_parts.specs.declared.events.Event.TheVariants.{VmLoad, GcLoad, ClearStore, HeaderStore, FieldStore, CycleStore}
 use Rattle.ps_core_parts.specs.declared.events.Gc.{Gc}
 use Rattle.ps_core_parts.specs.Objects.{pair_of}
 use Rattle.ps_core_parts.specs.Steps.{forwarding, replica_of}
 use Rattle.ps_table.specs.declared.plays.View.{View}
-use Rattle.ps_table.specs.Shown.{vm_did, gc_did}
+use Rattle.ps_table.specs.Shown.{vm_did, gc_did, looked}
 
 -- the view after them
 abbrev pub did_all : View → List Event → View
@@ -21,9 +22,20 @@ abbrev pub field_stores : ℕ → ℕ → List ℕ → List Event
 field_stores a i [] = []
 field_stores a i (w ∷ ws) = FieldStore a i w ∷ field_stores a (i + 1) ws
 
--- the making of an object: the second header and the fields are cleared, then its header is stored
-abbrev pub object_stores : ℕ → ℕ → List Event
-object_stores header fields = replicate (fields + 1) ClearStore ++ HeaderStore header ∷ []
+-- the next word of an object being made, found at its place, is cleared: by a store where it isn't
+-- zero
+abbrev pub word_cleared : ℕ → ℕ → List Event
+word_cleared place found = looked place found ∷ (if found == 0 then [] else ClearStore ∷ [])
+
+-- so are those that were found from a place on
+abbrev pub words_cleared : ℕ → List ℕ → List Event
+words_cleared place [] = []
+words_cleared place (n ∷ ns) = word_cleared place n ++ words_cleared (place + 1) ns
+
+-- the making of an object at an address: the second header and the fields are cleared, then its
+-- first header is stored
+abbrev pub object_made : ℕ → List ℕ → ℕ → List Event
+object_made address found header = words_cleared (address + 1) found ++ HeaderStore header ∷ []
 
 -- the loads of heads that found these words, from a slot on
 abbrev pub head_loads : ℕ → List ℕ → List Event
@@ -45,3 +57,19 @@ root_look g w = if is_reference w then GcLoad (address_in w + 1)
 abbrev pub root_looks : Gc → List ℕ → List Event
 root_looks g [] = []
 root_looks g (w ∷ ws) = root_look g w ++ root_looks g ws
+
+-- ---- looks
+
+-- a load, or the flip
+abbrev pub is_look_or_flip : Event → Bool
+is_look_or_flip (VmLoad place word) = true
+is_look_or_flip (GcLoad place word) = true
+is_look_or_flip (CycleStore roots) = true
+is_look_or_flip _ = false
+
+-- at most so many events more, each a load or the flip
+pub record OnlyLooks (most : ℕ) (old new : List Event) : Type 0 where
+  pub more : List Event
+  pub is : new ≡ more ++ old
+  pub looks : list_all is_look_or_flip more ≡ true
+  pub few : length more ≤ most

@@ -1,6 +1,6 @@
 -- The rule of the table: some interleaving of the seats' own events is a run, its state has the
 -- words, and the parts that the seats know are that state's.
-use Rattle.std.specs.Prelude.{◌≡◌, ℕ, ◌-◌, ◌/◌, Bool, true, false, List, [], ◌∷◌, Option, Some, None, is_some, slice_index}
+use Rattle.std.specs.Prelude.{◌≡◌, ℕ, ◌-◌, ◌/◌, ◌==◌, Bool, true, false, List, [], ◌∷◌, Option, Some, None, is_some, slice_index, if◌then◌else◌}
 use Rattle.std.specs.List.{filter}
 use Rattle.std.specs.Option.{option_map}
 use mathlib.Core.Option.{some}
@@ -9,7 +9,7 @@ use Rattle.atomic_table.specs.Table as table
 use Rattle.ps_record.specs.Format.{control_words, ring_length, record_in}
 use Rattle.ps_word.specs.Headers.{forward_address_in}
 use Rattle.ps_core_parts.specs.declared.events.Event.{Event}
-use Rattle.ps_core_parts.specs.declared.events.Event.TheVariants.{VmLoad, GcLoad, TakeLoad, CopyLoad, HandOver, ClearStore, HeaderStore, FieldStore, RecordStore, EpochStore, ReplicaHeaderStore, ReplicaFieldStore, ForwardStore, HeadStore, CycleStore}
+use Rattle.ps_core_parts.specs.declared.events.Event.TheVariants.{VmLoad, GcLoad, TakeLoad, CopyLoad, HandOver, ClearLoad, ClearStore, HeaderStore, FieldStore, RecordStore, EpochStore, ReplicaHeaderStore, ReplicaFieldStore, ForwardStore, HeadStore, CycleStore}
 use Rattle.ps_core_parts.specs.declared.events.Vm.{Vm}
 use Rattle.ps_core_parts.specs.declared.events.Gc.{Gc}
 use Rattle.ps_core_parts.specs.Steps.{start, vm_after, gc_after}
@@ -25,6 +25,7 @@ by_vm (GcLoad place word) = false
 by_vm (TakeLoad slot word) = false
 by_vm (CopyLoad a i word) = false
 by_vm (HandOver word roots) = true
+by_vm ClearLoad = true
 by_vm ClearStore = true
 by_vm (HeaderStore header) = true
 by_vm (FieldStore a i w) = true
@@ -42,6 +43,7 @@ by_gc (GcLoad place word) = true
 by_gc (TakeLoad slot word) = true
 by_gc (CopyLoad a i word) = true
 by_gc (HandOver word roots) = true
+by_gc ClearLoad = false
 by_gc ClearStore = false
 by_gc (HeaderStore header) = false
 by_gc (FieldStore a i w) = false
@@ -222,6 +224,13 @@ slot_at place = (place - control_words) / ring_length
 
 abbrev pub vm_loads : table.Step (Unit {0}) → SeatState → ℕ → SeatState → Type 0
 vm_loads st m n m' = VmDoes m st.word n (VmLoad st.word n) m'
+
+-- a look at the next word of an object being made clears it where it is zero
+abbrev pub looked : ℕ → ℕ → Event
+looked place found = if found == 0 then ClearLoad else VmLoad place found
+
+abbrev pub finds_clear : table.Step (Unit {0}) → SeatState → ℕ → SeatState → Type 0
+finds_clear st m n m' = VmDoes m st.word n (looked st.word n) m'
 
 abbrev pub clears : table.Step (Unit {0}) → SeatState → ℕ → SeatState → Type 0
 clears st m n m' = VmStores m ClearStore m'

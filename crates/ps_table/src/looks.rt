@@ -1,9 +1,10 @@
 //! Looks by a seat that has both sides: they tell of one run that leads to both parts, and change
 //! neither.
-ghost use Rattle.std.specs.Prelude.{◌≡◌, ◌<◌, ◌≤◌, ◌+◌, true, length};
+ghost use Rattle.std.specs.Prelude.{◌≡◌, ◌<◌, ◌+◌, true};
 ghost use Rattle.ps_core_parts.specs.Objects.{value_has_replica, value_stands};
 ghost use Rattle.ps_core_parts.specs.Steps.{table_size};
 ghost use Rattle.ps_parts_memory.specs.Laws.{StaysAfterLoad};
+ghost use Rattle.ps_table.specs.Events.{OnlyLooks};
 ghost use Rattle.ps_table.specs.Mirrored.{Sits};
 ghost use Rattle.ps_table.specs.Shown.{BothLook, BothRun};
 
@@ -53,8 +54,7 @@ impl<W: Words> GcSeat<W> {
         ensures answer { result ≡ value_has_replica self.old.seat.me.0.gc.pairs root.0 }
         ensures parts { (self.new.seat.me.0.vm ≡ self.old.seat.me.0.vm)
             × (self.new.seat.me.0.gc ≡ self.old.seat.me.0.gc) }
-        ensures steps { (length self.new.seat.me.0.vm_events
-            ≤ length self.old.seat.me.0.vm_events + 1)
+        ensures steps { OnlyLooks 1 self.old.seat.me.0.vm_events self.new.seat.me.0.vm_events
             × (self.new.seat.me.0.gc_events ≡ self.old.seat.me.0.gc_events) }
     {
         if !root.is_reference() {

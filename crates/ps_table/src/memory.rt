@@ -30,7 +30,7 @@ impl Memory for VmSeat {
         ensures within { (heap_of self.old.seat.me.0.vm).used
             ≤ (heap_of self.old.seat.me.0.vm).space.size }
         ensures addressed { IsAddressed (heap_of self.old.seat.me.0.vm) }
-        ensures table { self.new.seat.table_id ≡ self.old.seat.table_id }
+        ensures same { self.new ≡ self.old }
     {
         self.mirror.used(&self.seat)
     }

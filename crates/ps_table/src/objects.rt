@@ -1,12 +1,12 @@
 //! New objects, made by the mutator's seat at any words.
-ghost use Rattle.std.specs.Prelude.{◌≡◌, ◌≢◌, ◌<◌, ◌≤◌, ◌+◌, ◌^◌, None};
+ghost use Rattle.std.specs.Prelude.{◌≡◌, ◌≢◌, ◌<◌, ◌≤◌, ◌+◌, ◌^◌, ℕ, List, None, length};
 ghost use Rattle.ps_word.specs.Headers.{fields_in};
 ghost use Rattle.ps_mem.specs.Heap.{AfterNew, IsKind, birth_at, made, made_body, object_at};
 ghost use Rattle.ps_core_parts.specs.Steps.{table_size, next_birth_after};
 ghost use Rattle.ps_parts_memory.specs.Memory.{heap_of, grants_of};
 ghost use Rattle.ps_parts_memory.specs.Laws.{MayMake};
 ghost use Rattle.ps_parts_memory.specs.Stores.{part_made};
-ghost use Rattle.ps_table.specs.Events.{did_all, object_stores};
+ghost use Rattle.ps_table.specs.Events.{did_all, object_made};
 ghost use Rattle.ps_table.specs.Mirrored.{Sits, KeepsGc};
 
 use crate::mirror::Mirror;
@@ -38,7 +38,8 @@ impl Mirror {
         ensures sits { W.seats words.new seat.new
             × Sits (W.id words.new).words seat.new.me self.new }
         ensures same { W.id words.new ≡ W.id words.old }
-        ensures did { seat.new.me.0 ≡ did_all seat.old.me.0 (object_stores header fields) }
+        ensures did { (found : List ℕ) × (length found ≡ fields + 1) × (seat.new.me.0
+            ≡ did_all seat.old.me.0 (object_made seat.old.me.0.vm.end found header)) }
         ensures gc { KeepsGc seat.old.me.0 seat.new.me.0 }
         ensures part { seat.new.me.0.vm ≡ part_made seat.old.me.0.vm header }
         ensures at { result ≡ seat.old.me.0.vm.end }

@@ -90,6 +90,14 @@ impl Play<(), View> for VmLoads {
     ghost then = { vm_loads };
 }
 
+pub(crate) struct FindsClear;
+
+impl Play<(), View> for FindsClear {
+    ghost use Rattle.ps_table.specs.Shown.{finds_clear};
+
+    ghost then = { finds_clear };
+}
+
 pub(crate) struct Clears;
 
 impl Play<(), View> for Clears {

@@ -1,13 +1,15 @@
 //! The steps of the mutator's seat, each an event of a run.
 ghost use Rattle.std.specs.Prelude.{◌≡◌, ◌<◌, ◌+◌, true, length};
 ghost use Rattle.ps_core_parts.specs.declared.events.Event.TheVariants.{VmLoad, ClearStore, HeaderStore, FieldStore, RecordStore, EpochStore};
-ghost use Rattle.ps_core_parts.specs.Conditions.{VmMay};
+ghost use Rattle.ps_core_parts.specs.Conditions.{CanClear, VmMay};
 ghost use Rattle.ps_core_parts.specs.Objects.{log_of};
 ghost use Rattle.ps_core_parts.specs.Steps.{table_size};
 ghost use Rattle.ps_parts_memory.specs.Shown.{VmRuns};
-ghost use Rattle.ps_table.specs.Shown.{VmDoes, VmStores};
+ghost use Rattle.ps_table.specs.Shown.{VmDoes, VmStores, looked};
 
-use crate::plays::{Clears, Makes, Naming, OpensCycle, Records, StoresField, View, VmLoads};
+use crate::plays::{
+    Clears, FindsClear, Makes, Naming, OpensCycle, Records, StoresField, View, VmLoads,
+};
 use crate::words::Words;
 use atomic_table::Seat;
 use ps_record::{Record, ring_place};
@@ -26,6 +28,28 @@ pub(crate) fn vm_load<W: Words>(words: &mut W, seat: &mut Seat<(), View>, place:
     words.load::<VmLoads>(seat, place)
 }
 
+/// Loads the next word of the object being made, behind the end of what is in use: where it is
+/// zero, it is cleared.
+#[inline]
+pub(crate) fn vm_look<W: Words>(
+    words: &mut W,
+    seat: &mut Seat<(), View>,
+    end: u64,
+    making: u64,
+) -> u64
+    requires same { W.seats words.old seat.old
+        × ((W.id words.old).words ≡ table_size seat.old.me.0.vm.space) }
+    requires acts { seat.old.me.0.acts_vm ≡ true }
+    requires runs { ∥ VmRuns seat.old.me.0.vm ∥₁ }
+    requires is { (end ≡ seat.old.me.0.vm.end) × (making ≡ seat.old.me.0.vm.making) }
+    requires may { CanClear seat.old.me.0.vm }
+    ensures same { W.seats words.new seat.new × (W.id words.new ≡ W.id words.old) }
+    ensures does { VmDoes seat.old.me (end + 1 + making) result
+        (looked (end + 1 + making) result) seat.new.me }
+{
+    words.load::<FindsClear>(seat, end + 1 + making)
+}
+
 /// Clears the next word of the object being made, behind the end of what is in use.
 #[inline]
 pub(crate) fn vm_clear<W: Words>(words: &mut W, seat: &mut Seat<(), View>, end: u64, making: u64)
@@ -34,7 +58,7 @@ pub(crate) fn vm_clear<W: Words>(words: &mut W, seat: &mut Seat<(), View>, end: 
     requires acts { seat.old.me.0.acts_vm ≡ true }
     requires runs { ∥ VmRuns seat.old.me.0.vm ∥₁ }
     requires is { (end ≡ seat.old.me.0.vm.end) × (making ≡ seat.old.me.0.vm.making) }
-    requires may { VmMay seat.old.me.0.vm ClearStore }
+    requires may { CanClear seat.old.me.0.vm }
     ensures same { W.seats words.new seat.new × (W.id words.new ≡ W.id words.old) }
     ensures does { VmStores seat.old.me ClearStore seat.new.me }
 {

@@ -1,13 +1,14 @@
 //! Words stored into the fields of an object, and new objects: several events in a row.
-ghost use Rattle.std.specs.Prelude.{◌≡◌, ◌+◌, ◌≤◌, ◌<◌, true, length};
+ghost use Rattle.std.specs.Prelude.{◌≡◌, ◌+◌, ◌≤◌, ◌<◌, ℕ, List, true, length};
+ghost use Rattle.ps_core_parts.specs.Conditions.{CanClear};
 ghost use Rattle.ps_core_parts.specs.Steps.{table_size};
 ghost use Rattle.ps_parts_memory.specs.Shown.{VmRuns};
-ghost use Rattle.ps_parts_memory.specs.Stores.{numbers, MayStoreFields};
+ghost use Rattle.ps_parts_memory.specs.Stores.{numbers, MayStoreFields, part_made};
 ghost use Rattle.ps_parts_memory.specs.Laws.{MayMake};
-ghost use Rattle.ps_table.specs.Events.{did_all, field_stores, object_stores};
+ghost use Rattle.ps_table.specs.Events.{did_all, field_stores, object_made, word_cleared};
 
 use crate::plays::View;
-use crate::steps::{vm_clear, vm_field, vm_make};
+use crate::steps::{vm_clear, vm_field, vm_look, vm_make};
 use crate::words::Words;
 use atomic_table::Seat;
 use ps_word::words::Word;
@@ -39,6 +40,27 @@ pub(crate) fn vm_fields<W: Words>(
     }
 }
 
+/// The next word of the object being made is cleared: it is looked at first, for a store that other
+/// seats see costs three times a load.
+#[inline]
+fn vm_zero<W: Words>(words: &mut W, seat: &mut Seat<(), View>, end: u64, making: u64)
+    requires same { W.seats words.old seat.old
+        × ((W.id words.old).words ≡ table_size seat.old.me.0.vm.space) }
+    requires acts { seat.old.me.0.acts_vm ≡ true }
+    requires runs { ∥ VmRuns seat.old.me.0.vm ∥₁ }
+    requires is { (end ≡ seat.old.me.0.vm.end) × (making ≡ seat.old.me.0.vm.making) }
+    requires may { CanClear seat.old.me.0.vm }
+    ensures same { W.seats words.new seat.new × (W.id words.new ≡ W.id words.old) }
+    ensures did { (found : ℕ) × (seat.new.me ≡
+        (did_all seat.old.me.0 (word_cleared (end + 1 + making) found), seat.old.me.1)) }
+    ensures part { seat.new.me.0.vm ≡ record seat.old.me.0.vm { making = making + 1 } }
+    ensures runs { ∥ VmRuns seat.new.me.0.vm ∥₁ }
+{
+    if vm_look(words, seat, end, making) != 0 {
+        vm_clear(words, seat, end, making);
+    }
+}
+
 /// Clears the words of a new object behind the end of what is in use, its second header and its
 /// fields, and then stores its first header.
 pub(crate) fn vm_object<W: Words>(
@@ -56,13 +78,14 @@ pub(crate) fn vm_object<W: Words>(
     requires inside { end + 2 + fields ≤ table_size seat.old.me.0.vm.space }
     requires may { MayMake seat.old.me.0.vm header fields }
     ensures same { W.seats words.new seat.new × (W.id words.new ≡ W.id words.old) }
-    ensures did { seat.new.me ≡
-        (did_all seat.old.me.0 (object_stores header fields), seat.old.me.1) }
+    ensures did { (found : List ℕ) × (length found ≡ fields + 1) × (seat.new.me ≡
+        (did_all seat.old.me.0 (object_made end found header), seat.old.me.1)) }
+    ensures part { seat.new.me.0.vm ≡ part_made seat.old.me.0.vm header }
     ensures runs { ∥ VmRuns seat.new.me.0.vm ∥₁ }
 {
     let mut making = 0;
     while making <= fields {
-        vm_clear(words, seat, end, making);
+        vm_zero(words, seat, end, making);
         making += 1;
     }
     vm_make(words, seat, end, header);

@@ -31,13 +31,14 @@ use Rattle.ps_vault.specs.Holds as holds
 use Rattle.ps_vault.specs.Holds.{IsHeldUp, wish_in}
 use Rattle.ps_vault.specs.Order.{IsOnlyLeft, IsAlone, Tells, IsNoEnd, IsNoWish, AllTell, IsOfOne, AllOfOne, AllTellButLast, EndsWith}
 use Rattle.ps_vault.specs.Reports.{are_words, fits, is_number_of_words, is_ordinary}
-use Rattle.ps_vault.specs.Showing.{AllShowOf, IsPairOf}
-use Rattle.ps_vault.specs.Stories.{Keeps, move_of}
+use Rattle.ps_vault.specs.Warrants.{AllWarranted, IsPairOf}
+use Rattle.ps_vault.specs.Stories.{Story, Keeps, move_of}
 use Rattle.ps_vault.specs.Turns.{added_times}
 use Rattle.ps_vault.proofs.Following.{times_moves}
-use Rattle.ps_vault.proofs.Keeping.{and_both, keeps_noted, keeps_unmade, held_step}
+use Rattle.ps_vault.proofs.Keeping.{and_both, keeps_noted, keeps_unmade}
+use Rattle.ps_vault.proofs.Reasons.{held_step, HasNumbersOf}
 use Rattle.ps_vault.proofs.Ordering.{adds_all_more}
-use Rattle.ps_vault.proofs.Showing.{kept_shown, lives_in, pair_of_space, shows_added, shows_times}
+use Rattle.ps_vault.proofs.Warrants.{kept_shown, lives_in, ordinary_warranted, pair_of_space, warranted_added, warranted_times}
 
 -- the world after so many more
 pub world_times : (program : List ℕ) (schedule : List Entry) (n : ℕ) (move : Move)
@@ -226,15 +227,18 @@ module _ (context made : ℕ) (old new : Held) (schedule : List Entry) (keeps : 
   }
 
   -- they show nothing, and the space stays
-  pub space_made : new.desk.heap.space.size ≡ old.desk.heap.space.size
-  space_made = ap (λ (s : Space). s.size) has.keeps.space
+  pub same_space : new.desk.heap.space ≡ old.desk.heap.space
+  same_space = has.keeps.space
 
-  pub shows_made : AllShowOf old.desk.heap.space.size old.desk.program schedule
-      → AllShowOf new.desk.heap.space.size new.desk.program later
-  shows_made all =
-      subst (λ (n : ℕ). AllShowOf n new.desk.program later) (sym space_made)
-      (subst (λ (p : List ℕ). AllShowOf old.desk.heap.space.size p later) (sym has.program)
-      (shows_times old.desk.heap.space.size old.desk.program schedule all context made))
+  space_made : new.desk.heap.space.size ≡ old.desk.heap.space.size
+  space_made = ap (λ (s : Space). s.size) same_space
+
+  pub warranted_made : AllWarranted old.desk.heap.space.size old.desk.program schedule
+      → AllWarranted new.desk.heap.space.size new.desk.program later
+  warranted_made all =
+      subst (λ (n : ℕ). AllWarranted n new.desk.program later) (sym space_made)
+      (subst (λ (p : List ℕ). AllWarranted old.desk.heap.space.size p later) (sym has.program)
+      (warranted_times old.desk.heap.space.size old.desk.program schedule all context made))
 
   pub tell_made : (IsSo : effect.Note → Type 0) → IsSo effect.nothing
       → AllTell IsSo (starting_world old.desk.program) (moves schedule) (moves later)
@@ -306,13 +310,12 @@ module _ (asks : Status → Around → Scene → Asked) (context slot made : ℕ
     space_behind : new.desk.heap.space.size ≡ behind.mid.desk.heap.space.size
     space_behind = ap (λ (s : Space). s.size) behind.steps.keeps.space
 
-    pub space_kept : new.desk.heap.space.size ≡ old.desk.heap.space.size
-    space_kept = space_behind ∙ space_made context made old behind.mid schedule keeps ready
-        behind.makes
+    pub same_space_behind : new.desk.heap.space ≡ old.desk.heap.space
+    same_space_behind = behind.steps.keeps.space ∙ behind.makes.keeps.space
 
-    shows_mid : AllShowOf old.desk.heap.space.size old.desk.program schedule
-        → AllShowOf behind.mid.desk.heap.space.size behind.mid.desk.program so_far
-    shows_mid = shows_made context made old behind.mid schedule keeps ready behind.makes
+    warranted_mid : AllWarranted old.desk.heap.space.size old.desk.program schedule
+        → AllWarranted behind.mid.desk.heap.space.size behind.mid.desk.program so_far
+    warranted_mid = warranted_made context made old behind.mid schedule keeps ready behind.makes
 
     -- what lives in the world before the step needs no more than stands there
     lives_mid : behind.mid.calling ≡ None → IsAddressed behind.mid.desk.heap → (words : ℕ)
@@ -325,11 +328,11 @@ module _ (asks : Status → Around → Scene → Asked) (context slot made : ℕ
         behind.makes.steady.steady ready_mid
 
     of_new : (after : List Entry)
-        → AllShowOf behind.mid.desk.heap.space.size behind.mid.desk.program after
-        → AllShowOf new.desk.heap.space.size new.desk.program after
+        → AllWarranted behind.mid.desk.heap.space.size behind.mid.desk.program after
+        → AllWarranted new.desk.heap.space.size new.desk.program after
     of_new after all =
-        subst (λ (n : ℕ). AllShowOf n new.desk.program after) (sym space_behind)
-        (subst (λ (p : List ℕ). AllShowOf behind.mid.desk.heap.space.size p after)
+        subst (λ (n : ℕ). AllWarranted n new.desk.program after) (sym space_behind)
+        (subst (λ (p : List ℕ). AllWarranted behind.mid.desk.heap.space.size p after)
         (sym behind.steps.program) all)
 
     pub tell_mid : (IsSo : effect.Note → Type 0) → IsSo effect.nothing
@@ -370,17 +373,19 @@ module _ (asks : Status → Around → Scene → Asked) (context slot made : ℕ
               pair_of_space behind.mid.desk.heap new.desk.heap pair
               (world behind.mid.desk.program so_far) (lives_mid (Ok note) behind shows.0) shows.1
 
-      pub shows_behind : (kept : Option (ℤ × ℤ)) → kept ≡ kept_pair (note_of note) shown
-          → AllShowOf old.desk.heap.space.size old.desk.program schedule
-          → AllShowOf new.desk.heap.space.size new.desk.program
+      pub warranted_behind : (kept : Option (ℤ × ℤ)) → kept ≡ kept_pair (note_of note) shown
+          → AllWarranted old.desk.heap.space.size old.desk.program schedule
+          → AllWarranted new.desk.heap.space.size new.desk.program
           (added so_far (move_of context false kept))
-      shows_behind kept is all =
+      warranted_behind kept is all =
           of_new (Ok note) behind (added so_far (move_of context false kept))
-          (shows_added behind.mid.desk.heap.space.size behind.mid.desk.program so_far
-          (shows_mid (Ok note) behind all) (move_of context false kept)
+          (warranted_added behind.mid.desk.heap.space.size behind.mid.desk.program so_far
+          (warranted_mid (Ok note) behind all) (move_of context false kept)
+          (ordinary_warranted behind.mid.desk.heap.space.size
+          (world behind.mid.desk.program so_far) (count_of so_far) context kept
           (subst (λ (one : Option (ℤ × ℤ)). IfSome one
           (IsPairOf behind.mid.desk.heap.space.size (world behind.mid.desk.program so_far)))
-          (sym is) (kept_shown _ note shown shown_pair)))
+          (sym is) (kept_shown _ note shown shown_pair))))
 
       -- it was made as the definitions make it
       told : (stepped (world old.desk.program so_far) context false shown).note ≡ note_of note
@@ -465,17 +470,18 @@ module _ (asks : Status → Around → Scene → Asked) (context slot made : ℕ
         (keeps_mid (Err reason) behind) (ready_mid (Err reason) behind) reason behind.steps
 
     pub held_behind : {M : Type 0} (heap : M → Heap) (grants : M → Grants) (memory : M)
+        (story : Story) → story.program ≡ new.desk.program → story.schedule ≡ so_far
+        → HasNumbersOf story new.desk
         → new.desk.heap ≡ heap memory → new.desk.grants ≡ grants memory
-        → slot ≡ holds.slot_of context
-        → IsHeldUp heap grants asks context false (world new.desk.program so_far) reason
+        → slot ≡ holds.slot_of context → IsHeldUp heap grants asks context false story reason
     held_behind =
         held_step asks context (ordinary slot) shown behind.mid new so_far
         (keeps_mid (Err reason) behind) (ready_mid (Err reason) behind) reason behind.steps
 
     -- what was shown is of the space
-    pub shows_held : AllShowOf old.desk.heap.space.size old.desk.program schedule
-        → AllShowOf new.desk.heap.space.size new.desk.program so_far
-    shows_held all = of_new (Err reason) behind so_far (shows_mid (Err reason) behind all)
+    pub warranted_held : AllWarranted old.desk.heap.space.size old.desk.program schedule
+        → AllWarranted new.desk.heap.space.size new.desk.program so_far
+    warranted_held all = of_new (Err reason) behind so_far (warranted_mid (Err reason) behind all)
 
     -- who alone was left still is
     pub left_held : IsOnlyLeft (world old.desk.program schedule) context

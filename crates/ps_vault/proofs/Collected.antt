@@ -10,7 +10,6 @@ use Rattle.ps_mem.specs.Heap.{Grants}
 use Rattle.ps_parts_memory.specs.declared.Closing.{Closing}
 use Rattle.ps_parts_memory.specs.declared.Closing.TheVariants.{Closed, LogFull}
 use Rattle.ps_parts_memory.specs.Laws.{AfterClose}
-use Rattle.ps_flips.specs.Collected.{may_open}
 use Rattle.ps_roots.specs.Moved.{KeepsWorlds}
 use Rattle.ps_world.specs.Held.{Held, IsAt}
 use Rattle.ps_vault.specs.Stories.{Keeps, logs_closed}
@@ -74,6 +73,10 @@ log_closed old new slot lt already after = by (old.closed slot) refl
           logs_with old.closed new.closed slot lt closes.closed closes.closed_others,
         )
 
+is_closing : Closing → Bool
+is_closing Closed = true
+is_closing LogFull = false
+
 -- whatever the answer, the cycle is open or not as before
 pub cycle_kept : (old new : Grants) (slot : ℕ) (answer : Closing)
     → (old.closed slot ≡ true → (answer ≡ Closed) × (new ≡ old))
@@ -88,9 +91,10 @@ cycle_kept old new slot Closed already after full = by (old.closed slot) refl
     by true is = ap (λ (g : Grants). g.cycle_open) (already is).1
     by false is = (after is refl).cycle_open
 
--- ---- cycles
-
--- where one may be opened none is
-pub none_open : (is_open : Bool) (flips : ℕ) → may_open is_open flips ≡ true → is_open ≡ false
-none_open true flips may = absurd (true≢false (sym may))
-none_open false flips may = refl
+-- one that is full isn't closed
+pub unclosed_full : (closed : Bool) (answer : Closing) → (closed ≡ true → answer ≡ Closed)
+    → answer ≡ LogFull → closed ≡ false
+unfolding is_closing
+unclosed_full true answer already full =
+    absurd (true≢false (ap is_closing (sym (already refl) ∙ full)))
+unclosed_full false answer already full = refl

@@ -1,6 +1,6 @@
 -- What a vault keeps, over its steps.
 use Rattle.std.proofs.Common.{◌≡◌, ◌≢◌, ℕ, ℤ, zero, suc, ◌<◌, ◌≤◌, Bool, true, false, ◌&&◌, Option, Some, None, Ok, Err, List, [], ◌∷◌, refl, sym, ◌∙◌, ap, subst, arith}
-use Rattle.std.specs.Prelude.{Result, slice_get, IsTrue, IsSome, IfSome, IfNone, ◌==◌, length, vec_capacity}
+use Rattle.std.specs.Prelude.{Result, slice_get, IsSome, IfSome, IfNone, ◌==◌, length, vec_capacity}
 use Rattle.std.specs.Option.{option_map, option_map_or}
 use Rattle.std.proofs.lemmas.Bool.{true≢false}
 use Rattle.ps_language.specs.declared.schedules.Entry.{Entry}
@@ -17,11 +17,9 @@ use Rattle.ps_language.proofs.Recorded.{recorded-same}
 use Rattle.ps_language.proofs.ScheduleLaws.{moves-added, longest-added}
 use Rattle.ps_language.proofs.WorldLaws.{after_moves-append, all_ready-append}
 use Rattle.ps_ops.specs.declared.failure.NotMade.{NotMade as Reason}
-use Rattle.ps_ops.specs.declared.failure.NotMade.TheVariants.{LogFull, LogClosed, NeedSpace, Memory}
 use Rattle.ps_acts.specs.declared.lent.Trial.{Trial}
 use Rattle.ps_acts.specs.Acts.{Asked}
-use Rattle.ps_mem.specs.declared.TheConstants.{SLOTS}
-use Rattle.ps_mem.specs.Heap.{Heap, Grants, Space}
+use Rattle.ps_mem.specs.Heap.{Heap, Space}
 use Rattle.ps_contexts.specs.declared.members.Member.{Member}
 use Rattle.ps_contexts.specs.Seats.{item_at, IsNextLeft}
 use Rattle.ps_contexts.specs.Worlds.{context_of, contexts_in}
@@ -29,23 +27,19 @@ use Rattle.ps_contexts.specs.Desks.{Desk, IsWorld}
 use Rattle.ps_contexts.proofs.Holding.{contexts_in-found, contexts_in-length}
 use Rattle.ps_contexts.proofs.Places.{identifier_within}
 use Rattle.ps_turns.specs.Turns.{calling_of}
-use Rattle.ps_interpreter.proofs.Reached.{left_by}
+use Rattle.ps_language.proofs.LeftTurns.{left_by}
 use Rattle.ps_world.specs.declared.notes.Note.{Note}
 use Rattle.ps_world.specs.declared.worlds.Calling.{Calling}
-use Rattle.ps_world.specs.Calls.{IsHeldUpAs}
-use Rattle.ps_world.specs.Growth.{Growth, may_fail}
 use Rattle.ps_world.specs.Held.{Held, held, IsAt, IsAtBy, AreFramedBy, IsSteadyHeld, MayStep}
-use Rattle.ps_world.specs.Needs.{step_wants}
 use Rattle.ps_world.specs.Notes.{note_of}
 use Rattle.ps_world.specs.Steps.{Steps}
 use Rattle.ps_vault.specs.declared.reports.Outcome.{Outcome}
 use Rattle.ps_vault.specs.declared.reports.Report.{Report}
-use Rattle.ps_vault.specs.Holds.{slot_of, Grows, IsHeldUp, OnlyGrows}
 use Rattle.ps_vault.specs.Order.{IsOnlyLeft}
 use Rattle.ps_vault.specs.declared.reports.TheConstants.{FIRST_ENTRIES}
-use Rattle.ps_vault.specs.Reports.{all_fit, EndsAs, IsOneStarved, IsRunIn, MayWant}
-use Rattle.ps_vault.specs.Showing.{AllShowOf}
-use Rattle.ps_vault.specs.Stories.{Story, Keeps, ShowsSpace, logs_closed, move_of, world_at}
+use Rattle.ps_vault.specs.Reports.{all_fit, EndsAs, IsOneStarved, IsRunIn}
+use Rattle.ps_vault.specs.Warrants.{AllWarranted}
+use Rattle.ps_vault.specs.Stories.{Story, Keeps, AreWarranted, logs_closed, move_of, world_at}
 
 -- ---- one more move
 
@@ -171,64 +165,6 @@ module _ (asks : Status → Around → Scene → Asked) (context : ℕ) (trial :
       longest = keeps.longest;
     }
 
-    -- there is a reason
-    pub held_step : {M : Type 0} (heap : M → Heap) (grants : M → Grants) (memory : M)
-        → new.desk.heap ≡ heap memory → new.desk.grants ≡ grants memory
-        → trial.slot ≡ slot_of context
-        → IsHeldUp heap grants asks context trial.refused (world new.desk.program schedule) reason
-    held_step heap grants memory same_heap same_grants logged =
-        let wanted : Growth = step_wants asks context trial.refused here in
-        subst (λ (p : List ℕ).
-        IsHeldUp heap grants asks context trial.refused (world p schedule) reason)
-        (sym steps.program)
-        (record {
-          ready = ready;
-          memory = memory;
-          held_up =
-              subst (λ (n : ℕ). IsHeldUpAs wanted n (heap memory) (grants memory) reason) logged
-              (subst (λ (g : Grants). IsHeldUpAs wanted trial.slot (heap memory) g reason)
-              same_grants (subst (λ (h : Heap).
-              IsHeldUpAs wanted trial.slot h new.desk.grants reason) same_heap
-              (steps.held_up reason refl here keeps.at ready)));
-        })
-
--- ---- want of memory
-
--- a growth fails, in memories that all grow, or of which none does
-pub memory_wanted : {M : Type 0} (heap : M → Heap) (grants : M → Grants)
-    (asks : Status → Around → Scene → Asked) (context : ℕ) (refused : Bool) (w : World)
-    (grows : Bool) → ((m : M) → (heap m).space.grows ≡ grows)
-    → IsHeldUp heap grants asks context refused w Memory → MayWant asks grows context refused w
-memory_wanted heap grants asks context refused w grows all held = record {
-  ready = held.ready;
-  wants = subst (λ b. IsTrue (may_fail b (step_wants asks context refused w)))
-      (all held.memory) held.held_up;
-}
-
--- ---- a memory that only grows
-
-no_other : (heap : Heap) (grants : Grants) (wanted : Growth) (slot : ℕ) (reason : Reason)
-    → slot < SLOTS → Grows heap grants → IsHeldUpAs wanted slot heap grants reason
-    → reason ≡ Memory
-no_other heap grants wanted slot LogFull below grows held =
-    let less = held.1 in let free = grows.free slot below in absurd (omega (arith, less, free))
-no_other heap grants wanted slot LogClosed below grows held =
-    absurd (true≢false (sym held ∙ grows.opened slot below))
-no_other heap grants wanted slot (NeedSpace words) below grows held =
-    absurd (true≢false (sym grows.grows ∙ held.2))
-no_other heap grants wanted slot Memory below grows held = refl
-
--- a step over it is held up for want of memory alone
-pub may_want : {M : Type 0} (heap : M → Heap) (grants : M → Grants)
-    (asks : Status → Around → Scene → Asked) (context : ℕ) (refused : Bool) (w : World)
-    (reason : Reason) → OnlyGrows heap grants
-    → IsHeldUp heap grants asks context refused w reason → MayWant asks true context refused w
-may_want heap grants asks context refused w reason grows held =
-    memory_wanted heap grants asks context refused w true (λ m. (grows m).grows)
-    (subst (IsHeldUp heap grants asks context refused w)
-    (no_other (heap held.memory) (grants held.memory) (step_wants asks context refused w)
-    (slot_of context) reason (omega arith) (grows held.memory) held.held_up) held)
-
 -- ---- what is told of its world
 
 -- one that is ready is there
@@ -319,12 +255,14 @@ pub run_at_end : (asks : Status → Around → Scene → Asked) (space : Space) 
       capacity = vec_capacity report.schedule;
       caller = caller;
       space = h.desk.heap.space.size;
+      used = h.desk.heap.used;
+      flips = h.desk.heap.space.flips;
       cycle_open = h.desk.grants.cycle_open;
       closed = logs_closed h.desk.grants.closed;
     } ≡ story
     → space.size ≡ story.space
     → count_of story.schedule ≤ steps
-    → all_fit (moves story.schedule) ≡ true → ShowsSpace story → FIRST_ENTRIES ≤ story.capacity
+    → all_fit (moves story.schedule) ≡ true → AreWarranted story → FIRST_ENTRIES ≤ story.capacity
     → EndsAs (world_at story) (count_of story.schedule == steps)
     (IsOneStarved asks space.grows (world_at story) story.capacity story.schedule) report.outcome
     → IsRunIn asks space story.program steps report
@@ -343,8 +281,8 @@ run_at_end asks space h report steps caller story prints keeps view size few fit
       longest = keeps.longest;
       within = subst (λ (s : List Entry). count_of s ≤ steps) made few;
       fits = subst (λ (s : List Entry). all_fit (moves s) ≡ true) made fit;
-      shown = subst (λ (n : ℕ). AllShowOf n story.program schedule) (sym size)
-          (subst (λ (s : List Entry). AllShowOf story.space story.program s) made shows);
+      warranted = subst (λ (n : ℕ). AllWarranted n story.program schedule) (sym size)
+          (subst (λ (s : List Entry). AllWarranted story.space story.program s) made shows);
       room = subst (λ (n : ℕ). FIRST_ENTRIES ≤ n) (sym (ap (λ (s : Story). s.capacity) view)) room;
       ends = subst (λ (s : List Entry). EndsAs (world story.program s) (count_of s == steps)
           (IsOneStarved asks space.grows (world story.program s) capacity s) outcome) made

@@ -1,17 +1,20 @@
 -- When a step is held up.
 use Rattle.std.specs.Prelude.{◌≡◌, ◌<◌, ◌≤◌, ◌%◌, ℕ, ℤ, Bool, true, false, Option, Some, None}
 use Rattle.ps_language.specs.Effect.{Around, Scene}
+use Rattle.ps_language.specs.Live.{asked_words}
 use Rattle.ps_language.specs.Locks.{is_ready}
-use Rattle.ps_language.specs.World.{Status, World}
+use Rattle.ps_language.specs.World.{Status}
 use Rattle.ps_mem.specs.declared.TheConstants.{SLOTS}
 use Rattle.ps_mem.specs.Heap.{Heap, Grants}
 use Rattle.ps_ops.specs.declared.failure.NotMade.{NotMade}
+use Rattle.ps_ops.specs.declared.failure.NotMade.TheVariants.{NeedSpace}
 use Rattle.ps_ops.specs.Does.{most_records}
 use Rattle.ps_acts.specs.Acts.{Asked}
 use Rattle.ps_world.specs.declared.notes.Note.{Note}
 use Rattle.ps_world.specs.declared.notes.Note.TheVariants.{Wishes}
 use Rattle.ps_world.specs.Calls.{IsHeldUpAs}
 use Rattle.ps_world.specs.Needs.{step_wants}
+use Rattle.ps_vault.specs.Stories.{Story, IsMemoryOf, LacksRoom, world_at}
 use Rattle.ps_vault.specs.declared.vaults.Told.{Told}
 use Rattle.ps_vault.specs.declared.vaults.Told.TheVariants.{HeldUp}
 
@@ -19,15 +22,17 @@ use Rattle.ps_vault.specs.declared.vaults.Told.TheVariants.{HeldUp}
 abbrev pub slot_of : (context : ℕ) → ℕ
 slot_of context = context % SLOTS
 
--- the context is ready, and its step is not made for this reason in such a memory: the log is
--- closed, or takes fewer records than a step may put, or what the step may want isn't to be had
+-- the context is ready, and its step is not made for this reason in a memory with the numbers of
+-- the story: the log is closed, or takes fewer records than a step may put, or what the step may
+-- want isn't to be had
 pub record IsHeldUp {M : Type 0} (heap : M → Heap) (grants : M → Grants)
-    (asks : Status → Around → Scene → Asked) (context : ℕ) (refused : Bool) (w : World)
+    (asks : Status → Around → Scene → Asked) (context : ℕ) (refused : Bool) (story : Story)
     (reason : NotMade) : Type 0 where
-  pub ready : is_ready w context ≡ true
+  pub ready : is_ready (world_at story) context ≡ true
   pub memory : M
-  pub held_up : IsHeldUpAs (step_wants asks context refused w) (slot_of context) (heap memory)
-      (grants memory) reason
+  pub is_of : IsMemoryOf story (heap memory) (grants memory)
+  pub held_up : IsHeldUpAs (step_wants asks context refused (world_at story)) (slot_of context)
+      (heap memory) (grants memory) reason
 
 -- whether steps were held up, and why
 abbrev pub is_held_up : Told → Bool
@@ -37,6 +42,13 @@ is_held_up _ = false
 abbrev pub IfHeldUp : (NotMade → Type 0) → Told → Type 0
 IfHeldUp Why (HeldUp reason) = Why reason
 IfHeldUp Why _ = Unit {0}
+
+-- where an unrefused step isn't made for want of room, it asks for so many words, and there is no
+-- room for what it asks for
+abbrev pub IfForRoom : (refused : Bool) → Story → (context : ℕ) → NotMade → Type 0
+IfForRoom refused story context (NeedSpace words) =
+    refused ≡ false → (words ≡ asked_words (world_at story) context) × LacksRoom story context
+IfForRoom refused story context reason = Unit {0}
 
 -- the number of the vmreclaim that a step was, if it was one
 abbrev pub wish_in : Note → Option ℤ

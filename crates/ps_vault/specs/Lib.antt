@@ -1,8 +1,8 @@
-pub mod Holds
-pub mod Reports
-pub mod Showing
-pub mod Stories
 pub mod Cycles
-pub mod Turns
-pub mod Order
 pub mod Endings
+pub mod Holds
+pub mod Order
+pub mod Reports
+pub mod Stories
+pub mod Turns
+pub mod Warrants

@@ -18,7 +18,7 @@ use Rattle.ps_vault.specs.declared.reports.Outcome.{Outcome}
 use Rattle.ps_vault.specs.declared.reports.Outcome.TheVariants.{Finished, Faulted, AllWaiting, StepsOut, Memory}
 use Rattle.ps_vault.specs.declared.reports.Report.{Report}
 use Rattle.ps_vault.specs.declared.reports.TheConstants.{FIRST_ENTRIES}
-use Rattle.ps_vault.specs.Showing.{AllShowOf}
+use Rattle.ps_vault.specs.Warrants.{AllWarranted}
 
 -- each number is in its range
 pub record IsWithin (config : Config) : Type 0 where
@@ -92,8 +92,8 @@ module _ (asks : Status → Around → Scene → Asked) (grows : Bool) where
 
 -- a run of the program with a budget of steps, in a memory of this space: its bytes are those that
 -- the definitions print under its schedule, which is proper and of the longest entries, and the
--- outcome is that of its world; its steps may be refused, and what they show is of that space. The
--- schedule had room from the start, and can have its numbers
+-- outcome is that of its world; what its steps are shown is of that space, and they are refused only
+-- where it has no room for them. The schedule had room from the start, and can have its numbers
 pub record IsRunIn (asks : Status → Around → Scene → Asked) (space : Space) (program : List ℕ)
     (steps : ℕ) (report : Report) : Type 0 where
   pub prints : report.printed.items ≡ worlds.printed program report.schedule.items
@@ -101,7 +101,7 @@ pub record IsRunIn (asks : Status → Around → Scene → Asked) (space : Space
   pub longest : is_longest report.schedule.items ≡ true
   pub within : count_of report.schedule.items ≤ steps
   pub fits : all_fit (moves report.schedule.items) ≡ true
-  pub shown : AllShowOf space.size program report.schedule.items
+  pub warranted : AllWarranted space.size program report.schedule.items
   pub room : FIRST_ENTRIES ≤ vec_capacity report.schedule
   pub ends : EndsAs (worlds.world program report.schedule.items)
       (count_of report.schedule.items == steps)

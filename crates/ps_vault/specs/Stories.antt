@@ -1,23 +1,30 @@
 -- What clauses see of a vault, and what it keeps.
-use Rattle.std.specs.Prelude.{◌≡◌, ◌+◌, ◌≤◌, ℕ, ℤ, Bool, true, false, Option, IfSome, List, length, map, replicate, slice_set}
+use Rattle.std.specs.Prelude.{◌≡◌, ◌+◌, ◌<◌, ◌≤◌, ℕ, ℤ, Bool, true, false, Option, None, IfSome, List, length, map, replicate, slice_set}
 use Rattle.std.specs.List.{range_with_len}
 use Rattle.ps_language.specs.declared.schedules.Entry.{Entry}
+use Rattle.ps_language.specs.Live.{Live, asked_births, asked_words}
 use Rattle.ps_language.specs.Schedules.{Move, is_longest}
 use Rattle.ps_language.specs.World.{World}
 use Rattle.ps_language.specs.Worlds.{world, IsProper}
+use Rattle.ps_word.specs.Headers.{birth_limit}
 use Rattle.ps_mem.specs.declared.TheConstants.{SLOTS}
+use Rattle.ps_mem.specs.Heap.{Heap, Grants}
+use Rattle.ps_roots.specs.Moved.{IsLeft}
 use Rattle.ps_world.specs.Held.{Held, IsAt, IsSteadyHeld}
-use Rattle.ps_vault.specs.Showing.{AllShowOf}
+use Rattle.ps_vault.specs.Warrants.{AllWarranted}
 
 -- The program, the steps that were made, how many entries find room, and the context whose call
--- waits, since it could not be made. Of the memory: the words of its space, whether a cycle of the
--- collector is open, and by slot whether its log is closed
+-- waits, since it could not be made. Of the memory: the words of its space, those that are used, how
+-- often what stands was moved, whether a cycle of the collector is open, and by slot whether its
+-- log is closed
 pub record Story : Type 0 where
   pub program : List ℕ
   pub schedule : List Entry
   pub capacity : ℕ
   pub caller : Option ℕ
   pub space : ℕ
+  pub used : ℕ
+  pub flips : ℕ
   pub cycle_open : Bool
   pub closed : List Bool
 
@@ -25,14 +32,18 @@ pub record Story : Type 0 where
 abbrev pub logs_closed : (closed : ℕ → Bool) → List Bool
 logs_closed closed = map closed (range_with_len 0 SLOTS)
 
--- all is as it was, but that a cycle may be open or not, and logs closed
-abbrev pub SameRun : (old new : Story) → Type 0
-SameRun old new = new ≡ record old { cycle_open = new.cycle_open; closed = new.closed }
+-- a cycle was opened, and no log is closed
+abbrev pub with_cycle : Story → Story
+with_cycle story = record story { cycle_open = true; closed = replicate SLOTS false }
 
--- a cycle is open or none is, and no log is closed
-abbrev pub with_cycle : (is_open : Bool) → Story → Story
-with_cycle is_open story =
-    record story { cycle_open = is_open; closed = replicate SLOTS false }
+-- no cycle is open, the flips are those that this counts, and so many words are used
+abbrev pub without_cycle : (counted : ℕ → ℕ) → (used : ℕ) → Story → Story
+without_cycle counted used story = record story {
+  used = used;
+  flips = counted story.flips;
+  cycle_open = false;
+  closed = replicate SLOTS false;
+}
 
 -- the log of a slot is closed
 abbrev pub with_closed : (slot : ℕ) → Story → Story
@@ -50,9 +61,34 @@ HasRoom story = length story.schedule + 2 ≤ story.capacity
 abbrev pub world_at : Story → World
 world_at story = world story.program story.schedule
 
--- what its steps show is of its space
-abbrev pub ShowsSpace : Story → Type 0
-ShowsSpace story = AllShowOf story.space story.program story.schedule
+-- what its steps are shown, and that they are refused, is warranted
+abbrev pub AreWarranted : Story → Type 0
+AreWarranted story = AllWarranted story.space story.program story.schedule
+
+-- ---- its memory
+
+-- a memory with the numbers of a story, which has given out a birth number for each object of its
+-- world
+pub record IsMemoryOf (story : Story) (heap : Heap) (grants : Grants) : Type 0 where
+  pub space : heap.space.size ≡ story.space
+  pub used : heap.used ≡ story.used
+  pub flips : heap.space.flips ≡ story.flips
+  pub births : heap.next ≡ length (world_at story).store
+  pub cycle_open : grants.cycle_open ≡ story.cycle_open
+  pub closed : logs_closed grants.closed ≡ story.closed
+
+-- the words or the births that a step of a context asks for aren't to be had
+pub data LacksRoom (story : Story) (context : ℕ) : Type 0 where
+  few_words : story.space < story.used + asked_words (world_at story) context
+      → LacksRoom story context
+  few_births : birth_limit < length (world_at story).store + asked_births (world_at story) context
+      → LacksRoom story context
+
+-- nothing is used but what lives; where a call waits, whose element is taken, no more than that
+pub record UsesOnlyLive (story : Story) : Type 0 where
+  pub exact : story.caller ≡ None → IsLeft (world_at story) → Live (world_at story) story.used
+  pub most : IsLeft (world_at story) → (words : ℕ) → Live (world_at story) words
+      → story.used ≤ words
 
 -- a step
 abbrev pub move_of : (context : ℕ) → (refused : Bool) → (shown : Option (ℤ × ℤ)) → Move

@@ -1,20 +1,21 @@
-//! A vault over a memory that is collected: what the collector does between steps leaves the world,
-//! and the schedule.
+//! The cycles of a vault's collector, which it is lent for the calls that move objects or hand roots
+//! over. World and schedule stay.
 
 ghost use Rattle.std.specs.Prelude.{◌≡◌, ◌<◌, true, false, slice_index_or};
-ghost use Rattle.ps_flips.specs.Collected.{one_more_if, stopped};
-ghost use Rattle.ps_vault.specs.Cycles.{Flips, IsFull, Opens};
-ghost use Rattle.ps_vault.specs.Stories.{SameRun, with_closed, with_cycle};
+ghost use Rattle.ps_flips.specs.Collected.{may_open, one_more_if, stopped};
+ghost use Rattle.ps_vault.specs.Cycles.{IsFull};
+ghost use Rattle.ps_vault.specs.Stories.{UsesOnlyLive, with_closed, with_cycle, without_cycle};
 
 use crate::vaults::Vault;
 use ps_flips::collected::{CollectedMemory, Counts};
+use ps_flips::sides::{Collects, LoggedMemory};
 use ps_interpreter::interprets::Interpret;
 use ps_mem::SLOTS;
 use ps_parts_memory::Closing;
-use ps_roots::{Roots, end_cycle, open_cycle, stop_all};
+use ps_roots::{Roots, end_cycle, hand_over, open_cycle, stop_all, try_flip};
 use ps_world::deeds::Deeds;
 
-impl<M: CollectedMemory + Drop, S: Interpret + Drop, D: Deeds + Drop> Vault<'_, M, S, D> {
+impl<M: LoggedMemory + Drop, S: Interpret + Drop, D: Deeds + Drop> Vault<'_, M, S, D> {
     /// Whether a cycle of the collector is open.
     pub fn is_open(&mut self) -> bool
         ensures same { self.new ≡ self.old }
@@ -23,23 +24,21 @@ impl<M: CollectedMemory + Drop, S: Interpret + Drop, D: Deeds + Drop> Vault<'_, 
         self.memory.is_open()
     }
 
-    /// Opens a cycle exactly where none is open and cycles are left: the collector is handed the
-    /// roots of all contexts, and no log is closed. False: nothing has changed.
-    pub fn open_cycle(&mut self, roots: &mut Roots) -> bool
-        ensures run { SameRun self.old self.new }
-        ensures answer { Opens M.flips M.grants self.old.cycle_open result }
-        ensures opened { result ≡ true
-            → (self.old.cycle_open ≡ false) × (self.new ≡ with_cycle true self.old) }
+    /// Opens a cycle exactly where none is open and cycles are left: no log is closed. False:
+    /// nothing has changed.
+    pub fn open_cycle(&mut self) -> bool
+        ensures answer { result ≡ may_open self.old.cycle_open self.old.flips }
+        ensures opened { result ≡ true → self.new ≡ with_cycle self.old }
         ensures same { result ≡ false → self.new ≡ self.old }
     {
-        open_cycle(&mut self.memory, &self.world.contexts, roots)
+        open_cycle(&mut self.memory, &self.world.contexts)
     }
 
-    /// In an open cycle the collector does so many actions; false: it found nothing to do.
-    pub fn work(&mut self, actions: u32) -> bool
+    /// The collector is handed the roots of all contexts.
+    pub fn hand_over<C: Collects<M>>(&mut self, collector: &mut C, roots: &mut Roots)
         ensures { self.new ≡ self.old }
     {
-        self.memory.work(actions)
+        hand_over(&mut self.memory, collector, &self.world.contexts, roots);
     }
 
     /// In an open cycle: closes the log of a slot until the cycle ends; a closed one stays as it
@@ -51,37 +50,59 @@ impl<M: CollectedMemory + Drop, S: Interpret + Drop, D: Deeds + Drop> Vault<'_, 
         ensures already { slice_index_or self.old.closed slot false ≡ true
             → (result ≡ Closing.Closed) × (self.new ≡ self.old) }
         ensures closed { result ≡ Closing.Closed → self.new ≡ with_closed slot self.old }
-        ensures full { result ≡ Closing.LogFull → IsFull M.grants slot × (self.new ≡ self.old) }
+        ensures full { result ≡ Closing.LogFull
+            → IsFull M.heap M.grants self.old slot × (self.new ≡ self.old) }
     {
         self.memory.close_log(slot)
     }
 
-    /// Ends the open cycle: the objects move, and the roots of all contexts are renamed. False: no
-    /// cycle was open.
-    pub fn end_cycle(&mut self, roots: &mut Roots) -> bool
-        ensures run { self.new ≡ with_cycle false self.old }
+    /// Ends the open cycle by the flip, where all is ready for it: the objects move, and the roots
+    /// of all contexts are renamed. False: nothing has changed.
+    pub fn try_flip<C: Collects<M>>(&mut self, collector: &mut C, roots: &mut Roots) -> bool
+        requires open { self.old.cycle_open ≡ true }
+        ensures done { result ≡ true
+            → self.new ≡ without_cycle (one_more_if true) self.new.used self.old }
+        ensures same { result ≡ false → self.new ≡ self.old }
+    {
+        try_flip(&mut self.memory, collector, &mut self.world.contexts, roots)
+    }
+
+    /// Ends the open cycle, whatever is left to do. False: no cycle was open.
+    pub fn end_cycle<C: Collects<M>>(&mut self, collector: &mut C, roots: &mut Roots) -> bool
         ensures ended { result ≡ self.old.cycle_open }
-        ensures flips { Flips M.flips M.grants self.old.cycle_open
-            (one_more_if self.old.cycle_open) }
+        ensures run { self.new
+            ≡ without_cycle (one_more_if self.old.cycle_open) self.new.used self.old }
+        ensures same { result ≡ false → self.new ≡ self.old }
     {
-        end_cycle(&mut self.memory, &mut self.world.contexts, roots)
+        end_cycle(&mut self.memory, collector, &mut self.world.contexts, roots)
     }
 
-    /// Ends the open cycle, if there is one, and makes a whole one more, if cycles are left. None is
-    /// open then.
-    pub fn stop_all(&mut self, roots: &mut Roots)
-        ensures run { self.new ≡ with_cycle false self.old }
-        ensures flips { Flips M.flips M.grants self.old.cycle_open (stopped self.old.cycle_open) }
+    /// Ends the open cycle, if there is one, and makes a whole one more, if cycles are left: nothing
+    /// is used then but what lives. None is open then.
+    pub fn stop_all<C: Collects<M>>(&mut self, collector: &mut C, roots: &mut Roots)
+        ensures run { self.new
+            ≡ without_cycle (stopped self.old.cycle_open) self.new.used self.old }
+        ensures lives { may_open false (one_more_if self.old.cycle_open self.old.flips) ≡ true
+            → UsesOnlyLive self.new }
     {
-        stop_all(&mut self.memory, &mut self.world.contexts, roots);
+        stop_all(&mut self.memory, collector, &mut self.world.contexts, roots);
     }
 
-    /// How much the collector has done: the cycles that were flipped in the memory, and the records
-    /// that were taken.
+    /// How much the collector has done, by the words.
     pub fn counts(&mut self) -> Counts
         ensures same { self.new ≡ self.old }
-        ensures flips { (memory : _) × (result.flips ≡ M.flips memory) }
+        ensures flips { result.flips ≡ self.old.flips }
     {
         self.memory.counts()
+    }
+}
+
+impl<M: CollectedMemory + Drop, S: Interpret + Drop, D: Deeds + Drop> Vault<'_, M, S, D> {
+    /// In an open cycle the collector that the memory has inside does so many actions; false: it
+    /// found nothing to do.
+    pub fn work(&mut self, actions: u32) -> bool
+        ensures { self.new ≡ self.old }
+    {
+        self.memory.work(actions)
     }
 }

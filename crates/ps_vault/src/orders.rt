@@ -6,7 +6,7 @@ ghost use Rattle.ps_language.specs.Schedules.{count_of, moves};
 ghost use Rattle.ps_vault.specs.Holds.{OnlyGrows};
 ghost use Rattle.ps_vault.specs.Order.{IsNoneAbove};
 ghost use Rattle.ps_vault.specs.Reports.{are_ordinary, IsOneStarved, IsRunOf};
-ghost use Rattle.ps_vault.specs.Stories.{ShowsSpace, world_at};
+ghost use Rattle.ps_vault.specs.Stories.{AreWarranted, world_at};
 
 use crate::reports::{FIRST_ENTRIES, Report};
 use crate::turns::Turn;
@@ -73,7 +73,7 @@ impl<M: Memory + Drop, S: Interpret + Drop, D: Deeds + Drop> Vault<'_, M, S, D> 
         ensures counted { count_of self.new.schedule ≡ count_of self.old.schedule + result.made }
         ensures ordinary { are_ordinary (moves self.old.schedule) ≡ true
             → are_ordinary (moves self.new.schedule) ≡ true }
-        ensures shown { ShowsSpace self.old → ShowsSpace self.new }
+        ensures warranted { AreWarranted self.old → AreWarranted self.new }
         ensures space { self.new.space ≡ self.old.space }
         ensures capacity { self.old.capacity ≤ self.new.capacity }
         ensures calling_on { result.held ≡ false → self.new.caller ≡ None }

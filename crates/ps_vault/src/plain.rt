@@ -7,7 +7,7 @@ ghost use Rattle.ps_mem.specs.Plain.{plain_space};
 ghost use Rattle.ps_vault.specs.Order.{HasTurn, InOrder, IsNoneAbove};
 ghost use Rattle.ps_vault.specs.declared.reports.TheConstants.{FIRST_ENTRIES};
 ghost use Rattle.ps_vault.specs.Reports.{are_ordinary, is_memory, IsOneStarved, IsRunOf, IsStarved, IsWithin};
-ghost use Rattle.ps_vault.specs.Stories.{ShowsSpace, world_at};
+ghost use Rattle.ps_vault.specs.Stories.{AreWarranted, world_at};
 
 use crate::reports::{Config, FIRST_ENTRIES, Outcome, Report, RunFault};
 use crate::turns::Turn;
@@ -74,7 +74,7 @@ impl<M: Memory + Drop, S: Interpret + Drop, D: Deeds + Drop> Vault<'_, M, S, D> 
         requires counted { count_of self.schedule ≡ run.made }
         requires within { run.made ≤ steps }
         requires ordinary { are_ordinary (moves self.schedule) ≡ true }
-        requires shown { ShowsSpace self }
+        requires warranted { AreWarranted self }
         requires space { self.space ≡ plain_space.size }
         requires room { FIRST_ENTRIES ≤ self.capacity }
         requires calling { run.held ≡ false → self.caller ≡ None }

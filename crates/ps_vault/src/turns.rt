@@ -7,7 +7,7 @@ ghost use Rattle.ps_language.specs.Worlds.{starting_world};
 ghost use Rattle.ps_vault.specs.Holds.{OnlyGrows};
 ghost use Rattle.ps_vault.specs.Order.{IsNoneAbove, IsLeastAbove, AddsTurns, HasTurn, InOrder};
 ghost use Rattle.ps_vault.specs.Reports.{are_ordinary, IsStarved, IsOneStarved};
-ghost use Rattle.ps_vault.specs.Stories.{ShowsSpace, world_at};
+ghost use Rattle.ps_vault.specs.Stories.{AreWarranted, world_at};
 
 use crate::vaults::{Told, Vault};
 use ps_interpreter::interprets::Interpret;
@@ -54,7 +54,7 @@ impl<M: Memory + Drop, S: Interpret + Drop, D: Deeds + Drop> Vault<'_, M, S, D> 
         ensures counted { count_of self.new.schedule ≡ count_of self.old.schedule + result.made }
         ensures ordinary { are_ordinary (moves self.old.schedule) ≡ true
             → are_ordinary (moves self.new.schedule) ≡ true }
-        ensures shown { ShowsSpace self.old → ShowsSpace self.new }
+        ensures warranted { AreWarranted self.old → AreWarranted self.new }
         ensures space { self.new.space ≡ self.old.space }
         ensures capacity { self.old.capacity ≤ self.new.capacity }
         ensures turns { AddsTurns quantum most (starting_world self.old.program) context result
@@ -117,7 +117,7 @@ impl<M: Memory + Drop, S: Interpret + Drop, D: Deeds + Drop> Vault<'_, M, S, D> 
         ensures counted { count_of self.new.schedule ≡ count_of self.old.schedule + result.made }
         ensures ordinary { are_ordinary (moves self.old.schedule) ≡ true
             → are_ordinary (moves self.new.schedule) ≡ true }
-        ensures shown { ShowsSpace self.old → ShowsSpace self.new }
+        ensures warranted { AreWarranted self.old → AreWarranted self.new }
         ensures space { self.new.space ≡ self.old.space }
         ensures capacity { self.old.capacity ≤ self.new.capacity }
         ensures order { moves self.old.schedule ≡ []

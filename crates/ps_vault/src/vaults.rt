@@ -1,7 +1,7 @@
 //! All contexts and their memory, with the program and the schedule that they stand for: after
 //! each call they are at the world of that program and that schedule, whatever the memory is.
 
-ghost use Rattle.std.specs.Prelude.{◌≡◌, ◌≢◌, ◌↔◌, ◌+◌, ◌<◌, ◌≤◌, ℕ, ℤ, false, true, Bool, OnOk, OnErr, IfOk, IfErr, IfSome, IfNone, IsTrue, Option, None, [], ◌==◌, min, not, nat_eq, vec_capacity, length, if◌then◌else◌};
+ghost use Rattle.std.specs.Prelude.{◌≡◌, ◌≢◌, ◌↔◌, ◌+◌, ◌<◌, ◌≤◌, ℕ, ℤ, false, true, Bool, OnOk, OnErr, IfOk, IfErr, IfSome, IfNone, IsTrue, Option, None, IsSome, [], ◌==◌, ◌⊎◌, min, not, nat_eq, vec_capacity, length, if◌then◌else◌};
 ghost use Rattle.ps_language.specs.Contexts.{count_not_ended};
 ghost use Rattle.ps_language.specs.Locks as locks;
 ghost use Rattle.ps_language.specs.Schedules.{added, count_of, moves, plain_move};
@@ -11,10 +11,10 @@ ghost use Rattle.ps_vault.specs.Order.{IsNoneAbove, IsOnlyLeft, AddsSteps, AllOf
 ghost use Rattle.ps_mem.specs.Heap.{Space};
 ghost use Rattle.ps_start.specs.Starts.{IsEmptyHeap};
 ghost use Rattle.ps_vault.specs.Holds as holds;
-ghost use Rattle.ps_vault.specs.Holds.{IfHeldUp, IsHeldUp, is_held_up, wish_in};
+ghost use Rattle.ps_vault.specs.Holds.{IfForRoom, IfHeldUp, IsHeldUp, is_held_up, wish_in};
 ghost use Rattle.ps_vault.specs.Reports.{all_fit, are_ordinary, are_words, is_memory, EndsAs, IsOneStarved, IsRunIn, IsShort};
 ghost use Rattle.ps_vault.specs.declared.reports.TheConstants.{FIRST_ENTRIES};
-ghost use Rattle.ps_vault.specs.Stories.{Story, HasRoom, MayGo, ShowsSpace, world_at, move_of};
+ghost use Rattle.ps_vault.specs.Stories.{Story, HasRoom, MayGo, AreWarranted, world_at, move_of};
 ghost use Rattle.ps_vault.specs.Turns.{added_times};
 
 use crate::reports::{Outcome, Report};
@@ -37,7 +37,8 @@ use std::marker::Model;
 
 /// All contexts, who makes their steps, their memory, and the steps that they made: seen as the
 /// program, the schedule, how many entries find room, whose call waits, the words of the memory's
-/// space, whether a cycle of the collector is open, and which logs are closed.
+/// space, those that are used, how often what stands was moved, whether a cycle of the collector is
+/// open, and which logs are closed.
 #[derive(Drop)]
 pub struct Vault<'a, M: Memory + Drop, S: Interpret + Drop, D: Deeds + Drop> {
     interpret: S,
@@ -61,6 +62,8 @@ impl<'a, M: Memory + Drop, S: Interpret + Drop, D: Deeds + Drop> Model for Vault
       capacity = vec_capacity v.schedule;
       caller = option_map (λ calling. calling.caller) v.world.calling;
       space = (M.heap v.memory).space.size;
+      used = (M.heap v.memory).used;
+      flips = (M.heap v.memory).space.flips;
       cycle_open = (M.grants v.memory).cycle_open;
       closed = logs_closed (M.grants v.memory).closed;
     } };
@@ -142,6 +145,7 @@ impl<'a, M: Memory + Drop, S: Interpret + Drop, D: Deeds + Drop> Vault<'a, M, S,
         ensures room { IfOk result (λ vault. entries ≤ vault.capacity) }
         ensures calling { IfOk result (λ vault. vault.caller ≡ None) }
         ensures space { IfOk result (λ vault. vault.space ≡ (M.heap memory).space.size) }
+        ensures flips { IfOk result (λ vault. vault.flips ≡ (M.heap memory).space.flips) }
     {
         let Ok(world) = start_world(alloc, &mut memory, program, keys) else {
             return Err(AllocError);
@@ -205,7 +209,8 @@ impl<M: Memory + Drop, S: Interpret + Drop, D: Deeds + Drop> Vault<'_, M, S, D> 
 
     /// The words that are used of the space.
     pub fn used(&mut self) -> u32
-        ensures { self.new ≡ self.old }
+        ensures same { self.new ≡ self.old }
+        ensures is { result ≡ self.old.used }
     {
         self.memory.used()
     }
@@ -231,6 +236,8 @@ impl<M: Memory + Drop, S: Interpret + Drop, D: Deeds + Drop> Vault<'_, M, S, D> 
         ensures calling { self.new.caller ≡ self.old.caller }
         ensures capacity { self.old.capacity ≤ self.new.capacity }
         ensures space { self.new.space ≡ self.old.space }
+        ensures used { self.new.used ≡ self.old.used }
+        ensures flips { self.new.flips ≡ self.old.flips }
         ensures cycle { self.new.cycle_open ≡ self.old.cycle_open }
         ensures closed { self.new.closed ≡ self.old.closed }
         ensures room { OnOk result (HasRoom self.new) }
@@ -241,8 +248,10 @@ impl<M: Memory + Drop, S: Interpret + Drop, D: Deeds + Drop> Vault<'_, M, S, D> 
 
     /// Makes a step of a context that is ready, where no other's call waits; a refused one makes no
     /// object, and a `vmstatus` shows the given pair. No cycle is opened or ended, and no log
-    /// closed. Not made, at the same world, for the reason that is told: room for records, or for
-    /// words, or a growth that the step may want.
+    /// closed. Not made, at the same world, for the reason that is told: room for records, or a
+    /// growth that the step may want; or words or births of the objects that the unrefused step
+    /// makes, for which there is no room. What is used is as before then, unless a call waits that
+    /// didn't before.
     pub fn step(
         &mut self,
         context: u32,
@@ -263,13 +272,17 @@ impl<M: Memory + Drop, S: Interpret + Drop, D: Deeds + Drop> Vault<'_, M, S, D> 
         ensures longer { length self.new.schedule ≤ length self.old.schedule + 1 }
         ensures capacity { self.old.capacity ≤ self.new.capacity }
         ensures space { self.new.space ≡ self.old.space }
+        ensures flips { self.new.flips ≡ self.old.flips }
         ensures cycle { self.new.cycle_open ≡ self.old.cycle_open }
         ensures closed { self.new.closed ≡ self.old.closed }
         ensures calling { MayGo self.new context }
         ensures calling_on { OnOk result (self.new.caller ≡ None) }
         ensures not_made { OnErr result (self.new.schedule ≡ self.old.schedule) }
+        ensures used { OnErr result ((self.new.caller ≡ None) ⊎ IsSome self.old.caller
+            → self.new.used ≡ self.old.used) }
         ensures held_up { IfErr result
-            (IsHeldUp M.heap M.grants S.asks context refused (world_at self.new)) }
+            (IsHeldUp M.heap M.grants S.asks context refused self.new) }
+        ensures room { IfErr result (IfForRoom refused self.new context) }
     {
         let trial = Trial {
             slot: slot_of(context),
@@ -312,7 +325,7 @@ impl<M: Memory + Drop, S: Interpret + Drop, D: Deeds + Drop> Vault<'_, M, S, D> 
             → are_ordinary (moves self.new.schedule) ≡ true }
         ensures fits { all_fit (moves self.old.schedule) ≡ true
             → all_fit (moves self.new.schedule) ≡ true }
-        ensures shown { ShowsSpace self.old → ShowsSpace self.new }
+        ensures warranted { AreWarranted self.old → AreWarranted self.new }
         ensures takes { AddsSteps context result.made (moves self.old.schedule)
             (moves self.new.schedule) }
         ensures keeps { result.told ≢ Told.TurnEnds → NoneEnds
@@ -332,10 +345,12 @@ impl<M: Memory + Drop, S: Interpret + Drop, D: Deeds + Drop> Vault<'_, M, S, D> 
         ensures longer { length self.new.schedule ≤ length self.old.schedule + 2 }
         ensures capacity { self.old.capacity ≤ self.new.capacity }
         ensures space { self.new.space ≡ self.old.space }
+        ensures flips { self.new.flips ≡ self.old.flips }
         ensures calling { MayGo self.new context }
         ensures calling_on { is_held_up result.told ≡ false → self.new.caller ≡ None }
         ensures held_up { IfHeldUp
-            (IsHeldUp M.heap M.grants S.asks context false (world_at self.new)) result.told }
+            (IsHeldUp M.heap M.grants S.asks context false self.new) result.told }
+        ensures room { IfHeldUp (IfForRoom false self.new context) result.told }
     {
         let Advance { made, next } = self.world.go_on(
             &mut self.interpret,
@@ -433,7 +448,7 @@ impl<M: Memory + Drop, S: Interpret + Drop, D: Deeds + Drop> Vault<'_, M, S, D> 
     pub fn into_report(self, steps: u32, outcome: Outcome, counts: Counts) -> Report
         requires few { count_of self.schedule ≤ steps }
         requires fits { all_fit (moves self.schedule) ≡ true }
-        requires shown { ShowsSpace self }
+        requires warranted { AreWarranted self }
         requires room { FIRST_ENTRIES ≤ self.capacity }
         ensures run { (space : Space) → space.size ≡ self.entry.space → EndsAs (world_at self.entry)
             (count_of self.entry.schedule == steps) (IsOneStarved S.asks space.grows

@@ -1,24 +1,37 @@
 -- What a baton keeps, over its turns.
-use Rattle.std.proofs.Common.{◌≡◌, ℕ, ◌+◌, ◌<◌, ◌≤◌, ◌^◌, ◌==◌, true, false, Option, Some, None, Ok, Err, List, refl, sym, ap, ◌∙◌, subst, inl, inr, arith}
-use Rattle.std.specs.Prelude.{Bool, IfSome, OnErr, Result}
+use Rattle.std.proofs.Common.{◌≡◌, ℕ, ◌+◌, ◌*◌, ◌<◌, ◌≤◌, ◌^◌, ◌==◌, true, false, Option, Some, None, Ok, Err, List, [], ◌∷◌, ◌++◌, refl, sym, ap, ◌∙◌, subst, inl, inr, arith}
+use Rattle.std.specs.Prelude.{Bool, IfSome, OnErr, Result, map, replicate}
 use Rattle.std.specs.Result.{is_err}
+use Rattle.std.proofs.lemmas.List.{append-nil}
 use Rattle.std.proofs.lemmas.Bool.{true≢false}
 use Rattle.std.proofs.lemmas.Bool.Decides.{nat_tests}
 use Rattle.ps_language.specs.declared.schedules.Entry.{Entry}
 use Rattle.ps_language.specs.Effect.{Around, Scene}
+use Rattle.ps_language.specs.Live.{Live}
 use Rattle.ps_language.specs.Locks.{is_ready}
-use Rattle.ps_language.specs.Schedules.{count_of, moves}
+use Rattle.ps_language.specs.Schedules.{Move, count_of, moves}
 use Rattle.ps_language.specs.World.{Status, World}
+use Rattle.ps_language.specs.Worlds.{after_moves, starting_world, world}
+use Rattle.ps_word.specs.Headers.{cycle_limit}
+use Rattle.ps_mem.specs.Heap.{Heap, Grants}
+use Rattle.ps_ops.specs.declared.failure.NotMade.{NotMade as Reason}
+use Rattle.ps_ops.specs.declared.failure.NotMade.TheVariants.{Memory, NeedSpace}
 use Rattle.ps_acts.specs.Acts.{Asked}
+use Rattle.ps_flips.specs.Collected.{may_open, one_more_if, stopped}
+use Rattle.ps_roots.specs.Moved.{IsLeft}
 use Rattle.ps_world.specs.Needs.{step_wants}
 use Rattle.ps_vault.specs.declared.reports.Config.{Config}
 use Rattle.ps_vault.specs.declared.reports.Outcome.{Outcome}
-use Rattle.ps_vault.specs.declared.reports.Outcome.TheVariants.{Memory}
+use Rattle.ps_vault.specs.declared.reports.Outcome.TheVariants.{Memory as End}
 use Rattle.ps_vault.specs.Reports.{all_fit, EndsAs, IsShort, IsStarved, MayWant}
-use Rattle.ps_vault.specs.Stories.{Story, MayGo, ShowsSpace, world_at}
+use Rattle.ps_vault.specs.Holds.{IfForRoom, IsHeldUp}
+use Rattle.ps_vault.specs.Order.{AddsSteps}
+use Rattle.ps_vault.specs.Stories.{Story, MayGo, AreWarranted, LacksRoom, few_words, few_births, world_at}
+use Rattle.ps_vault.specs.Warrants.{IsRefusal, many, no_room, no_births, no_cycles}
 use Rattle.ps_vault.proofs.Following.{ready_not_over}
-use Rattle.ps_vault.proofs.Showing.{shows_same}
-use Rattle.ps_workers.specs.Batons.{Progress, MayGoOn, IsStarvedAt, Keeps}
+use Rattle.ps_vault.proofs.Reasons.{memory_wanted}
+use Rattle.ps_vault.proofs.Warrants.{ready_left, warranted_same}
+use Rattle.ps_workers.specs.Batons.{Progress, MayGoOn, MayRefuse, IsStarvedAt, IsTight, Keeps}
 
 abbrev pub progress : Story → Config → ℕ → Option Outcome → Progress
 progress story config made outcome =
@@ -57,7 +70,7 @@ pub ends_starved : (asks : Status → Around → Scene → Asked) (p : Progress)
     (refused : Bool) → MayGoOn p context
     → (refused ≡ true → MakesObjects asks context (world_at p.story))
     → IsStarved asks false context refused (world_at p.story) p.story.capacity p.story.schedule
-    → EndsAs (world_at p.story) (p.made == p.config.steps) (IsStarvedAt asks p.story) Memory
+    → EndsAs (world_at p.story) (p.made == p.config.steps) (IsStarvedAt asks p.story) End
 ends_starved asks p context refused may makes starved = (
   let left : p.made < p.config.steps = may.left in grind (arith, nat_tests),
   ready_not_over (world_at p.story) context may.ready,
@@ -121,17 +134,18 @@ pub keeps_ended : (asks : Status → Around → Scene → Asked) (p : Progress) 
     (outcome : Outcome) → Keeps asks p
     → story.program ≡ p.story.program → story.schedule ≡ p.story.schedule
     → story.caller ≡ p.story.caller → story.space ≡ p.story.space
-    → p.story.capacity ≤ story.capacity
+    → story.flips ≡ p.story.flips → p.story.capacity ≤ story.capacity
     → EndsAs (world_at story) (p.made == p.config.steps) (IsStarvedAt asks story) outcome
     → Keeps asks (progress story p.config p.made (Some outcome))
-keeps_ended asks p story outcome keeps program schedule caller space more ends = record {
+keeps_ended asks p story outcome keeps program schedule caller space flips more ends = record {
   numbers = keeps.numbers;
   budget = keeps.budget;
   counted = ap count_of schedule ∙ keeps.counted;
   within = keeps.within;
   fits = ap (λ (s : List Entry). all_fit (moves s)) schedule ∙ keeps.fits;
   space = space ∙ keeps.space;
-  shown = shows_same p.story story space program schedule keeps.shown;
+  warranted = warranted_same p.story story space program schedule keeps.warranted;
+  flips = subst (λ (n : ℕ). n ≤ 3 * p.made + 3) (sym flips) keeps.flips;
   room = omega (arith, keeps.room, more);
   waits = waits_same p story (Some outcome) keeps.waits program schedule caller;
   judged = ends;
@@ -142,15 +156,132 @@ pub short_starved : (asks : Status → Around → Scene → Asked) (p : Progress
     (context : ℕ) → Keeps asks p → MayGoOn p context
     → story.program ≡ p.story.program → story.schedule ≡ p.story.schedule
     → story.caller ≡ p.story.caller → story.space ≡ p.story.space
-    → p.story.capacity ≤ story.capacity
+    → story.flips ≡ p.story.flips → p.story.capacity ≤ story.capacity
     → IsShort story.capacity story.schedule
-    → Keeps asks (progress story p.config p.made (Some Memory))
-short_starved asks p story context keeps may program schedule caller space more short =
+    → Keeps asks (progress story p.config p.made (Some End))
+short_starved asks p story context keeps may program schedule caller space flips more short =
     let here : MayGoOn (progress story p.config p.made None) context =
     may_same p story None context may program schedule caller in
-    keeps_ended asks p story Memory keeps program schedule caller space more
+    keeps_ended asks p story End keeps program schedule caller space flips more
     (ends_starved asks (progress story p.config p.made None) context false here
     (λ is. absurd (true≢false (sym is))) (record { ready = here.ready; wants = inr short }))
+
+-- a step wants memory that isn't to be had
+pub ends_wanted : {M : Type 0} (heap : M → Heap) (grants : M → Grants)
+    (asks : Status → Around → Scene → Asked) (p : Progress) (context : ℕ)
+    → ((m : M) → (heap m).space.grows ≡ false) → MayGoOn p context
+    → IsHeldUp heap grants asks context false p.story Memory
+    → EndsAs (world_at p.story) (p.made == p.config.steps) (IsStarvedAt asks p.story) End
+ends_wanted heap grants asks p context bounded may held =
+    let wanted = memory_wanted heap grants asks context false p.story false bounded held in
+    ends_starved asks p context false may (λ is. absurd (true≢false (sym is)))
+    (record { ready = wanted.ready; wants = inl wanted.wants })
+
+-- ---- the collector's cycles
+
+-- objects may have moved
+pub keeps_moved : (asks : Status → Around → Scene → Asked) (p : Progress) (story : Story)
+    → Keeps asks p
+    → story ≡ record p.story {
+      used = story.used;
+      flips = story.flips;
+      cycle_open = story.cycle_open;
+      closed = story.closed;
+    }
+    → story.flips ≤ 3 * p.made + 3
+    → Keeps asks (progress story p.config p.made p.outcome)
+keeps_moved asks p story keeps same few =
+    subst (λ (s : Story). Keeps asks (progress s p.config p.made p.outcome)) (sym same)
+    (record {
+      numbers = keeps.numbers;
+      budget = keeps.budget;
+      counted = keeps.counted;
+      within = keeps.within;
+      fits = keeps.fits;
+      space = keeps.space;
+      warranted = keeps.warranted;
+      flips = few;
+      room = keeps.room;
+      waits = waits_same p (record p.story {
+        used = story.used;
+        flips = story.flips;
+        cycle_open = story.cycle_open;
+        closed = story.closed;
+      }) p.outcome keeps.waits refl refl refl;
+      judged = keeps.judged;
+    })
+
+-- no more were flipped than this
+pub few_flips : (opened : Bool) (flips more : ℕ) → flips + 2 ≤ more → stopped opened flips ≤ more
+few_flips opened flips more few = by opened (may_open false (one_more_if opened flips)) refl
+  where
+    by : (was may : Bool) → opened ≡ was → one_more_if may (one_more_if opened flips) ≤ more
+    by false false is = rw is (omega (arith, few))
+    by false true is = rw is (omega (arith, few))
+    by true false is = rw is (omega (arith, few))
+    by true true is = rw is (omega (arith, few))
+
+-- where no whole cycle could be made, many steps were
+pub many_made : (opened : Bool) (flips made : ℕ) → flips + 2 ≤ 3 * made + 3
+    → may_open false (one_more_if opened flips) ≡ false → many ≤ made
+many_made opened flips made few none = by opened refl
+  where
+    by : (was : Bool) → opened ≡ was → many ≤ made
+    by false is =
+        let most : cycle_limit ≤ flips + 1 = grind (arith, nat_tests, rw is at none) in
+        omega (arith, few, most)
+    by true is =
+        let most : cycle_limit ≤ flips + 1 + 1 = grind (arith, nat_tests, rw is at none) in
+        omega (arith, few, most)
+
+-- ---- a refusal
+
+-- nothing is used but what lives, and the step found no room
+pub refusal : (asks : Status → Around → Scene → Asked) (p q : Progress) (context : ℕ)
+    → IsTight p → Keeps asks q → p.made ≤ q.made → world_at q.story ≡ world_at p.story
+    → q.story.used ≡ p.story.used → is_ready (world_at q.story) context ≡ true
+    → LacksRoom q.story context → MayRefuse q context
+refusal asks p q context (inr long) keeps made same used ready lacks =
+    no_cycles (let counted = keeps.counted in omega (arith, long, made, counted))
+refusal asks p q context (inl uses) keeps made same used ready (few_births few) = no_births few
+refusal asks p q context (inl uses) keeps made same used ready (few_words few) =
+    no_room (λ words live.
+    let most : p.story.used ≤ words = uses.most
+    (subst IsLeft same (ready_left q.story.program q.story.schedule context ready)) words
+    (subst (λ (w : World). Live w words) same live) in
+    omega (arith, most, used, few))
+
+-- a try that found no room
+pub lacks_in : (story : Story) (context words : ℕ) (reason : Reason) → reason ≡ NeedSpace words
+    → IfForRoom false story context reason → LacksRoom story context
+lacks_in story context words reason is room = (subst (IfForRoom false story context) is room refl).1
+
+-- the same, of the story as it is looked at
+pub refusal_now : (p : Progress) (now : Story) (context : ℕ) → MayRefuse p context → p.story ≡ now
+    → IsRefusal now.space (world_at now) context (count_of now.schedule)
+refusal_now p now context may same =
+    subst (λ (s : Story). IsRefusal s.space (world_at s) context (count_of s.schedule)) same may
+
+-- ---- no step more
+
+no_moves : (context : ℕ) (steps : List Move) → map (λ (step : Move). step.context) steps ≡ []
+    → steps ≡ []
+no_moves context [] none = refl
+no_moves context (step ∷ steps) none = absurd (cc)
+
+pub world_stays : (a b : Story) (context made : ℕ) → b.program ≡ a.program
+    → AddsSteps context made (moves a.schedule) (moves b.schedule) → made ≡ 0
+    → world_at b ≡ world_at a
+unfolding world
+world_stays a b context made program adds none =
+    let no_steps : adds.steps ≡ [] =
+    no_moves context adds.steps
+    (adds.all ∙ ap (λ (n : ℕ). replicate n context) none) in
+    let same : moves b.schedule ≡ moves a.schedule =
+    adds.is ∙ ap (λ (steps : List Move). moves a.schedule ++ steps) no_steps
+    ∙ append-nil (moves a.schedule) in
+    ap (λ (p : List ℕ). after_moves (starting_world p) (moves b.schedule)) program
+    ∙ ap (after_moves (starting_world a.program)) same
 
 -- ---- steps more
 
@@ -159,7 +290,8 @@ pub record Goes (p : Progress) (story : Story) (count : ℕ) : Type 0 where
   pub counted : count_of story.schedule ≡ count_of p.story.schedule + count
   pub fits : all_fit (moves p.story.schedule) ≡ true → all_fit (moves story.schedule) ≡ true
   pub space : story.space ≡ p.story.space
-  pub shown : ShowsSpace p.story → ShowsSpace story
+  pub warranted : AreWarranted p.story → AreWarranted story
+  pub flips : story.flips ≡ p.story.flips
   pub more : p.story.capacity ≤ story.capacity
 
 pub keeps_made : (asks : Status → Around → Scene → Asked) (p : Progress) (story : Story)
@@ -176,7 +308,8 @@ keeps_made asks p story count outcome keeps goes within waits judged = record {
   within = within;
   fits = goes.fits keeps.fits;
   space = goes.space ∙ keeps.space;
-  shown = goes.shown keeps.shown;
+  warranted = goes.warranted keeps.warranted;
+  flips = let before = keeps.flips in let same = goes.flips in omega (arith, before, same);
   room = omega (arith, keeps.room, goes.more);
   waits = waits;
   judged = judged;
@@ -193,13 +326,13 @@ counts_on asks p count keeps within = omega (arith, within, keeps.budget)
 pub keeps_wanted : (asks : Status → Around → Scene → Asked) (p : Progress) (story : Story)
     (context : ℕ) (refused : Bool) → Keeps asks p → MayGoOn p context
     → story.program ≡ p.story.program → story.schedule ≡ p.story.schedule
-    → story.space ≡ p.story.space → MayGo story context
+    → story.space ≡ p.story.space → story.flips ≡ p.story.flips → MayGo story context
     → p.story.capacity ≤ story.capacity
     → (refused ≡ true → MakesObjects asks context (world_at p.story))
     → MayWant asks false context refused (world_at story)
-    → Keeps asks (progress story p.config p.made (Some Memory))
-keeps_wanted asks p story context refused keeps may program schedule space calling more makes
-    wanted =
+    → Keeps asks (progress story p.config p.made (Some End))
+keeps_wanted asks p story context refused keeps may program schedule space flips calling more
+    makes wanted =
     let here : MayGoOn (progress story p.config p.made None) context =
     record { calling = calling; ready = wanted.ready; left = may.left } in
     record {
@@ -209,9 +342,10 @@ keeps_wanted asks p story context refused keeps may program schedule space calli
       within = keeps.within;
       fits = ap (λ (s : List Entry). all_fit (moves s)) schedule ∙ keeps.fits;
       space = space ∙ keeps.space;
-      shown = shows_same p.story story space program schedule keeps.shown;
+      warranted = warranted_same p.story story space program schedule keeps.warranted;
+      flips = subst (λ (n : ℕ). n ≤ 3 * p.made + 3) (sym flips) keeps.flips;
       room = omega (arith, keeps.room, more);
-      waits = waits_as (progress story p.config p.made (Some Memory)) context
+      waits = waits_as (progress story p.config p.made (Some End)) context
           (record { calling = calling; ready = wanted.ready; left = may.left });
       judged = ends_starved asks (progress story p.config p.made None) context refused here
           (λ is. world_same p.story story program schedule (MakesObjects asks context) (makes is))

@@ -1,17 +1,17 @@
 //! The baton: a vault with all that a worker needs to make a turn. Who holds it makes steps.
 //!
-//! It keeps (`Keeps`) that the steps made are counted and within the budget, and that an outcome,
-//! once it stands, is that of the vault's world.
+//! It keeps (`Keeps`) that the steps made are counted and within the budget, that each refused one
+//! was refused for a reason, and that an outcome, once it stands, is that of the vault's world.
 
-ghost use Rattle.std.specs.Prelude.{◌≡◌, ◌+◌, ◌<◌, ◌≤◌, ◌≢◌, true, false, IfErr, IfOk, IfSome, IfNone, IsErr, IsSome, None, Err};
+ghost use Rattle.std.specs.Prelude.{◌≡◌, ◌==◌, ◌+◌, ◌<◌, ◌≤◌, ◌≢◌, true, false, IfErr, IfOk, IfSome, IfNone, IsErr, IsSome, None, Err};
 ghost use Rattle.ps_mem.specs.Bounded.{bounded_space};
 ghost use Rattle.ps_start.specs.Starts.{IsEmptyHeap};
-ghost use Rattle.ps_vault.specs.Holds.{IsHeldUp};
+ghost use Rattle.ps_vault.specs.Holds.{IfForRoom, IsHeldUp};
 ghost use Rattle.ps_vault.specs.Order.{IsNoneAbove};
-ghost use Rattle.ps_vault.specs.Reports.{IsRunIn, IsWithin};
+ghost use Rattle.ps_vault.specs.Reports.{EndsAs, IsRunIn, IsWithin};
 ghost use Rattle.ps_vault.specs.Stories.{world_at};
 ghost use Rattle.ps_world.specs.Needs.{step_wants};
-ghost use Rattle.ps_workers.specs.Batons.{GoesOn, MayGoOn};
+ghost use Rattle.ps_workers.specs.Batons.{GoesOn, IsStarvedAt, MayGoOn, MayRefuse};
 
 use crate::paces::Pace;
 use crate::waits::Waits;
@@ -80,6 +80,7 @@ impl<'a, M: Memory + Drop, S: Interpret + Drop, D: Deeds + Drop> Baton<'a, M, S,
     ) -> Result<Self, AllocError>
         requires empty { IsEmptyHeap (M.heap memory) }
         requires sized { (M.heap memory).space.size ≡ config.space }
+        requires unmoved { (M.heap memory).space.flips ≡ 0 }
         requires numbers { IsWithin config }
         ensures program { IfOk result (λ baton. baton.story.program ≡ program.now) }
         ensures config { IfOk result (λ baton. baton.config ≡ config) }
@@ -186,7 +187,7 @@ impl<M: Memory + Drop, S: Interpret + Drop, D: Deeds + Drop> Baton<'_, M, S, D> 
         ensures ended { IsSome self.new.outcome }
     {
         let outcome = self.vault.outcome(self.made == self.config.steps);
-        self.outcome = Some(outcome);
+        self.finish(outcome);
     }
 
     /// Steps of a context, at most so many: the number of the `vmreclaim` that the last was, if it
@@ -199,8 +200,12 @@ impl<M: Memory + Drop, S: Interpret + Drop, D: Deeds + Drop> Baton<'_, M, S, D> 
         ensures goes_on { GoesOn self.old self.new }
         ensures may { IsErr result → MayGoOn self.new context }
         ensures outcome { IsErr result → self.new.outcome ≡ None }
+        ensures made { self.old.made ≤ self.new.made }
+        ensures stays { IsErr result → most ≡ 1
+            → world_at self.new.story ≡ world_at self.old.story }
         ensures held_up { IfErr result
-            (IsHeldUp M.heap M.grants S.asks context false (world_at self.new.story)) }
+            (IsHeldUp M.heap M.grants S.asks context false self.new.story) }
+        ensures room { IfErr result (IfForRoom false self.new.story context) }
     {
         if self.vault.reserve_entries().is_err() {
             self.outcome = Some(Outcome::Memory);
@@ -217,30 +222,23 @@ impl<M: Memory + Drop, S: Interpret + Drop, D: Deeds + Drop> Baton<'_, M, S, D> 
         }
     }
 
-    /// A step that was held up, where the collector can do nothing more for it: one that found no
-    /// room is made refused, and for want of memory the run ends. What a log held up is tried again
-    /// later.
-    pub(crate) fn give_up(&mut self, context: u32, reason: NotMade)
-        requires may { MayGoOn self.old context }
-        requires outcome { self.old.outcome ≡ None }
-        requires bounded { (m : M) → (M.heap m).space.grows ≡ false }
-        requires held_up { IsHeldUp M.heap M.grants S.asks context false
-            (world_at self.old.story) reason }
+    /// The run has ended so.
+    pub(crate) fn finish(&mut self, outcome: Outcome)
+        requires ends { EndsAs (world_at self.old.story) (self.old.made == self.old.config.steps)
+            (IsStarvedAt S.asks self.old.story) outcome }
         ensures goes_on { GoesOn self.old self.new }
+        ensures ended { IsSome self.new.outcome }
     {
-        match reason {
-            NotMade::Memory => self.outcome = Some(Outcome::Memory),
-            NotMade::NeedSpace(_) => self.refuse_step(context),
-            NotMade::LogFull | NotMade::LogClosed => {}
-        }
+        self.outcome = Some(outcome);
     }
 
-    /// A step that makes objects, and found no room for them, is made refused.
-    fn refuse_step(&mut self, context: u32)
+    /// A step that makes objects, and found no room for them behind a whole cycle, is made refused.
+    pub(crate) fn refuse_step(&mut self, context: u32)
         requires may { MayGoOn self.old context }
         requires outcome { self.old.outcome ≡ None }
         requires bounded { (m : M) → (M.heap m).space.grows ≡ false }
         requires makes { 1 ≤ (step_wants S.asks context false (world_at self.old.story)).words }
+        requires refusal { MayRefuse self.old context }
         ensures goes_on { GoesOn self.old self.new }
     {
         if self.vault.reserve_entries().is_err() {

@@ -109,8 +109,6 @@ impl<M: LoggedMemory + Drop, G: Gate> Memory for Gated<'_, M, G> {
 }
 
 impl<M: LoggedMemory + Drop, G: Gate> LoggedMemory for Gated<'_, M, G> {
-    ghost flips = { λ g. M.flips g.memory };
-
     fn is_open(&mut self) -> bool {
         self.memory.is_open()
     }
@@ -141,6 +139,10 @@ impl<'g, M: LoggedMemory + Drop, G: Gate, C: Collects<M>> Collects<Gated<'g, M, 
 
     fn try_flip(&mut self, memory: &mut Gated<'g, M, G>, roots: &mut [Word]) -> bool {
         self.0.try_flip(&mut memory.memory, roots)
+    }
+
+    fn whole_cycle(&mut self, memory: &mut Gated<'g, M, G>, roots: &mut [Word]) -> bool {
+        self.0.whole_cycle(&mut memory.memory, roots)
     }
 
     fn end_cycle(&mut self, memory: &mut Gated<'g, M, G>, roots: &mut [Word]) -> bool {

@@ -77,6 +77,25 @@ impl<M: LoggedMemory + Drop, S: Interpret + Drop, D: Deeds + Drop> Desk<'_, M, S
         }
     }
 
+    /// While no cycle is open the collector clears the space that it left, until nothing is left to
+    /// clear or it is called. It looks now and then, where the lock happens to be free.
+    fn clear_beside<C: Works>(&self, collector: &mut C) {
+        for _ in 0..u64::MAX {
+            if !clear_some(collector) || self.is_awaited() {
+                return;
+            }
+        }
+    }
+
+    /// Whether the collector's thread has something to do with the baton. Where another has the lock
+    /// it isn't asked.
+    fn is_awaited(&self) -> bool {
+        let Some(mut held) = self.baton.try_lock() else {
+            return false;
+        };
+        !held.is_idle()
+    }
+
     /// Whether the collector's thread, which has copied so many words so far, is called. Workers that
     /// may go on are woken. Where another has the lock it isn't asked.
     fn is_called(&self, copied: u64) -> bool {
@@ -100,17 +119,17 @@ impl<M: LoggedMemory + Drop, S: Interpret + Drop, D: Deeds + Drop> Desk<'_, M, S
         gate: &G,
         lent: Lent<C>,
     ) {
-        let mut lent = lent;
+        let (mut lent, mut stage) = (lent, Stage::Rest);
         for _ in rt.forever() {
             let mut held = self
                 .bell
                 .wait_while(rt, self.baton.lock(rt), |baton| baton.rests());
-            held.attend(&mut lent);
+            stage = held.attend(&mut lent, stage);
             drop(held);
             self.workers.notify_all();
-            match lent.stage {
+            match stage {
                 Stage::Over => return,
-                Stage::Rest => {}
+                Stage::Rest => self.clear_beside(&mut lent.collector),
                 Stage::Copy | Stage::Drain | Stage::Last | Stage::Stop => {
                     self.copy_beside(gate, &mut lent.collector);
                 }
@@ -124,6 +143,16 @@ impl<M: LoggedMemory + Drop, S: Interpret + Drop, D: Deeds + Drop> Desk<'_, M, S
         self.workers.notify_all();
         self.bell.notify_all();
     }
+}
+
+/// Some words of the space that was left are cleared. False: none is left.
+fn clear_some<C: Works>(collector: &mut C) -> bool {
+    for _ in 0..ACTIONS {
+        if !collector.act() {
+            return false;
+        }
+    }
+    true
 }
 
 /// Some actions of the collector; the gate is told what it copied. False: it found nothing to do.
@@ -176,10 +205,13 @@ pub(crate) fn work_all<
 
 /// A worker of a run whose collector has no thread: turns under the lock, again and again, until the
 /// run is over.
-fn work_serially<M: CollectedMemory + Drop, S: Interpret + Drop, D: Deeds + Drop, R: Wait>(
-    rt: &R,
-    baton: &Mutex<SerialBaton<'_, M, S, D>>,
-) {
+fn work_serially<
+    M: CollectedMemory + Drop,
+    S: Interpret + Drop,
+    D: Deeds + Drop,
+    C: Collects<M> + Drop,
+    R: Wait,
+>(rt: &R, baton: &Mutex<SerialBaton<'_, M, S, D, C>>) {
     for _ in rt.forever() {
         if baton.lock(rt).turns() {
             return;
@@ -193,8 +225,9 @@ pub(crate) fn work_all_serially<
     M: CollectedMemory + Drop + Send,
     S: Interpret + Drop + Send,
     D: Deeds + Drop + Send,
+    C: Collects<M> + Drop + Send,
     R: Threads + Wait + Sync,
->(rt: &R, baton: &Mutex<SerialBaton<'_, M, S, D>>, workers: u32) {
+>(rt: &R, baton: &Mutex<SerialBaton<'_, M, S, D, C>>, workers: u32) {
     thread::scope(thread::scope_env(), rt, |scope| {
         for _ in 0..workers {
             if scope.spawn(move || work_serially(rt, baton)).is_err() {

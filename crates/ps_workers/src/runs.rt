@@ -14,10 +14,10 @@ use crate::batons::Baton;
 use crate::gates::{Gate, Gated, Nobody, Past};
 use crate::loops::{Desk, work_all, work_all_serially};
 use crate::serial::SerialBaton;
-use crate::serving::{Lent, Stage};
+use crate::serving::Lent;
 use ps_flips::collected::CollectedMemory;
 use ps_flips::sides::{Collects, LoggedMemory, Works};
-use ps_gc::CollectedSpace;
+use ps_gc::{CollectedSpace, Inside};
 use ps_interpreter::interprets::Interpret;
 use ps_mem::Memory;
 use ps_roots::ROOT_LIMIT;
@@ -42,7 +42,7 @@ pub struct Job<'a, S: Drop, D: Drop> {
     pub keys: RandomState,
 }
 
-/// Runs a program over a memory of the configuration's size, in which nothing stands, with its
+/// Runs a program over a memory of the configuration's size, in which nothing stands or was moved, with its
 /// collector on a thread beside the workers'; the gate is told what the collector copies.
 ///
 /// The faults are those of `run`.
@@ -56,6 +56,7 @@ pub fn run_beside<
 >(rt: &R, alloc: Global, sides: (M, C), job: Job<'_, S, D>, gate: &G) -> Result<Report, RunFault>
     requires empty { IsEmptyHeap (M.heap sides.0) }
     requires sized { (M.heap sides.0).space.size ≡ job.config.space }
+    requires unmoved { (M.heap sides.0).space.flips ≡ 0 }
     ensures config { (result ≡ Err RunFault.Config) ↔ ¬ IsWithin job.entry.config }
     ensures run { IfOk result (IsRunIn S.asks (bounded_space job.entry.config.space)
         job.entry.program.now job.entry.config.steps) }
@@ -78,11 +79,7 @@ pub fn run_beside<
         return Err(RunFault::Memory);
     };
     let desk = Desk::new(baton);
-    let lent = Lent {
-        collector,
-        roots,
-        stage: Stage::Rest,
-    };
+    let lent = Lent { collector, roots };
     work_all(rt, &desk, gate, lent, config.workers);
     let Desk { baton, .. } = desk;
     baton.into_inner().into_report(program, config)
@@ -197,10 +194,12 @@ pub fn run_serial_in<
     M: CollectedMemory + Drop + Send,
     S: Interpret + Drop + Send,
     D: Deeds + Drop + Send,
+    C: Collects<M> + Drop + Send,
     R: Threads + Wait + Sync,
->(rt: &R, alloc: Global, memory: M, job: Job<'_, S, D>) -> Result<Report, RunFault>
+>(rt: &R, alloc: Global, memory: M, collector: C, job: Job<'_, S, D>) -> Result<Report, RunFault>
     requires empty { IsEmptyHeap (M.heap memory) }
     requires sized { (M.heap memory).space.size ≡ job.config.space }
+    requires unmoved { (M.heap memory).space.flips ≡ 0 }
     ensures config { (result ≡ Err RunFault.Config) ↔ ¬ IsWithin job.entry.config }
     ensures run { IfOk result (IsRunIn S.asks (bounded_space job.entry.config.space)
         job.entry.program.now job.entry.config.steps) }
@@ -221,7 +220,8 @@ pub fn run_serial_in<
     let Ok(baton) = Baton::new(alloc, memory, interpret, deeds, program, config, keys) else {
         return Err(RunFault::Memory);
     };
-    let shared = Mutex::new(SerialBaton { baton, roots });
+    let lent = Lent { collector, roots };
+    let shared = Mutex::new(SerialBaton { baton, lent });
     work_all_serially(rt, &shared, config.workers);
     shared.into_inner().into_report(program, config)
 }
@@ -233,6 +233,8 @@ fn space_of(alloc: Global, config: Config) -> Result<CollectedSpace<PlainWords>,
         (λ space. IsEmptyHeap (⟦<CollectedSpace<PlainWords> as Memory>⟧.heap space)) }
     ensures sized { IfOk result (λ space.
         (⟦<CollectedSpace<PlainWords> as Memory>⟧.heap space).space.size ≡ config.space) }
+    ensures unmoved { IfOk result (λ space.
+        (⟦<CollectedSpace<PlainWords> as Memory>⟧.heap space).space.flips ≡ 0) }
 {
     CollectedSpace::new(alloc, config.space)
 }
@@ -254,5 +256,5 @@ pub fn run_serial<S: Interpret + Drop + Send, D: Deeds + Drop + Send, R: Threads
     let Ok(memory) = space_of(alloc, job.config) else {
         return Err(RunFault::Memory);
     };
-    run_serial_in(rt, alloc, memory, job)
+    run_serial_in(rt, alloc, memory, Inside, job)
 }

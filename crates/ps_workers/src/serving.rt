@@ -1,12 +1,11 @@
 //! Turns of a run whose collector has a thread of its own, and what that thread does when it has the
 //! baton: roots that are handed over, logs that are closed, the flip, and room for who found none.
 
-ghost use Rattle.std.specs.Prelude.{◌≡◌, ◌+◌, ◌<◌, ◌≤◌, ◌≢◌, true, false, None, Err, IfOk, IsSome};
+ghost use Rattle.std.specs.Prelude.{◌≡◌, ◌+◌, ◌*◌, ◌<◌, ◌≤◌, ◌≢◌, true, false, None, Err, IfOk, IsSome};
 ghost use Rattle.ps_mem.specs.Bounded.{bounded_space};
 ghost use Rattle.ps_vault.specs.Holds.{IsHeldUp};
 ghost use Rattle.ps_vault.specs.Reports.{IsRunIn};
-ghost use Rattle.ps_vault.specs.Stories.{world_at};
-ghost use Rattle.ps_workers.specs.Batons.{GoesOn, SameProgress, MayGoOn};
+ghost use Rattle.ps_workers.specs.Batons.{GoesOn, IsTight, SameProgress, MayGoOn};
 
 use crate::batons::{Baton, TURNS};
 use crate::waits::Wanting;
@@ -40,13 +39,11 @@ pub(crate) enum Stage {
     Over,
 }
 
-/// What the collector's thread has for itself.
+/// What is lent to whoever has the baton: the collector, and room for the roots of all contexts.
 #[derive(Drop)]
 pub(crate) struct Lent<C> {
     pub(crate) collector: C,
-    /// Room for the roots of all contexts.
     pub(crate) roots: Roots,
-    pub(crate) stage: Stage,
 }
 
 impl<M: LoggedMemory + Drop, S: Interpret + Drop, D: Deeds + Drop> Baton<'_, M, S, D> {
@@ -74,7 +71,7 @@ impl<M: LoggedMemory + Drop, S: Interpret + Drop, D: Deeds + Drop> Baton<'_, M, 
     pub(crate) fn is_idle(&mut self) -> bool
         ensures { self.new ≡ self.old }
     {
-        !self.is_called() && !self.vault.has_cycle()
+        !self.is_called() && !self.vault.is_open()
     }
 
     /// Whether the collector's thread is called away from its copying.
@@ -167,12 +164,11 @@ impl<M: LoggedMemory + Drop, S: Interpret + Drop, D: Deeds + Drop> Baton<'_, M, 
     fn put_off(&mut self, context: u32, reason: NotMade)
         requires may { MayGoOn self.old context }
         requires outcome { self.old.outcome ≡ None }
-        requires held_up { IsHeldUp M.heap M.grants S.asks context false
-            (world_at self.old.story) reason }
+        requires held_up { IsHeldUp M.heap M.grants S.asks context false self.old.story reason }
         ensures goes_on { GoesOn self.old self.new }
     {
         match reason {
-            NotMade::Memory => self.give_up(context, reason),
+            NotMade::Memory => self.finish(Outcome::Memory),
             NotMade::NeedSpace(_) => self.waits.wanting = Wanting::Room(context),
             NotMade::LogFull | NotMade::LogClosed => {
                 self.waits.hold_up(reason == NotMade::LogFull);
@@ -193,46 +189,45 @@ impl<M: LoggedMemory + Drop, S: Interpret + Drop, D: Deeds + Drop> Baton<'_, M, 
         }
         if self.pace.may_open
             && self.vault.is_half_used(self.pace.kept)
-            && self.vault.begin_cycle()
+            && self.vault.open_cycle()
         {
             self.waits.end();
         }
     }
 
     /// What the collector's thread does with the baton: room for the step that wants it, and what is
-    /// next of the open cycle. The stage tells what it goes on with.
-    pub(crate) fn attend<C: Collects<M> + Works>(&mut self, lent: &mut Lent<C>)
+    /// next of the open cycle. The answer tells what it goes on with.
+    pub(crate) fn attend<C: Collects<M> + Works>(
+        &mut self,
+        lent: &mut Lent<C>,
+        stage: Stage,
+    ) -> Stage
         ensures goes_on { GoesOn self.old self.new }
         ensures over { IsSome self.old.outcome → self.new ≡ self.old }
     {
         if self.is_over() {
-            lent.stage = Stage::Over;
-        } else if self.waits.is_wanted() {
-            self.serve(&mut lent.collector, &mut lent.roots);
-            lent.stage = Stage::Rest;
-        } else {
-            lent.stage = self.go_on(&mut lent.collector, &mut lent.roots, lent.stage);
+            return Stage::Over;
         }
+        if self.waits.is_wanted() {
+            self.serve(lent);
+            return Stage::Rest;
+        }
+        self.go_on(lent, stage)
     }
 
     /// The open cycle goes on, if there is one.
-    fn go_on<C: Collects<M> + Works>(
-        &mut self,
-        collector: &mut C,
-        roots: &mut Roots,
-        stage: Stage,
-    ) -> Stage
+    fn go_on<C: Collects<M> + Works>(&mut self, lent: &mut Lent<C>, stage: Stage) -> Stage
         ensures { SameProgress self.old self.new }
     {
-        if !self.vault.has_cycle() {
+        if !self.vault.is_open() {
             return Stage::Rest;
         }
         self.waits.wake_full();
         if !self.waits.handed {
-            self.vault.hand_over(collector, roots);
+            self.vault.hand_over(&mut lent.collector, &mut lent.roots);
             self.waits.hand();
             let used = self.vault.used();
-            self.pace.begin(used, collector.copied());
+            self.pace.begin(used, lent.collector.copied());
             return Stage::Copy;
         }
         match stage {
@@ -244,10 +239,10 @@ impl<M: LoggedMemory + Drop, S: Interpret + Drop, D: Deeds + Drop> Baton<'_, M, 
                 }
             }
             Stage::Drain => {
-                self.vault.hand_over(collector, roots);
+                self.vault.hand_over(&mut lent.collector, &mut lent.roots);
                 Stage::Last
             }
-            Stage::Last | Stage::Stop => self.flip(collector, roots, stage),
+            Stage::Last | Stage::Stop => self.flip(lent, stage),
         }
     }
 
@@ -258,7 +253,7 @@ impl<M: LoggedMemory + Drop, S: Interpret + Drop, D: Deeds + Drop> Baton<'_, M, 
         ensures open { self.new.story.cycle_open ≡ true }
     {
         for slot in 0..SLOTS {
-            if !self.close_slot(slot) {
+            if !self.close_log(slot) {
                 return false;
             }
         }
@@ -266,32 +261,45 @@ impl<M: LoggedMemory + Drop, S: Interpret + Drop, D: Deeds + Drop> Baton<'_, M, 
     }
 
     /// Closes a log. False: it was full.
-    fn close_slot(&mut self, slot: u32) -> bool
+    fn close_log(&mut self, slot: u32) -> bool
         requires slot { slot < SLOTS }
         requires open { self.old.story.cycle_open ≡ true }
         ensures same { SameProgress self.old self.new }
         ensures open { self.new.story.cycle_open ≡ true }
     {
-        match self.vault.close_slot(slot) {
+        match self.vault.close_log(slot) {
             Closing::Closed => true,
             Closing::LogFull => false,
         }
     }
 
+    /// Whether so many cycles more may be flipped. By reading they may: a step opens three at most,
+    /// one that is half full, one that its `vmreclaim` asks for, and one for room.
+    pub(crate) fn may_flip(&mut self, more: u32) -> bool
+        ensures same { self.new ≡ self.old }
+        ensures answer { result ≡ true → self.old.story.flips + more ≤ 3 * self.old.made + 3 }
+    {
+        let flips = u64::from(self.vault.counts().flips);
+        flips + u64::from(more) <= 3 * u64::from(self.made) + 3
+    }
+
     /// The flip is tried. Where it can't come the roots of now are handed over, and workers wait
     /// until what they reach is copied. Where it can't come then either, the cycle is ended in this
     /// hold.
-    fn flip<C: Collects<M>>(&mut self, collector: &mut C, roots: &mut Roots, stage: Stage) -> Stage
+    fn flip<C: Collects<M>>(&mut self, lent: &mut Lent<C>, stage: Stage) -> Stage
         requires open { self.old.story.cycle_open ≡ true }
         ensures { SameProgress self.old self.new }
     {
-        if !self.vault.try_flip(collector, roots) {
+        if !self.may_flip(1) {
+            return Stage::Rest;
+        }
+        if !self.vault.try_flip(&mut lent.collector, &mut lent.roots) {
             if stage == Stage::Last {
-                self.vault.hand_over(collector, roots);
+                self.vault.hand_over(&mut lent.collector, &mut lent.roots);
                 self.waits.stopped = true;
                 return Stage::Stop;
             }
-            self.vault.finish_cycle(collector, roots);
+            self.vault.end_cycle(&mut lent.collector, &mut lent.roots);
         }
         self.rest();
         Stage::Rest
@@ -299,20 +307,35 @@ impl<M: LoggedMemory + Drop, S: Interpret + Drop, D: Deeds + Drop> Baton<'_, M, 
 
     /// A whole cycle, all stopped; and the step that wanted room, which is refused where it finds
     /// none again.
-    fn serve<C: Collects<M>>(&mut self, collector: &mut C, roots: &mut Roots)
+    fn serve<C: Collects<M>>(&mut self, lent: &mut Lent<C>)
         requires outcome { self.old.outcome ≡ None }
         ensures goes_on { GoesOn self.old self.new }
     {
         let wanting = self.waits.take();
-        self.vault.stop_all_by(collector, roots);
-        self.rest();
+        if !self.stop_all(lent) {
+            return;
+        }
         if let Wanting::Room(context) = wanting {
             self.make_wanted(context);
         }
     }
 
+    /// The open cycle is ended, and a whole one more is made: nothing is used then but what lives.
+    /// False: more cycles were flipped than steps opened, and none is.
+    pub(crate) fn stop_all<C: Collects<M>>(&mut self, lent: &mut Lent<C>) -> bool
+        ensures same { SameProgress self.old self.new }
+        ensures tight { result ≡ true → IsTight self.new }
+    {
+        if !self.may_flip(2) {
+            return false;
+        }
+        self.vault.stop_all(&mut lent.collector, &mut lent.roots);
+        self.rest();
+        true
+    }
+
     /// No cycle is open any more.
-    fn rest(&mut self)
+    pub(crate) fn rest(&mut self)
         ensures { self.new ≡ self.old }
     {
         let used = self.vault.used();
@@ -320,17 +343,26 @@ impl<M: LoggedMemory + Drop, S: Interpret + Drop, D: Deeds + Drop> Baton<'_, M, 
         self.waits.end();
     }
 
-    /// The step that wanted room, behind the collector's cycle.
+    /// The step that wanted room, behind the collector's cycle: it is refused where it finds none
+    /// again. Where the try itself left garbage it is put off once more.
     fn make_wanted(&mut self, context: u32)
         requires outcome { self.old.outcome ≡ None }
+        requires tight { IsTight self.old }
         ensures goes_on { GoesOn self.old self.new }
     {
         if !self.may_go_on(context) {
             return;
         }
+        let used = self.vault.used();
         match self.advance(context, 1) {
             Ok(wish) => self.want(wish),
-            Err(reason) => self.give_up(context, reason),
+            Err(reason) => {
+                if matches!(reason, NotMade::NeedSpace(_)) && self.vault.used() == used {
+                    self.refuse_step(context);
+                } else {
+                    self.put_off(context, reason);
+                }
+            }
         }
     }
 
@@ -341,14 +373,14 @@ impl<M: LoggedMemory + Drop, S: Interpret + Drop, D: Deeds + Drop> Baton<'_, M, 
         ensures fault { result ≢ Err RunFault.Config }
     {
         let mut baton = self;
-        let counts = baton.tally();
+        let counts = baton.counts();
         baton.report(program, config, counts)
     }
 
     /// How much the collector has done, by the words.
-    fn tally(&mut self) -> Counts
+    fn counts(&mut self) -> Counts
         ensures { self.new ≡ self.old }
     {
-        self.vault.tally()
+        self.vault.counts()
     }
 }

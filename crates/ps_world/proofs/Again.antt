@@ -139,13 +139,13 @@ module _ (asks : Status → Around → Scene → Asked) (d : Desk)
         ∙ ap (λ (calling : CallingOf). called calling identifier trial.refused shown
         (with_machine identifier w machine) machine.context) (sym (tries d.heap d.names))))
 
-    wants_call : step_wants asks identifier trial.refused w ≡ call_wants operator identifier
-        trial.refused (with_machine identifier w machine) machine.context
+    wants_call : step_wants asks identifier trial.refused w ≡ call_wants (calling_of operator)
+        identifier trial.refused (with_machine identifier w machine) machine.context
     wants_call =
         wants_there asks identifier trial.refused w here there
         ∙ (ap (λ status. wants_as asks status identifier trial.refused w (machine_of w here))
         status_is
-        ∙ ap (λ (calling : CallingOf). call_wants calling.operator identifier trial.refused
+        ∙ ap (λ (calling : CallingOf). call_wants calling identifier trial.refused
         (with_machine identifier w machine) machine.context) (sym (tries d.heap d.names)))
 
   framed_here : AreFramedBut identifier running.members
@@ -164,6 +164,8 @@ module _ (asks : Status → Around → Scene → Asked) (d : Desk)
           to.1 ∙ ap (λ (s : Stepped). s.note) (sym (step_tries w at ready)),
         );
     held_up = λ why bad. absurd (cc);
+    same = λ w at. tt;
+    waits = λ some. tt;
     caller = tt;
     logs = λ w at ready. calls.logs;
     keeps = calls.keeps;
@@ -235,6 +237,8 @@ module _ (asks : Status → Around → Scene → Asked) (d : Desk)
           (calls.held_up why same (with_machine identifier w (machine w at))
           (machine w at).context (running_world d steady.steady identifier member found w at)
           (running_there d steady.steady identifier member found w at));
+      same = λ w at. λ kept. final_is w at;
+      waits = λ some. absurd (cc);
       caller = tt;
       logs = λ w at ready. calls.logs;
       keeps = calls.keeps;

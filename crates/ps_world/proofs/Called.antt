@@ -1,6 +1,7 @@
 -- Steps of a context that called, by what the call came to.
 use Rattle.std.proofs.Common.{◌≡◌, ℤ, Option, Some, None, Ok, Err, refl, ap, subst}
 use Rattle.ps_language.specs.Effect.{Around, Scene}
+use Rattle.ps_language.specs.Step.{with_machine}
 use Rattle.ps_language.specs.World.{Status}
 use Rattle.ps_ops.specs.declared.failure.NotMade.{NotMade as Reason}
 use Rattle.ps_acts.specs.declared.lent.Trial.{Trial}
@@ -27,6 +28,8 @@ module _ (asks : Status → Around → Scene → Asked) (calling : Calling) (tri
     steps_called note calls = record {
       meets = λ w at ready. call_made calling trial shown old new w at note calls;
       held_up = λ reason bad. absurd (cc);
+      same = λ w at. tt;
+      waits = λ some. tt;
       caller = tt;
       logs = λ w at ready. calls.logs;
       keeps = calls.keeps;
@@ -43,6 +46,8 @@ module _ (asks : Status → Around → Scene → Asked) (calling : Calling) (tri
       held_up = λ why is w at ready.
           call_held asks calling trial shown old new w at why
           (subst (λ r. Calls calling.operator calling.caller trial shown r old new) is calls);
+      same = λ w at. λ kept. calls.same (with_machine calling.caller w at.left) at.world;
+      waits = λ some. refl;
       caller = refl;
       logs = λ w at ready. calls.logs;
       keeps = calls.keeps;

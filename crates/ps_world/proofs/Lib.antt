@@ -1,6 +1,7 @@
 pub mod Owning
 pub mod Calling
 pub mod Starving
+pub mod Asked
 pub mod Called
 pub mod Ended
 pub mod Retrying

@@ -12,24 +12,25 @@ use Rattle.ps_ops.specs.Does.{KeepsLogsWithin}
 use Rattle.ps_control.specs.declared.frames.Cause.{Cause}
 use Rattle.ps_control.specs.declared.frames.Frame.{Frame}
 use Rattle.ps_acts.specs.declared.lent.Trial.{Trial}
-use Rattle.ps_acts.specs.Acts.{Asked}
+use Rattle.ps_acts.specs.Acts.{Asked, IsSame}
 use Rattle.ps_acts.specs.Lent.{Lent, IsShown, scene_of, around_of}
 use Rattle.ps_turns.specs.declared.turned.Turned.{Turned}
 use Rattle.ps_turns.specs.declared.turned.Turned.TheVariants.{Goes, Calls, Breaks, Ends}
 use Rattle.ps_turns.specs.Turns.{Turns, IsUnderWay, calling_of, reached_by, turn_needs}
 use Rattle.ps_interpreter.specs.Interprets.{status_in, asks_in, own_turn}
-use Rattle.ps_interpreter.proofs.Reached.{IsLeft, left_by, leaves_whatever, IsMade}
+use Rattle.ps_language.proofs.LeftTurns.{IsLeft, left_by, leaves_whatever}
+use Rattle.ps_interpreter.proofs.Reached.{IsMade}
 use Rattle.ps_contexts.specs.declared.members.Member.{Member}
 use Rattle.ps_contexts.specs.Seats.{item_at, with_item}
 use Rattle.ps_contexts.specs.Worlds.{status_of, context_of}
 use Rattle.ps_contexts.specs.Desks.{Desk, lent_to, returned, IsWorld, IsSteady, HasFrame, AreFramed, machine_reached, member_left, course_after, turned_member, desk_turned, desk_unmade}
 use Rattle.ps_contexts.proofs.Going.{with_item_members, left_members}
-use Rattle.ps_contexts.proofs.Places.{item_at-with_item, with_item-twice}
+use Rattle.ps_contexts.proofs.Places.{item_at-with_item, with_item-same, with_item-twice}
 use Rattle.ps_contexts.proofs.Stepping.{context_there, own_step_is, turned_steps}
 use Rattle.ps_contexts.proofs.Turning.{member_at, turned_steady, turned_machine, turned_reaches, turned_world, unmade_steady, unmade_world}
 use Rattle.ps_world.proofs.Calling.{none_left}
 use Rattle.ps_world.specs.declared.notes.Note.TheVariants.{Nothing}
-use Rattle.ps_world.specs.Calls.{AreFramedBut}
+use Rattle.ps_world.specs.Calls.{AreFramedBut, IsSameDesk}
 use Rattle.ps_world.specs.Finishes.{calling_after}
 use Rattle.ps_world.specs.Held.{held, IsCalling, AreFramedBy, IsSteadyHeld, course_in}
 use Rattle.ps_world.specs.Steps.{StepsTo}
@@ -70,6 +71,16 @@ framed_with members identifier member framed one =
     with_item_members (λ other. HasFrame other.course other.context.frames) members identifier
     (member_left member) framed
     (left_members (λ other. HasFrame other.course other.context.frames) member one)
+
+-- where nothing that was lent has changed but what was granted, so it is with the desk
+pub same_desk : (d : Desk) (identifier : ℕ) (member : Member) (new : Lent)
+    → item_at d.members identifier ≡ Some member → IsSame (lent_to d member.context) new
+    → IsSameDesk d (desk_unmade d identifier member new)
+same_desk d identifier member new found same =
+    ap (λ (l : Lent). desk_unmade d identifier member l) same
+    ∙ ap (λ (members : List (Option Member)). record d
+    { grants = new.grants; members = members; room = new.room; scratch = new.scratch })
+    (with_item-same d.members identifier member found)
 
 -- ---- the turn of one of them
 

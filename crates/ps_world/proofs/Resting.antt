@@ -84,6 +84,8 @@ module _ (asks : Status → Around → Scene → Asked) (d : Desk)
     meets = λ w at ready. absurd (true≢false (sym ready
         ∙ (ready_is course here w at ∙ unready course resting (context course here) w)));
     held_up = λ why bad. absurd (cc);
+    same = λ w at. tt;
+    waits = λ some. tt;
     caller = tt;
     logs = λ w at ready. logs-same most_records d.grants trial.slot;
     keeps = keeps-same d.heap;
@@ -107,6 +109,8 @@ module _ (asks : Status → Around → Scene → Asked) (d : Desk)
             ap (λ (s : Stepped). s.note) (sym is),
           );
       held_up = λ why bad. absurd (cc);
+      same = λ w at. tt;
+      waits = λ some. tt;
       caller = tt;
       logs = λ w at ready.
           logs_more 1 most_records d.grants new.grants trial.slot (omega arith) done.logs;
@@ -126,6 +130,8 @@ module _ (asks : Status → Around → Scene → Asked) (d : Desk)
           unlogged_held (step_wants asks identifier trial.refused w) trial.slot new.heap d.grants
           new.grants done.logs.closed why
           (done.held_up why (ap (λ r. Err r) (same_reason reason why is)));
+      same = λ w at. λ kept. done.unmade;
+      waits = λ some. absurd (cc);
       caller = tt;
       logs = λ w at ready. done.logs;
       keeps = done.keeps;

@@ -23,7 +23,7 @@ use Rattle.ps_acts.specs.Lent.{Lent, IsShown}
 use Rattle.ps_turns.specs.Turns.{IsUnlogged, Turns, calling_of, turn_needs, needs_in}
 use Rattle.ps_interpreter.specs.Interprets.{status_in, asks_in, own_turn}
 use Rattle.ps_interpreter.specs.Needs.{wants_rooms, wants}
-use Rattle.ps_interpreter.proofs.Reached.{IsLeft, left_by}
+use Rattle.ps_language.proofs.LeftTurns.{IsLeft, left_by}
 use Rattle.ps_interpreter.proofs.Unmade.{wanted}
 use Rattle.ps_contexts.specs.declared.members.Member.{Member}
 use Rattle.ps_contexts.specs.Seats.{item_at}
@@ -65,9 +65,10 @@ failing grows needs h =
     regrouped (nat_lt 0 needs.bytes) (nat_lt 0 needs.names) (nat_lt 0 needs.words) grows
     (wants_rooms needs.scratch) h
 
--- what fails of one fails of the other, and has the same words if it has any
+-- what fails of one fails of the other, and has the same words and birth numbers if it has words
 pub record IsPart (one other : Growth) : Type 0 where
   pub words : 1 ≤ one.words → other.words ≡ one.words
+  pub births : 1 ≤ one.words → other.births ≡ one.births
   pub fails : (grows : Bool) → may_fail grows one ≡ true → may_fail grows other ≡ true
 
 -- one that may want more is held up by the same
@@ -76,11 +77,12 @@ pub held_more : (one other : Growth) → IsPart one other → (slot : ℕ) (heap
     → IsHeldUpAs other slot heap grants reason
 held_more one other part slot heap grants LogFull held = held
 held_more one other part slot heap grants LogClosed held = held
-held_more one other part slot heap grants (NeedSpace words) held = (
-  held.0 ∙ sym (part.words (subst (λ n. 1 ≤ n) held.0 held.1)),
-  held.1,
-  held.2,
-)
+held_more one other part slot heap grants (NeedSpace words) held =
+    let some : 1 ≤ one.words = subst (λ n. 1 ≤ n) held.0 held.1 in (
+      held.0 ∙ sym (part.words some),
+      held.1,
+      (λ i. has_room heap (part.words some i) (part.births some i)) ∙ held.2,
+    )
 held_more one other part slot heap grants Memory held = part.fails heap.space.grows held
 
 -- of two the first is a part, if the other has no words where it has some; so is the second
@@ -98,17 +100,20 @@ either true more false one other some beside h = or_true (more && false) _ (besi
 either false more grows one other some beside h = or_true (more && grows) _ (beside h)
 
 pub first_part : (one other : Growth) → (1 ≤ one.words → other.words ≡ 0)
-    → IsPart one (growth_of_both one other)
-first_part one other none = record {
+    → (1 ≤ one.words → other.births ≡ 0) → IsPart one (growth_of_both one other)
+first_part one other none unborn = record {
   words = λ some. let no = none some in omega (arith, no);
+  births = λ some. let no = unborn some in omega (arith, no);
   fails = λ grows h.
       either (nat_lt 0 one.words) _ grows one.beside _ (more_words one.words other.words)
       (or_first one.beside other.beside) h;
 }
 
-pub second_part : (one other : Growth) → one.words ≡ 0 → IsPart other (growth_of_both one other)
-second_part one other none = record {
+pub second_part : (one other : Growth) → one.words ≡ 0 → one.births ≡ 0
+    → IsPart other (growth_of_both one other)
+second_part one other none unborn = record {
   words = λ some. omega (arith, none);
+  births = λ some. omega (arith, unborn);
   fails = λ grows h.
       either (nat_lt 0 other.words) _ grows other.beside _ (words_more one.words other.words)
       (or_true one.beside other.beside) h;
@@ -124,9 +129,11 @@ both_first true b h = refl
 both_first false b h = h
 
 pub words_part : (needs : Needs) (wanted : Growth) → wants false needs ≡ false
-    → (1 ≤ needs.words → wanted.words ≡ needs.words) → IsPart (growth_for needs) wanted
-words_part needs wanted none same = record {
+    → (1 ≤ needs.words → wanted.words ≡ needs.words)
+    → (1 ≤ needs.words → wanted.births ≡ needs.births) → IsPart (growth_for needs) wanted
+words_part needs wanted none same born = record {
   words = same;
+  births = born;
   fails = λ grows h.
       let words : nat_lt 0 needs.words && grows ≡ true = first_alone _ _ none h in
       let one : nat_lt 0 needs.words ≡ true = both_first _ grows words in
@@ -175,11 +182,16 @@ no_first : (a b : Bool) → a || b ≡ false → a ≡ false
 no_first true b h = h
 no_first false b h = refl
 
+-- what doesn't fit lies in a memory that doesn't grow
+pub not_grows : (h : Heap) (words births : ℕ) → has_room h words births ≡ false
+    → h.space.grows ≡ false
+unfolding has_room
+not_grows h words births full = no_first h.space.grows _ full
+
 pub held_by : (needs : Needs) (slot : ℕ) (old new : Lent) (reason : Reason)
     → needs.records ≤ most_records → IsSame old new → new.grants.closed ≡ old.grants.closed
     → IsReason needs slot old new reason
     → IsHeldUpAs (growth_for needs) slot new.heap new.grants reason
-unfolding has_room
 held_by needs slot old new LogFull few same closed why =
     let less = why.1 in
     (ap (λ (c : ℕ → Bool). c slot) closed ∙ why.0, omega (arith, less, few))
@@ -188,7 +200,7 @@ held_by needs slot old new LogClosed few same closed why =
 held_by needs slot old new (NeedSpace words) few same closed why = (
   why.0,
   why.1,
-  ap (λ (l : Lent). l.heap.space.grows) same ∙ no_first old.heap.space.grows _ why.2,
+  ap (λ (l : Lent). has_room l.heap needs.words needs.births) same ∙ why.2,
 )
 held_by needs slot old new Memory few same closed why =
     ap (λ (l : Lent). may_fail l.heap.space.grows (growth_for needs)) same
@@ -225,7 +237,7 @@ module _ (asks : Status → Around → Scene → Asked) (identifier : ℕ) (refu
 left_none : (identifier : ℕ) (refused : Bool) (w : World) (machine : Machine) (asked : Asked)
     (birth : ℕ) (before : Scene) (turn : Turn)
     → 1 ≤ (turn_needs refused asked birth before turn).words
-    → (left_wants identifier refused w machine turn).words ≡ 0
+    → left_wants identifier refused w machine turn ≡ no_growth
 left_none identifier refused w machine asked birth before (goes scene output) some = refl
 left_none identifier refused w machine asked birth before (tries command kept scene output) some =
     refl
@@ -290,8 +302,13 @@ module _ (asks : Status → Around → Scene → Asked) (unwinding : Option Caus
       (context_of d.heap d.names member) (context_there d w at identifier member found) own_may))
       (first_part (growth_for machine_needs)
       (left_wants identifier trial.refused w machine machine_turn)
-      (left_none identifier trial.refused w machine machine_asked
-      machine.context.error_dictionary (scene_of machine) machine_turn)))
+      (λ some. ap (λ (g : Growth). g.words) (none_left_by some))
+      (λ some. ap (λ (g : Growth). g.births) (none_left_by some))))
+    where
+      none_left_by : 1 ≤ machine_needs.words
+          → left_wants identifier trial.refused w machine machine_turn ≡ no_growth
+      none_left_by = left_none identifier trial.refused w machine machine_asked
+          machine.context.error_dictionary (scene_of machine) machine_turn
 
   pub own_held : IsHeldUpAs (step_wants asks identifier trial.refused w) trial.slot new.heap
       new.grants reason
@@ -326,15 +343,15 @@ module _ (asks : Status → Around → Scene → Asked) (calling : Calling) (tri
       (at.leaves false)
 
   abbrev call_growth : Growth
-  call_growth = call_wants calling.operator calling.caller trial.refused
+  call_growth = call_wants (calling_of calling.operator) calling.caller trial.refused
       (with_machine calling.caller w at.left) at.left.context
 
   -- of a turn that leaves the operator to the world
   left_is : left_wants calling.caller trial.refused w caller_machine caller_turn ≡ call_growth
   left_is =
       ap (left_wants calling.caller trial.refused w caller_machine) is_left.asks
-      ∙ ap (λ (left : Machine). call_wants calling.operator calling.caller trial.refused
-      (with_machine calling.caller w left) left.context) is_left.is
+      ∙ ap (λ (left : Machine). call_wants (calling_of calling.operator) calling.caller
+      trial.refused (with_machine calling.caller w left) left.context) is_left.is
 
   abbrev caller_needs : Turn → Needs
   caller_needs turn = turn_needs trial.refused
@@ -346,7 +363,8 @@ module _ (asks : Status → Around → Scene → Asked) (calling : Calling) (tri
       subst (IsPart call_growth) (sym (wants_own asks calling.caller trial.refused w at.context
       at.found at.goes_on ∙ ap (growth_of_both (growth_for (caller_needs caller_turn))) left_is))
       (second_part (growth_for (caller_needs caller_turn)) call_growth
-      (ap (λ (turn : Turn). (caller_needs turn).words) is_left.asks))
+      (ap (λ (turn : Turn). (caller_needs turn).words) is_left.asks)
+      (ap (λ (turn : Turn). (caller_needs turn).births) is_left.asks))
 
   pub call_held : IsHeldUpAs (step_wants asks calling.caller trial.refused w) trial.slot new.heap
       new.grants reason

@@ -1,6 +1,6 @@
 -- A step by the turn of one context, over the table.
 use Rattle.std.proofs.Common.{◌≡◌, ℕ, ℤ, Bool, Option, Some, None, Ok, Err, refl, sym, ap, subst, ◌∙◌, arith}
-use Rattle.std.specs.Prelude.{Result}
+use Rattle.std.specs.Prelude.{Result, OnErr}
 use Rattle.ps_language.specs.declared.operators.Operator.{Operator}
 use Rattle.ps_language.specs.Effect.{Around, Scene}
 use Rattle.ps_language.specs.World.{Status}
@@ -11,7 +11,7 @@ use Rattle.ps_ops.specs.Does.{most_records, spent}
 use Rattle.ps_control.specs.declared.frames.Cause.{Cause}
 use Rattle.ps_acts.specs.declared.lent.Trial.{Trial}
 use Rattle.ps_acts.specs.Acts.{Asked, AreFew}
-use Rattle.ps_acts.specs.Lent.{Lent, lent}
+use Rattle.ps_acts.specs.Lent.{Lent, lent, IsShown}
 use Rattle.ps_acts.proofs.Meeting.{logs_then}
 use Rattle.ps_turns.specs.declared.turned.Turned.{Turned}
 use Rattle.ps_turns.specs.declared.turned.Turned.TheVariants.{Goes, Calls, Breaks, Ends}
@@ -26,12 +26,13 @@ use Rattle.ps_contexts.proofs.Settled.{turned_changed}
 use Rattle.ps_contexts.proofs.Turning.{member_at}
 use Rattle.ps_world.specs.declared.notes.Note.{Note}
 use Rattle.ps_world.specs.declared.notes.Note.TheVariants.{Nothing}
-use Rattle.ps_world.specs.Calls.{over}
+use Rattle.ps_world.specs.declared.worlds.Calling.{Calling}
+use Rattle.ps_world.specs.Calls.{over, IsSameDesk}
 use Rattle.ps_world.specs.Finishes.{calling_after, settled_desk, settled_held, Finishes}
 use Rattle.ps_world.specs.Held.{Held, held, CourseAt, IsSteadyHeld, course_in}
 use Rattle.ps_world.specs.Lending.{Lends, LendsDesk, RunsSo, TurnsSo}
 use Rattle.ps_world.specs.Steps.{Steps}
-use Rattle.ps_world.proofs.Owning.{own_made, calls_logs, own_calls, own_steady, own_unmade, unmade_is_steady}
+use Rattle.ps_world.proofs.Owning.{same_desk, own_made, calls_logs, own_calls, own_steady, own_unmade, unmade_is_steady}
 use Rattle.ps_world.proofs.Starving.{own_held}
 
 abbrev pub failed_with : Reason → Result Note Reason
@@ -39,6 +40,12 @@ failed_with reason = Err reason
 
 pub same_reason : (one other : Reason) → failed_with one ≡ failed_with other → one ≡ other
 same_reason one other same = cc
+
+-- a call that was left to the world, and was not made, waits
+left_waits : (told : Result Note Reason) (calling : Calling) (now : Option Calling) (P : Type 0)
+    → OnErr told (now ≡ Some calling) → OnErr told (now ≡ None → P)
+left_waits (Ok note) calling now P waits = tt
+left_waits (Err reason) calling now P waits = λ none. absurd (cc)
 
 -- what was lent of a table is lent of what clauses see of it
 pub lends_desk : (identifier : ℕ) (goes : (old new : Lent) → Type 0) (old_heap new_heap : Heap)
@@ -124,6 +131,8 @@ module _ (asks : Status → Around → Scene → Asked) (unwinding : Option Caus
               own_made asks unwinding before steady.steady steady.framed identifier lends.member
               lends.found course_is trial l turned made none w at shown;
           held_up = λ why bad. absurd (cc);
+          same = λ w at. tt;
+          waits = λ some. tt;
           caller = tt;
           logs = λ w at ready. made.logs;
           keeps = made.keeps;
@@ -152,6 +161,10 @@ module _ (asks : Status → Around → Scene → Asked) (unwinding : Option Caus
               on.held_up why is w
               (own_calls asks unwinding before steady.steady steady.framed identifier lends.member
               lends.found course_is trial l operator (made (Calls operator) ok) w at) ready;
+          same = λ w at.
+              left_waits told (record { caller = identifier; operator = operator }) final.calling
+              (IsSameDesk before final.desk) (on.waits refl);
+          waits = λ some. absurd (cc);
           caller = on.caller;
           logs = λ w at ready.
               logs_then 0 (spent told most_records) (spent told most_records) before.grants l.grants
@@ -212,6 +225,11 @@ module _ (asks : Status → Around → Scene → Asked) (unwinding : Option Caus
               few why l (subst (λ r. TurnsSo asks unwinding trial (Err r)
               (lent_to before lends.member.context) l)
               (same_reason reason why is) unmade) w at;
+          same = λ w at. λ kept.
+              same_desk before identifier lends.member l lends.found (unmade.meets w.store
+              (member_at (λ one. IsShown (lent_to before one.context) w.store) before.members
+              identifier lends.member at.members lends.found)).did.1;
+          waits = λ some. absurd (cc);
           caller = tt;
           logs = λ w at ready. unmade.logs;
           keeps = unmade.keeps;

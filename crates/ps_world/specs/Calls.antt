@@ -1,15 +1,15 @@
 -- When a call of an operator that is left to the world went as the definitions say (PLRM2, 7.1).
-use Rattle.std.specs.Prelude.{◌≡◌, ◌<◌, ◌≤◌, ℕ, ℤ, nat_lt, Bool, false, IsTrue, Option, Some, None, OnOk, OnErr, Result, Ok, Err, List, length}
+use Rattle.std.specs.Prelude.{◌≡◌, ◌<◌, ◌≤◌, ℕ, ℤ, nat_lt, Bool, false, IsTrue, Option, Some, None, OnOk, OnErr, Result, Ok, Err, List, length, drop}
 use Rattle.ps_language.specs.declared.operators.Operator.{Operator}
 use Rattle.ps_language.specs.Contexts.{context_at}
-use Rattle.ps_language.specs.Effect.{Scene, Call, Deed, does, waits}
+use Rattle.ps_language.specs.Effect.{Scene, Call, Deed, does, waits, Calling}
 use Rattle.ps_language.specs.Machines.{settled, scene_of}
 use Rattle.ps_language.specs.Objects.{made_between}
 use Rattle.ps_language.specs.Outcome.{Outcome, leaves, fails}
 use Rattle.ps_language.specs.Step.{machine_of, with_machine, Stepped, deed_given_room, called, retaken}
 use Rattle.ps_language.specs.StepValues.{command_of}
 use Rattle.ps_language.specs.World.{retaking, Context, World}
-use Rattle.ps_mem.specs.Heap.{Heap, Grants}
+use Rattle.ps_mem.specs.Heap.{Heap, Grants, has_room}
 use Rattle.ps_mem.specs.Keeps.{Keeps}
 use Rattle.ps_ops.specs.declared.failure.NotMade.{NotMade as Reason}
 use Rattle.ps_ops.specs.declared.failure.NotMade.TheVariants.{LogFull, LogClosed, NeedSpace, Memory}
@@ -58,33 +58,35 @@ abbrev pub call_by : (caller : ℕ) → (shown : Option (ℤ × ℤ)) → World 
 call_by caller shown world context =
     record { caller = caller; context = context; shown = shown; world = world }
 
--- the growth that the step of a deed may want: for new objects, for a new context, or for the line
--- of its error
-abbrev pub deed_wants : Operator → World → Context → Outcome Deed → Growth
-deed_wants operator before context (leaves (does note next)) = record {
+-- the growth that the step of a deed may want: for the new objects that the language counts, for a
+-- new context, or for the line of its error
+abbrev pub deed_wants : Calling → World → Context → Outcome Deed → Growth
+deed_wants calling before context (leaves (does note next)) = record {
   words = made_between before.store next.store;
+  births = length (drop (length before.store) next.store);
   beside = nat_lt (length before.contexts) (length next.contexts);
 }
-deed_wants operator before context (leaves waits) = no_growth
-deed_wants operator before context (fails error) =
+deed_wants calling before context (leaves waits) = no_growth
+deed_wants calling before context (fails error) =
     let scene : Scene = scene_of (machine_of before context) in
-    growth_for (error_needs no_rooms context.error_dictionary scene error (command_of operator)
-    scene)
+    growth_for (error_needs no_rooms context.error_dictionary scene error
+    (command_of calling.operator) scene)
 
-abbrev pub call_wants : Operator → (caller : ℕ) → (refused : Bool) → World → Context → Growth
-call_wants operator caller refused before context =
-    deed_wants operator before context (deed_given_room refused before
-    ((calling_of operator).deed context.operands (call_by caller None before context)))
+-- by the very deed that the step makes
+abbrev pub call_wants : Calling → (caller : ℕ) → (refused : Bool) → World → Context → Growth
+call_wants calling caller refused before context =
+    deed_wants calling before context (deed_given_room refused before
+    (calling.deed context.operands (call_by caller None before context)))
 
 -- Why a step is not made that may want this growth. LogFull: the log is open, and takes fewer
--- records than a step may put. LogClosed: it is closed. NeedSpace: of the words of its objects, in
--- a memory that doesn't grow. Memory: of a growth that may fail in this memory
+-- records than a step may put. LogClosed: it is closed. NeedSpace: of the words of its objects,
+-- which don't fit, or their birth numbers don't. Memory: of a growth that may fail in this memory
 abbrev pub IsHeldUpAs : (wanted : Growth) → (slot : ℕ) → Heap → Grants → Reason → Type 0
 IsHeldUpAs wanted slot heap grants LogFull =
     (grants.closed slot ≡ false) × (grants.records slot < most_records)
 IsHeldUpAs wanted slot heap grants LogClosed = IsTrue (grants.closed slot)
 IsHeldUpAs wanted slot heap grants (NeedSpace words) =
-    (words ≡ wanted.words) × (1 ≤ words) × (heap.space.grows ≡ false)
+    (words ≡ wanted.words) × (1 ≤ words) × (has_room heap wanted.words wanted.births ≡ false)
 IsHeldUpAs wanted slot heap grants Memory = IsTrue (may_fail heap.space.grows wanted)
 
 -- it comes to the step of the definitions, and the note is theirs; or it is not made, and the desk
@@ -108,8 +110,8 @@ pub record Calls (operator : Operator) (caller : ℕ) (trial : Trial) (shown : O
   pub same : (w : World) → IsWorld old w → OnErr result (IsSameDesk old new)
   pub held_up : (reason : Reason) → result ≡ Err reason → (w : World) (context : Context)
       → IsWorld old w → context_at w caller ≡ Some context
-      → IsHeldUpAs (call_wants operator caller trial.refused w context) trial.slot new.heap
-      new.grants reason
+      → IsHeldUpAs (call_wants (calling_of operator) caller trial.refused w context) trial.slot
+      new.heap new.grants reason
   pub logs : KeepsLogsWithin (spent result most_records) old.grants new.grants trial.slot
 
 -- ---- a lock is taken again

@@ -16,7 +16,7 @@ use Rattle.ps_world.specs.Growth.{Growth, no_growth, growth_for, growth_of_both}
 -- of an operator that is called in the world that its caller leaves
 abbrev pub called_wants : Calling → (identifier : ℕ) → (refused : Bool) → World → Machine → Growth
 called_wants calling identifier refused w left =
-    call_wants calling.operator identifier refused (with_machine identifier w left) left.context
+    call_wants calling identifier refused (with_machine identifier w left) left.context
 
 -- of an operator that a turn leaves to the world
 abbrev pub left_wants : (identifier : ℕ) → (refused : Bool) → World → Machine → Turn → Growth

@@ -1,5 +1,5 @@
 -- When steps of the contexts of a world went as the definitions say (PLRM2, 7.1).
-use Rattle.std.specs.Prelude.{◌≡◌, ◌≢◌, ℕ, ℤ, pos, min, max, ◌≤◌, true, false, IsTrue, Option, Some, None, IfSome, Result, Ok, Err, List, [], ◌∷◌}
+use Rattle.std.specs.Prelude.{◌≡◌, ◌≢◌, ℕ, ℤ, pos, min, max, ◌≤◌, true, false, IsTrue, Option, Some, None, IsSome, IfSome, Result, Ok, Err, OnErr, List, [], ◌∷◌}
 use Rattle.ps_language.specs.Contexts.{context_at}
 use Rattle.ps_language.specs.Effect.{nothing, Around, Scene}
 use Rattle.ps_language.specs.Locks.{is_ready}
@@ -19,7 +19,7 @@ use Rattle.ps_contexts.specs.Desks.{IsWorld}
 use Rattle.ps_contexts.specs.Moves.{plain_moves}
 use Rattle.ps_world.specs.declared.notes.Note.{Note}
 use Rattle.ps_world.specs.declared.runs.Next.{Next}
-use Rattle.ps_world.specs.Calls.{IsHeldUpAs}
+use Rattle.ps_world.specs.Calls.{IsHeldUpAs, IsSameDesk}
 use Rattle.ps_world.specs.Held.{Held, IsAt, IsSteadyHeld, MayStep}
 use Rattle.ps_world.specs.Notes.{note_of}
 use Rattle.ps_world.specs.Needs.{step_wants}
@@ -32,7 +32,9 @@ StepsTo (Ok note) stepped before new = IsWorld new.desk stepped.world × (new.ca
 StepsTo (Err reason) stepped before new = IsAt new before
 
 -- For every world that it is at, where the context is ready. A step that is not made has its
--- reason; what stood goes on standing, the logs are kept, and a call that waits is of this context
+-- reason, and changes nothing but what was granted, unless a call is newly left by it; a call that
+-- waited waits still. What stood goes on standing, the logs are kept, and a call that waits is of
+-- this context
 pub record Steps (asks : Status → Around → Scene → Asked) (identifier : ℕ) (trial : Trial)
     (shown : Option (ℤ × ℤ)) (result : Result Note Reason) (old new : Held) : Type 0 where
   pub meets : (w : World) → IsAt old w → is_ready w identifier ≡ true
@@ -41,6 +43,9 @@ pub record Steps (asks : Status → Around → Scene → Asked) (identifier : �
       → is_ready w identifier ≡ true
       → IsHeldUpAs (step_wants asks identifier trial.refused w) trial.slot new.desk.heap
       new.desk.grants reason
+  pub same : (w : World) → IsAt old w
+      → OnErr result (new.calling ≡ old.calling → IsSameDesk old.desk new.desk)
+  pub waits : IsSome old.calling → OnErr result (new.calling ≡ old.calling)
   pub logs : (w : World) → IsAt old w → is_ready w identifier ≡ true
       → KeepsLogsWithin (spent result most_records) old.desk.grants new.desk.grants trial.slot
   pub keeps : Keeps old.desk.heap new.desk.heap

@@ -1,5 +1,6 @@
 use Rattle.ps_flips.proofs.Words.{words-moved}
 use Rattle.ps_flips.proofs.Objects.{objects-moved, sound-moved, shown_all-moved}
+use Rattle.ps_flips.proofs.Reached.{are-reached}
 use Rattle.ps_flips.proofs.Sizes.{room-moved}
 use Rattle.ps_flips.proofs.moving_laws.Goals as goal
 
@@ -17,3 +18,6 @@ returns-clause-sound c = sound-moved
 
 pub returns-clause-shown : goal.returns-clause-shown
 returns-clause-shown c = shown_all-moved
+
+pub returns-clause-reached : goal.returns-clause-reached
+returns-clause-reached c = are-reached

@@ -48,4 +48,6 @@ loop-slot-preserved g c =
         | no ne ↦ ended_on slot s n o y ne (ended_on slot s m n x ne (inv.ended s (omega arith)))
       ];
       pairs = λ a e. y.pairs a (x.pairs a (inv.pairs a e));
+      handed = y.handed ∙ (x.handed ∙ inv.handed);
+      stored = y.stored ∙ (x.stored ∙ inv.stored);
     }

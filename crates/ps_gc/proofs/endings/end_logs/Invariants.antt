@@ -18,4 +18,6 @@ invariant-loop-slot g l = record {
   ended : (slot : ℕ) → slot < l.slot → IsEnded l.collector.gc.seat.me.0 slot;
   pairs : KeepsReplicas l.fn.collector.gc.seat.me.0.gc.pairs
       l.collector.gc.seat.me.0.gc.pairs;
+  handed : l.collector.gc.seat.me.0.gc.handed ≡ l.fn.collector.gc.seat.me.0.gc.handed;
+  stored : l.collector.gc.seat.me.0.vm.stored ≡ l.fn.collector.gc.seat.me.0.vm.stored;
 }

@@ -1,4 +1,6 @@
-use Rattle.std.proofs.Common.{ap, ◌∙◌}
+use Rattle.std.proofs.Common.{ap, ◌∙◌, ◌++◌, [], Bool}
+use Rattle.std.specs.Prelude.{if◌then◌else◌}
+use Rattle.ps_parts_memory.specs.Stores.{numbers}
 use Rattle.ps_core_parts.specs.declared.events.Vm.{Vm}
 use Rattle.ps_parts_memory.specs.Memory.{heap_of, grants_of}
 use Rattle.ps_table.specs.Shown.{SeatState}
@@ -31,3 +33,17 @@ pub returns-clause-grants : goal.returns-clause-grants
 returns-clause-grants g c =
     let did = c.add_roots.ensures.did in
     ap grants_of (keeps_vm _ _ did.0 did.1).part ∙ c.joined_hand_over.ensures.grants
+
+pub returns-clause-handed : goal.returns-clause-handed
+returns-clause-handed g c =
+    let roots = numbers c.args.roots.now in
+    let before = c.args.collector.now.gc.seat.me.0.gc.handed in
+    c.add_roots.ensures.adds.handed
+    ∙ (ap (λ (m : SeatState). m.0.gc.handed) c.joined_hand_over.ensures.does.1.did
+    ∙ ap (λ (b : Bool). (if b then roots else []) ++ before) c.requires.open)
+
+pub returns-clause-stored : goal.returns-clause-stored
+returns-clause-stored g c =
+    let did = c.add_roots.ensures.did in
+    ap (λ (v : Vm). v.stored) (keeps_vm _ _ did.0 did.1).part
+    ∙ ap (λ (m : SeatState). m.0.vm.stored) c.joined_hand_over.ensures.does.1.did

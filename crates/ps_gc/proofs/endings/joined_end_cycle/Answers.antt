@@ -1,4 +1,5 @@
-use Rattle.std.proofs.Common.{◌≡◌, ◌+◌, ap, sym, subst, ◌∙◌}
+use Rattle.std.proofs.Common.{◌≡◌, ◌+◌, List, ℕ, ap, sym, subst, ◌∙◌}
+use Rattle.ps_core_parts.specs.Objects.{among, addresses_named}
 use Rattle.ps_core_parts.specs.declared.events.Vm.{Vm}
 use Rattle.ps_core_parts.specs.declared.events.Gc.{Gc}
 use Rattle.ps_core_parts.specs.Steps.{is_open}
@@ -6,7 +7,7 @@ use Rattle.ps_mem.specs.Heap.{Heap}
 use Rattle.ps_mem.specs.Shows.{AreValues}
 use Rattle.ps_parts_memory.specs.Memory.{heap_of}
 use Rattle.ps_parts_memory.specs.Stores.{numbers}
-use Rattle.ps_flips.specs.Collected.{IsCollected}
+use Rattle.ps_flips.specs.Collected.{IsCollected, IsExact}
 use Rattle.ps_table.proofs.Kept.{keeps_vm, sits_on}
 use Rattle.ps_gc.specs.declared.flips.Flip.TheVariants.{Done}
 use Rattle.ps_gc.specs.Flipping.{MayFlip}
@@ -75,3 +76,19 @@ pub returns-clause-quiet : goal.returns-clause-quiet
 returns-clause-quiet g c =
     let g = c.joined_try_flip.ensures.grants c.in-Done.is in
     record { cycle_open = g.cycle_open; closed = g.closed }
+
+pub returns-clause-exact : goal.returns-clause-exact
+returns-clause-exact g c = λ none same.
+    let did = c.scan_all.ensures.did in
+    let keeps = keeps_vm _ _ did.0 did.1 in
+    let vm = c.meet.ensures.parts.0 in
+    let heap = ap heap_of vm ∙ (ap heap_of keeps.part
+    ∙ (c.end_logs.ensures.heap ∙ c.hand.ensures.heap)) in
+    let stored = ap (λ (v : Vm). v.stored) vm ∙ (ap (λ (v : Vm). v.stored) keeps.part
+    ∙ (c.end_logs.ensures.stored ∙ c.hand.ensures.stored)) in
+    let handed = ap (λ (x : Gc). x.handed) c.meet.ensures.parts.1
+    ∙ (c.scan_all.ensures.scans.handed ∙ (c.end_logs.ensures.handed ∙ c.hand.ensures.handed)) in
+    subst (λ (h : Heap). IsExact h (heap_of c.joined_try_flip.new.self.gc.seat.me.0.vm)
+    c.args.roots.now c.joined_try_flip.new.roots) heap
+    (c.joined_try_flip.ensures.exact c.in-Done.is (stored ∙ none)
+    (λ a. ap (λ (xs : List ℕ). among (addresses_named xs) a) handed ∙ same a))

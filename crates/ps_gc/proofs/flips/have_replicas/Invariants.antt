@@ -1,6 +1,7 @@
-use Rattle.std.proofs.Common.{◌≡◌, ◌≤◌, ◌+◌, true, length, drop}
+use Rattle.std.proofs.Common.{◌≡◌, true, drop}
 use Rattle.ps_core_parts.specs.Objects.{values_have_replicas, values_stand}
 use Rattle.ps_parts_memory.specs.Stores.{numbers}
+use Rattle.ps_table.specs.Events.{OnlyLooks}
 use Rattle.ps_table.specs.Mirrored.{Sits}
 use Rattle.ps_gc.proofs.flips.have_replicas.Given as goal
 
@@ -12,7 +13,7 @@ invariant-loop-root g l = record {
   stand : values_stand l.fn.gc.seat.me.0.vm.objects (numbers (drop l.root-index l.roots)) ≡ true;
   vm_part : l.gc.seat.me.0.vm ≡ l.fn.gc.seat.me.0.vm;
   gc_part : l.gc.seat.me.0.gc ≡ l.fn.gc.seat.me.0.gc;
-  steps : length l.gc.seat.me.0.vm_events ≤ length l.fn.gc.seat.me.0.vm_events + l.root-index;
+  steps : OnlyLooks l.root-index l.fn.gc.seat.me.0.vm_events l.gc.seat.me.0.vm_events;
   gc_steps : l.gc.seat.me.0.gc_events ≡ l.fn.gc.seat.me.0.gc_events;
   sits : Sits (g.W.Words.id l.gc.table).words l.gc.seat.me l.mirror;
   same : g.W.Words.id l.gc.table ≡ g.W.Words.id l.fn.gc.table;

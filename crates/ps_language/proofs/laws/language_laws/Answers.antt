@@ -5,6 +5,8 @@ use Rattle.ps_language.proofs.Recorded.{recorded-same}
 use Rattle.ps_language.proofs.WorldLaws.{step-unready, world-append}
 use Rattle.ps_language.proofs.ScheduleLaws.{moves-added, longest-added, begins-part}
 use Rattle.ps_language.proofs.LiveLaws.{Live-unique, starting-live}
+use Rattle.ps_language.proofs.Exists.{exists}
+use Rattle.ps_language.proofs.Taken.{taken-less}
 use Rattle.ps_language.proofs.LowestSteps.{after_moves-lowest}
 use Rattle.ps_language.proofs.laws.language_laws.Goals as goal
 
@@ -41,6 +43,13 @@ returns-clause-live c = Live-unique
 
 pub returns-clause-start : goal.returns-clause-start
 returns-clause-start c = starting-live
+
+pub returns-clause-exists : goal.returns-clause-exists
+returns-clause-exists c = exists
+
+pub returns-clause-taken : goal.returns-clause-taken
+returns-clause-taken c now identifier context calling left m n found leaves lived lives =
+    taken-less now identifier context found calling left leaves m n lived lives
 
 pub returns-clause-lowest : goal.returns-clause-lowest
 returns-clause-lowest c = after_moves-lowest

@@ -1,5 +1,6 @@
 use Rattle.ps_roots.proofs.Membering.{members-values, members-format}
 use Rattle.ps_roots.proofs.Moving.{moved-keeps, granted-keeps}
+use Rattle.ps_roots.proofs.Whole.{whole-lives}
 use Rattle.ps_roots.proofs.laws.root_laws.Goals as goal
 
 pub returns-clause-values : goal.returns-clause-values
@@ -14,3 +15,7 @@ returns-clause-moved c = λ d now grants forward calling moves have addressed st
 
 pub returns-clause-granted : goal.returns-clause-granted
 returns-clause-granted c = granted-keeps
+
+pub returns-clause-lives : goal.returns-clause-lives
+returns-clause-lives c = λ d now forward w moves have just addressed steady at.
+    whole-lives d now d.grants forward moves have just addressed steady w at

@@ -1,24 +1,42 @@
-use Rattle.std.proofs.Common.{◌≡◌, ◌+◌, ◌-◌, ℕ, suc, List, [], ◌∷◌, ◌++◌, replicate, sym, ap, ◌∙◌, arith}
-use Rattle.ps_core_parts.specs.declared.events.Event.{Event}
-use Rattle.ps_core_parts.specs.declared.events.Event.TheVariants.{ClearStore, HeaderStore}
+use Rattle.std.proofs.Common.{◌≡◌, ◌+◌, ◌∷◌, [], sym, ap, ◌∙◌, arith}
+use Rattle.ps_core_parts.specs.declared.events.Event.TheVariants.{HeaderStore}
 use Rattle.ps_core_parts.specs.declared.events.Vm.{Vm}
-use Rattle.ps_table.specs.Events.{did_all}
+use Rattle.ps_table.specs.declared.plays.View.{View}
+use Rattle.ps_table.specs.Events.{word_cleared, words_cleared}
+use Rattle.ps_table.specs.Shown.{SeatState, vm_did}
+use Rattle.ps_table.proofs.Made.{clears_one}
+use Rattle.ps_table.proofs.Storing.{did_acts, did_more}
 use Rattle.ps_table.proofs.writes.vm_object.Goals as goal
 
 pub loop-making-preserved : goal.loop-making-preserved
 loop-making-preserved g c =
     let i = c.loop-making.invariant in
     let le = c.loop-making-test.true in
-    let did = c.vm_clear.ensures.does.did in
-    let left : c.args.fields + 1 - c.loop-making.making
-    ≡ suc (c.args.fields + 1 - (c.loop-making.making + 1)) = omega arith in
-    let rest : ℕ → List Event = λ n. replicate n ClearStore ++ HeaderStore c.args.header ∷ [] in (
+    let z = c.vm_zero.ensures in
+    let l = c.loop-making in (
       omega arith,
-      (c.vm_clear.ensures.same.0, c.vm_clear.ensures.same.1 ∙ i.1.1),
-      ap (λ m. m.0.acts_vm) did ∙ i.2,
-      ap (λ m. m.1) did ∙ i.3,
-      ∣ c.vm_clear.ensures.does.runs ∣₁,
-      ap (λ m. m.0.vm) did ∙ ap (λ (v : Vm). record v { making = v.making + 1 }) i.5,
-      ap (λ m. did_all m.0 (rest (c.args.fields + 1 - (c.loop-making.making + 1)))) did
-          ∙ (ap (λ (n : ℕ). did_all c.loop-making.seat.me.0 (rest n)) (sym left) ∙ i.6),
+      (z.same.0, z.same.1 ∙ i.1.1),
+      ap (λ (x : SeatState). x.0.acts_vm) z.did.1
+          ∙ (did_acts l.seat.me.0 (word_cleared (c.args.end + 1 + l.making) z.did.0) ∙ i.2),
+      z.runs,
+      z.part ∙ ap (λ (v : Vm). record v { making = l.making + 1 }) i.4,
+      clears_one c.args.seat.now.me l.seat.me c.vm_zero.new.seat.me c.args.end l.making z.did.0
+          i.5 z.did.1,
+    )
+
+pub returns-clause-did : goal.returns-clause-did
+returns-clause-did g c =
+    let i = c.loop-making.invariant in
+    let le = i.0 in
+    let gt = c.loop-making-test.false in
+    let all : c.loop-making.making ≡ c.args.fields + 1 = omega arith in
+    let k = i.5 in
+    let m = c.args.seat.now.me in
+    let header = c.args.header in (
+      k.found,
+      k.count ∙ all,
+      c.vm_make.ensures.does.did
+          ∙ (ap (λ (x : SeatState). (vm_did x.0 (HeaderStore header), x.1)) k.did
+          ∙ ap (λ (v : View). (v, m.1))
+          (sym (did_more m.0 (words_cleared (c.args.end + 1) k.found) (HeaderStore header ∷ [])))),
     )

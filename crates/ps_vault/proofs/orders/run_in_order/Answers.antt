@@ -5,7 +5,7 @@ use Rattle.ps_language.proofs.ScheduleLaws.{count_of-nil}
 use Rattle.ps_mem.specs.Objects.{heap_in}
 use Rattle.ps_vault.specs.Reports.{are_ordinary}
 use Rattle.ps_vault.proofs.Beginning.{nothing_stands, plain_grows}
-use Rattle.ps_vault.proofs.Showing.{nothing_shown}
+use Rattle.ps_vault.proofs.Warrants.{nothing_warranted}
 use Rattle.ps_vault.proofs.orders.run_in_order.Goals as goal
 
 pub new-requires : goal.new-requires
@@ -26,9 +26,9 @@ unfolding moves
 into_run-requires-clause-ordinary g c = c.run_by-run.ensures.ordinary
     (ap (λ (entries : List Entry). are_ordinary (moves entries)) c.in_ok-vault.ensures.schedule)
 
-pub into_run-requires-clause-shown : goal.into_run-requires-clause-shown
-into_run-requires-clause-shown g c =
-    c.run_by-run.ensures.shown (nothing_shown _ _ _ c.in_ok-vault.ensures.schedule)
+pub into_run-requires-clause-warranted : goal.into_run-requires-clause-warranted
+into_run-requires-clause-warranted g c =
+    c.run_by-run.ensures.warranted (nothing_warranted _ _ _ c.in_ok-vault.ensures.schedule)
 
 pub into_run-requires-clause-space : goal.into_run-requires-clause-space
 unfolding heap_in

@@ -8,7 +8,7 @@ use Rattle.ps_mem.specs.Objects.{heap_in}
 use Rattle.ps_vault.specs.Order.{HasTurn, InOrder}
 use Rattle.ps_vault.specs.Reports.{are_ordinary, IsStarved}
 use Rattle.ps_vault.proofs.Beginning.{nothing_stands, plain_grows}
-use Rattle.ps_vault.proofs.Showing.{nothing_shown}
+use Rattle.ps_vault.proofs.Warrants.{nothing_warranted}
 use Rattle.ps_vault.proofs.plain.run_plain.Given as givens
 use Rattle.ps_vault.proofs.plain.run_plain.Goals as goal
 use Rattle.ps_vault.proofs.plain.run_plain.Goals.{After-run-run}
@@ -78,9 +78,9 @@ returns-clause-starved g c = λ memory.
           (world p made.schedule) made.capacity made.schedule) program owed.2)),
     )
 
-pub into_run-requires-clause-shown : goal.into_run-requires-clause-shown
-into_run-requires-clause-shown g c =
-    c.run-run.ensures.shown (nothing_shown _ _ _ c.in-Ok.ensures.schedule)
+pub into_run-requires-clause-warranted : goal.into_run-requires-clause-warranted
+into_run-requires-clause-warranted g c =
+    c.run-run.ensures.warranted (nothing_warranted _ _ _ c.in-Ok.ensures.schedule)
 
 pub into_run-requires-clause-space : goal.into_run-requires-clause-space
 unfolding heap_in

@@ -7,7 +7,7 @@ use Rattle.ps_vault.specs.Reports.{MayWant}
 use Rattle.ps_vault.specs.Stories.{Story, world_at}
 use Rattle.ps_vault.proofs.Beginning.{plain_grows}
 use Rattle.ps_vault.proofs.Following.{after_nothing, after_unready, after_idle_part, after_whole, all_made, last_refused, part_refused}
-use Rattle.ps_vault.proofs.Keeping.{may_want}
+use Rattle.ps_vault.proofs.Reasons.{may_want}
 use Rattle.ps_vault.proofs.replays.follow_entry.Given as givens
 use Rattle.ps_vault.proofs.replays.follow_entry.Goals as goal
 use Rattle.ps_vault.proofs.replays.follow_entry.Goals.{After-steps-before, then-entry-eq0-via-then-entry-eq0, then-entry-eq0-via-else-entry-eq0+then-not-is_ready}
@@ -73,4 +73,4 @@ returns-in-Err-clause-starved g c = λ _.
     (world_at c.step.new.self))
     (last_refused c.args.entry (c.args.entry.steps - 1) (omega (arith, c.if-entry-eq0.false)))
     (may_want _ _ g.S.Interpret.asks c.args.entry.context c.args.entry.refused
-    (world_at c.step.new.self) _ (λ m. plain_grows _ _ _ _) c.in-Err.ensures.held_up)
+    c.step.new.self _ (λ m. plain_grows _ _ _ _) c.in-Err.ensures.held_up)

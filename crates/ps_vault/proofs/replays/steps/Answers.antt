@@ -5,7 +5,7 @@ use Rattle.ps_vault.specs.Stories.{Story, HasRoom, world_at}
 use Rattle.ps_vault.specs.Turns.{added_times}
 use Rattle.ps_vault.proofs.Beginning.{plain_grows}
 use Rattle.ps_vault.proofs.Following.{times_more, times_world, times_longer}
-use Rattle.ps_vault.proofs.Keeping.{may_want}
+use Rattle.ps_vault.proofs.Reasons.{may_want}
 use Rattle.ps_vault.proofs.replays.steps.Given as givens
 use Rattle.ps_vault.proofs.replays.steps.Goals as goal
 use Rattle.ps_vault.proofs.replays.steps.Goals.{After-is_ready, After-advance-advanced}
@@ -79,7 +79,7 @@ returns-in-HeldUp-clause-added g c =
 pub returns-in-HeldUp-clause-starved : goal.returns-in-HeldUp-clause-starved
 returns-in-HeldUp-clause-starved g c = λ _.
     may_want _ _ g.S.Interpret.asks c.args.context false
-    (world_at c.advance-advanced.new.self) c.in-HeldUp.field-0 (λ m. plain_grows _ _ _ _)
+    c.advance-advanced.new.self c.in-HeldUp.field-0 (λ m. plain_grows _ _ _ _)
     (rw c.in-HeldUp.is at c.advance-advanced.ensures.held_up)
 
 pub returns-in-HeldUp-clause-longer : goal.returns-in-HeldUp-clause-longer

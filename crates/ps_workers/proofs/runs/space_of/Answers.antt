@@ -14,3 +14,9 @@ pub returns-clause-sized : goal.returns-clause-sized
 unfolding empty_heap
 returns-clause-sized c =
     IfOk-weaker c.new.result _ _ (λ space is. ap (λ (h : Heap). h.space.size) is) c.new.ensures.heap
+
+pub returns-clause-unmoved : goal.returns-clause-unmoved
+unfolding empty_heap
+returns-clause-unmoved c =
+    IfOk-weaker c.new.result _ _ (λ space is. ap (λ (h : Heap). h.space.flips) is)
+    c.new.ensures.heap

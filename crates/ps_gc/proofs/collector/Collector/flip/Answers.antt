@@ -1,5 +1,6 @@
-use Rattle.std.proofs.Common.{arith, ◌≡◌, ◌+◌, ◌*◌, ◌%◌, ◌<◌, ℕ, List, [], false, length, suc, refl, Some, sym, ap, ◌∙◌, subst, replicate}
+use Rattle.std.proofs.Common.{arith, ◌≡◌, ◌+◌, ◌*◌, ◌%◌, ◌<◌, ℕ, List, [], ◌∷◌, false, length, suc, refl, Some, sym, ap, ◌∙◌, subst, replicate}
 use Rattle.ps_word.specs.declared.words.Word.{Word}
+use Rattle.ps_core_parts.specs.declared.events.Event.{Event}
 use Rattle.ps_core_parts.specs.declared.events.Event.TheVariants.{CycleStore}
 use Rattle.ps_core_parts.specs.declared.events.Gc.{Gc}
 use Rattle.ps_core_parts.specs.declared.events.Pair.{Pair}
@@ -12,11 +13,14 @@ use Rattle.ps_parts_memory.specs.Stores.{numbers}
 use Rattle.ps_flips.specs.Flips.{AfterFlip, replica_at, as_words}
 use Rattle.ps_flips.specs.Moves.{IsMovedTo, HaveReplicas, moved_words}
 use Rattle.ps_flips.proofs.Moved.{renamed-words, have-replicas}
-use Rattle.ps_table.specs.Events.{root_looks}
+use Rattle.ps_table.specs.declared.plays.View.{View}
+use Rattle.ps_table.specs.Events.{OnlyLooks, root_looks}
 use Rattle.ps_table.proofs.Facts.{knows}
 use Rattle.ps_table.proofs.Kept.{keeps_vm}
+use Rattle.ps_flips.specs.Reached.{MovesReached}
+use Rattle.ps_gc.proofs.Reaching.{moves_reached}
 use Rattle.ps_gc.specs.Keeps.{Copies, CopiesAre, Takes}
-use Rattle.ps_gc.proofs.Flipping.{meets, flip_moves, flip_grants, turned, as_they_are, flip_steps, copies_none, takes_turned}
+use Rattle.ps_gc.proofs.Flipping.{meets, flip_moves, flip_grants, as_they_are, flip_looks, copies_none, takes_turned}
 use Rattle.ps_gc.proofs.collector.Collector.flip.Goals as goal
 
 pub store_cycle-requires-clause-meet : goal.store_cycle-requires-clause-meet
@@ -37,7 +41,7 @@ invariant_of-self g c =
     let g = s.gc.seat.me.0.gc in
     let v = c.args.self.now.gc.seat.me.0.vm in
     let part = c.store_cycle.ensures.parts.1 in
-    let low : ℕ = 8256 + (s.to.cycle % 2) * s.to.space in
+    let low : ℕ = c.low-low.result in
     let epoch = number_is v.epoch (v.cycle + 1) c.requires.open in
     let same = (meets v g c.requires.runs).1 in
     record {
@@ -55,7 +59,7 @@ invariant_of-self g c =
             at = low;
             field = 0;
           })) (λ i. (s.copies.space_is i, s.copies.cycle_is i))
-          (copies_none s.to.space (s.to.cycle + 1) low (turned s.to.space s.to.cycle)));
+          (copies_none s.to.space (s.to.cycle + 1) low c.low-low.ensures));
       field = subst (λ (x : Gc). (a : ℕ) (p : Pair) → pair_of x.pairs a ≡ Some p
           → p.replica ≡ low → 0 < length p.fields) (sym part) (λ a p e. absurd (cc));
       takes = subst (λ (x : Gc). Takes x (record s.taken { closed = replicate 32 false }))
@@ -108,10 +112,44 @@ returns-clause-grants g c =
 pub returns-clause-steps : goal.returns-clause-steps
 returns-clause-steps g c =
     let did = c.store_cycle.ensures.did in
-    let looks = flip_steps c.args.self.now.gc.seat.me.0 c.args.self.now.gc.seat.me.0.gc
-    c.args.roots.now in
     let m = c.args.self.now.gc.seat.me.0 in
-    let kept = keeps_vm m _ (root_looks m.gc (numbers c.args.roots.now)) refl in
-    let vm = ap (λ x. length x.vm_events) did ∙ ap (λ es. suc (length es)) kept.events in
-    let gc = ap (λ x. length x.gc_events) did in
-    (omega arith, omega arith)
+    let roots = numbers c.args.roots.now in
+    let kept = keeps_vm m _ (root_looks m.gc roots) refl in (
+      record {
+        more = CycleStore roots ∷ [];
+        is = ap (λ (v : View). v.vm_events) did
+            ∙ ap (λ (es : List Event). CycleStore roots ∷ es) kept.events;
+        looks = refl;
+        few = omega arith;
+      },
+      subst (OnlyLooks (length c.args.roots.now + 1) m.gc_events)
+          (sym (ap (λ (v : View). v.gc_events) did)) (flip_looks m m.gc c.args.roots.now),
+    )
+
+pub returns-clause-exact : goal.returns-clause-exact
+returns-clause-exact g c = λ none same.
+    let v = c.args.self.now.gc.seat.me.0.vm in
+    let g = c.args.self.now.gc.seat.me.0.gc in
+    let roots = c.args.roots.now in
+    let ready = c.requires.ready in
+    let may : VmMay v (CycleStore (numbers roots)) =
+    (c.requires.open, ready.0.0.0, c.requires.sits.mirrors.settled) in
+    let gc_may : GcMay g (CycleStore (numbers roots)) =
+    (c.args.self.now.idle.0, c.args.self.now.idle.1, ready.0.1, ready.1) in
+    record {
+      collected = record {
+        forward = replica_at g.pairs;
+        moves = subst (λ (x : Vm). IsMovedTo (heap_of v) (heap_of x) (replica_at g.pairs))
+            (sym c.store_cycle.ensures.parts.0)
+            (flip_moves v g (numbers roots) c.requires.runs may gc_may ready.0.0.1);
+        complete = subst (λ (ws : List Word). HaveReplicas (replica_at g.pairs) ws)
+            (as_they_are roots) (have-replicas g.pairs (numbers roots) ready.1);
+        are = sym (as_they_are c.store_cycle.new.roots)
+            ∙ (ap as_words c.store_cycle.ensures.renamed
+            ∙ (renamed-words g.pairs (numbers roots)
+            ∙ ap (moved_words (replica_at g.pairs)) (as_they_are roots)));
+      };
+      just = subst (λ (ws : List Word). MovesReached (heap_of v) (replica_at g.pairs) ws)
+          (as_they_are roots)
+          (moves_reached v g (numbers roots) c.requires.runs may gc_may ready.0.0.1 none same);
+    }

@@ -1,5 +1,4 @@
 use Rattle.std.proofs.Common.{ap, ◌∙◌}
-use Rattle.ps_core_parts.specs.declared.events.Vm.{Vm}
 use Rattle.ps_parts_memory.specs.Memory.{heap_of, grants_of}
 use Rattle.ps_table.proofs.Kept.{keeps_vm, sits_on}
 use Rattle.ps_gc.proofs.space.CollectedSpaceCollectedMemory.work.Goals as goal
@@ -17,13 +16,6 @@ pub returns-else-self-lt-SLOTS-clause-heap : goal.returns-else-self-lt-SLOTS-cla
 returns-else-self-lt-SLOTS-clause-heap g c =
     let did = c.scan_one.ensures.did in
     ap heap_of ((keeps_vm _ _ did.0 did.1).part ∙ c.drain_some-2.ensures.vm.part
-    ∙ c.scan_some.ensures.vm.part ∙ c.drain_some.ensures.vm.part
-    ∙ ap (λ m. m.vm) c.begin_cycle.ensures.did.2)
-
-pub returns-else-self-lt-SLOTS-clause-flips : goal.returns-else-self-lt-SLOTS-clause-flips
-returns-else-self-lt-SLOTS-clause-flips g c =
-    let did = c.scan_one.ensures.did in
-    ap (λ (v : Vm). v.cycle) ((keeps_vm _ _ did.0 did.1).part ∙ c.drain_some-2.ensures.vm.part
     ∙ c.scan_some.ensures.vm.part ∙ c.drain_some.ensures.vm.part
     ∙ ap (λ m. m.vm) c.begin_cycle.ensures.did.2)
 

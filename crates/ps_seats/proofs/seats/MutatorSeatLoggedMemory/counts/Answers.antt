@@ -1,6 +1,5 @@
 use Rattle.std.proofs.Common.{◌-◌, ◌^◌, ℕ, List, length, min, sum, ap, ◌∙◌, arith}
 use Rattle.std.proofs.lemmas.List.{take_all}
-use Rattle.ps_core_parts.specs.declared.events.Vm.{Vm}
 use Rattle.ps_table.proofs.Facts.{knows}
 use Rattle.ps_seats.proofs.Sides.{counted_only, counted_grants}
 use Rattle.ps_seats.proofs.seats.MutatorSeatLoggedMemory.counts.Goals as goal
@@ -18,13 +17,6 @@ returns-clause-grants g c =
     let m = c.args.self.now.vm.seat.me.0 in
     let n = c.counts-flips.new.self.seat.me.0 in
     counted_grants m.vm n.vm
-    (counted_only m n c.counts-flips.result.0 c.counts-flips.result.1 c.counts-flips.ensures.did)
-
-pub returns-clause-flips : goal.returns-clause-flips
-returns-clause-flips g c =
-    let m = c.args.self.now.vm.seat.me.0 in
-    let n = c.counts-flips.new.self.seat.me.0 in
-    ap (λ (v : Vm). v.cycle)
     (counted_only m n c.counts-flips.result.0 c.counts-flips.result.1 c.counts-flips.ensures.did)
 
 pub returns-clause-taken : goal.returns-clause-taken

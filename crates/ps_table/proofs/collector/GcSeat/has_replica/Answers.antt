@@ -1,4 +1,4 @@
-use Rattle.std.proofs.Common.{arith, ◌≡◌, ◌+◌, ℕ, true, false, sym, ◌∙◌, subst}
+use Rattle.std.proofs.Common.{arith, ◌≡◌, ◌+◌, ℕ, true, false, refl, sym, ◌∙◌, subst}
 use Rattle.ps_word.specs.Format.{address_in}
 use Rattle.ps_word.specs.Readers.{is_reference}
 use Rattle.ps_core_parts.specs.declared.events.Vm.{Vm}
@@ -9,6 +9,7 @@ use Rattle.ps_table.specs.Shown.{BothFind}
 use Rattle.ps_table.proofs.Facts.{vm_facts}
 use Rattle.ps_table.proofs.Seconds.{BothTell, both_tell, reference_stands, object_of, read_some, read_none, has_none, has_as_told, has_unread}
 use Rattle.ps_parts_memory.proofs.Loads.{stays, behind_heads}
+use Rattle.ps_table.proofs.Looking.{no_looks, one_look, no_gc_look}
 use Rattle.ps_table.proofs.collector.GcSeat.has_replica.Goals as goal
 
 -- what a look at the second header of what a reference names tells
@@ -83,3 +84,20 @@ returns-in-None-clause-answer g c =
     let t = told v part w n c.low_address.result c.low_address.ensures ref c.requires.stands
     c.look-second.ensures.looks.finds in
     has_unread v part w n ref t (read_none n v.epoch t.small c.in-None.ensures)
+
+-- ---- the look
+
+pub returns-then-not-is_reference-clause-steps : goal.returns-then-not-is_reference-clause-steps
+returns-then-not-is_reference-clause-steps g c = (no_looks 1 _, refl)
+
+pub returns-then-mirror-clause-steps : goal.returns-then-mirror-clause-steps
+returns-then-mirror-clause-steps g c =
+    (one_look _ _ _ _ c.look-second.ensures.looks, no_gc_look _ _ _ _ c.look-second.ensures.looks)
+
+pub returns-else-mirror-clause-steps : goal.returns-else-mirror-clause-steps
+returns-else-mirror-clause-steps g c =
+    (one_look _ _ _ _ c.look-second.ensures.looks, no_gc_look _ _ _ _ c.look-second.ensures.looks)
+
+pub returns-in-None-clause-steps : goal.returns-in-None-clause-steps
+returns-in-None-clause-steps g c =
+    (one_look _ _ _ _ c.look-second.ensures.looks, no_gc_look _ _ _ _ c.look-second.ensures.looks)

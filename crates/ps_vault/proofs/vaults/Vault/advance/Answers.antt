@@ -12,12 +12,14 @@ use Rattle.ps_world.specs.Notes.{note_of}
 use Rattle.ps_vault.specs.Holds.{wish_in}
 use Rattle.ps_vault.specs.Order.{IsOnlyLeft, AddsSteps, NoneEnds, AllOfOne, OnlyLastMayEnd, IsNoEnd, IsNoWish, AllTell, WishesLast, WishesAs}
 use Rattle.ps_vault.specs.Reports.{are_words, fits, is_ordinary}
-use Rattle.ps_vault.specs.Showing.{AllShowOf}
-use Rattle.ps_vault.specs.Stories.{ShowsSpace, Story, world_at, move_of}
+use Rattle.ps_vault.specs.Warrants.{AllWarranted}
+use Rattle.ps_vault.specs.Stories.{AreWarranted, Story, world_at, move_of}
 use Rattle.ps_vault.specs.Turns.{added_times}
 use Rattle.ps_vault.proofs.Following.{times_noted}
+use Rattle.ps_mem.specs.Heap.{Space}
 use Rattle.ps_vault.proofs.Keeping.{caller_there, may_step}
-use Rattle.ps_vault.proofs.Advancing.{keeps_made, count_times, move_fits, all_added, all_times, some_made, tell_made, tell_mid, tell_behind, others_behind, nothing_ends, nothing_wishes, ends_noted, wish_noted, no_wish_noted, keeps_behind, ends_behind, keeps_held, held_behind, kept_none, alone_made, alone_mid, alone_behind, left_held, space_made, space_kept, shows_made, shows_held, shows_behind, words_behind}
+use Rattle.ps_vault.proofs.Reasons.{for_room}
+use Rattle.ps_vault.proofs.Advancing.{keeps_made, count_times, move_fits, all_added, all_times, some_made, tell_made, tell_mid, tell_behind, others_behind, nothing_ends, nothing_wishes, ends_noted, wish_noted, no_wish_noted, keeps_behind, ends_behind, keeps_held, held_behind, kept_none, alone_made, alone_mid, alone_behind, left_held, same_space, same_space_behind, warranted_made, warranted_held, warranted_behind, words_behind}
 use Rattle.ps_vault.proofs.Ordering.{adds_times, adds_one, adds_more}
 use Rattle.ps_vault.proofs.vaults.Vault.advance.Given as givens
 use Rattle.ps_vault.proofs.vaults.Vault.advance.Goals as goal
@@ -89,10 +91,10 @@ only_inside g c left =
     subst (λ (s : Story). IsOnlyLeft (world_at s) c.args.context) (sym c.self.view_is) left
 
 -- what was shown before is of the space inside
-shown_inside : (g : givens.Over) (c : After-note_turn g) → ShowsSpace c.args.self.now
-    → AllShowOf (g.M.Memory.heap c.self.inside.memory).space.size
+warranted_inside : (g : givens.Over) (c : After-note_turn g) → AreWarranted c.args.self.now
+    → AllWarranted (g.M.Memory.heap c.self.inside.memory).space.size
     c.self.inside.world.contexts.shared.program.now c.self.inside.schedule.items
-shown_inside g c all = subst ShowsSpace (sym c.self.view_is) all
+warranted_inside g c all = subst AreWarranted (sym c.self.view_is) all
 
 -- ---- nothing is told
 
@@ -159,20 +161,27 @@ returns-in_default-clause-alone g c = λ left.
     c.self.invariant (ready_before g (goal.at.returns-in_default-clause-alone g c).After-go_on-made)
     (rw c.in_default.is at c.go_on-made.ensures.makes) (only_inside g at left)))
 
-pub returns-in_default-clause-shown : goal.returns-in_default-clause-shown
-returns-in_default-clause-shown g c = λ all.
+pub returns-in_default-clause-warranted : goal.returns-in_default-clause-warranted
+returns-in_default-clause-warranted g c = λ all.
     rw c.note_turn.ensures.added
-    (shows_made c.args.context c.go_on-made.result.made _ _ c.self.inside.schedule.items
-    c.self.invariant (ready_before g (goal.at.returns-in_default-clause-shown g c).After-go_on-made)
+    (warranted_made c.args.context c.go_on-made.result.made _ _ c.self.inside.schedule.items
+    c.self.invariant (ready_before g (goal.at.returns-in_default-clause-warranted g c).After-go_on-made)
     (rw c.in_default.is at c.go_on-made.ensures.makes)
-    (shown_inside g (goal.at.returns-in_default-clause-shown g c).After-note_turn all))
+    (warranted_inside g (goal.at.returns-in_default-clause-warranted g c).After-note_turn all))
 
 pub returns-in_default-clause-space : goal.returns-in_default-clause-space
 returns-in_default-clause-space g c =
-    space_made c.args.context c.go_on-made.result.made _ _ c.self.inside.schedule.items
+    ap (λ (s : Space). s.size) (same_space c.args.context c.go_on-made.result.made _ _ c.self.inside.schedule.items
     c.self.invariant (ready_before g (goal.at.returns-in_default-clause-space g c).After-go_on-made)
-    (rw c.in_default.is at c.go_on-made.ensures.makes)
+    (rw c.in_default.is at c.go_on-made.ensures.makes))
     ∙ ap (λ (s : Story). s.space) c.self.view_is
+
+pub returns-in_default-clause-flips : goal.returns-in_default-clause-flips
+returns-in_default-clause-flips g c =
+    ap (λ (s : Space). s.flips) (same_space c.args.context c.go_on-made.result.made _ _ c.self.inside.schedule.items
+    c.self.invariant (ready_before g (goal.at.returns-in_default-clause-flips g c).After-go_on-made)
+    (rw c.in_default.is at c.go_on-made.ensures.makes))
+    ∙ ap (λ (s : Story). s.flips) c.self.view_is
 
 -- ---- the next step was held up
 
@@ -209,7 +218,14 @@ returns-in-Err-clause-held_up g c =
     c.in-Some.next.shown _ _ c.self.inside.schedule.items c.self.invariant
     (ready_before g (goal.at.returns-in-Err-clause-held_up g c).After-go_on-made)
     c.in-Err.reason (rw (c.in-Some.is, c.in-Err.is) at c.go_on-made.ensures.makes)
-    g.M.Memory.heap g.M.Memory.grants _ refl refl c.slot_of.ensures.is)
+    g.M.Memory.heap g.M.Memory.grants _ _ refl refl
+    (record { space = refl; used = refl; flips = refl; cycle_open = refl; closed = refl })
+    refl refl c.slot_of.ensures.is)
+
+pub returns-in-Err-clause-room : goal.returns-in-Err-clause-room
+returns-in-Err-clause-room g c =
+    for_room g.M.Memory.heap g.M.Memory.grants g.S.Interpret.asks c.args.context false _
+    c.in-Err.reason (returns-in-Err-clause-held_up g c)
 
 pub returns-in-Err-clause-keeps : goal.returns-in-Err-clause-keeps
 returns-in-Err-clause-keeps g c = λ _.
@@ -254,22 +270,30 @@ returns-in-Err-clause-left g c = λ held left.
     (ready_before g (goal.at.returns-in-Err-clause-left g c).After-go_on-made) c.in-Err.reason
     (rw (c.in-Some.is, c.in-Err.is) at c.go_on-made.ensures.makes) (only_inside g at left))
 
-pub returns-in-Err-clause-shown : goal.returns-in-Err-clause-shown
-returns-in-Err-clause-shown g c = λ all.
+pub returns-in-Err-clause-warranted : goal.returns-in-Err-clause-warranted
+returns-in-Err-clause-warranted g c = λ all.
     rw c.note_turn.ensures.added
-    (shows_held g.S.Interpret.asks c.args.context c.slot_of.result c.go_on-made.result.made
+    (warranted_held g.S.Interpret.asks c.args.context c.slot_of.result c.go_on-made.result.made
     c.in-Some.next.shown _ _ c.self.inside.schedule.items c.self.invariant
-    (ready_before g (goal.at.returns-in-Err-clause-shown g c).After-go_on-made) c.in-Err.reason
+    (ready_before g (goal.at.returns-in-Err-clause-warranted g c).After-go_on-made) c.in-Err.reason
     (rw (c.in-Some.is, c.in-Err.is) at c.go_on-made.ensures.makes)
-    (shown_inside g (goal.at.returns-in-Err-clause-shown g c).After-note_turn all))
+    (warranted_inside g (goal.at.returns-in-Err-clause-warranted g c).After-note_turn all))
 
 pub returns-in-Err-clause-space : goal.returns-in-Err-clause-space
 returns-in-Err-clause-space g c =
-    space_kept g.S.Interpret.asks c.args.context c.slot_of.result c.go_on-made.result.made
+    ap (λ (s : Space). s.size) (same_space_behind g.S.Interpret.asks c.args.context c.slot_of.result c.go_on-made.result.made
     c.in-Some.next.shown _ _ c.self.inside.schedule.items c.self.invariant
     (ready_before g (goal.at.returns-in-Err-clause-space g c).After-go_on-made) (Err c.in-Err.reason)
-    (rw (c.in-Some.is, c.in-Err.is) at c.go_on-made.ensures.makes)
+    (rw (c.in-Some.is, c.in-Err.is) at c.go_on-made.ensures.makes))
     ∙ ap (λ (s : Story). s.space) c.self.view_is
+
+pub returns-in-Err-clause-flips : goal.returns-in-Err-clause-flips
+returns-in-Err-clause-flips g c =
+    ap (λ (s : Space). s.flips) (same_space_behind g.S.Interpret.asks c.args.context c.slot_of.result c.go_on-made.result.made
+    c.in-Some.next.shown _ _ c.self.inside.schedule.items c.self.invariant
+    (ready_before g (goal.at.returns-in-Err-clause-flips g c).After-go_on-made) (Err c.in-Err.reason)
+    (rw (c.in-Some.is, c.in-Err.is) at c.go_on-made.ensures.makes))
+    ∙ ap (λ (s : Story). s.flips) c.self.view_is
 
 -- ---- the next step was made
 
@@ -325,23 +349,31 @@ returns-clause-fits g c =
     each_behind g at fits
     (plain_fits g (goal.at.After-note g at).After-note_turn) (behind_fits g at)
 
-pub returns-clause-shown : goal.returns-clause-shown
-returns-clause-shown g c = λ all.
+pub returns-clause-warranted : goal.returns-clause-warranted
+returns-clause-warranted g c = λ all.
     rw (c.note.ensures.added, c.note_turn.ensures.added)
-    (shows_behind g.S.Interpret.asks c.args.context c.slot_of.result c.go_on-made.result.made
+    (warranted_behind g.S.Interpret.asks c.args.context c.slot_of.result c.go_on-made.result.made
     c.in-Some.next.shown _ _ c.self.inside.schedule.items c.self.invariant
-    (ready_before g (goal.at.returns-clause-shown g c).After-go_on-made)
+    (ready_before g (goal.at.returns-clause-warranted g c).After-go_on-made)
     c.in-Ok.told (rw (c.in-Some.is, c.in-Ok.is) at c.go_on-made.ensures.makes)
     c.kept-kept.result c.kept-kept.ensures
-    (shown_inside g (goal.at.returns-clause-shown g c).After-note_turn all))
+    (warranted_inside g (goal.at.returns-clause-warranted g c).After-note_turn all))
 
 pub returns-clause-space : goal.returns-clause-space
 returns-clause-space g c =
-    space_kept g.S.Interpret.asks c.args.context c.slot_of.result c.go_on-made.result.made
+    ap (λ (s : Space). s.size) (same_space_behind g.S.Interpret.asks c.args.context c.slot_of.result c.go_on-made.result.made
     c.in-Some.next.shown _ _ c.self.inside.schedule.items c.self.invariant
     (ready_before g (goal.at.returns-clause-space g c).After-go_on-made) (Ok c.in-Ok.told)
-    (rw (c.in-Some.is, c.in-Ok.is) at c.go_on-made.ensures.makes)
+    (rw (c.in-Some.is, c.in-Ok.is) at c.go_on-made.ensures.makes))
     ∙ ap (λ (s : Story). s.space) c.self.view_is
+
+pub returns-clause-flips : goal.returns-clause-flips
+returns-clause-flips g c =
+    ap (λ (s : Space). s.flips) (same_space_behind g.S.Interpret.asks c.args.context c.slot_of.result c.go_on-made.result.made
+    c.in-Some.next.shown _ _ c.self.inside.schedule.items c.self.invariant
+    (ready_before g (goal.at.returns-clause-flips g c).After-go_on-made) (Ok c.in-Ok.told)
+    (rw (c.in-Some.is, c.in-Ok.is) at c.go_on-made.ensures.makes))
+    ∙ ap (λ (s : Story). s.flips) c.self.view_is
 
 pub returns-clause-takes : goal.returns-clause-takes
 returns-clause-takes g c =

@@ -6,4 +6,4 @@ use Rattle.ps_vault.proofs.vaults.Vault.into_report.Goals as goal
 pub returns-clause-run : goal.returns-clause-run
 returns-clause-run g c = λ space size ends.
     run_at_end g.S.Interpret.asks space _ _ c.args.steps _ c.args.self refl c.self.invariant
-    c.self.view_is size c.requires.few c.requires.fits c.requires.shown c.requires.room ends
+    c.self.view_is size c.requires.few c.requires.fits c.requires.warranted c.requires.room ends

@@ -4,7 +4,7 @@ use Rattle.ps_language.specs.declared.schedules.Entry.{Entry}
 use Rattle.ps_language.specs.Schedules.{count_of, moves}
 use Rattle.ps_mem.specs.Plain.{plain_space}
 use Rattle.ps_vault.specs.Reports.{all_fit, are_ordinary, EndsAs, IsOneStarved, IsRunIn}
-use Rattle.ps_vault.specs.Stories.{ShowsSpace, Story, world_at}
+use Rattle.ps_vault.specs.Stories.{AreWarranted, Story, world_at}
 use Rattle.ps_vault.proofs.Advancing.{ordinary_fit}
 use Rattle.ps_vault.proofs.Following.{ends_so, ready_not_over}
 use Rattle.ps_vault.proofs.vaults.Vault.into_run.Goals as goal
@@ -27,9 +27,9 @@ into_report-requires-2-clause-fits g c =
     ap (λ (s : Story). all_fit (moves s.schedule)) c.outcome-outcome.ensures.same
     ∙ ordinary_fit (moves c.args.self.schedule) c.requires.ordinary
 
-pub into_report-requires-2-clause-shown : goal.into_report-requires-2-clause-shown
-into_report-requires-2-clause-shown g c =
-    subst ShowsSpace (sym c.outcome-outcome.ensures.same) c.requires.shown
+pub into_report-requires-2-clause-warranted : goal.into_report-requires-2-clause-warranted
+into_report-requires-2-clause-warranted g c =
+    subst AreWarranted (sym c.outcome-outcome.ensures.same) c.requires.warranted
 
 pub returns-then-run-clause-run : goal.returns-then-run-clause-run
 returns-then-run-clause-run g c =

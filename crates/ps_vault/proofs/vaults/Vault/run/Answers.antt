@@ -5,7 +5,7 @@ use Rattle.ps_language.specs.World.{World}
 use Rattle.ps_language.specs.Worlds.{after_moves, starting_world}
 use Rattle.ps_vault.specs.Order.{IsNoneAbove, IsLeastAbove, IsDue, AddsTurns, InOrder}
 use Rattle.ps_vault.specs.Reports.{are_ordinary}
-use Rattle.ps_vault.specs.Stories.{ShowsSpace, Story, world_at}
+use Rattle.ps_vault.specs.Stories.{AreWarranted, Story, world_at}
 use Rattle.ps_vault.proofs.Ordering.{Passing, passing_start, passing_anew, passing_order, due_of, turns_over, turns_order, turns_held, world_moves}
 use Rattle.ps_vault.proofs.Following.{ordinary_starved}
 use Rattle.ps_vault.proofs.vaults.Vault.run.Given as givens
@@ -18,7 +18,7 @@ loop-made-init g c = record {
   program = refl;
   counted = omega arith;
   ordinary = λ plain. plain;
-  shown = λ all. all;
+  warranted = λ all. all;
   space = refl;
   capacity = omega arith;
   order = λ none.
@@ -61,7 +61,7 @@ loop-made-preserved-in_default g c =
       counted = ap (λ (s : Story). count_of s.schedule) same ∙ c.loop-made.invariant.counted;
       ordinary = λ plain. ap (λ (s : Story). are_ordinary (moves s.schedule)) same
           ∙ c.loop-made.invariant.ordinary plain;
-      shown = λ all. subst ShowsSpace (sym same) (c.loop-made.invariant.shown all);
+      warranted = λ all. subst AreWarranted (sym same) (c.loop-made.invariant.warranted all);
       space = ap (λ (s : Story). s.space) same ∙ c.loop-made.invariant.space;
       capacity = (
           let held = ap (λ (s : Story). s.capacity) same in
@@ -160,8 +160,8 @@ loop-made-preserved g c =
       ordinary = λ plain. c.turns-turn.ensures.ordinary
           (ap (λ (s : Story). are_ordinary (moves s.schedule)) same
           ∙ c.loop-made.invariant.ordinary plain);
-      shown = λ all. c.turns-turn.ensures.shown
-          (subst ShowsSpace (sym same) (c.loop-made.invariant.shown all));
+      warranted = λ all. c.turns-turn.ensures.warranted
+          (subst AreWarranted (sym same) (c.loop-made.invariant.warranted all));
       space = c.turns-turn.ensures.space
           ∙ (ap (λ (s : Story). s.space) same ∙ c.loop-made.invariant.space);
       capacity = (

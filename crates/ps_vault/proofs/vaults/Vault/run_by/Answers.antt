@@ -2,7 +2,7 @@
 use Rattle.std.proofs.Common.{◌≡◌, ◌∙◌, true, ap, arith, subst, sym}
 use Rattle.ps_language.specs.Schedules.{count_of, moves}
 use Rattle.ps_vault.specs.Reports.{are_ordinary}
-use Rattle.ps_vault.specs.Stories.{ShowsSpace, Story}
+use Rattle.ps_vault.specs.Stories.{AreWarranted, Story}
 use Rattle.ps_vault.proofs.Following.{ordinary_starved}
 use Rattle.ps_vault.proofs.vaults.Vault.run_by.Goals as goal
 
@@ -24,8 +24,8 @@ loop-made-preserved g c =
       ordinary = λ plain. c.turns-turn.ensures.ordinary
           (ap (λ (s : Story). are_ordinary (moves s.schedule)) same
           ∙ c.loop-made.invariant.ordinary plain);
-      shown = λ all. c.turns-turn.ensures.shown
-          (subst ShowsSpace (sym same) (c.loop-made.invariant.shown all));
+      warranted = λ all. c.turns-turn.ensures.warranted
+          (subst AreWarranted (sym same) (c.loop-made.invariant.warranted all));
       space = c.turns-turn.ensures.space
           ∙ (ap (λ (s : Story). s.space) same ∙ c.loop-made.invariant.space);
       capacity = (

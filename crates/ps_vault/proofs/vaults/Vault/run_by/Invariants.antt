@@ -1,7 +1,7 @@
 use Rattle.std.proofs.Common.{◌≡◌, ◌≤◌, ◌+◌, ◌-◌, true, None}
 use Rattle.ps_language.specs.Schedules.{count_of, moves}
 use Rattle.ps_vault.specs.Reports.{are_ordinary}
-use Rattle.ps_vault.specs.Stories.{ShowsSpace}
+use Rattle.ps_vault.specs.Stories.{AreWarranted}
 use Rattle.ps_vault.proofs.vaults.Vault.run_by.Given as goal
 
 -- the steps so far were made
@@ -12,7 +12,7 @@ invariant-loop-made g l = record {
   counted : count_of l.self.schedule ≡ count_of l.fn.self.schedule + l.made;
   ordinary : are_ordinary (moves l.fn.self.schedule) ≡ true
       → are_ordinary (moves l.self.schedule) ≡ true;
-  shown : ShowsSpace l.fn.self → ShowsSpace l.self;
+  warranted : AreWarranted l.fn.self → AreWarranted l.self;
   space : l.self.space ≡ l.fn.self.space;
   capacity : l.fn.self.capacity ≤ l.self.capacity;
   calling : l.self.caller ≡ None;

@@ -1,13 +1,15 @@
 -- A step more of the schedule, or none.
-use Rattle.std.proofs.Common.{◌≡◌, List, true, refl, ap, ◌∙◌, arith}
+use Rattle.std.proofs.Common.{◌≡◌, ℕ, List, Option, None, true, refl, ap, sym, subst, ◌∙◌, arith}
+use Rattle.std.specs.Prelude.{IsSome, ◌⊎◌}
 use Rattle.ps_language.specs.declared.schedules.Entry.{Entry}
 use Rattle.ps_language.specs.Locks.{is_ready}
 use Rattle.ps_language.specs.Schedules.{moves}
 use Rattle.ps_language.specs.Worlds.{after_move, world}
-use Rattle.ps_mem.specs.Heap.{Space}
+use Rattle.ps_mem.specs.Heap.{Heap, Space}
 use Rattle.ps_vault.specs.Reports.{all_fit, fits}
 use Rattle.ps_vault.specs.Stories.{Story, world_at, move_of}
-use Rattle.ps_vault.proofs.Keeping.{caller_there, keeps_step, held_step, may_step, same_closed, same_cycle, world_added}
+use Rattle.ps_vault.proofs.Keeping.{caller_of, caller_there, keeps_step, may_step, same_closed, same_cycle, world_added}
+use Rattle.ps_vault.proofs.Reasons.{for_room, heap_left, held_step}
 use Rattle.ps_vault.proofs.Advancing.{all_added, move_fits}
 use Rattle.ps_vault.proofs.vaults.Vault.step.Goals as goal
 
@@ -49,7 +51,25 @@ returns-in-Err-clause-held_up g c =
     c.self.inside.schedule.items c.self.invariant
     (ap (λ (s : Story). is_ready (world_at s) c.args.context) c.self.view_is ∙ c.requires.ready)
     c.in-Err.reason (rw c.in-Err.is at c.step-told.ensures)
-    g.M.Memory.heap g.M.Memory.grants _ refl refl c.slot_of.ensures.is
+    g.M.Memory.heap g.M.Memory.grants _ _ refl refl
+    (record { space = refl; used = refl; flips = refl; cycle_open = refl; closed = refl })
+    refl refl c.slot_of.ensures.is
+
+pub returns-in-Err-clause-room : goal.returns-in-Err-clause-room
+returns-in-Err-clause-room g c =
+    for_room g.M.Memory.heap g.M.Memory.grants g.S.Interpret.asks c.args.context c.args.refused _
+    c.in-Err.reason (returns-in-Err-clause-held_up g c)
+
+pub returns-in-Err-clause-used : goal.returns-in-Err-clause-used
+returns-in-Err-clause-used g c = λ why.
+    ap (λ (h : Heap). h.used)
+    (heap_left g.S.Interpret.asks c.args.context _ c.args.shown _ _ c.self.inside.schedule.items
+    c.self.invariant
+    (ap (λ (s : Story). is_ready (world_at s) c.args.context) c.self.view_is ∙ c.requires.ready)
+    c.in-Err.reason (rw c.in-Err.is at c.step-told.ensures)
+    (subst (λ (caller : Option ℕ). (caller_of c.step-told.new.self.calling ≡ None) ⊎ IsSome caller)
+    (sym (ap (λ (s : Story). s.caller) c.self.view_is)) why))
+    ∙ ap (λ (s : Story). s.used) c.self.view_is
 
 pub returns-in-Ok-clause-cycle : goal.returns-in-Ok-clause-cycle
 returns-in-Ok-clause-cycle g c =
@@ -77,6 +97,11 @@ returns-in-Err-clause-space g c =
     ap (λ (s : Space). s.size) c.step-told.ensures.keeps.space
     ∙ ap (λ (s : Story). s.space) c.self.view_is
 
+pub returns-in-Ok-clause-flips : goal.returns-in-Ok-clause-flips
+returns-in-Ok-clause-flips g c =
+    ap (λ (s : Space). s.flips) c.step-told.ensures.keeps.space
+    ∙ ap (λ (s : Story). s.flips) c.self.view_is
+
 pub returns-in-Ok-clause-closed : goal.returns-in-Ok-clause-closed
 returns-in-Ok-clause-closed g c =
     same_closed g.S.Interpret.asks c.args.context _ c.args.shown _ _
@@ -84,6 +109,11 @@ returns-in-Ok-clause-closed g c =
     (ap (λ (s : Story). is_ready (world_at s) c.args.context) c.self.view_is ∙ c.requires.ready)
     _ c.step-told.ensures
     ∙ ap (λ (s : Story). s.closed) c.self.view_is
+
+pub returns-in-Err-clause-flips : goal.returns-in-Err-clause-flips
+returns-in-Err-clause-flips g c =
+    ap (λ (s : Space). s.flips) c.step-told.ensures.keeps.space
+    ∙ ap (λ (s : Story). s.flips) c.self.view_is
 
 pub returns-in-Err-clause-closed : goal.returns-in-Err-clause-closed
 returns-in-Err-clause-closed g c =

@@ -1,8 +1,11 @@
 -- All contexts are at the world that they were at.
-use Rattle.std.proofs.Common.{ap, ◌∙◌}
-use Rattle.ps_flips.specs.Collected.{stopped}
+use Rattle.std.proofs.Common.{false, ap, ◌∙◌}
+use Rattle.ps_acts.specs.declared.lent.Shared.{Shared}
+use Rattle.ps_flips.specs.Collected.{may_open, one_more_if}
 use Rattle.ps_vault.specs.Stories.{Story}
 use Rattle.ps_vault.proofs.Collected.{keeps_collected}
+use Rattle.ps_vault.proofs.Keeping.{caller_of}
+use Rattle.ps_vault.proofs.Living.{uses_only_live}
 use Rattle.ps_vault.proofs.vaults.Vault.stop_all.Goals as goal
 
 pub invariant_of-self : goal.invariant_of-self
@@ -10,13 +13,12 @@ invariant_of-self g c =
     keeps_collected _ _ c.self.inside.schedule.items
     (c.stop_all.ensures.kept c.self.inside.world.calling) c.self.invariant
 
-pub returns-clause-flips : goal.returns-clause-flips
-returns-clause-flips g c =
-    let was = ap (λ (s : Story). s.cycle_open) c.self.view_is in record {
-      before = c.self.inside.memory;
-      after = c.stop_all.new.memory;
-      was = was;
-      none = c.stop_all.ensures.quiet.cycle_open;
-      flipped = c.stop_all.ensures.flips
-          ∙ ap (λ b. stopped b (g.M.CollectedMemory.flips c.self.inside.memory)) was;
-    }
+pub returns-clause-lives : goal.returns-clause-lives
+returns-clause-lives g c = λ left.
+    uses_only_live _ c.self.inside.world.contexts.shared.program.now c.self.inside.schedule.items _
+    (g.M.Memory.heap c.stop_all.new.memory) c.self.inside.world.calling
+    (ap (λ (s : Shared). s.program.now) c.stop_all.ensures.shared) (λ i. c.self.inside.schedule.items)
+    (λ i. (g.M.Memory.heap c.stop_all.new.memory).used)
+    (λ i. caller_of c.self.inside.world.calling) c.self.invariant.at
+    (c.stop_all.ensures.lives
+    (ap (λ (s : Story). may_open false (one_more_if s.cycle_open s.flips)) c.self.view_is ∙ left))

@@ -13,12 +13,13 @@ use Rattle.ps_vault.specs.declared.vaults.Told.TheVariants.{TurnEnds}
 use Rattle.ps_vault.specs.Holds.{is_held_up}
 use Rattle.ps_vault.specs.Order.{IsAlone, IsOnlyLeft, AddsSteps, AllOfOne, NoneEnds, OnlyLastMayEnd, IsOver, EndsTurn}
 use Rattle.ps_vault.specs.Reports.{are_ordinary}
-use Rattle.ps_vault.specs.Stories.{ShowsSpace, Story, world_at}
+use Rattle.ps_vault.specs.Stories.{AreWarranted, Story, world_at}
 use Rattle.ps_vault.proofs.Advancing.{only_left_ready}
-use Rattle.ps_vault.proofs.Keeping.{may_want, only_left}
+use Rattle.ps_vault.proofs.Keeping.{only_left}
+use Rattle.ps_vault.proofs.Reasons.{may_want}
 use Rattle.ps_vault.proofs.Alone.{Begun, begun_none, Chunk, chunk_of, Last, last_of, held_of, count_now, turns_begun, turns_ended}
 use Rattle.ps_vault.proofs.Ordering.{world_moves}
-use Rattle.ps_vault.proofs.Showing.{shows_same}
+use Rattle.ps_vault.proofs.Warrants.{warranted_same}
 use Rattle.ps_vault.proofs.vaults.Vault.turns.Given as givens
 use Rattle.ps_vault.proofs.vaults.Vault.turns.Goals as goal
 use Rattle.ps_vault.proofs.vaults.Vault.turns.Goals.{After-advance-advanced}
@@ -34,7 +35,7 @@ loop-context-init g c = record {
   program = refl;
   counted = omega arith;
   ordinary = λ plain. plain;
-  shown = λ all. all;
+  warranted = λ all. all;
   space = refl;
   capacity = omega arith;
   rest = omega arith;
@@ -58,11 +59,11 @@ module _ (g : givens.Over) (c : After-advance-advanced g) where
   made = c.advance-advanced.result.made
 
   -- what is shown is of the space
-  shown_on : ShowsSpace c.args.self.now → ShowsSpace c.advance-advanced.new.self
-  shown_on all = c.advance-advanced.ensures.shown
-      (shows_same c.loop-context.self c.reserve_entries.new.self c.reserve_entries.ensures.space
+  warranted_on : AreWarranted c.args.self.now → AreWarranted c.advance-advanced.new.self
+  warranted_on all = c.advance-advanced.ensures.warranted
+      (warranted_same c.loop-context.self c.reserve_entries.new.self c.reserve_entries.ensures.space
       c.reserve_entries.ensures.program c.reserve_entries.ensures.schedule
-      (c.loop-context.invariant.shown all))
+      (c.loop-context.invariant.warranted all))
 
   space_on : c.advance-advanced.new.self.space ≡ c.args.self.now.space
   space_on = c.advance-advanced.ensures.space
@@ -229,7 +230,7 @@ returns-in-HeldUp-clause-turns g c =
 pub returns-in-HeldUp-clause-starved : goal.returns-in-HeldUp-clause-starved
 returns-in-HeldUp-clause-starved g c = λ grows _.
     let wants = may_want g.M.Memory.heap g.M.Memory.grants g.S.Interpret.asks c.args.context false
-    (world_at c.advance-advanced.new.self) c.in-HeldUp.field-0 grows
+    c.advance-advanced.new.self c.in-HeldUp.field-0 grows
     (rw c.in-HeldUp.is at c.advance-advanced.ensures.held_up) in
     record { ready = wants.ready; wants = inl wants.wants }
 
@@ -289,7 +290,7 @@ loop-context-preserved g c =
           ∙ c.advance-advanced.ensures.ordinary
           (subst (λ (entries : List Entry). are_ordinary (moves entries) ≡ true)
           (sym (same_schedule g at)) (c.loop-context.invariant.ordinary plain));
-      shown = λ all. subst ShowsSpace (sym same) (shown_on g at all);
+      warranted = λ all. subst AreWarranted (sym same) (warranted_on g at all);
       space = ap (λ (s : Story). s.space) same ∙ space_on g at;
       capacity = (
           let held = ap (λ (s : Story). s.capacity) same in

@@ -3,7 +3,7 @@ use Rattle.ps_language.specs.Locks as locks
 use Rattle.ps_language.specs.Schedules.{count_of, moves}
 use Rattle.ps_language.specs.Worlds.{starting_world}
 use Rattle.ps_vault.specs.Reports.{are_ordinary}
-use Rattle.ps_vault.specs.Stories.{ShowsSpace, world_at}
+use Rattle.ps_vault.specs.Stories.{AreWarranted, world_at}
 use Rattle.ps_vault.proofs.Alone.{Begun}
 use Rattle.ps_vault.proofs.vaults.Vault.turns.Given as goal
 
@@ -15,7 +15,7 @@ invariant-loop-context g l = record {
   counted : count_of l.self.schedule ≡ count_of l.fn.self.schedule + l.made;
   ordinary : are_ordinary (moves l.fn.self.schedule) ≡ true
       → are_ordinary (moves l.self.schedule) ≡ true;
-  shown : ShowsSpace l.fn.self → ShowsSpace l.self;
+  warranted : AreWarranted l.fn.self → AreWarranted l.self;
   space : l.self.space ≡ l.fn.self.space;
   capacity : l.fn.self.capacity ≤ l.self.capacity;
   rest : l.begun ≡ l.made % l.quantum;

@@ -1,13 +1,13 @@
 -- A refused step more, or the end for want of memory.
 use Rattle.std.proofs.Common.{◌≡◌, ◌+◌, ◌<◌, ◌^◌, ap, refl, sym, subst, ◌∙◌, arith, None, List, true, false}
 use Rattle.ps_language.specs.declared.schedules.Entry.{Entry}
-use Rattle.ps_language.specs.Schedules.{count_of, moves}
+use Rattle.ps_language.specs.Schedules.{added, count_of, moves}
 use Rattle.ps_vault.specs.Reports.{all_fit}
 use Rattle.ps_language.proofs.ScheduleLaws.{count_of-added}
 use Rattle.ps_vault.specs.Stories.{move_of, world_at}
-use Rattle.ps_vault.proofs.Keeping.{memory_wanted}
-use Rattle.ps_vault.proofs.Showing.{shows_same, unshown_added}
-use Rattle.ps_workers.specs.Batons.{Progress, MayGoOn, Keeps}
+use Rattle.ps_vault.proofs.Reasons.{memory_wanted}
+use Rattle.ps_vault.proofs.Warrants.{refused_added}
+use Rattle.ps_workers.specs.Batons.{Progress, MayGoOn, MayRefuse, Keeps}
 use Rattle.ps_workers.proofs.Keeping.{progress, on_error, short_starved, keeps_made, waits_none, counts_on, keeps_wanted, MakesObjects}
 use Rattle.ps_workers.proofs.batons.Baton.refuse_step.Goals as goal
 
@@ -18,7 +18,7 @@ invariant_of-self g c =
     c.self.invariant (subst (λ (p : Progress). MayGoOn p c.args.context) (sym c.self.view_is)
     c.requires.may) c.reserve_entries.ensures.program c.reserve_entries.ensures.schedule
     c.reserve_entries.ensures.calling c.reserve_entries.ensures.space
-    c.reserve_entries.ensures.capacity (on_error c.reserve_entries.result _
+    c.reserve_entries.ensures.flips c.reserve_entries.ensures.capacity (on_error c.reserve_entries.result _
     c.reserve_entries.ensures.short (sym c.is_err.ensures.value ∙ c.if-is_err.true))
 
 pub overflow_add-self : goal.overflow_add-self
@@ -50,12 +50,14 @@ invariant_of-self-in-Ok g c =
       fits = λ fit. c.in-Ok.ensures.fits refl
           (ap (λ (s : List Entry). all_fit (moves s)) c.reserve_entries.ensures.schedule ∙ fit);
       space = c.step.ensures.space ∙ c.reserve_entries.ensures.space;
-      shown = λ all. unshown_added c.reserve_entries.new.self c.step.new.self
-          (move_of c.args.context true None) refl c.step.ensures.space c.step.ensures.program
-          c.in-Ok.ensures.made
-          (shows_same c.self.inside.vault c.reserve_entries.new.self
-          c.reserve_entries.ensures.space c.reserve_entries.ensures.program
-          c.reserve_entries.ensures.schedule all);
+      warranted = refused_added c.self.inside.vault c.step.new.self c.args.context
+          (subst (λ (p : Progress). MayRefuse p c.args.context) (sym c.self.view_is)
+          c.requires.refusal)
+          (c.step.ensures.space ∙ c.reserve_entries.ensures.space)
+          (c.step.ensures.program ∙ c.reserve_entries.ensures.program)
+          (c.in-Ok.ensures.made ∙ ap (λ (s : List Entry).
+          added s (move_of c.args.context true None)) c.reserve_entries.ensures.schedule);
+      flips = c.step.ensures.flips ∙ c.reserve_entries.ensures.flips;
       more = omega (arith, c.reserve_entries.ensures.capacity, c.step.ensures.capacity);
     })
     (omega (arith, may.left))
@@ -71,10 +73,11 @@ invariant_of-self-in-Err-Memory g c =
     c.self.inside.made c.self.inside.outcome) c.step.new.self c.args.context true
     c.self.invariant may (c.step.ensures.program ∙ c.reserve_entries.ensures.program)
     (c.in-Err-Memory.ensures.not_made ∙ c.reserve_entries.ensures.schedule)
-    (c.step.ensures.space ∙ c.reserve_entries.ensures.space) c.step.ensures.calling
+    (c.step.ensures.space ∙ c.reserve_entries.ensures.space)
+    (c.step.ensures.flips ∙ c.reserve_entries.ensures.flips) c.step.ensures.calling
     (omega (arith, c.reserve_entries.ensures.capacity, c.step.ensures.capacity))
     (λ _. subst (λ (p : Progress). MakesObjects g.S.Interpret.asks c.args.context
     (world_at p.story)) (sym c.self.view_is) c.requires.makes)
     (memory_wanted g.M.Memory.heap g.M.Memory.grants g.S.Interpret.asks c.args.context true
-    (world_at c.step.new.self) false c.requires.bounded
+    c.step.new.self false c.requires.bounded
     (rw c.in-Err-Memory.field-0-is at c.in-Err-Memory.ensures.held_up))

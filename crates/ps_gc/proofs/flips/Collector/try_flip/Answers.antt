@@ -1,0 +1,21 @@
+use Rattle.std.proofs.Common.{◌≡◌, sym, ap, ◌∙◌, subst}
+use Rattle.ps_core_parts.specs.declared.events.Vm.{Vm}
+use Rattle.ps_core_parts.specs.declared.events.Gc.{Gc}
+use Rattle.ps_core_parts.specs.Objects.{among, addresses_named}
+use Rattle.ps_mem.specs.Heap.{Heap}
+use Rattle.ps_parts_memory.specs.Memory.{heap_of}
+use Rattle.ps_flips.specs.Collected.{IsExact}
+use Rattle.ps_table.specs.Shown.{SeatState}
+use Rattle.ps_gc.proofs.flips.Collector.try_flip.Goals as goal
+
+pub returns-clause-exact : goal.returns-clause-exact
+returns-clause-exact c = λ done none same.
+    let vm = ap (λ (m : SeatState). m.0.vm) c.join.ensures.joined in
+    let gc = ap (λ (m : SeatState). m.0.gc) c.join.ensures.joined in
+    let back = ap (λ (m : SeatState). m.0.vm) c.part.ensures.vm in
+    subst (λ (h : Heap). IsExact h (heap_of c.part.new.vm.me.0.vm) c.args.roots.now
+    c.joined_try_flip-flip.new.roots) (ap heap_of vm)
+    (subst (λ (v : Vm). IsExact (heap_of c.join.new.gc.me.0.vm) (heap_of v) c.args.roots.now
+    c.joined_try_flip-flip.new.roots) (sym back)
+    (c.joined_try_flip-flip.ensures.exact done (ap (λ (v : Vm). v.stored) vm ∙ none)
+    (λ a. ap (λ (g : Gc). among (addresses_named g.handed) a) gc ∙ same a)))

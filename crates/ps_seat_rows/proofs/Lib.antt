@@ -1,0 +1,2 @@
+pub mod Ready
+pub mod Known
