@@ -1,6 +1,6 @@
 -- The operators that change their caller alone.
 use Rattle.std.proofs.Common.{◌≡◌, ℕ, arith, ℤ, Bool, true, false, List, [], ◌∷◌, ◌++◌, Option, Some, None, Ok, Err, refl, sym, ap, subst, ◌∙◌}
-use Rattle.std.specs.Prelude.{Result, not, pos, negsuc, int_le, ◌&&◌}
+use Rattle.std.specs.Prelude.{◌≢◌, Result, not, pos, negsuc, int_le, ◌&&◌}
 use Rattle.ps_language.specs.declared.operators.Operator.TheVariants.{Lock, Condition, CurrentContext, VmReclaim, VmStatus, Yield}
 use Rattle.ps_language.specs.declared.errors.ErrorName.{ErrorName}
 use Rattle.ps_language.specs.declared.errors.ErrorName.TheVariants.{RangeCheck, StackOverflow, TypeCheck, VmError}
@@ -48,6 +48,7 @@ module _ (caller : ℕ) (trial : Trial) (shown : Option (ℤ × ℤ)) (d : Desk)
       (λ l store. plain_by (scene_of l store) (λ (change : Change). record (scene_of l store)
       { operands = change.operands; store = change.store }) (λ change. refl)
       (new_part (lock_object None) store (scene_of l store).operands)) Nothing
+      (λ is. cc) (λ is. cc)
       (λ any w context. new_deed (call_by caller any w context) (lock_object None)) new result acts
 
   pub condition_does : Acts nothing_asked (new_caller condition_object) trial result
@@ -60,6 +61,7 @@ module _ (caller : ℕ) (trial : Trial) (shown : Option (ℤ × ℤ)) (d : Desk)
       (λ l store. plain_by (scene_of l store) (λ (change : Change). record (scene_of l store)
       { operands = change.operands; store = change.store }) (λ change. refl)
       (new_part condition_object store (scene_of l store).operands)) Nothing
+      (λ is. cc) (λ is. cc)
       (λ any w context. new_deed (call_by caller any w context) condition_object) new result acts
 
   pub current_does : Acts nothing_asked (currentcontext_caller caller) trial result
@@ -72,6 +74,7 @@ module _ (caller : ℕ) (trial : Trial) (shown : Option (ℤ × ℤ)) (d : Desk)
       (λ l store. plain_by (scene_of l store) (λ (operands : List Value). record (scene_of l store)
       { operands = operands }) (λ operands. refl)
       (currentcontext_part caller (scene_of l store).operands)) Nothing
+      (λ is. cc) (λ is. cc)
       (λ any w context. currentcontext_deed (call_by caller any w context)) new result acts
 
 -- ---- vmreclaim
@@ -122,7 +125,7 @@ module _ (caller : ℕ) (trial : Trial) (shown : Option (ℤ × ℤ)) (d : Desk)
       (context_of d.heap d.names member).operands is)
       (λ any w says at. vmreclaim_deed (call_by caller any w (context_of d.heap d.names member))
       (context_of d.heap d.names member).operands) new tt (Wishes number)
-      acts (desk_unmade d caller member new).members
+      (λ is. absurd (cc)) acts (desk_unmade d caller member new).members
       (part_steady d caller member found runs new steady acts.keeps acts.stays acts.good)
       (part_runs d caller member found runs new) (part_framed d caller member found runs new)
       (λ w scene at is world. subst (λ (wish : Option ℤ). IsLeftAs (Wishes number)
@@ -141,9 +144,15 @@ module _ (caller : ℕ) (trial : Trial) (shown : Option (ℤ × ℤ)) (d : Desk)
       (call_by caller any w (context_of d.heap d.names member))
       (context_of d.heap d.names member).operands is)
       (λ any w says at. vmreclaim_deed (call_by caller any w (context_of d.heap d.names member))
-      (context_of d.heap d.names member).operands) new (λ any. tt) why acts
+      (context_of d.heap d.names member).operands) new (λ any. tt) why
+      (λ is. absurd (cc)) acts
 
 -- ---- vmstatus
+
+-- it raises stackoverflow and nothing else
+pub raised_only : (why : Break) (reason : Reason) → why ≡ Raises StackOverflow
+    → why ≢ NotMade reason
+raised_only why reason raised is = cc
 
 -- three words more fit, or don't, whatever they are
 status_full : (one other : Option (ℤ × ℤ)) (operands : List Value)
@@ -179,14 +188,14 @@ module _ (caller : ℕ) (trial : Trial) (shown : Option (ℤ × ℤ)) (d : Desk)
       { operands = operands }) (λ operands. refl)
       (vmstatus_part shown (scene_of l store).operands)
 
-  pub status_done : Acts nothing_asked (vmstatus_caller shown) trial (Ok tt)
-      (lent_to d member.context) new
+  pub status_done : new.heap ≡ d.heap
+      → Acts nothing_asked (vmstatus_caller shown) trial (Ok tt) (lent_to d member.context) new
       → DoesBy VmStatus caller trial shown (Ok ShowsMemory) d (desk_unmade d caller member new)
-  status_done acts =
+  status_done same acts =
       acted VmStatus caller trial shown d steady member found runs nothing_asked nothing_few
       (vmstatus_caller shown) status_plain status_next (λ any. any ≡ shown)
       (λ any w scene says is. refl) status_law new refl ShowsMemory
-      acts (desk_unmade d caller member new).members
+      (λ is. same) acts (desk_unmade d caller member new).members
       (part_steady d caller member found runs new steady acts.keeps acts.stays acts.good)
       (part_runs d caller member found runs new) (part_framed d caller member found runs new)
       (λ w scene at is world. (world, refl))
@@ -256,13 +265,14 @@ module _ (caller : ℕ) (trial : Trial) (shown : Option (ℤ × ℤ)) (d : Desk)
       let none : made_between w.store scene.store ≡ 0 =
       ap (made_between w.store) same ∙ made-same w.store in absurd (omega (arith, none, some)))
 
-  pub status_undone : (why : Break)
+  pub status_undone : (why : Break) → ((reason : Reason) → why ≢ NotMade reason)
       → Acts nothing_asked (vmstatus_caller shown) trial (Err why) (lent_to d member.context) new
       → DoesBy VmStatus caller trial shown (Err why) d (desk_unmade d caller member new)
-  status_undone why acts =
+  status_undone why made acts =
       broke_off_so VmStatus caller trial shown d steady member found runs nothing_asked
       nothing_few (vmstatus_caller shown) status_plain status_next (λ any. any ≡ shown)
-      (λ any w scene says is. refl) status_law new refl status_errs status_held why acts
+      (λ any w scene says is. refl) status_law new refl status_errs status_held why
+      (λ is. made) acts
 
 -- ---- yield
 
@@ -282,4 +292,6 @@ yields caller trial shown d steady runs = record {
   same = λ w at. tt;
   held_up = λ reason bad. absurd (cc);
   logs = logs-same 5 d.grants trial.slot;
+  made = λ is reason bad. absurd (cc);
+  leaves = λ is. absurd (cc);
 }

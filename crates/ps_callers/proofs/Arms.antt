@@ -1,9 +1,10 @@
 -- An operator that changes its caller alone does what the definitions say.
 use Rattle.std.proofs.Common.{◌≡◌, ℕ, ◌≤◌, ℤ, Bool, false, List, [], length, Option, Some, None, Ok, Err, refl, sym, ap, subst, ◌∙◌}
-use Rattle.std.specs.Prelude.{Result, not, drop}
+use Rattle.std.specs.Prelude.{◌≢◌, Result, not, drop}
 use Rattle.ps_language.specs.declared.errors.ErrorName.{ErrorName}
 use Rattle.ps_language.specs.declared.errors.ErrorName.TheVariants.{VmError}
 use Rattle.ps_language.specs.declared.operators.Operator.{Operator}
+use Rattle.ps_language.specs.declared.operators.Operator.TheVariants.{VmStatus}
 use Rattle.ps_language.specs.Contexts.{context_at}
 use Rattle.ps_language.specs.Effect.{Scene, Deed, does, waits, Calling, Effect, makes}
 use Rattle.ps_language.specs.Objects.{made_between, lacks_room}
@@ -28,6 +29,7 @@ use Rattle.ps_contexts.specs.Desks.{Desk, lent_to, desk_unmade, IsWorld, IsStead
 use Rattle.ps_contexts.proofs.Stepping.{context_there}
 use Rattle.ps_contexts.proofs.Turning.{member_at, same_world}
 use Rattle.ps_world.specs.declared.notes.Note.{Note}
+use Rattle.ps_world.specs.declared.notes.Note.TheVariants.{ShowsMemory}
 use Rattle.ps_world.specs.Notes.{note_of}
 use Rattle.ps_world.specs.Calls.{RunsAt, AreFramedBut, IsHeldUpAs, call_by, call_wants, deed_wants}
 use Rattle.ps_world.specs.Growth.{Growth}
@@ -193,9 +195,11 @@ module _ (operator : Operator) (caller : ℕ) (trial : Trial) (shown : Option (�
         same_world d w caller member new found at (unmade_so reason acts w at)
     comes_so (Unwinds cause) acts w at = unwound_not cause acts w at
 
-    pub broke_off_so : (why : Break) → Acts asks row trial (Err why) (lent_to d member.context) new
+    pub broke_off_so : (why : Break)
+        → (operator ≡ VmStatus → (reason : Reason) → why ≢ NotMade reason)
+        → Acts asks row trial (Err why) (lent_to d member.context) new
         → DoesBy operator caller trial shown (Err why) d (desk_unmade d caller member new)
-    broke_off_so why acts = record {
+    broke_off_so why made acts = record {
       meets = λ w context at there.
           subst (λ (one : Context). ComesTo (Err why) shown
           (outcome_of operator caller trial.refused w one) w (desk_unmade d caller member new))
@@ -214,10 +218,13 @@ module _ (operator : Operator) (caller : ℕ) (trial : Trial) (shown : Option (�
           (subst (λ r. Acts asks row trial (Err r) (lent_to d member.context) new) same acts)
           w at);
       logs = acts.logs;
+      made = λ is reason bad. made is reason (cc);
+      leaves = λ is. absurd (cc);
     }
 
   -- whatever is shown
   pub broke_off : ((any : Option (ℤ × ℤ)) → Says any) → (why : Break)
+      → (operator ≡ VmStatus → (reason : Reason) → why ≢ NotMade reason)
       → Acts asks row trial (Err why) (lent_to d member.context) new
       → DoesBy operator caller trial shown (Err why) d (desk_unmade d caller member new)
   broke_off all =
@@ -232,7 +239,7 @@ module _ (operator : Operator) (caller : ℕ) (trial : Trial) (shown : Option (�
 
   -- ---- it acted, and others were changed so that the rest of the desk is the same
 
-  pub acted : Says shown → (note : Note)
+  pub acted : Says shown → (note : Note) (kept : note ≡ ShowsMemory → new.heap ≡ d.heap)
       (acts : Acts asks row trial (Ok tt) (lent_to d member.context) new)
       (members : List (Option Member))
       → IsSteady (record (desk_unmade d caller member new) { members = members })
@@ -245,7 +252,7 @@ module _ (operator : Operator) (caller : ℕ) (trial : Trial) (shown : Option (�
       (record (desk_unmade d caller member new) { members = members }))
       → DoesBy operator caller trial shown (Ok note) d
       (record (desk_unmade d caller member new) { members = members })
-  acted says note acts members steady_then runs_then framed_then left = record {
+  acted says note kept acts members steady_then runs_then framed_then left = record {
     meets = λ w context at there.
         let why = Ok tt in
         let made = made_by d caller member found runs new steady acts.keeps acts.stays acts.good w
@@ -268,6 +275,8 @@ module _ (operator : Operator) (caller : ℕ) (trial : Trial) (shown : Option (�
     same = λ w at. tt;
     held_up = λ reason bad. absurd (cc);
     logs = acts.logs;
+    made = λ is reason bad. absurd (cc);
+    leaves = λ is. kept (cc);
   }
 
 -- ---- it changes its caller alone
@@ -277,7 +286,7 @@ module _ (operator : Operator) (caller : ℕ) (trial : Trial) (shown : Option (�
     (runs : member.course ≡ Running) (asks : Scene → Asked)
     (few : (scene : Scene) → IsFew (asks scene)) (row : Row)
     (plain : (l : Lent) (store : Store) → IsPlain (scene_of l store) (effect_in row l store))
-    (note : Note)
+    (note : Note) (other : operator ≢ VmStatus) (unshown : note ≢ ShowsMemory)
     (law : (any : Option (ℤ × ℤ)) (w : World) (context : Context)
     → (calling_of operator).deed context.operands (call_by caller any w context)
     ≡ scene_deed (note_of note) (call_by caller any w context)
@@ -293,7 +302,7 @@ module _ (operator : Operator) (caller : ℕ) (trial : Trial) (shown : Option (�
       acted operator caller trial shown d steady member found runs asks few row plain alone_next
       (λ any. Unit {0}) (λ any w scene says is. refl)
       (λ any w says at. law any w (context_of d.heap d.names member)) new tt note
-      acts (desk_unmade d caller member new).members
+      (λ is. absurd (unshown is)) acts (desk_unmade d caller member new).members
       (part_steady d caller member found runs new steady acts.keeps acts.stays acts.good)
       (part_runs d caller member found runs new) (part_framed d caller member found runs new)
       (λ w scene at is world. (world, refl))
@@ -301,4 +310,4 @@ module _ (operator : Operator) (caller : ℕ) (trial : Trial) (shown : Option (�
       broke_off operator caller trial shown d steady member found runs asks few row plain alone_next
       (λ any. Unit {0}) (λ any w scene says is. refl)
       (λ any w says at. law any w (context_of d.heap d.names member)) new (λ any. tt) why
-      acts
+      (λ is. absurd (other is)) acts

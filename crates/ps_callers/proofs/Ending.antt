@@ -39,14 +39,15 @@ use Rattle.ps_contexts.proofs.Settled.{turned_there}
 use Rattle.ps_contexts.proofs.Stepping.{context_there}
 use Rattle.ps_contexts.proofs.Turning.{member_at, frame_after, went_steady, turned_reaches, unmade_steady, unmade_world}
 use Rattle.ps_world.specs.declared.notes.Note.{Note}
-use Rattle.ps_world.specs.declared.notes.Note.TheVariants.{Nothing}
-use Rattle.ps_world.specs.Calls.{RunsAt, AreFramedBut, IsSameDesk, IsHeldUpAs, CallsTo, Calls, call_wants, deed_wants}
+use Rattle.ps_world.specs.declared.notes.Note.TheVariants.{Nothing, ShowsMemory}
+use Rattle.ps_world.specs.Calls.{RunsAt, AreFramedBut, IsSameDesk, IsHeldUpAs, CallsTo, Calls, call_by, call_wants, deed_wants}
 use Rattle.ps_world.specs.Growth.{Growth, growth_for}
 use Rattle.ps_world.proofs.Called.{same_members}
 use Rattle.ps_world.proofs.Owning.{same_desk}
 use Rattle.ps_world.proofs.Starving.{few_in, held_by}
 use Rattle.ps_callers.specs.Done.{IsLeftAs, outcome_of, DoesBy, own_of}
 use Rattle.ps_callers.proofs.Parts.{or_false, same_then, part_runs, part_framed}
+use Rattle.ps_callers.proofs.Statuses.{other_or_status, failed_no, called_no}
 
 held_after : (h : Heap) (frames : List Frame) → IsCourseHeld h (course_after Goes frames)
 held_after h [] = tt
@@ -151,6 +152,9 @@ module _ (operator : Operator) (caller : ℕ) (trial : Trial) (shown : Option (�
     same = λ w at. tt;
     held_up = λ reason bad. absurd (cc);
     logs = done.logs;
+    no_status = λ w context at there. tt;
+    leaves = λ is. let same : note ≡ ShowsMemory = cc in
+        done.leaves (ap (λ (n : Note). Ok n) same);
   }
 
   -- no operator begins an unwinding
@@ -169,6 +173,8 @@ module _ (operator : Operator) (caller : ℕ) (trial : Trial) (shown : Option (�
     held_up = λ reason bad. absurd (cc);
     logs = logs_then 0 5 5 old.grants d.grants d.grants trial.slot (omega arith) done.logs
         (logs-same 5 d.grants trial.slot);
+    no_status = λ w context at there. tt;
+    leaves = λ is. absurd (cc);
   }
 
   -- ---- it was not made
@@ -185,6 +191,11 @@ module _ (operator : Operator) (caller : ℕ) (trial : Trial) (shown : Option (�
     same = done.same;
     held_up = λ why is. done.held_up why (ap (λ r. Err (NotMade r)) (cc));
     logs = done.logs;
+    no_status = λ w context at there. λ refused any.
+        called_no (calling_of operator) caller refused any w context
+        (other_or_status operator context.operands (call_by caller any w context)
+        (λ is. absurd (done.made is reason refl)));
+    leaves = λ is. absurd (cc);
   }
 
   -- ---- its error is noted, or is not
@@ -236,6 +247,8 @@ module _ (operator : Operator) (caller : ℕ) (trial : Trial) (shown : Option (�
         held_up = λ reason bad. absurd (cc);
         logs = logs_then 0 5 5 old.grants d.grants new.grants trial.slot (omega arith) done.logs
             made.logs;
+        no_status = λ w context at there. tt;
+        leaves = λ is. absurd (cc);
       }
 
     module _ (reason : Reason)
@@ -321,4 +334,11 @@ module _ (operator : Operator) (caller : ℕ) (trial : Trial) (shown : Option (�
             (line_held w context to.1 there));
         logs = logs_then 0 0 0 old.grants d.grants new.grants trial.slot (omega arith) done.logs
             unmade.logs;
+        no_status = λ w context at there. λ refused any.
+            called_no (calling_of operator) caller refused any w context
+            (other_or_status operator context.operands (call_by caller any w context)
+            (λ is. failed_no trial.refused w context caller any error
+            (ap (λ (one : Operator). outcome_of one caller trial.refused w context any) (sym is)
+            ∙ (done.meets w context at there).0 any)));
+        leaves = λ is. absurd (cc);
       }

@@ -1,4 +1,5 @@
 pub mod Parts
+pub mod Statuses
 pub mod Ending
 pub mod Arms
 mod AloneDone

@@ -1,6 +1,6 @@
 -- When what an operator that is left to the world does was done, and its caller has not settled yet
 -- (PLRM2, 7.1).
-use Rattle.std.specs.Prelude.{◌≡◌, ℕ, ℤ, Bool, Option, Some, Result, Ok, Err, OnErr}
+use Rattle.std.specs.Prelude.{◌≡◌, ◌≢◌, ℕ, ℤ, Bool, Option, Some, Result, Ok, Err, OnErr}
 use Rattle.ps_language.specs.declared.operators.Operator.{Operator}
 use Rattle.ps_language.specs.declared.operators.Operator.TheVariants.{CurrentContext, VmStatus, VmReclaim, Lock, Condition, Yield}
 use Rattle.ps_language.specs.Contexts.{context_at}
@@ -19,6 +19,7 @@ use Rattle.ps_turns.specs.declared.turned.Turned.TheVariants.{Goes, Calls as Tur
 use Rattle.ps_turns.specs.Turns.{calling_of}
 use Rattle.ps_contexts.specs.Desks.{Desk, IsWorld, IsSteady}
 use Rattle.ps_world.specs.declared.notes.Note.{Note}
+use Rattle.ps_world.specs.declared.notes.Note.TheVariants.{ShowsMemory}
 use Rattle.ps_world.specs.Notes.{note_of}
 use Rattle.ps_world.specs.Calls.{RunsAt, AreFramedBut, IsSameDesk, IsHeldUpAs, call_by, call_wants}
 
@@ -45,7 +46,8 @@ outcome_of operator caller refused w context shown =
     deed_given_room refused w ((calling_of operator).deed context.operands
     (call_by caller shown w context))
 
--- for every world that the desk is of; the caller is still there, and runs
+-- For every world that the desk is of; the caller is still there, and runs. A vmstatus is always
+-- made, and one that acts leaves the memory as it was
 pub record DoesBy (operator : Operator) (caller : ℕ) (trial : Trial) (shown : Option (ℤ × ℤ))
     (result : Result Note Break) (old new : Desk) : Type 0 where
   pub meets : (w : World) (context : Context) → IsWorld old w
@@ -62,6 +64,8 @@ pub record DoesBy (operator : Operator) (caller : ℕ) (trial : Trial) (shown : 
       → IsHeldUpAs (call_wants (calling_of operator) caller trial.refused w context) trial.slot
       new.heap new.grants reason
   pub logs : KeepsLogsWithin (spent result most_records) old.grants new.grants trial.slot
+  pub made : operator ≡ VmStatus → (reason : Reason) → result ≢ Err (NotMade reason)
+  pub leaves : result ≡ Ok ShowsMemory → new.heap ≡ old.heap
 
 -- with this note, where it acted
 abbrev pub noted : Note → Result Unit Break → Result Note Break

@@ -1,6 +1,6 @@
 //! What memory shows, and wishes about it (PLRM2, 8 'Operators': Virtual Memory).
 
-ghost use Rattle.std.specs.Prelude.{◌≡◌, ◌&&◌, ℕ, ℤ, pos, negsuc, int_le, List, IfOk, Some, map};
+ghost use Rattle.std.specs.Prelude.{◌≡◌, ◌&&◌, ℕ, ℤ, pos, negsuc, int_le, List, IfErr, IfOk, Some, map};
 ghost use Rattle.ps_mem.specs.Meaning.{value_of};
 ghost use Rattle.ps_operands.specs.Does.{Does};
 ghost use Rattle.ps_operands.specs.Kept.{AreFrom};
@@ -22,6 +22,7 @@ use ps_stacks::OPERAND_LIMIT;
 #[tactic(auto, using(ps_operands::proofs::Sources::sources))]
 fn push_status(operands: &mut Operands, shown: Option<(i32, i32)>) -> Result<(), ErrorName>
     ensures row { Does (rows.vmstatus_part shown) result operands.old operands.new }
+    ensures error { IfErr result (λ error. error ≡ ErrorName.StackOverflow) }
     ensures kept { AreFrom operands.old operands.new }
 {
     if operands.len() > OPERAND_LIMIT - 3 {
@@ -44,6 +45,8 @@ pub fn vm_status<M: Memory>(
 ) -> Result<(), Break>
     requires good { IsGood
         (lent (M.heap memory.old) (M.grants memory.old) context.old shared.old) }
+    ensures heap { M.heap memory.new ≡ M.heap memory.old }
+    ensures error { IfErr result (λ why. why ≡ Break.Raises ErrorName.StackOverflow) }
     ensures acts { (trial : Trial) → Acts nothing_asked (rows.vmstatus_caller shown) trial result
         (lent (M.heap memory.old) (M.grants memory.old) context.old shared.old)
         (lent (M.heap memory.new) (M.grants memory.new) context.new shared.new) }

@@ -44,4 +44,6 @@ undefined_does operator caller trial shown d steady runs is = record {
   same = λ w at. refl;
   held_up = λ reason bad. absurd (cc);
   logs = logs-same 0 d.grants trial.slot;
+  made = λ made reason bad. absurd (cc);
+  leaves = λ shows. refl;
 }

@@ -1,5 +1,5 @@
 -- What an operator did to operands alone.
-use Rattle.std.proofs.Common.{◌≡◌, ◌⊎◌, ℕ, ◌<◌, Bool, true, false, true≢false, List, [], ◌∷◌, length, Some, None, Result, Ok, Err, refl, sym, ap, subst, inl, inr}
+use Rattle.std.proofs.Common.{◌≡◌, ◌⊎◌, ℕ, Bool, true, false, true≢false, List, [], ◌∷◌, length, Some, None, Result, Ok, Err, refl, sym, ap, subst, inl, inr}
 use Rattle.std.specs.Prelude.{ℤ, Option, is_some}
 use Rattle.std.specs.Result.{is_ok}
 use Rattle.ps_language.specs.declared.errors.ErrorName.{ErrorName}

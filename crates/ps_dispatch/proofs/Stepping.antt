@@ -98,6 +98,7 @@ module _ (operator : Operator) (trial : Trial) (l : Lent) where
         after = store;
         shown = shown;
         lasts = lasts-same store;
+        leaves = refl;
         is = λ machine printed address.
             (λ i. after_turn trial.refused machine (effect_turn operator (scene_of l store)
             (left_effect (row_now operator) left (around_of l) (scene_of l store) i)))

@@ -23,8 +23,8 @@ use Rattle.ps_acts.specs.Lent.{Lent, Rooms, rooms_of, scene_of, IsShown}
 use Rattle.ps_acts.specs.Acts.{Asked, Needs, no_rooms, LacksRooms, needs_of_refused, needs_as, lacks, names_formed, IsReason, Lasts, IsLeft, IsSame, IsRefused, Stays, ActsAs}
 use Rattle.ps_acts.proofs.Meeting.{lasts-same, at_least-same, logs_then, AreNeedsWithin, needs_within-same, reason_more}
 use Rattle.ps_turns.specs.declared.turned.Turned.{Turned}
-use Rattle.ps_turns.specs.declared.turned.Turned.TheVariants.{Goes}
-use Rattle.ps_turns.specs.Turns.{IsTurned, TurnsBy, error_needs, none_asked, break_needs, break_turn, operator_error, nothing_more, turn_needs, needs_in}
+use Rattle.ps_turns.specs.declared.turned.Turned.TheVariants.{Goes, Calls, Breaks, Ends}
+use Rattle.ps_turns.specs.Turns.{LeavesHeap, IsTurned, TurnsBy, error_needs, none_asked, break_needs, break_turn, operator_error, nothing_more, turn_needs, needs_in}
 use Rattle.ps_dispatch.specs.Operators.{asked_of}
 use Rattle.ps_dispatch.specs.Turns.{asked_by}
 
@@ -44,6 +44,13 @@ module _ (trial : Trial) (l mid new : Lent) (names : List (List ℕ))
   same_birth : birth_at mid.heap mid.error_dictionary ≡ birth_at l.heap l.error_dictionary
   same_birth = ap (λ (m : Lent). birth_at m.heap m.error_dictionary) same
 
+  still : (turned : Turned) → LeavesHeap turned mid.heap new.heap
+      → LeavesHeap turned l.heap new.heap
+  still (Calls operator) left = left ∙ ap (λ (m : Lent). m.heap) same
+  still Goes left = tt
+  still (Breaks cause) left = tt
+  still (Ends told) left = tt
+
   then_turned : (s t : Store) (whole rest : Turn) (turned : Turned) → Lasts s t
       → ((machine : Machine)
       → after_turn trial.refused machine whole ≡ after_turn trial.refused machine rest)
@@ -56,6 +63,7 @@ module _ (trial : Trial) (l mid new : Lent) (names : List (List ℕ))
         let one = lasts birth in
         let other = by.lasts birth in
         omega (arith, one, other);
+    leaves = still turned by.leaves;
     is = λ machine printed address.
         comes machine ∙ by.is machine (printed ∙ sym same_printed) (address ∙ sym same_birth);
   }
@@ -184,6 +192,7 @@ module _ (operator : Operator) (trial : Trial) (l : Lent) (store : Store) where
       after = scene.store;
       shown = did.0.shown;
       lasts = did.0.lasts;
+      leaves = tt;
       is = λ machine printed address. rw enough (λ i. reaches (settled (record
           (with_scene (sym did.0.is i) running machine)
           { printed = (ap (λ bytes. bytes ++ output) printed ∙ sym did.1) i })));

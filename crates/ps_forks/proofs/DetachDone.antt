@@ -201,7 +201,7 @@ module _ (caller : ℕ) (trial : Trial) (shown : Option (ℤ × ℤ)) (d : Desk)
       (λ any w scene says is. detach_stores any w scene)
       (λ any w says at. detach_named (call_by caller any w here_now)
       (leaves identifier) (names_here caller (Ok identifier) d.members member found named d.heap
-      d.names w at.contexts)) new tt Nothing acts
+      d.names w at.contexts)) new tt Nothing (λ is. absurd (cc)) acts
       (with_item part.members identifier (member_left (detached other)))
       (detached_steady part identifier other there now_steady)
       (detached_runs part.members caller identifier other there now_runs)
@@ -222,7 +222,7 @@ module _ (caller : ℕ) (trial : Trial) (shown : Option (ℤ × ℤ)) (d : Desk)
       (λ any w scene says is. detach_stores any w scene)
       (λ any w says at. detach_named (call_by caller any w here_now)
       (leaves identifier) (names_here caller (Ok identifier) d.members member found named d.heap
-      d.names w at.contexts)) new (λ any. tt) why acts
+      d.names w at.contexts)) new (λ any. tt) why (λ is. absurd (cc)) acts
 
 -- ---- nothing is named
 

@@ -233,7 +233,7 @@ module _ (caller : ℕ) (trial : Trial) (shown : Option (ℤ × ℤ)) (d : Desk)
         acted Fork caller trial shown d steady member found runs nothing_asked nothing_few
         (fork_caller seat) fork_plain fork_next (λ any. Unit {0})
         (λ any w scene says is. stores_there any w scene is)
-        (λ any w says at. law_there any w at) new tt Nothing acts part.members now_steady now_runs
+        (λ any w says at. law_there any w at) new tt Nothing (λ is. absurd (cc)) acts part.members now_steady now_runs
         (part_framed d caller member found runs new)
         (λ w scene at is world. let some : is_some seat ≡ true =
         (fork_makes (scene_of l w.store) scene seat w.store here.operands is).0 in absurd (cc))
@@ -266,7 +266,7 @@ module _ (caller : ℕ) (trial : Trial) (shown : Option (ℤ × ℤ)) (d : Desk)
           acted Fork caller trial shown d steady member found runs nothing_asked nothing_few
           (fork_caller seat) fork_plain fork_next (λ any. Unit {0})
           (λ any w scene says is. stores_there any w scene is)
-          (λ any w says at. law_there any w at) new tt Nothing acts
+          (λ any w says at. law_there any w at) new tt Nothing (λ is. absurd (cc)) acts
           (part.members ++ Some (begun_member begun) ∷ [])
           (more_steady part (begun_member begun) now_steady
           (record { good = born.good; course = held_begun part.heap begun.frames }))
@@ -284,7 +284,7 @@ module _ (caller : ℕ) (trial : Trial) (shown : Option (ℤ × ℤ)) (d : Desk)
       broke_off Fork caller trial shown d steady member found runs nothing_asked nothing_few
       (fork_caller seat) fork_plain fork_next (λ any. Unit {0})
       (λ any w scene says is. stores_there any w scene is)
-      (λ any w says at. law_there any w at) new (λ any. tt) why acts
+      (λ any w says at. law_there any w at) new (λ any. tt) why (λ is. absurd (cc)) acts
 
   -- where a step makes a context, it wants memory for it
   one_more : (w : World) (scene : Scene) (context : Context)
@@ -362,6 +362,8 @@ module _ (caller : ℕ) (trial : Trial) (shown : Option (ℤ × ℤ)) (d : Desk)
             (or_true _ _ (starved w at given_it (effect_in (fork_caller seat) l w.store) refl
             (making w.store (shown_there w at)) (fork_plain l w.store))));
         logs = logs-same 0 d.grants trial.slot;
+        made = λ is. absurd (cc);
+        leaves = λ is. refl;
       }
 
       no_stacks : DoesBy Fork caller trial shown (Err (NotMade Memory)) d part

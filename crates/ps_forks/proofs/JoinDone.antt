@@ -223,6 +223,8 @@ module _ (caller identifier : ℕ) (trial : Trial) (shown : Option (ℤ × ℤ))
       same = λ w at. tt;
       held_up = λ reason bad. absurd (cc);
       logs = acts.logs;
+      made = λ is. absurd (cc);
+      leaves = λ is. absurd (cc);
     }
 
   -- ---- there is no world where it doesn't
@@ -254,6 +256,8 @@ module _ (caller identifier : ℕ) (trial : Trial) (shown : Option (ℤ × ℤ))
       same = λ w at. absurd (never w at);
       held_up = λ reason is w context at there. absurd (never w at);
       logs = acts.logs;
+      made = λ is. absurd (cc);
+      leaves = λ is. absurd (cc);
     }
 
 -- ---- where the other is taken out first

@@ -45,4 +45,6 @@ raised_there operator caller trial shown d error steady runs so = record {
   same = λ w at. refl;
   held_up = λ reason bad. absurd (cc);
   logs = logs-same 0 d.grants trial.slot;
+  made = λ is reason bad. absurd (cc);
+  leaves = λ is. refl;
 }

@@ -63,4 +63,6 @@ module _ (operator : Operator) (caller : ℕ) (trial : Trial) (shown : Option (�
     same = λ w at. tt;
     held_up = λ reason bad. absurd (cc);
     logs = waits.logs;
+    no_status = λ w context at there. tt;
+    leaves = λ is. absurd (cc);
   }

@@ -108,6 +108,7 @@ module _ (l : Lent) (good : IsGood l) (lock : ℕ)
             goes_as trial.refused (running_turn l s) _ (monitor_is s) l.printed machine was;
         shows = shows l.names s shown.shows;
         lasts = lasts_free s (birth_at l.heap lock) there.0 there.1;
+        leaves = tt;
         logs = subst (λ n. KeepsLogsWithin n l.grants grants trial.slot)
             (sym (monitor_records s)) logs;
       }

@@ -138,6 +138,7 @@ breaks_here l trial cause good under_way = record {
       after = s;
       shown = shown;
       lasts = lasts-same s;
+      leaves = tt;
       is = λ machine was address.
           (λ i. reaches (settled
           (record (with_scene (scene_of l s) (unwinding (cause_of cause)) machine)

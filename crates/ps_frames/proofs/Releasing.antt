@@ -29,7 +29,7 @@ use Rattle.ps_control.specs.Turns.{cause_of}
 use Rattle.ps_acts.specs.declared.lent.Trial.{Trial}
 use Rattle.ps_acts.specs.Lent.{Lent, scene_of, around_of, IsShown, IsGood}
 use Rattle.ps_acts.proofs.Meeting.{at_least-same, logs_more}
-use Rattle.ps_turns.specs.Turns.{IsUnlogged, IsUnderWay, Turns, is_told, needs_in, reached_by, status_of, lines_after}
+use Rattle.ps_turns.specs.Turns.{IsUnlogged, LeavesHeap, IsUnderWay, Turns, is_told, needs_in, reached_by, status_of, lines_after}
 use Rattle.ps_turns.proofs.Breaking.{ended, quits, exits, stops_untold}
 use Rattle.ps_turns.proofs.Composing.{here_good}
 use Rattle.ps_turns.proofs.Unlogged.{unlogged_reason}
@@ -69,6 +69,11 @@ untold_as kept h names Quit [] are refused machine birth address is printed was 
     quits kept are refused machine
     ∙ (λ i. reaches (settled (ended kept are refused machine kept.store (was i)
     machine.error_lines)))
+
+untold_leaves : (cause : Cause) (frames : List Frame) (old new : Heap)
+    → LeavesHeap (untold cause frames) old new
+untold_leaves cause [] old new = tt
+untold_leaves cause (frame ∷ frames) old new = tt
 
 untold_goes : (cause : Cause) (frames : List Frame) → IsUnderWay (untold cause frames) frames
 untold_goes cause [] = tt
@@ -202,6 +207,7 @@ module _ (l : Lent) (good : IsGood l) (lock : ℕ) (known : StandsAs l.heap Lock
             l.printed was;
         shows = shows l.names s shown.shows;
         lasts = lasts_free s (birth_at l.heap lock) there.0 there.1;
+        leaves = untold_leaves cause l.frames l.heap heap;
         logs = subst (λ n. KeepsLogsWithin n l.grants grants trial.slot)
             (sym (asked_records cause false is s shown)) logs;
       }

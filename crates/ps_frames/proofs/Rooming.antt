@@ -72,7 +72,13 @@ module _ (l : Lent) (scratch : Scratch) (empty : IsEmpty scratch)
       (result : Result Turned Reason) (turn : Turn) (s : Store) (new : Lent)
       → TurnsAs few trial result turn s roomy new → TurnsAs many trial result turn s l new
   turned_before few many more trial (Ok turned) turn s new did =
-      record { after = did.after; shown = did.shown; lasts = did.lasts; is = did.is }
+      record {
+        after = did.after;
+        shown = did.shown;
+        lasts = did.lasts;
+        leaves = did.leaves;
+        is = did.is;
+      }
   turned_before few many more trial (Err reason) turn s new did = (
     reason_more few many more trial.slot l new reason
         (reason_before few trial.slot new reason did.0),

@@ -155,6 +155,7 @@ module _ (l : Lent) (good : IsGood l) (over : Part) (at depth : ℕ)
               })));
           lasts = part_last l.heap over
               (bind_held l good over at depth (drop 1 l.frames) top).0 l.names s shown.shows at _;
+          leaves = tt;
           logs = subst (λ n. KeepsLogsWithin n l.grants grants trial.slot)
               (sym (leads_records s shown)) logs;
         }

@@ -139,6 +139,7 @@ module _ (l : Lent) (good : IsGood l) (lock : ℕ) (known : StandsAs l.heap Lock
         shows = subst (Shows heap l.names) (dictionary_apart s (birth_at l.heap lock)
             lock_there.0 lock_there.1 birth (d s) (told (d s)) stands) (shows s shown);
         lasts = told_last s shown;
+        leaves = tt;
         logs = subst (λ n. KeepsLogsWithin n l.grants grants trial.slot)
             (sym (asked_records l good lock known trial Stop true is_told_here s shown)) logs;
       }

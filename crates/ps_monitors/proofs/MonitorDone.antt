@@ -233,7 +233,7 @@ module _ (caller : ℕ) (trial : Trial) (shown : Option (ℤ × ℤ)) (d : Desk)
       acted Monitor caller trial shown d steady member found runs (monitor_asked caller)
       (monitor_few caller) (monitor_caller caller) (monitor_plain caller) next NeverWaits
       (λ any w scene says is. refl) law new
-      (λ w at. told_in came told w at ∙ enters) Nothing acts
+      (λ w at. told_in came told w at ∙ enters) Nothing (λ is. absurd (cc)) acts
       (desk_unmade d caller member new).members
       (part_steady d caller member found runs new steady acts.keeps acts.stays acts.good)
       (part_runs d caller member found runs new) (part_framed d caller member found runs new)
@@ -247,7 +247,7 @@ module _ (caller : ℕ) (trial : Trial) (shown : Option (ℤ × ℤ)) (d : Desk)
       (monitor_few caller) (monitor_caller caller) (monitor_plain caller) next NeverWaits
       (λ any w scene says is. refl) law new
       (λ any w at. sym (waits_same w at) ∙ unwaiting caller trial l new w.store why
-      (acts.meets w.store (shown_here w at)).did) why acts
+      (acts.meets w.store (shown_here w at)).did) why (λ is. absurd (cc)) acts
 
   -- ---- it waits
 

@@ -168,7 +168,7 @@ module _ (caller : ℕ) (trial : Trial) (shown : Option (ℤ × ℤ)) (d : Desk)
         (λ any w scene says is. notify_stores (scene_of (lent_to d member.context) w.store) scene
         (call_by caller any w (context_of d.heap d.names member)) held is)
         (λ any w says at. notify_deed (call_by caller any w (context_of d.heap d.names member))
-        held) new tt Nothing acts (notified_members condition part.members)
+        held) new tt Nothing (λ is. absurd (cc)) acts (notified_members condition part.members)
         (notified_steady part now_steady condition stands)
         (others_run condition caller part.members (part_runs d caller member found runs new))
         (λ framed. others_framed condition caller part.members
@@ -191,4 +191,4 @@ module _ (caller : ℕ) (trial : Trial) (shown : Option (ℤ × ℤ)) (d : Desk)
       (λ any w scene says is. notify_stores (scene_of (lent_to d member.context) w.store) scene
       (call_by caller any w (context_of d.heap d.names member)) held is)
       (λ any w says at. notify_deed (call_by caller any w (context_of d.heap d.names member))
-      held) new (λ any. tt) why acts
+      held) new (λ any. tt) why (λ is. absurd (cc)) acts

@@ -151,4 +151,6 @@ module _ (caller : ℕ) (d : Desk) (steady : IsSteady d) (member : Member)
     same = λ w at. tt;
     held_up = λ reason bad. absurd (cc);
     logs = logs;
+    no_status = λ w context at there. tt;
+    leaves = λ is. absurd (cc);
   }

@@ -102,7 +102,8 @@ module _ (caller : ℕ) (trial : Trial) (shown : Option (ℤ × ℤ)) (d : Desk)
       (wait_caller caller) (wait_plain caller) wait_next (λ any. Unit {0})
       (λ any w scene says is. wait_stores caller w.store
       (scene_of (lent_to d member.context) w.store) scene (call any w) here.operands is)
-      (λ any w says at. wait_deed (call any w) here.operands) new (λ any. tt) why acts
+      (λ any w says at. wait_deed (call any w) here.operands) new (λ any. tt) why
+      (λ is. absurd (cc)) acts
 
   -- ---- it waits
 

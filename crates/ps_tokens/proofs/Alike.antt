@@ -42,6 +42,7 @@ module _ (asks over_asks : Lent → Store → Asked) (turn over : Lent → Store
           after = by.did.after;
           shown = by.did.shown;
           lasts = by.did.lasts;
+          leaves = by.did.leaves;
           is = λ machine was address. alike.is machine ∙ by.did.is machine was address;
         };
         logs = logs_more _ _ l.grants new.grants trial.slot alike.needs.records by.logs;

@@ -124,6 +124,7 @@ module _ (l : Lent) (more names : List (List ℕ)) (are : names ≡ l.names ++ m
             after = by.did.after;
             shown = by.did.shown;
             lasts = by.did.lasts;
+            leaves = by.did.leaves;
             is = by.did.is;
           } in
           record {

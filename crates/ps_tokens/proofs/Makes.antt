@@ -99,6 +99,7 @@ module _ (asks : Lent → Store → Asked) (turn : Lent → Store → Turn) (tri
             frames = left.shown.frames;
           };
           lasts = m.lasts;
+          leaves = tt;
           is = λ machine was address.
               ap (after_turn trial.refused machine) m.is
               ∙ rw (has_made trial.refused s m.after refused)

@@ -119,6 +119,7 @@ module _ (trial : Trial) (l : Lent) (good : IsGood l) (last : l.frames ≡ []) w
     later = s;
     shows = shown.shows;
     lasts = lasts-same s;
+    leaves = tt;
     is = λ machine was address.
         ends s shown machine address
         ∙ (λ i. reaches (settled (ended (scene_of l s) (none s) trial.refused machine s (was i)
@@ -191,6 +192,7 @@ module _ (trial : Trial) (l : Lent) (good : IsGood l) (last : l.frames ≡ []) w
           lasts = with-lengths s birth (dictionary_at s birth) _
               (there l.heap l.error_dictionary good.error_stands.stands good.sound l.names s
               shown.shows);
+          leaves = tt;
           is = λ machine was address.
               stops_told (scene_of l s) (none s) trial.refused machine birth address (new s shown)
               ∙ (λ i. reaches (settled (ended (scene_of l s) (none s) trial.refused machine

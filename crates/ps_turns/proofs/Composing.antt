@@ -121,6 +121,7 @@ module _ (l : Lent) (operands : List Word) (frames : List Frame) where
       after = s;
       shown = shown;
       lasts = lasts-same s;
+      leaves = tt;
       is = λ machine was address.
           (λ i. reaches (settled (record (with_scene (scene_of restacked s) running machine)
           { printed = (append-nil machine.printed ∙ was) i })));
@@ -191,6 +192,7 @@ module _ (l : Lent) (operands : List Word) (frames : List Frame) where
             after = by.did.after;
             shown = by.did.shown;
             lasts = by.did.lasts;
+            leaves = by.did.leaves;
             is = by.did.is;
           } in
           record {

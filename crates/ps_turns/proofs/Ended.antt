@@ -86,6 +86,7 @@ module _ (error : ErrorName) (command : Word) (trial : Trial) (l : Lent) (good :
               later = after_end error value (scene_of l s) birth (none s) at;
               shows = shows s held;
               lasts = with-lengths s birth (dictionary_at s birth) _ at;
+              leaves = tt;
               is = λ machine was address.
                   ends_by error value (scene_of l s) birth (none s) at trial.refused machine address
                   ∙ (λ i. reaches (settled (record (with_scene (record (scene_of l s)

@@ -101,6 +101,7 @@ module _ (error : ErrorName) (command : Word) (trial : Trial) (l : Lent) (good :
         after = with_error error value (birth_at l.heap l.error_dictionary) s;
         shown = next.shown;
         lasts = next.lasts;
+        leaves = tt;
         is = λ machine printed address.
             (λ i. reaches (settled (record (with_scene
             (record (scene_of l s) { store = with_error error value (address i) s })

@@ -17,7 +17,7 @@ use Rattle.ps_acts.specs.Acts.{Asked, IsAtLeast, Lasts}
 use Rattle.ps_acts.proofs.Meeting.{stays_as}
 use Rattle.ps_turns.specs.declared.turned.Turned.{Turned}
 use Rattle.ps_turns.specs.declared.turned.Turned.TheVariants.{Goes}
-use Rattle.ps_turns.specs.Turns.{IsTurned, IsUnderWay, TurnsOver, Turns, needs_in, reached_by, status_of, lines_after}
+use Rattle.ps_turns.specs.Turns.{LeavesHeap, IsTurned, IsUnderWay, TurnsOver, Turns, needs_in, reached_by, status_of, lines_after}
 use Rattle.ps_turns.proofs.Composing.{AreGood, restacked, restacked_good, restacked_shown}
 use Rattle.ps_turns.proofs.Raising.{left_over, good_over}
 
@@ -46,6 +46,7 @@ module _ (l : Lent) (good : IsGood l) (frames : List Frame) (are : AreGood l l.o
         { printed = printed; error_lines = lines_after turned machine.error_lines })
     pub shows : Shows heap l.names later
     pub lasts : Lasts s later
+    pub leaves : LeavesHeap turned l.heap heap
     pub logs : KeepsLogsWithin (needs_in trial asks turn l s).records l.grants grants trial.slot
 
   left_turned : (asks : Lent → Store → Asked) (turn : Lent → Store → Turn) (trial : Trial)
@@ -64,6 +65,7 @@ module _ (l : Lent) (good : IsGood l) (frames : List Frame) (are : AreGood l l.o
           frames = next.shown.frames;
         };
         lasts = leaves.lasts;
+        leaves = leaves.leaves;
         is = λ machine was address.
             leaves.is machine was address
             ∙ (λ i. reached_by turned (record

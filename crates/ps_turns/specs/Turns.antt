@@ -164,6 +164,11 @@ abbrev pub IsUnderWay : Turned → List FrameHere → Type 0
 IsUnderWay (Breaks cause) [] = ⊥
 IsUnderWay turned frames = Unit {0}
 
+-- what leaves an operator to the world leaves the memory as it was
+abbrev pub LeavesHeap : Turned → (old new : Heap) → Type 0
+LeavesHeap (Calls operator) old new = new ≡ old
+LeavesHeap turned old new = Unit {0}
+
 -- The turn comes to a machine, which is shown but for its end, after what showed a store. The
 -- definitions have the rest of the machine
 pub record IsTurned (refused : Bool) (turn : Turn) (turned : Turned) (before : Store)
@@ -171,6 +176,7 @@ pub record IsTurned (refused : Bool) (turn : Turn) (turned : Turned) (before : S
   pub after : Store
   pub shown : IsShown new after
   pub lasts : Lasts before after
+  pub leaves : LeavesHeap turned old.heap new.heap
   pub is : (machine : Machine) → machine.printed ≡ old.printed
       → machine.context.error_dictionary ≡ birth_at old.heap old.error_dictionary
       → after_turn refused machine turn ≡ reached_by turned (record

@@ -1,44 +1,35 @@
 -- What a vault keeps over steps of one context.
-use Rattle.std.proofs.Common.{◌≡◌, ℕ, ℤ, zero, suc, ◌+◌, ◌^◌, ◌<◌, ◌≤◌, Bool, true, false, ◌&&◌, Option, Some, None, Result, Ok, Err, List, [], ◌∷◌, ◌++◌, refl, sym, ◌∙◌, ap, subst, arith}
-use Rattle.std.specs.Prelude.{IsTrue, IfSome, min, max, not, replicate}
+use Rattle.std.proofs.Common.{◌≡◌, ℕ, ℤ, zero, suc, ◌+◌, ◌^◌, ◌<◌, ◌≤◌, Bool, true, false, ◌&&◌, Option, Some, None, List, [], ◌∷◌, ◌++◌, refl, sym, ◌∙◌, ap, subst, arith}
+use Rattle.std.specs.Prelude.{IsTrue, IsSome, IfSome, not, replicate}
 use Rattle.std.specs.List.{list_all}
 use Rattle.std.specs.Option.{option_map_or}
 use Rattle.std.proofs.lemmas.Bool.{lt-ltb, true≢false}
 use Rattle.ps_language.specs.declared.schedules.Entry.{Entry}
 use Rattle.ps_language.specs.Effect as effect
 use Rattle.ps_language.specs.Effect.{turn_ends, Around, Scene}
-use Rattle.ps_language.specs.Live.{Live}
 use Rattle.ps_language.specs.Locks.{is_ready_as, is_ready}
 use Rattle.ps_language.specs.Schedules.{Move, plain_move, added, moves, count_of, is_longest}
-use Rattle.ps_language.specs.World.{Status, Context, World}
+use Rattle.ps_language.specs.World.{Context, World}
 use Rattle.ps_language.specs.Worlds.{after_move, after_moves, starting_world, world, all_ready, IsProper}
 use Rattle.ps_language.proofs.ScheduleLaws.{moves-added, count_of-added, longest-added}
 use Rattle.ps_language.proofs.WorldLaws.{after_moves-append, all_ready-append}
-use Rattle.ps_acts.specs.Acts.{Asked}
-use Rattle.ps_acts.specs.Trials.{ordinary}
-use Rattle.ps_language.specs.Worlds.{kept_pair}
-use Rattle.ps_mem.specs.Heap.{Heap, Grants, Space, standing_words}
-use Rattle.ps_mem.specs.Stands.{IsAddressed}
-use Rattle.ps_ops.specs.declared.failure.NotMade.{NotMade as Reason}
+use Rattle.ps_mem.specs.Heap.{Space}
 use Rattle.ps_world.specs.declared.notes.Note.{Note}
 use Rattle.ps_world.specs.declared.notes.Note.TheVariants.{Nothing, TurnEnds, ShowsMemory, Wishes}
 use Rattle.ps_world.specs.declared.worlds.Calling.{Calling}
-use Rattle.ps_world.specs.Held.{Held, IsAt, IsAtBy}
-use Rattle.ps_world.specs.Notes.{note_of}
-use Rattle.ps_world.specs.Steps.{AllFrom, HasMade, IsQuiet, IsUnready, KeepsOthers, ShowsAt, StepsBehind, words_shown}
-use Rattle.ps_language.specs.Step.{stepped}
-use Rattle.ps_vault.specs.Holds as holds
-use Rattle.ps_vault.specs.Holds.{IsHeldUp, wish_in}
-use Rattle.ps_vault.specs.Order.{IsOnlyLeft, IsAlone, Tells, IsNoEnd, IsNoWish, AllTell, IsOfOne, AllOfOne, AllTellButLast, EndsWith}
-use Rattle.ps_vault.specs.Reports.{are_words, fits, is_number_of_words, is_ordinary}
-use Rattle.ps_vault.specs.Warrants.{AllWarranted, IsPairOf}
-use Rattle.ps_vault.specs.Stories.{Story, Keeps, move_of}
+use Rattle.ps_world.specs.Held.{Held, IsAt}
+use Rattle.ps_world.specs.Notes.{note_of, HasNoStatus}
+use Rattle.ps_world.specs.Steps.{AllFrom, HasMade, IsQuiet, IsUnready, KeepsOthers}
+use Rattle.ps_vault.specs.Holds.{wish_in}
+use Rattle.ps_vault.specs.Order.{IsOnlyLeft, IsAlone, Tells, IsNoEnd, IsNoWish, AllTell, IsOfOne, AllOfOne}
+use Rattle.ps_vault.specs.Reports.{are_words, fits, is_ordinary}
+use Rattle.ps_vault.specs.Warrants.{AllWarranted}
+use Rattle.ps_vault.specs.Stories.{Keeps, move_of}
 use Rattle.ps_vault.specs.Turns.{added_times}
 use Rattle.ps_vault.proofs.Following.{times_moves}
-use Rattle.ps_vault.proofs.Keeping.{and_both, keeps_noted, keeps_unmade}
-use Rattle.ps_vault.proofs.Reasons.{held_step, HasNumbersOf}
-use Rattle.ps_vault.proofs.Ordering.{adds_all_more}
-use Rattle.ps_vault.proofs.Warrants.{kept_shown, lives_in, ordinary_warranted, pair_of_space, warranted_added, warranted_times}
+use Rattle.ps_vault.proofs.Keeping.{and_both}
+use Rattle.ps_vault.proofs.Showing.{IsLastShown, last_added}
+use Rattle.ps_vault.proofs.Warrants.{warranted_times}
 
 -- the world after so many more
 pub world_times : (program : List ℕ) (schedule : List Entry) (n : ℕ) (move : Move)
@@ -76,33 +67,6 @@ count_times (suc n) schedule move =
     omega (arith, before, one)
 
 -- ---- ordinary steps
-
-number_shown : (words : ℕ) → is_number_of_words (words_shown words) ≡ true
-number_shown words =
-    and_both _ _ (lt-ltb 0 (min (max 1 words) 2147483647) (omega arith))
-    (lt-ltb (min (max 1 words) 2147483647) (2 ^ 31) (omega arith))
-
--- what a memory shows are numbers of words
-words_kept : (mid new : Held) (note : Note) (shown : Option (ℤ × ℤ)) → ShowsAt mid new shown
-    → are_words (kept_pair (note_of note) shown) ≡ true
-words_kept mid new note None words = words_of_none note
-  where
-    words_of_none : (note : Note) → are_words (kept_pair (note_of note) None) ≡ true
-    words_of_none Nothing = refl
-    words_of_none TurnEnds = refl
-    words_of_none ShowsMemory = refl
-    words_of_none (Wishes number) = refl
-words_kept mid new note (Some pair) words = words_of_pair note
-  where
-    words_are : are_words (Some pair) ≡ true
-    words_are = subst (λ (pair : ℤ × ℤ). are_words (Some pair) ≡ true) (sym words.1.is)
-        (and_both _ _ (number_shown words.1.heap.used) (number_shown words.1.heap.space.size))
-
-    words_of_pair : (note : Note) → are_words (kept_pair (note_of note) (Some pair)) ≡ true
-    words_of_pair Nothing = refl
-    words_of_pair TurnEnds = refl
-    words_of_pair ShowsMemory = words_are
-    words_of_pair (Wishes number) = refl
 
 pub move_fits : (context : ℕ) (refused : Bool) (shown : Option (ℤ × ℤ)) → context < 2 ^ 32
     → are_words shown ≡ true → fits (move_of context refused shown) ≡ true
@@ -215,6 +179,7 @@ module _ (context made : ℕ) (old new : Held) (schedule : List Entry) (keeps : 
   later = added_times made schedule (plain_move context)
 
   pub keeps_made : Keeps new later
+  unfolding added_times
   keeps_made = record {
     steady = has.steady;
     at = subst (λ (p : List ℕ). IsAt new (world p later)) (sym has.program)
@@ -224,7 +189,38 @@ module _ (context made : ℕ) (old new : Held) (schedule : List Entry) (keeps : 
         (proper_times old.desk.program schedule made (plain_move context) keeps.proper
         (has.ready (world old.desk.program schedule) keeps.at ready));
     longest = longest_times made schedule (plain_move context) keeps.longest;
+    no_status = calls_none new.calling refl;
   }
+    where
+      none_at : (calling : Calling) → old.calling ≡ Some calling → HasNoStatus
+          (world old.desk.program (added_times 0 schedule (plain_move context))) calling.caller
+      none_at calling waited =
+          subst (λ (c : Option Calling). IfSome c
+          (λ one. HasNoStatus (world old.desk.program schedule) one.caller)) waited keeps.no_status
+
+      -- a call that waits is the one that waited, and no step was made
+      calls_none : (calling : Option Calling) → new.calling ≡ calling → IfSome calling
+          (λ one. HasNoStatus (world new.desk.program later) one.caller)
+      calls_none None is = tt
+      calls_none (Some calling) is =
+          let same = has.first (subst IsSome (sym is) refl) in
+          let waited : old.calling ≡ Some calling =
+          ap (λ (h : Held). h.calling) (sym same.1) ∙ is in
+          subst (λ (p : List ℕ). HasNoStatus (world p later) calling.caller) (sym has.program)
+          (subst (λ (n : ℕ). HasNoStatus (world old.desk.program
+          (added_times n schedule (plain_move context))) calling.caller) (sym same.0)
+          (none_at calling waited))
+
+  -- the last of them is shown nothing
+  pub last_made : (P : ℤ × ℤ → Type 0) → 1 ≤ made → IsLastShown P (moves later)
+  unfolding added_times
+  last_made P some = last_times made some
+    where
+      last_times : (n : ℕ) → 1 ≤ n
+          → IsLastShown P (moves (added_times n schedule (plain_move context)))
+      last_times zero some = absurd (omega (arith, some))
+      last_times (suc n) some =
+          last_added P (added_times n schedule (plain_move context)) (plain_move context) tt
 
   -- they show nothing, and the space stays
   pub same_space : new.desk.heap.space ≡ old.desk.heap.space
@@ -238,7 +234,8 @@ module _ (context made : ℕ) (old new : Held) (schedule : List Entry) (keeps : 
   warranted_made all =
       subst (λ (n : ℕ). AllWarranted n new.desk.program later) (sym space_made)
       (subst (λ (p : List ℕ). AllWarranted old.desk.heap.space.size p later) (sym has.program)
-      (warranted_times old.desk.heap.space.size old.desk.program schedule all context made))
+      (warranted_times old.desk.heap.space.size old.desk.program schedule all context made
+      (has.quiet (world old.desk.program schedule) keeps.at ready)))
 
   pub tell_made : (IsSo : effect.Note → Type 0) → IsSo effect.nothing
       → AllTell IsSo (starting_world old.desk.program) (moves schedule) (moves later)
@@ -284,216 +281,3 @@ some_made context zero most old new schedule keeps ready has some unready =
     let here : World = world old.desk.program schedule in
     absurd (true≢false (sym ready ∙ unready (omega arith) here (has.at here keeps.at ready)))
 some_made context (suc made) most old new schedule keeps ready has some unready = omega arith
-
--- so many were made, and the step behind them came to this
-module _ (asks : Status → Around → Scene → Asked) (context slot made : ℕ)
-    (shown : Option (ℤ × ℤ)) (old new : Held) (schedule : List Entry) (keeps : Keeps old schedule)
-    (ready : is_ready (world old.desk.program schedule) context ≡ true) where
-  abbrev so_far : List Entry
-  so_far = added_times made schedule (plain_move context)
-
-  module _ (result : Result Note Reason)
-      (behind : StepsBehind asks context slot made shown result old new) where
-    keeps_mid : Keeps behind.mid so_far
-    keeps_mid = keeps_made context made old behind.mid schedule keeps ready behind.makes
-
-    ready_here : is_ready (world old.desk.program so_far) context ≡ true
-    ready_here = ap (λ (w : World). is_ready w context)
-        (world_times old.desk.program schedule made (plain_move context))
-        ∙ behind.ready (world old.desk.program schedule) keeps.at ready
-
-    ready_mid : is_ready (world behind.mid.desk.program so_far) context ≡ true
-    ready_mid = ap (λ (p : List ℕ). is_ready (world p so_far) context) behind.makes.program
-        ∙ ready_here
-
-    -- the space is that of before, and what was shown before the step is of it
-    space_behind : new.desk.heap.space.size ≡ behind.mid.desk.heap.space.size
-    space_behind = ap (λ (s : Space). s.size) behind.steps.keeps.space
-
-    pub same_space_behind : new.desk.heap.space ≡ old.desk.heap.space
-    same_space_behind = behind.steps.keeps.space ∙ behind.makes.keeps.space
-
-    warranted_mid : AllWarranted old.desk.heap.space.size old.desk.program schedule
-        → AllWarranted behind.mid.desk.heap.space.size behind.mid.desk.program so_far
-    warranted_mid = warranted_made context made old behind.mid schedule keeps ready behind.makes
-
-    -- what lives in the world before the step needs no more than stands there
-    lives_mid : behind.mid.calling ≡ None → IsAddressed behind.mid.desk.heap → (words : ℕ)
-        → Live (world behind.mid.desk.program so_far) words
-        → words ≤ standing_words behind.mid.desk.heap
-    lives_mid none =
-        lives_in behind.mid.desk behind.mid.desk.program so_far context
-        (subst (λ (c : Option Calling). IsAtBy c behind.mid.desk
-        (world behind.mid.desk.program so_far)) none keeps_mid.at)
-        behind.makes.steady.steady ready_mid
-
-    of_new : (after : List Entry)
-        → AllWarranted behind.mid.desk.heap.space.size behind.mid.desk.program after
-        → AllWarranted new.desk.heap.space.size new.desk.program after
-    of_new after all =
-        subst (λ (n : ℕ). AllWarranted n new.desk.program after) (sym space_behind)
-        (subst (λ (p : List ℕ). AllWarranted behind.mid.desk.heap.space.size p after)
-        (sym behind.steps.program) all)
-
-    pub tell_mid : (IsSo : effect.Note → Type 0) → IsSo effect.nothing
-        → AllTell IsSo (starting_world old.desk.program) (moves schedule) (moves so_far)
-    tell_mid = tell_made context made old behind.mid schedule keeps ready behind.makes
-
-    module _ (left : IsOnlyLeft (world old.desk.program schedule) context) where
-      pub alone_mid : AllOfOne context (starting_world old.desk.program) (moves schedule)
-          (moves so_far)
-      alone_mid = alone_made context made old behind.mid schedule keeps ready behind.makes left
-
-      left_mid : IsOnlyLeft (world old.desk.program so_far) context
-      left_mid = left_made context made old behind.mid schedule keeps ready behind.makes left
-
-  -- it was made
-  module _ (note : Note) (behind : StepsBehind asks context slot made shown (Ok note) old new)
-    where
-      pub keeps_behind : (kept : Option (ℤ × ℤ)) → kept ≡ kept_pair (note_of note) shown
-          → Keeps new (added so_far (move_of context false kept))
-      keeps_behind kept is =
-          keeps_noted asks context (ordinary slot) shown behind.mid new so_far
-          (keeps_mid (Ok note) behind) (ready_mid (Ok note) behind) note kept behind.steps is
-
-      -- they are numbers of words
-      pub words_behind : are_words (kept_pair (note_of note) shown) ≡ true
-      words_behind = words_kept behind.mid new note shown behind.shows
-
-      -- what it was shown is of the space, and at least what lives in the world before it
-      shown_pair : IfSome shown (IsPairOf behind.mid.desk.heap.space.size
-          (world behind.mid.desk.program so_far))
-      shown_pair = by shown behind.shows
-        where
-          by : (shown : Option (ℤ × ℤ)) → ShowsAt behind.mid new shown
-              → IfSome shown (IsPairOf behind.mid.desk.heap.space.size
-              (world behind.mid.desk.program so_far))
-          by None shows = tt
-          by (Some pair) shows =
-              pair_of_space behind.mid.desk.heap new.desk.heap pair
-              (world behind.mid.desk.program so_far) (lives_mid (Ok note) behind shows.0) shows.1
-
-      pub warranted_behind : (kept : Option (ℤ × ℤ)) → kept ≡ kept_pair (note_of note) shown
-          → AllWarranted old.desk.heap.space.size old.desk.program schedule
-          → AllWarranted new.desk.heap.space.size new.desk.program
-          (added so_far (move_of context false kept))
-      warranted_behind kept is all =
-          of_new (Ok note) behind (added so_far (move_of context false kept))
-          (warranted_added behind.mid.desk.heap.space.size behind.mid.desk.program so_far
-          (warranted_mid (Ok note) behind all) (move_of context false kept)
-          (ordinary_warranted behind.mid.desk.heap.space.size
-          (world behind.mid.desk.program so_far) (count_of so_far) context kept
-          (subst (λ (one : Option (ℤ × ℤ)). IfSome one
-          (IsPairOf behind.mid.desk.heap.space.size (world behind.mid.desk.program so_far)))
-          (sym is) (kept_shown _ note shown shown_pair))))
-
-      -- it was made as the definitions make it
-      told : (stepped (world old.desk.program so_far) context false shown).note ≡ note_of note
-      told =
-          let mid : Held = behind.mid in
-          let to = behind.steps.meets (world mid.desk.program so_far)
-          (keeps_mid (Ok note) behind).at (ready_mid (Ok note) behind) in
-          ap (λ (p : List ℕ). (stepped (world p so_far) context false shown).note)
-          (sym behind.makes.program) ∙ sym to.2
-
-      -- such a note is told of it too
-      pub tell_behind : (IsSo : effect.Note → Type 0) → IsSo effect.nothing
-          → (kept : Option (ℤ × ℤ)) → IsSo (note_of note)
-          → AllTell IsSo (starting_world old.desk.program) (moves schedule)
-          (moves (added so_far (move_of context false kept)))
-      unfolding world
-      tell_behind IsSo none kept so =
-          adds_all_more (Tells IsSo) (starting_world old.desk.program) (moves schedule)
-          (moves so_far) (moves (added so_far (move_of context false kept)))
-          (tell_mid (Ok note) behind IsSo none)
-          (record {
-            steps = move_of context false kept ∷ [];
-            is = moves-added so_far (move_of context false kept);
-            all = (record { shown = shown; told = subst IsSo (sym told) so }, tt);
-          })
-
-      -- it and those before it were made by a context that alone was ready
-      pub alone_behind : (kept : Option (ℤ × ℤ))
-          → IsOnlyLeft (world old.desk.program schedule) context
-          → AllOfOne context (starting_world old.desk.program) (moves schedule)
-          (moves (added so_far (move_of context false kept)))
-      unfolding world
-      alone_behind kept left =
-          adds_all_more (IsOfOne context) (starting_world old.desk.program) (moves schedule)
-          (moves so_far) (moves (added so_far (move_of context false kept)))
-          (alone_mid (Ok note) behind left)
-          (record {
-            steps = move_of context false kept ∷ [];
-            is = moves-added so_far (move_of context false kept);
-            all = (
-              (
-                refl,
-                only_left_ready (world old.desk.program so_far) context
-                    (left_mid (Ok note) behind left) (ready_here (Ok note) behind),
-              ),
-              tt,
-            );
-          })
-
-      -- of all but it such a note is told
-      pub others_behind : (IsSo : effect.Note → Type 0) → IsSo effect.nothing
-          → (kept : Option (ℤ × ℤ))
-          → AllTellButLast IsSo (starting_world old.desk.program) (moves schedule)
-          (moves (added so_far (move_of context false kept)))
-      others_behind IsSo none kept = record {
-        before = moves so_far;
-        last = move_of context false kept;
-        is = moves-added so_far (move_of context false kept);
-        others = tell_mid (Ok note) behind IsSo none;
-      }
-
-      -- and of it this
-      pub ends_behind : (kept : Option (ℤ × ℤ)) (what : effect.Note) → note_of note ≡ what
-          → EndsWith what (starting_world old.desk.program) context
-          (moves (added so_far (move_of context false kept)))
-      unfolding world
-      ends_behind kept what is =
-          record {
-            before = moves so_far;
-            last = move_of context false kept;
-            is = moves-added so_far (move_of context false kept);
-            shown = shown;
-            told = told ∙ is;
-          }
-
-  -- it was not
-  module _ (reason : Reason)
-      (behind : StepsBehind asks context slot made shown (Err reason) old new) where
-    pub keeps_held : Keeps new so_far
-    keeps_held =
-        keeps_unmade asks context (ordinary slot) shown behind.mid new so_far
-        (keeps_mid (Err reason) behind) (ready_mid (Err reason) behind) reason behind.steps
-
-    pub held_behind : {M : Type 0} (heap : M → Heap) (grants : M → Grants) (memory : M)
-        (story : Story) → story.program ≡ new.desk.program → story.schedule ≡ so_far
-        → HasNumbersOf story new.desk
-        → new.desk.heap ≡ heap memory → new.desk.grants ≡ grants memory
-        → slot ≡ holds.slot_of context → IsHeldUp heap grants asks context false story reason
-    held_behind =
-        held_step asks context (ordinary slot) shown behind.mid new so_far
-        (keeps_mid (Err reason) behind) (ready_mid (Err reason) behind) reason behind.steps
-
-    -- what was shown is of the space
-    pub warranted_held : AllWarranted old.desk.heap.space.size old.desk.program schedule
-        → AllWarranted new.desk.heap.space.size new.desk.program so_far
-    warranted_held all = of_new (Err reason) behind so_far (warranted_mid (Err reason) behind all)
-
-    -- who alone was left still is
-    pub left_held : IsOnlyLeft (world old.desk.program schedule) context
-        → IsOnlyLeft (world new.desk.program so_far) context
-    left_held left =
-        subst (λ (p : List ℕ). IsOnlyLeft (world p so_far) context)
-        (sym (behind.steps.program ∙ behind.makes.program)) (left_mid (Err reason) behind left)
-
--- of a pair that isn't there none is kept
-pub kept_none : (note : Note) (shown : Option (ℤ × ℤ)) → shown ≡ None
-    → kept_pair (note_of note) shown ≡ None
-kept_none Nothing shown none = refl
-kept_none TurnEnds shown none = refl
-kept_none ShowsMemory shown none = none
-kept_none (Wishes number) shown none = refl

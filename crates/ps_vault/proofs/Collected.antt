@@ -1,6 +1,6 @@
 -- What a vault keeps while the collector works.
-use Rattle.std.proofs.Common.{◌≡◌, ◌≢◌, true≢false, ℕ, ◌<◌, Bool, true, false, List, length, replicate, refl, ap, subst, sym, ◌∙◌, arith}
-use Rattle.std.specs.Prelude.{slice_index_or, slice_set}
+use Rattle.std.proofs.Common.{◌≡◌, ◌≢◌, true≢false, ℕ, ◌<◌, Bool, true, false, Option, List, length, replicate, refl, ap, subst, sym, ◌∙◌, arith}
+use Rattle.std.specs.Prelude.{IfSome, slice_index_or, slice_set}
 use Rattle.std.proofs.lemmas.List.{length-replicate, length-set, get_or-replicate, get_or-set_same, get_or-set_other}
 use Rattle.std.proofs.lemmas.List.FromFn.{get_or-map-range_with_len, length-map-range_with_len, fill_by_all}
 use native.Mathlib.Decide.{ℕ_discrete}
@@ -11,21 +11,27 @@ use Rattle.ps_parts_memory.specs.declared.Closing.{Closing}
 use Rattle.ps_parts_memory.specs.declared.Closing.TheVariants.{Closed, LogFull}
 use Rattle.ps_parts_memory.specs.Laws.{AfterClose}
 use Rattle.ps_roots.specs.Moved.{KeepsWorlds}
-use Rattle.ps_world.specs.Held.{Held, IsAt}
+use Rattle.ps_contexts.specs.Desks.{Desk}
+use Rattle.ps_world.specs.declared.worlds.Calling.{Calling}
+use Rattle.ps_world.specs.Held.{held, IsAt}
+use Rattle.ps_world.specs.Notes.{HasNoStatus}
 use Rattle.ps_vault.specs.Stories.{Keeps, logs_closed}
 
 -- contexts that are at the same worlds have made the same steps
-pub keeps_collected : (old new : Held) (schedule : List Entry) → KeepsWorlds old new
-    → Keeps old schedule → Keeps new schedule
-keeps_collected old new schedule kept keeps = record {
+pub keeps_collected : (old new : Desk) (calling : Option Calling) (schedule : List Entry)
+    → KeepsWorlds (held old calling) (held new calling) → Keeps (held old calling) schedule
+    → Keeps (held new calling) schedule
+keeps_collected old new calling schedule kept keeps = record {
   steady = record {
     steady = kept.steady keeps.steady.steady;
     framed = kept.framed keeps.steady.framed;
   };
-  at = subst (λ (p : List ℕ). IsAt new (world p schedule)) (sym kept.program)
-      (kept.at (world old.desk.program schedule) keeps.at);
+  at = subst (λ (p : List ℕ). IsAt (held new calling) (world p schedule)) (sym kept.program)
+      (kept.at (world old.program schedule) keeps.at);
   proper = subst (λ (p : List ℕ). IsProper p schedule) (sym kept.program) keeps.proper;
   longest = keeps.longest;
+  no_status = subst (λ (p : List ℕ). IfSome calling
+      (λ one. HasNoStatus (world p schedule) one.caller)) (sym kept.program) keeps.no_status;
 }
 
 -- ---- which logs are closed

@@ -29,16 +29,17 @@ use Rattle.ps_contexts.proofs.Places.{identifier_within}
 use Rattle.ps_turns.specs.Turns.{calling_of}
 use Rattle.ps_language.proofs.LeftTurns.{left_by}
 use Rattle.ps_world.specs.declared.notes.Note.{Note}
+use Rattle.ps_world.specs.declared.notes.Note.TheVariants.{Nothing, TurnEnds, ShowsMemory, Wishes}
 use Rattle.ps_world.specs.declared.worlds.Calling.{Calling}
 use Rattle.ps_world.specs.Held.{Held, held, IsAt, IsAtBy, AreFramedBy, IsSteadyHeld, MayStep}
-use Rattle.ps_world.specs.Notes.{note_of}
+use Rattle.ps_world.specs.Notes.{note_of, HasNoStatus}
 use Rattle.ps_world.specs.Steps.{Steps}
 use Rattle.ps_vault.specs.declared.reports.Outcome.{Outcome}
 use Rattle.ps_vault.specs.declared.reports.Report.{Report}
 use Rattle.ps_vault.specs.Order.{IsOnlyLeft}
 use Rattle.ps_vault.specs.declared.reports.TheConstants.{FIRST_ENTRIES}
 use Rattle.ps_vault.specs.Reports.{all_fit, EndsAs, IsOneStarved, IsRunIn}
-use Rattle.ps_vault.specs.Warrants.{AllWarranted}
+use Rattle.ps_vault.specs.Warrants.{AllWarranted, IsStatus}
 use Rattle.ps_vault.specs.Stories.{Story, Keeps, AreWarranted, logs_closed, move_of, world_at}
 
 -- ---- one more move
@@ -95,9 +96,17 @@ keeps_start d calling program same steady none at = record {
       (sym none) (subst (λ (p : List ℕ). IsWorld d (starting_world p)) (sym same) at);
   proper = refl;
   longest = refl;
+  no_status = subst (λ (c : Option Calling). IfSome c
+      (λ one. HasNoStatus (world d.program []) one.caller)) (sym none) tt;
 }
 
 -- ---- a step
+
+shows_noted : (note : Note) → note_of note ≡ effect.shows_memory → note ≡ ShowsMemory
+shows_noted Nothing is = absurd (cc)
+shows_noted TurnEnds is = absurd (cc)
+shows_noted ShowsMemory is = refl
+shows_noted (Wishes number) is = absurd (cc)
 
 module _ (asks : Status → Around → Scene → Asked) (context : ℕ) (trial : Trial)
     (shown : Option (ℤ × ℤ)) (old new : Held) (schedule : List Entry) (keeps : Keeps old schedule)
@@ -128,7 +137,16 @@ module _ (asks : Status → Around → Scene → Asked) (context : ℕ) (trial :
             (proper_added old.desk.program schedule (move_of context trial.refused kept)
             keeps.proper ready);
         longest = longest-added schedule (move_of context trial.refused kept) keeps.longest;
+        no_status = subst (λ (c : Option Calling). IfSome c
+            (λ one. HasNoStatus (world new.desk.program after) one.caller)) (sym to.1) tt;
       }
+
+  -- a vmstatus that acts leaves the memory as it was
+  pub status_leaves : (note : Note) → Steps asks context trial shown (Ok note) old new
+      → IsStatus here move → new.desk.heap ≡ old.desk.heap
+  status_leaves note steps status =
+      steps.leaves here keeps.at (ap (λ (n : Note). Ok n)
+      (shows_noted note ((steps.meets here keeps.at ready).2 ∙ status)))
 
   -- no cycle was opened or ended, and no log closed
   pub same_cycle : (result : Result Note Reason) → Steps asks context trial shown result old new
@@ -163,6 +181,9 @@ module _ (asks : Status → Around → Scene → Asked) (context : ℕ) (trial :
           (steps.meets here keeps.at ready);
       proper = subst (λ (p : List ℕ). IsProper p schedule) (sym steps.program) keeps.proper;
       longest = keeps.longest;
+      no_status = subst (λ (p : List ℕ). IfSome new.calling
+          (λ one. HasNoStatus (world p schedule) one.caller)) (sym steps.program)
+          (steps.no_status here keeps.at);
     }
 
 -- ---- what is told of its world

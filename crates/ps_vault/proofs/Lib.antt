@@ -1,6 +1,7 @@
 pub mod Advancing
 pub mod Alone
 pub mod Beginning
+pub mod Behind
 pub mod Collected
 pub mod Endings
 pub mod Following
@@ -11,5 +12,6 @@ pub mod Notes
 pub mod Ordering
 pub mod Readiness
 pub mod Reasons
+pub mod Showing
 pub mod Turning
 pub mod Warrants

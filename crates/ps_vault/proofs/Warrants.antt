@@ -1,32 +1,29 @@
 -- What the steps of a vault are shown, and that they are refused, is warranted.
 use Rattle.std.proofs.Common.{◌≡◌, ℕ, ℤ, zero, suc, ◌+◌, ◌≤◌, Option, Some, None, List, [], ◌∷◌, ◌++◌, length, refl, sym, ◌∙◌, ap, subst, arith}
-use Rattle.std.specs.Prelude.{true, false, IfSome, replicate}
+use Rattle.std.specs.Prelude.{true, false, IfSome, IsSome, replicate}
 use Rattle.std.specs.Option.{option_map_or}
 use Rattle.std.proofs.lemmas.Bool.{true≢false}
 use Rattle.ps_language.specs.declared.schedules.Entry.{Entry}
 use Rattle.ps_language.specs.Contexts.{context_at}
+use Rattle.ps_language.specs.Effect.{nothing, shows_memory}
 use Rattle.ps_language.specs.Live.{Live}
 use Rattle.ps_language.specs.Locks.{is_ready, is_ready_as}
 use Rattle.ps_language.specs.Lowest.{HasFirstDictionaries}
 use Rattle.ps_language.specs.Schedules.{Move, plain_move, added, count_of, moves}
 use Rattle.ps_language.specs.World.{Context, World}
-use Rattle.ps_language.specs.Worlds.{after_move, after_moves, starting_world, world, kept_pair}
+use Rattle.ps_language.specs.Worlds.{after_move, after_moves, starting_world, world}
 use Rattle.ps_language.proofs.LeftContexts.{context_at-left}
 use Rattle.ps_language.proofs.LowestSteps.{after_moves-lowest}
 use Rattle.ps_language.proofs.ScheduleLaws.{moves-added}
-use Rattle.ps_mem.specs.Heap.{Heap, Space, standing_words}
+use Rattle.ps_mem.specs.Heap.{Heap, standing_words}
 use Rattle.ps_mem.specs.Stands.{IsAddressed}
-use Rattle.ps_mem.proofs.StandingLemmas.{addressed-kept, standing-kept}
 use Rattle.ps_contexts.specs.Desks.{Desk, IsSteady, IsWorld}
 use Rattle.ps_contexts.proofs.Reached.{live-stands}
 use Rattle.ps_roots.specs.Moved.{IsLeft}
-use Rattle.ps_world.specs.declared.notes.Note.{Note}
-use Rattle.ps_world.specs.declared.notes.Note.TheVariants.{Nothing, TurnEnds, ShowsMemory, Wishes}
-use Rattle.ps_world.specs.Notes.{note_of}
-use Rattle.ps_world.specs.Steps.{AreShown, words_shown}
+use Rattle.ps_world.specs.Steps.{AllFrom, AreShown, IsQuiet}
 use Rattle.ps_vault.specs.Stories.{AreWarranted, Story, move_of}
 use Rattle.ps_vault.specs.Turns.{added_times}
-use Rattle.ps_vault.specs.Warrants.{AllWarranted, AllWarrantedFrom, IsPairOf, IsRefusal, IsWarranted}
+use Rattle.ps_vault.specs.Warrants.{AllWarranted, AllWarrantedFrom, IsPairOf, IsRefusal, IsStatus, IsWarranted}
 use Rattle.ps_vault.proofs.Following.{times_moves}
 
 -- a schedule of no steps
@@ -36,19 +33,31 @@ unfolding moves
 nothing_warranted space program schedule none =
     subst (AllWarranted space program) (sym none) tt
 
--- an ordinary step that shows nothing
+-- a step that isn't refused
 pub ordinary_warranted : (space : ℕ) (now : World) (before context : ℕ) (shown : Option (ℤ × ℤ))
     → IfSome shown (IsPairOf space now)
+    → (IsSome shown → IsStatus now (move_of context false shown))
+    → (IsStatus now (move_of context false shown) → IsSome shown)
     → IsWarranted space now before (move_of context false shown)
-ordinary_warranted space now before context shown pair =
-    record { shown = pair; refused = λ is. absurd (true≢false (sym is)) }
+ordinary_warranted space now before context shown pair only each = record {
+  only = only;
+  each = λ _. each;
+  shown = pair;
+  refused = λ is. absurd (true≢false (sym is));
+}
 
+quiet_other : (now : World) (step : Move) → IsQuiet now step → IsStatus now step → ⊥
+quiet_other now step quiet is = let same : nothing ≡ shows_memory = sym quiet ∙ is in cc
+
+-- steps of which nothing is told
 plain_warranted : (space : ℕ) (now : World) (before context count : ℕ)
+    → AllFrom IsQuiet now (replicate count (plain_move context))
     → AllWarrantedFrom space now before (replicate count (plain_move context))
-plain_warranted space now before context zero = tt
-plain_warranted space now before context (suc count) = (
-  ordinary_warranted space now before context None tt,
-  plain_warranted space (after_move now (plain_move context)) (before + 1) context count,
+plain_warranted space now before context zero quiet = tt
+plain_warranted space now before context (suc count) quiet = (
+  ordinary_warranted space now before context None tt (λ some. absurd (cc))
+      (λ is. absurd (quiet_other now (plain_move context) quiet.0 is)),
+  plain_warranted space (after_move now (plain_move context)) (before + 1) context count quiet.1,
 )
 
 -- steps behind others
@@ -89,39 +98,27 @@ module _ (space : ℕ) (program : List ℕ) (schedule : List Entry)
       (behind (move ∷ []) (one, tt))
 
   pub warranted_times : (context count : ℕ)
+      → AllFrom IsQuiet (world program schedule) (replicate count (plain_move context))
       → AllWarranted space program (added_times count schedule (plain_move context))
-  warranted_times context count =
+  warranted_times context count quiet =
       subst (AllWarrantedFrom space (starting_world program) 0)
       (sym (times_moves count schedule (plain_move context)))
       (behind (replicate count (plain_move context))
-      (plain_warranted space (world program schedule) (count_of schedule) context count))
+      (plain_warranted space (world program schedule) (count_of schedule) context count quiet))
 
--- what is kept of what was shown
-pub kept_shown : (P : ℤ × ℤ → Type 0) (note : Note) (shown : Option (ℤ × ℤ)) → IfSome shown P
-    → IfSome (kept_pair (note_of note) shown) P
-kept_shown P Nothing shown one = tt
-kept_shown P TurnEnds shown one = tt
-kept_shown P ShowsMemory shown one = one
-kept_shown P (Wishes number) shown one = tt
-
--- a pair of a memory between two, of which the first has what lives in a world
-pub pair_of_space : (mid new : Heap) (pair : ℤ × ℤ) (now : World)
-    → (IsAddressed mid → (words : ℕ) → Live now words → words ≤ standing_words mid)
-    → AreShown mid new pair → IsPairOf mid.space.size now pair
-pair_of_space mid new pair now lives shown =
-    let same : shown.heap.space.size ≡ mid.space.size =
-    ap (λ (s : Space). s.size) shown.from.space in
-    record {
-      used = shown.heap.used;
-      is = shown.is ∙ ap (λ (n : ℕ). (words_shown shown.heap.used, words_shown n)) same;
-      within = subst (λ (n : ℕ). shown.heap.used ≤ n) same shown.counted.within;
-      lives = λ words live.
-          let need = lives (addressed-kept mid shown.heap shown.from shown.counted.addressed)
-          words live in
-          let kept = standing-kept mid shown.heap shown.from in
-          let counted = shown.counted.counted in
-          omega (arith, need, kept, counted);
-    }
+-- a pair of a memory that has what lives in a world
+pub pair_of_space : (heap : Heap) (pair : ℤ × ℤ) (now : World)
+    → (IsAddressed heap → (words : ℕ) → Live now words → words ≤ standing_words heap)
+    → AreShown heap pair → IsPairOf heap.space.size now pair
+pair_of_space heap pair now lives shown = record {
+  used = heap.used;
+  is = shown.is;
+  within = shown.counted.within;
+  lives = λ words live.
+      let need = lives shown.counted.addressed words live in
+      let counted = shown.counted.counted in
+      omega (arith, need, counted);
+}
 
 -- a context that is ready is left, with its lowest dictionaries
 pub ready_left : (program : List ℕ) (schedule : List Entry) (identifier : ℕ)
@@ -174,4 +171,9 @@ refused_added a b context why space program schedule all =
     warranted_same (record a { schedule = added a.schedule (move_of context true None) }) b space
     program schedule
     (warranted_added a.space a.program a.schedule all (move_of context true None)
-    (record { shown = tt; refused = λ _. why }))
+    (record {
+      only = λ some. absurd (cc);
+      each = λ is. absurd (true≢false is);
+      shown = tt;
+      refused = λ _. why;
+    }))

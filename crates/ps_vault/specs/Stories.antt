@@ -11,6 +11,7 @@ use Rattle.ps_mem.specs.declared.TheConstants.{SLOTS}
 use Rattle.ps_mem.specs.Heap.{Heap, Grants}
 use Rattle.ps_roots.specs.Moved.{IsLeft}
 use Rattle.ps_world.specs.Held.{Held, IsAt, IsSteadyHeld}
+use Rattle.ps_world.specs.Notes.{HasNoStatus}
 use Rattle.ps_vault.specs.Warrants.{AllWarranted}
 
 -- The program, the steps that were made, how many entries find room, and the context whose call
@@ -95,9 +96,12 @@ abbrev pub move_of : (context : ℕ) → (refused : Bool) → (shown : Option (�
 move_of context refused shown =
     record { context = context; refused = refused; shown = shown }
 
--- all is at the world of program and schedule, and the schedule is proper
+-- all is at the world of program and schedule, and the schedule is proper; a call that waits is no
+-- vmstatus that acts
 pub record Keeps (h : Held) (schedule : List Entry) : Type 0 where
   pub steady : IsSteadyHeld h
   pub at : IsAt h (world h.desk.program schedule)
   pub proper : IsProper h.desk.program schedule
   pub longest : is_longest schedule ≡ true
+  pub no_status : IfSome h.calling
+      (λ calling. HasNoStatus (world h.desk.program schedule) calling.caller)

@@ -1,9 +1,11 @@
 -- What the steps of a run may be shown, and when they may be refused (PLRM2, 3.7, 8 'vmstatus',
 -- 'VMerror').
-use Rattle.std.specs.Prelude.{◌≡◌, ℕ, ℤ, ◌+◌, ◌<◌, ◌≤◌, true, IfSome, List, [], ◌∷◌, length}
+use Rattle.std.specs.Prelude.{◌≡◌, ℕ, ℤ, ◌+◌, ◌<◌, ◌≤◌, true, false, IfSome, IsSome, List, [], ◌∷◌, length}
 use Rattle.ps_language.specs.declared.schedules.Entry.{Entry}
+use Rattle.ps_language.specs.Effect.{shows_memory}
 use Rattle.ps_language.specs.Live.{Live, asked_births, asked_words}
 use Rattle.ps_language.specs.Schedules.{Move, moves}
+use Rattle.ps_language.specs.Step.{stepped}
 use Rattle.ps_language.specs.World.{World}
 use Rattle.ps_language.specs.Worlds.{after_move, starting_world}
 use Rattle.ps_word.specs.Headers.{birth_limit}
@@ -18,8 +20,8 @@ pub record IsPairOf (space : ℕ) (now : World) (pair : ℤ × ℤ) : Type 0 whe
   pub lives : (words : ℕ) → Live now words → words ≤ used
 
 -- behind so many steps the numbers of the collector's cycles may have run out
-abbrev pub many : ℕ
-many = 1000000000
+abbrev pub many_steps : ℕ
+many_steps = 1000000000
 
 -- why the step of a context is refused in the world before it, behind so many others: what lives
 -- and what it asks for need more words than there are, or birth numbers have run out, or cycles may
@@ -29,10 +31,17 @@ pub data IsRefusal (space : ℕ) (now : World) (context before : ℕ) : Type 0 w
       → IsRefusal space now context before
   no_births : birth_limit < length now.store + asked_births now context
       → IsRefusal space now context before
-  no_cycles : many ≤ before → IsRefusal space now context before
+  no_cycles : many_steps ≤ before → IsRefusal space now context before
 
--- a step behind so many others is shown such a pair or none, and is refused only for such a reason
+-- a vmstatus acts in the step
+abbrev pub IsStatus : World → Move → Type 0
+IsStatus now step = (stepped now step.context step.refused step.shown).note ≡ shows_memory
+
+-- A step behind so many others is shown such a pair only where a vmstatus acts in it, and each that
+-- isn't refused is shown one there. It is refused only for such a reason
 pub record IsWarranted (space : ℕ) (now : World) (before : ℕ) (step : Move) : Type 0 where
+  pub only : IsSome step.shown → IsStatus now step
+  pub each : step.refused ≡ false → IsStatus now step → IsSome step.shown
   pub shown : IfSome step.shown (IsPairOf space now)
   pub refused : step.refused ≡ true → IsRefusal space now step.context before
 

@@ -1,10 +1,10 @@
 //! All contexts and their memory, with the program and the schedule that they stand for: after
 //! each call they are at the world of that program and that schedule, whatever the memory is.
 
-ghost use Rattle.std.specs.Prelude.{◌≡◌, ◌≢◌, ◌↔◌, ◌+◌, ◌<◌, ◌≤◌, ℕ, ℤ, false, true, Bool, OnOk, OnErr, IfOk, IfErr, IfSome, IfNone, IsTrue, Option, None, IsSome, [], ◌==◌, ◌⊎◌, min, not, nat_eq, vec_capacity, length, if◌then◌else◌};
+ghost use Rattle.std.specs.Prelude.{◌≡◌, ◌≢◌, ◌↔◌, ◌+◌, ◌<◌, ◌≤◌, ℕ, ℤ, false, true, Bool, OnOk, OnErr, IfOk, IfErr, IfSome, IfNone, IsTrue, Option, None, IsSome, List, [], ◌∷◌, ◌++◌, ◌==◌, ◌⊎◌, min, not, nat_eq, vec_capacity, length, if◌then◌else◌};
 ghost use Rattle.ps_language.specs.Contexts.{count_not_ended};
 ghost use Rattle.ps_language.specs.Locks as locks;
-ghost use Rattle.ps_language.specs.Schedules.{added, count_of, moves, plain_move};
+ghost use Rattle.ps_language.specs.Schedules.{Move, added, count_of, moves, plain_move};
 ghost use Rattle.ps_language.specs.Worlds as worlds;
 ghost use Rattle.ps_language.specs.Worlds.{after_move, after_moves, starting_world};
 ghost use Rattle.ps_vault.specs.Order.{IsNoneAbove, IsOnlyLeft, AddsSteps, AllOfOne, NoneEnds, OnlyLastMayEnd, EndsTurn, WishesAs};
@@ -16,6 +16,8 @@ ghost use Rattle.ps_vault.specs.Reports.{all_fit, are_ordinary, are_words, is_me
 ghost use Rattle.ps_vault.specs.declared.reports.TheConstants.{FIRST_ENTRIES};
 ghost use Rattle.ps_vault.specs.Stories.{Story, HasRoom, MayGo, AreWarranted, world_at, move_of};
 ghost use Rattle.ps_vault.specs.Turns.{added_times};
+ghost use Rattle.ps_vault.specs.Warrants.{IsStatus};
+ghost use Rattle.ps_world.specs.Steps.{words_shown};
 
 use crate::reports::{Outcome, Report};
 use crate::schedules::{kept, note, note_turn};
@@ -247,11 +249,11 @@ impl<M: Memory + Drop, S: Interpret + Drop, D: Deeds + Drop> Vault<'_, M, S, D> 
     }
 
     /// Makes a step of a context that is ready, where no other's call waits; a refused one makes no
-    /// object, and a `vmstatus` shows the given pair. No cycle is opened or ended, and no log
-    /// closed. Not made, at the same world, for the reason that is told: room for records, or a
-    /// growth that the step may want; or words or births of the objects that the unrefused step
-    /// makes, for which there is no room. What is used is as before then, unless a call waits that
-    /// didn't before.
+    /// object, and a `vmstatus` shows the given pair and leaves what is used. No cycle is opened or
+    /// ended, and no log closed. Not made, at the same world, for the reason that is told: room for
+    /// records, or a growth that the step may want; or words or births of the objects that the
+    /// unrefused step makes, for which there is no room. What is used is as before then, unless a
+    /// call waits that didn't before.
     pub fn step(
         &mut self,
         context: u32,
@@ -277,6 +279,8 @@ impl<M: Memory + Drop, S: Interpret + Drop, D: Deeds + Drop> Vault<'_, M, S, D> 
         ensures closed { self.new.closed ≡ self.old.closed }
         ensures calling { MayGo self.new context }
         ensures calling_on { OnOk result (self.new.caller ≡ None) }
+        ensures status { OnOk result (IsStatus (world_at self.old) (move_of context refused shown)
+            → self.new.used ≡ self.old.used) }
         ensures not_made { OnErr result (self.new.schedule ≡ self.old.schedule) }
         ensures used { OnErr result ((self.new.caller ≡ None) ⊎ IsSome self.old.caller
             → self.new.used ≡ self.old.used) }
@@ -310,7 +314,8 @@ impl<M: Memory + Drop, S: Interpret + Drop, D: Deeds + Drop> Vault<'_, M, S, D> 
     /// the memory, or zeros. One is made at least, but where it is held up, for the reason that is
     /// told.
     ///
-    /// What is shown is how many words stand just before the step, and the space.
+    /// What is shown is how many words stand just before the step, which are those that stand
+    /// behind it, and the space.
     pub fn advance(&mut self, context: u32, most: u32, shows: bool) -> Advanced
         requires calling { MayGo self.old context }
         requires ready { locks.is_ready (world_at self.old) context ≡ true }
@@ -325,7 +330,10 @@ impl<M: Memory + Drop, S: Interpret + Drop, D: Deeds + Drop> Vault<'_, M, S, D> 
             → are_ordinary (moves self.new.schedule) ≡ true }
         ensures fits { all_fit (moves self.old.schedule) ≡ true
             → all_fit (moves self.new.schedule) ≡ true }
-        ensures warranted { AreWarranted self.old → AreWarranted self.new }
+        ensures warranted { shows ≡ true → AreWarranted self.old → AreWarranted self.new }
+        ensures shown { (before : List Move) (last : Move)
+            → moves self.new.schedule ≡ before ++ last ∷ [] → 1 ≤ result.made → IfSome last.shown
+            (λ pair. pair ≡ (words_shown self.new.used, words_shown self.new.space)) }
         ensures takes { AddsSteps context result.made (moves self.old.schedule)
             (moves self.new.schedule) }
         ensures keeps { result.told ≢ Told.TurnEnds → NoneEnds

@@ -27,7 +27,7 @@ use Rattle.ps_vault.specs.Reports.{all_fit, EndsAs, IsShort, IsStarved, MayWant}
 use Rattle.ps_vault.specs.Holds.{IfForRoom, IsHeldUp}
 use Rattle.ps_vault.specs.Order.{AddsSteps}
 use Rattle.ps_vault.specs.Stories.{Story, MayGo, AreWarranted, LacksRoom, few_words, few_births, world_at}
-use Rattle.ps_vault.specs.Warrants.{IsRefusal, many, no_room, no_births, no_cycles}
+use Rattle.ps_vault.specs.Warrants.{IsRefusal, many_steps, no_room, no_births, no_cycles}
 use Rattle.ps_vault.proofs.Following.{ready_not_over}
 use Rattle.ps_vault.proofs.Reasons.{memory_wanted}
 use Rattle.ps_vault.proofs.Warrants.{ready_left, warranted_same}
@@ -223,10 +223,10 @@ few_flips opened flips more few = by opened (may_open false (one_more_if opened 
 
 -- where no whole cycle could be made, many steps were
 pub many_made : (opened : Bool) (flips made : ℕ) → flips + 2 ≤ 3 * made + 3
-    → may_open false (one_more_if opened flips) ≡ false → many ≤ made
+    → may_open false (one_more_if opened flips) ≡ false → many_steps ≤ made
 many_made opened flips made few none = by opened refl
   where
-    by : (was : Bool) → opened ≡ was → many ≤ made
+    by : (was : Bool) → opened ≡ was → many_steps ≤ made
     by false is =
         let most : cycle_limit ≤ flips + 1 = grind (arith, nat_tests, rw is at none) in
         omega (arith, few, most)

@@ -166,6 +166,8 @@ module _ (asks : Status → Around → Scene → Asked) (d : Desk)
     held_up = λ why bad. absurd (cc);
     same = λ w at. tt;
     waits = λ some. tt;
+    no_status = λ w at. tt;
+    leaves = λ w at is. calls.leaves is;
     caller = tt;
     logs = λ w at ready. calls.logs;
     keeps = calls.keeps;
@@ -239,6 +241,8 @@ module _ (asks : Status → Around → Scene → Asked) (d : Desk)
           (running_there d steady.steady identifier member found w at));
       same = λ w at. λ kept. final_is w at;
       waits = λ some. absurd (cc);
+      no_status = λ w at. tt;
+      leaves = λ w at is. absurd (cc);
       caller = tt;
       logs = λ w at ready. calls.logs;
       keeps = calls.keeps;

@@ -6,8 +6,7 @@ use Rattle.ps_language.specs.Locks.{is_ready}
 use Rattle.ps_language.specs.Machines.{may_end}
 use Rattle.ps_language.specs.World.{Status, World}
 use Rattle.ps_language.specs.Worlds.{after_moves}
-use Rattle.ps_mem.specs.Heap.{birth_at}
-use Rattle.ps_mem.specs.Keeps.{Keeps}
+use Rattle.ps_mem.specs.Heap.{Heap, birth_at}
 use Rattle.ps_ops.specs.declared.failure.NotMade.{NotMade as Reason}
 use Rattle.ps_control.specs.declared.frames.Frame.{Frame}
 use Rattle.ps_acts.specs.Acts.{Asked, AreFew}
@@ -30,14 +29,15 @@ use Rattle.ps_contexts.proofs.Places.{with_item-twice, item_at-with_item, one_th
 use Rattle.ps_contexts.proofs.Settled.{turned_changed}
 use Rattle.ps_contexts.proofs.Stepping.{context_there}
 use Rattle.ps_world.specs.declared.notes.Note.{Note}
+use Rattle.ps_world.specs.declared.notes.Note.TheVariants.{Nothing, ShowsMemory}
 use Rattle.ps_world.specs.Finishes.{settled_desk, settled_held, Finishes}
-use Rattle.ps_world.specs.Held.{Held, held, CourseAt, IsSteadyHeld, course_in}
+use Rattle.ps_world.specs.Held.{Held, held, CourseAt, IsSteadyHeld, MayStep, course_in}
 use Rattle.ps_world.specs.Lending.{LendsDesk, RunsSo, TurnsSo}
-use Rattle.ps_world.specs.Steps.{HasMade, IsCounted, ShowsAt, shown_words, StepsBehind, Steps}
+use Rattle.ps_world.specs.Steps.{AreShown, HasMade, IsCounted, shown_words, StepsBehind, Steps}
 use Rattle.ps_world.proofs.Calling.{none_left}
 use Rattle.ps_world.proofs.Running.{or_false, run_desk, run_steady, run_world, run_made}
-use Rattle.ps_world.proofs.Telling.{shown_between}
-use Rattle.ps_world.proofs.Turned.{turned_is_steady, turned_finishes, unmade_steps}
+use Rattle.ps_world.proofs.Telling.{shown_of}
+use Rattle.ps_world.proofs.Turned.{own_leaves, turned_is_steady, turned_finishes, unmade_steps}
 
 course_framed : (frames : List Frame) → frames ≢ [] → course_after Goes frames ≡ Running
 course_framed [] some = absurd (some refl)
@@ -124,9 +124,10 @@ still_there members after identifier old now found is =
     ∙ item_at-with_item members identifier old (Some now) found)) refl
 
 -- no step is made
-pub made_none : (identifier : ℕ) (h : Held) → IsSteadyHeld h → HasMade identifier 0 h h
+pub made_none : (identifier : ℕ) (h : Held) → IsSteadyHeld h → MayStep h.calling identifier
+    → HasMade identifier 0 h h
 unfolding after_moves
-made_none identifier h steady = record {
+made_none identifier h steady may = record {
   at = λ w at ready. at;
   ready = λ w at ready. refl;
   quiet = λ w at ready. tt;
@@ -134,21 +135,27 @@ made_none identifier h steady = record {
   keeps = keeps-same h.desk.heap;
   steady = steady;
   program = refl;
+  caller = may;
+  first = λ some. (refl, refl);
 }
 
--- a step by itself, that is shown nothing
+-- a step by itself
 pub step_alone : (asks : Status → Around → Scene → Asked) (identifier slot : ℕ)
-    (told : Result Note Reason) (old new : Held) → IsSteadyHeld old
-    → Steps asks identifier (ordinary slot) None told old new
-    → StepsBehind asks identifier slot 0 None told old new
+    (shown : Option (ℤ × ℤ)) (told : Result Note Reason) (old new : Held) → IsSteadyHeld old
+    → MayStep old.calling identifier → Steps asks identifier (ordinary slot) shown told old new
+    → IfSome shown (AreShown old.desk.heap)
+    → StepsBehind asks identifier slot 0 shown told old new
 unfolding after_moves
-step_alone asks identifier slot told old new steady steps = record {
+step_alone asks identifier slot shown told old new steady may steps are = record {
   mid = old;
-  makes = made_none identifier old steady;
+  makes = made_none identifier old steady may;
   ready = λ w at ready. ready;
   steps = steps;
-  shows = tt;
+  shows = λ w at ready is. are;
 }
+
+nothing_shown : (told : Result Note Reason) → told ≡ Ok Nothing → told ≡ Ok ShowsMemory → ⊥
+nothing_shown told nothing shows = cc
 
 -- ---- and its turn behind them
 
@@ -210,19 +217,23 @@ module _ (asks : Status → Around → Scene → Asked) (before after : Desk) (i
   mid_steady = run_steady before steady.steady steady.framed identifier made lends.member
       lends.found runs mid lends.goes_on.makes
 
+  mid_world : (w : World) → IsWorld before w
+      → IsWorld mid_desk (after_moves w (plain_moves identifier made))
+  mid_world = run_world before steady.steady steady.framed identifier made lends.member
+      lends.found runs mid lends.goes_on.makes
+
   mid_ready : (w : World) → IsWorld before w
       → is_ready (after_moves w (plain_moves identifier made)) identifier ≡ true
   mid_ready w at =
       let now = after_moves w (plain_moves identifier made) in
-      let there = run_world before steady.steady steady.framed identifier made lends.member
-      lends.found runs mid lends.goes_on.makes w at in
       own_ready now identifier (context_of mid_desk.heap mid_desk.names mid_member)
-      (context_there mid_desk now there identifier mid_member mid_found)
+      (context_there mid_desk now (mid_world w at) identifier mid_member mid_found)
       (ap (λ (c : Course). may_end (status_of (birth_at mid_desk.heap) c)) mid_runs)
 
   behind : (told : Result Note Reason) (final : Held)
       → Steps asks identifier (ordinary slot) shown told (held mid_desk None) final
-      → ShowsAt (held mid_desk None) final shown
+      → ((w : World) → IsWorld mid_desk w → told ≡ Ok ShowsMemory
+      → IfSome shown (AreShown mid_desk.heap))
       → StepsBehind asks identifier slot made shown told (held before None) final
   behind told final steps shows = record {
     mid = held mid_desk None;
@@ -230,7 +241,7 @@ module _ (asks : Status → Around → Scene → Asked) (before after : Desk) (i
         runs mid lends.goes_on.makes;
     ready = λ w at ready. mid_ready w at;
     steps = steps;
-    shows = shows;
+    shows = λ w at ready. shows (after_moves w (plain_moves identifier made)) (mid_world w at);
   }
 
   -- the turn is made
@@ -249,27 +260,24 @@ module _ (asks : Status → Around → Scene → Asked) (before after : Desk) (i
       behind (Err reason) (held after None)
       (unmade_steps asks None mid_desk after identifier (ordinary slot) shown mid_steady
       mid_course result mid_lends few reason err)
-      (subst (ShowsAt (held mid_desk None) (held after None)) (sym none) tt)
+      (λ w at is. absurd (cc))
 
-  -- what stood stands in the memory that its call is shown, and what stands there after the call
-  called_keeps : Keeps mid.heap after.heap
-  called_keeps = subst (λ (d : Desk). Keeps mid.heap d.heap) (sym lends.is) lends.goes_on.turns.keeps
-
-  settled_keeps : (final : Held) (settled : Desk) (calling : _) → final ≡ held settled calling
-      → Keeps settled.heap final.desk.heap
-  settled_keeps final settled calling same =
-      subst (λ (h : Held). Keeps settled.heap h.desk.heap) (sym same) (keeps-same settled.heap)
-
-  finished_keeps : (turned : Turned) (told : Result Note Reason) (final : Held)
-      → Finishes turned identifier (ordinary slot) shown told
-      (settled_held turned identifier after) final → Keeps after.heap final.desk.heap
-  finished_keeps (Calls operator) told final finishes = (finishes asks).keeps
-  finished_keeps Goes told final finishes =
-      settled_keeps final (settled_desk Goes identifier after) None finishes.1
-  finished_keeps (Breaks cause) told final finishes =
-      settled_keeps final (settled_desk (Breaks cause) identifier after) None finishes.1
-  finished_keeps (Ends faults) told final finishes =
-      settled_keeps final (settled_desk (Ends faults) identifier after) None finishes.1
+  -- the memory that its call is shown is the one before its turn
+  called_shows : (turned : Turned) → result ≡ Ok turned → (told : Result Note Reason)
+      (final : Held) → Finishes turned identifier (ordinary slot) shown told
+      (settled_held turned identifier after) final → IfSome shown (AreShown after.heap)
+      → (w : World) → IsWorld mid_desk w → told ≡ Ok ShowsMemory
+      → IfSome shown (AreShown mid_desk.heap)
+  called_shows (Calls operator) ok told final finishes are w at is =
+      subst (λ (h : Heap). IfSome shown (AreShown h))
+      (ap (λ (d : Desk). d.heap) mid_lends.is
+      ∙ own_leaves asks None mid_desk after identifier (ordinary slot) shown mid_steady mid_course
+      result mid_lends operator ok w at) are
+  called_shows Goes ok told final finishes are w at is = absurd (nothing_shown told finishes.0 is)
+  called_shows (Breaks cause) ok told final finishes are w at is =
+      absurd (nothing_shown told finishes.0 is)
+  called_shows (Ends faults) ok told final finishes are w at is =
+      absurd (nothing_shown told finishes.0 is)
 
   pub behind_finishes : (shows : Bool)
       → shown ≡ (if shows then Some (shown_words after.heap) else None)
@@ -282,5 +290,4 @@ module _ (asks : Status → Around → Scene → Asked) (before after : Desk) (i
       behind told final
       (turned_finishes asks None mid_desk after identifier (ordinary slot) shown mid_steady
       mid_course result mid_lends turned ok told final finishes)
-      (shown_between (held mid_desk None) final after.heap shows shown refl called_keeps
-      (finished_keeps turned told final finishes) is counted)
+      (called_shows turned ok told final finishes (shown_of after.heap shows shown is counted))

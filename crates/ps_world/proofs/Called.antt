@@ -12,7 +12,7 @@ use Rattle.ps_world.specs.declared.worlds.Calling.{Calling}
 use Rattle.ps_world.specs.Calls.{Calls, IsSameDesk}
 use Rattle.ps_world.specs.Held.{held, IsSteadyHeld}
 use Rattle.ps_world.specs.Steps.{Steps}
-use Rattle.ps_world.proofs.Calling.{call_made, call_unmade}
+use Rattle.ps_world.proofs.Calling.{call_made, call_unmade, never_status}
 use Rattle.ps_world.proofs.Starving.{call_held}
 
 -- nothing has changed but what was granted
@@ -30,6 +30,8 @@ module _ (asks : Status → Around → Scene → Asked) (calling : Calling) (tri
       held_up = λ reason bad. absurd (cc);
       same = λ w at. tt;
       waits = λ some. tt;
+      no_status = λ w at. tt;
+      leaves = λ w at is. calls.leaves is;
       caller = tt;
       logs = λ w at ready. calls.logs;
       keeps = calls.keeps;
@@ -48,6 +50,8 @@ module _ (asks : Status → Around → Scene → Asked) (calling : Calling) (tri
           (subst (λ r. Calls calling.operator calling.caller trial shown r old new) is calls);
       same = λ w at. λ kept. calls.same (with_machine calling.caller w at.left) at.world;
       waits = λ some. refl;
+      no_status = λ w at. never_status calling trial old new w at reason shown calls;
+      leaves = λ w at is. absurd (cc);
       caller = refl;
       logs = λ w at ready. calls.logs;
       keeps = calls.keeps;

@@ -14,6 +14,7 @@ use Rattle.ps_world.specs.declared.notes.Note.{Note}
 use Rattle.ps_world.specs.declared.worlds.Calling.{Calling}
 use Rattle.ps_world.specs.Calls.{Calls}
 use Rattle.ps_world.specs.Held.{held, IsCalling}
+use Rattle.ps_world.specs.Notes.{IsNoStatus, HasNoStatus}
 use Rattle.ps_world.specs.Steps.{StepsTo}
 
 -- ---- what is left
@@ -60,3 +61,14 @@ module _ (calling : Calling) (trial : Trial) (shown : Option (ℤ × ℤ)) (old 
     leaves = at.leaves;
     world = calls.meets (with_machine calling.caller w at.left) at.left.context at.world there;
   }
+
+-- what isn't made is no vmstatus that acts, however it is tried
+pub never_status : (calling : Calling) (trial : Trial) (old new : Desk) (w : World)
+    (at : IsCalling calling old w) (reason : Reason) (shown : Option (ℤ × ℤ))
+    → Calls calling.operator calling.caller trial shown (Err reason) old new
+    → HasNoStatus w calling.caller
+never_status calling trial old new w at reason shown calls = λ refused any.
+    subst (λ (s : Stepped). IsNoStatus s.note)
+    (sym (step_calls calling (record { slot = trial.slot; refused = refused }) any old new w at))
+    (calls.no_status (with_machine calling.caller w at.left) at.left.context at.world
+    (there calling trial shown old new w at) refused any)

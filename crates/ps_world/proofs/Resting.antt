@@ -86,6 +86,8 @@ module _ (asks : Status → Around → Scene → Asked) (d : Desk)
     held_up = λ why bad. absurd (cc);
     same = λ w at. tt;
     waits = λ some. tt;
+    no_status = λ w at. tt;
+    leaves = λ w at is. absurd (cc);
     caller = tt;
     logs = λ w at ready. logs-same most_records d.grants trial.slot;
     keeps = keeps-same d.heap;
@@ -111,6 +113,8 @@ module _ (asks : Status → Around → Scene → Asked) (d : Desk)
       held_up = λ why bad. absurd (cc);
       same = λ w at. tt;
       waits = λ some. tt;
+      no_status = λ w at. tt;
+      leaves = λ w at is. absurd (cc);
       caller = tt;
       logs = λ w at ready.
           logs_more 1 most_records d.grants new.grants trial.slot (omega arith) done.logs;
@@ -132,6 +136,8 @@ module _ (asks : Status → Around → Scene → Asked) (d : Desk)
           (done.held_up why (ap (λ r. Err r) (same_reason reason why is)));
       same = λ w at. λ kept. done.unmade;
       waits = λ some. absurd (cc);
+      no_status = λ w at. tt;
+      leaves = λ w at is. absurd (cc);
       caller = tt;
       logs = λ w at ready. done.logs;
       keeps = done.keeps;

@@ -260,4 +260,6 @@ module _ (d : Desk) (steady : IsSteady d) (framed : AreFramed d.members) (identi
     keeps = run.keeps;
     steady = run_steady;
     program = run.stays.program;
+    caller = tt;
+    first = λ some. absurd (cc);
   }

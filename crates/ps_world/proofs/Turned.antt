@@ -3,7 +3,7 @@ use Rattle.std.proofs.Common.{◌≡◌, ℕ, ℤ, Bool, Option, Some, None, Ok,
 use Rattle.std.specs.Prelude.{Result, OnErr}
 use Rattle.ps_language.specs.declared.operators.Operator.{Operator}
 use Rattle.ps_language.specs.Effect.{Around, Scene}
-use Rattle.ps_language.specs.World.{Status}
+use Rattle.ps_language.specs.World.{Status, World}
 use Rattle.ps_mem.specs.Heap.{Heap, Grants}
 use Rattle.ps_mem.proofs.KeepsLemmas.{Keeps-then}
 use Rattle.ps_ops.specs.declared.failure.NotMade.{NotMade as Reason}
@@ -19,7 +19,7 @@ use Rattle.ps_interpreter.specs.Makes.{Runs}
 use Rattle.ps_contexts.specs.declared.contexts.Contexts.{Contexts}
 use Rattle.ps_contexts.specs.declared.members.Member.{Member}
 use Rattle.ps_contexts.specs.Seats.{with_item}
-use Rattle.ps_contexts.specs.Desks.{Desk, lent_to, returned, desk_of, HasFrame, desk_turned}
+use Rattle.ps_contexts.specs.Desks.{Desk, lent_to, returned, desk_of, HasFrame, IsWorld, desk_turned}
 use Rattle.ps_contexts.proofs.Going.{with_item_members}
 use Rattle.ps_contexts.proofs.Places.{one_there}
 use Rattle.ps_contexts.proofs.Settled.{turned_changed}
@@ -133,6 +133,8 @@ module _ (asks : Status → Around → Scene → Asked) (unwinding : Option Caus
           held_up = λ why bad. absurd (cc);
           same = λ w at. tt;
           waits = λ some. tt;
+          no_status = λ w at. tt;
+          leaves = λ w at is. absurd (cc);
           caller = tt;
           logs = λ w at ready. made.logs;
           keeps = made.keeps;
@@ -144,6 +146,13 @@ module _ (asks : Status → Around → Scene → Asked) (unwinding : Option Caus
         }))
 
   module _ (operator : Operator) (ok : result ≡ Ok (Calls operator)) where
+    -- its turn left the memory as it was
+    pub own_leaves : (w : World) → IsWorld before w → l.heap ≡ before.heap
+    own_leaves w at =
+        ((made (Calls operator) ok).meets w.store
+        (member_at (λ one. IsShown (lent_to before one.context) w.store) before.members identifier
+        lends.member at.members lends.found)).did.leaves
+
     calls_at : (final : Held) (told : Result Note Reason)
         → Steps asks identifier trial shown told
         (settled_held (Calls operator) identifier after) final
@@ -165,6 +174,15 @@ module _ (asks : Status → Around → Scene → Asked) (unwinding : Option Caus
               left_waits told (record { caller = identifier; operator = operator }) final.calling
               (IsSameDesk before final.desk) (on.waits refl);
           waits = λ some. absurd (cc);
+          no_status = λ w at.
+              on.no_status w
+              (own_calls asks unwinding before steady.steady steady.framed identifier lends.member
+              lends.found course_is trial l operator (made (Calls operator) ok) w at);
+          leaves = λ w at is.
+              on.leaves w
+              (own_calls asks unwinding before steady.steady steady.framed identifier lends.member
+              lends.found course_is trial l operator (made (Calls operator) ok) w at) is
+              ∙ own_leaves w at;
           caller = on.caller;
           logs = λ w at ready.
               logs_then 0 (spent told most_records) (spent told most_records) before.grants l.grants
@@ -230,6 +248,8 @@ module _ (asks : Status → Around → Scene → Asked) (unwinding : Option Caus
               (member_at (λ one. IsShown (lent_to before one.context) w.store) before.members
               identifier lends.member at.members lends.found)).did.1;
           waits = λ some. absurd (cc);
+          no_status = λ w at. tt;
+          leaves = λ w at is. absurd (cc);
           caller = tt;
           logs = λ w at ready. unmade.logs;
           keeps = unmade.keeps;

@@ -23,8 +23,9 @@ use Rattle.ps_contexts.specs.declared.members.Member.{Member}
 use Rattle.ps_contexts.specs.Seats.{item_at, with_item}
 use Rattle.ps_contexts.specs.Desks.{Desk, desk, IsWorld, IsSteady, AreFramed}
 use Rattle.ps_world.specs.declared.notes.Note.{Note}
+use Rattle.ps_world.specs.declared.notes.Note.TheVariants.{ShowsMemory}
 use Rattle.ps_world.specs.Growth.{Growth, no_growth, growth_for, may_fail}
-use Rattle.ps_world.specs.Notes.{note_of}
+use Rattle.ps_world.specs.Notes.{note_of, IsNoStatus}
 
 -- ---- the desk
 
@@ -96,7 +97,8 @@ CallsTo (Ok note) stepped before new =
     IsWorld new stepped.world × (note_of note ≡ stepped.note)
 CallsTo (Err reason) stepped before new = IsWorld new before
 
--- for every world that the desk is of
+-- For every world that the desk is of. What isn't made is no vmstatus that acts, and one that acts
+-- leaves the memory as it was
 pub record Calls (operator : Operator) (caller : ℕ) (trial : Trial) (shown : Option (ℤ × ℤ))
     (result : Result Note Reason) (old new : Desk) : Type 0 where
   pub meets : (w : World) (context : Context) → IsWorld old w
@@ -113,6 +115,11 @@ pub record Calls (operator : Operator) (caller : ℕ) (trial : Trial) (shown : O
       → IsHeldUpAs (call_wants (calling_of operator) caller trial.refused w context) trial.slot
       new.heap new.grants reason
   pub logs : KeepsLogsWithin (spent result most_records) old.grants new.grants trial.slot
+  pub no_status : (w : World) (context : Context) → IsWorld old w
+      → context_at w caller ≡ Some context → OnErr result ((refused : Bool)
+      (any : Option (ℤ × ℤ)) → IsNoStatus
+      (called (calling_of operator) caller refused any w context).note)
+  pub leaves : result ≡ Ok ShowsMemory → new.heap ≡ old.heap
 
 -- ---- a lock is taken again
 

@@ -18,10 +18,11 @@ use Rattle.ps_acts.specs.Trials.{ordinary}
 use Rattle.ps_contexts.specs.Desks.{IsWorld}
 use Rattle.ps_contexts.specs.Moves.{plain_moves}
 use Rattle.ps_world.specs.declared.notes.Note.{Note}
+use Rattle.ps_world.specs.declared.notes.Note.TheVariants.{ShowsMemory}
 use Rattle.ps_world.specs.declared.runs.Next.{Next}
 use Rattle.ps_world.specs.Calls.{IsHeldUpAs, IsSameDesk}
 use Rattle.ps_world.specs.Held.{Held, IsAt, IsSteadyHeld, MayStep}
-use Rattle.ps_world.specs.Notes.{note_of}
+use Rattle.ps_world.specs.Notes.{note_of, HasNoStatus}
 use Rattle.ps_world.specs.Needs.{step_wants}
 
 -- it comes to the step of the definitions, and the note is theirs; or it is not made, and all is
@@ -32,9 +33,10 @@ StepsTo (Ok note) stepped before new = IsWorld new.desk stepped.world × (new.ca
 StepsTo (Err reason) stepped before new = IsAt new before
 
 -- For every world that it is at, where the context is ready. A step that is not made has its
--- reason, and changes nothing but what was granted, unless a call is newly left by it; a call that
--- waited waits still. What stood goes on standing, the logs are kept, and a call that waits is of
--- this context
+-- reason, and changes nothing but what was granted and how much room there is, unless a call is
+-- newly left by it; a call that waited waits still. No vmstatus that acts waits, and one that acts
+-- leaves the memory as it was. What stood goes on standing, the logs are kept, and a call that
+-- waits is of this context
 pub record Steps (asks : Status → Around → Scene → Asked) (identifier : ℕ) (trial : Trial)
     (shown : Option (ℤ × ℤ)) (result : Result Note Reason) (old new : Held) : Type 0 where
   pub meets : (w : World) → IsAt old w → is_ready w identifier ≡ true
@@ -46,6 +48,9 @@ pub record Steps (asks : Status → Around → Scene → Asked) (identifier : �
   pub same : (w : World) → IsAt old w
       → OnErr result (new.calling ≡ old.calling → IsSameDesk old.desk new.desk)
   pub waits : IsSome old.calling → OnErr result (new.calling ≡ old.calling)
+  pub no_status : (w : World) → IsAt old w
+      → OnErr result (IfSome new.calling (λ calling. HasNoStatus w calling.caller))
+  pub leaves : (w : World) → IsAt old w → result ≡ Ok ShowsMemory → new.desk.heap ≡ old.desk.heap
   pub logs : (w : World) → IsAt old w → is_ready w identifier ≡ true
       → KeepsLogsWithin (spent result most_records) old.desk.grants new.desk.grants trial.slot
   pub keeps : Keeps old.desk.heap new.desk.heap
@@ -69,18 +74,10 @@ pub record IsCounted (heap : Heap) : Type 0 where
   pub within : heap.used ≤ heap.space.size
   pub addressed : IsAddressed heap
 
--- a pair is of a memory between the one before and the one after
-pub record AreShown (old new : Heap) (pair : ℤ × ℤ) : Type 0 where
-  pub heap : Heap
-  pub from : Keeps old heap
-  pub to : Keeps heap new
+-- a pair is of this memory
+pub record AreShown (heap : Heap) (pair : ℤ × ℤ) : Type 0 where
   pub is : pair ≡ shown_words heap
   pub counted : IsCounted heap
-
--- it is shown a pair only where no call waits
-abbrev pub ShowsAt : (mid new : Held) → Option (ℤ × ℤ) → Type 0
-ShowsAt mid new shown =
-    IfSome shown (λ pair. (mid.calling ≡ None) × AreShown mid.desk.heap new.desk.heap pair)
 
 -- ---- many
 
@@ -100,7 +97,7 @@ KeepsOthers identifier now move = (other : ℕ) → other ≢ identifier
 
 -- so many were made, from every world that it was at where the context was ready, each while it
 -- was; nothing is told of them, they leave every other context as it is, and what stood goes on
--- standing
+-- standing. Where a call waits, which is of this context, none was made
 pub record HasMade (identifier made : ℕ) (old new : Held) : Type 0 where
   pub at : (w : World) → IsAt old w → is_ready w identifier ≡ true
       → IsAt new (after_moves w (plain_moves identifier made))
@@ -113,8 +110,11 @@ pub record HasMade (identifier made : ℕ) (old new : Held) : Type 0 where
   pub keeps : Keeps old.desk.heap new.desk.heap
   pub steady : IsSteadyHeld new
   pub program : new.desk.program ≡ old.desk.program
+  pub caller : MayStep new.calling identifier
+  pub first : IsSome new.calling → (made ≡ 0) × (new ≡ old)
 
--- so many were made, and the step behind them, of the same context, came to this
+-- so many were made, and the step behind them, of the same context, came to this: a vmstatus that
+-- acts in it is shown the memory just before it
 pub record StepsBehind (asks : Status → Around → Scene → Asked) (identifier slot made : ℕ)
     (shown : Option (ℤ × ℤ)) (result : Result Note Reason) (old new : Held) : Type 0 where
   pub mid : Held
@@ -122,7 +122,8 @@ pub record StepsBehind (asks : Status → Around → Scene → Asked) (identifie
   pub ready : (w : World) → IsAt old w → is_ready w identifier ≡ true
       → is_ready (after_moves w (plain_moves identifier made)) identifier ≡ true
   pub steps : Steps asks identifier (ordinary slot) shown result mid new
-  pub shows : ShowsAt mid new shown
+  pub shows : (w : World) → IsAt old w → is_ready w identifier ≡ true → result ≡ Ok ShowsMemory
+      → IfSome shown (AreShown mid.desk.heap)
 
 -- in no world that it is at the context is ready
 abbrev pub IsUnready : (identifier : ℕ) → Held → Type 0

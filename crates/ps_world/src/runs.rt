@@ -1,6 +1,6 @@
 //! Many steps of one context (PLRM2, 3.5, 7.1).
 
-ghost use Rattle.std.specs.Prelude.{◌≡◌, ◌<◌, ◌≤◌, false, Some, None, IsSome, IsNone, IfSome, if◌then◌else◌};
+ghost use Rattle.std.specs.Prelude.{◌≡◌, ◌<◌, ◌≤◌, Some, None, IsSome, IsNone, IfOk, IfSome, is_some, if◌then◌else◌};
 ghost use Rattle.ps_contexts.specs.Seats.{item_at};
 ghost use Rattle.ps_world.specs.Calls.{over};
 ghost use Rattle.ps_world.specs.Held.{held, CourseAt, IsSteadyHeld, MayStep, course_in};
@@ -62,8 +62,7 @@ impl World<'_> {
     /// Makes ordinary steps of a context one after another, at most so many, as long as it goes on
     /// by itself, and tells what the step behind them came to, which may call an operator on other
     /// contexts; of a context that doesn't run, or whose call waits, that step alone. Shows says
-    /// whether `vmstatus` shows the memory, or three zeros. Where its call waits it shows zeros: it
-    /// has raised an error, and raises it again.
+    /// whether `vmstatus` shows the memory just before its step, or three zeros.
     pub fn go_on<S: Interpret, D: Deeds, M: Memory>(
         &mut self,
         interpret: &mut S,
@@ -83,7 +82,8 @@ impl World<'_> {
             self.old.calling) }
         ensures within { result.made ≤ most }
         ensures fewer { IsSome result.next → result.made < most }
-        ensures hidden { IfSome result.next (λ next. shows ≡ false → next.shown ≡ None) }
+        ensures shown { IfSome result.next
+            (λ next. IfOk next.told (λ note. is_some next.shown ≡ shows)) }
         ensures ended { IsNone result.next → result.made < most → IsUnready identifier
             (held (over (M.heap memory.new) (M.grants memory.new) self.new.contexts)
             self.new.calling) }
@@ -98,14 +98,15 @@ impl World<'_> {
         if self.calling.is_none() && course == Course::Running {
             return self.run(interpret, deeds, memory, identifier, slot, most, shows);
         }
+        let shown = shown_by(memory, shows);
         let trial = Trial {
             slot,
             refused: false,
         };
-        let told = self.step(interpret, deeds, memory, identifier, trial, None);
+        let told = self.step(interpret, deeds, memory, identifier, trial, shown);
         Advance {
             made: 0,
-            next: Some(Next { told, shown: None }),
+            next: Some(Next { told, shown }),
         }
     }
 
@@ -127,7 +128,8 @@ impl World<'_> {
             (held (over (M.heap memory.old) (M.grants memory.old) self.old.contexts) None) }
         ensures within { result.made ≤ most }
         ensures fewer { IsSome result.next → result.made < most }
-        ensures hidden { IfSome result.next (λ next. shows ≡ false → next.shown ≡ None) }
+        ensures shown { IfSome result.next
+            (λ next. IfOk next.told (λ note. is_some next.shown ≡ shows)) }
         ensures ended { IsNone result.next → result.made < most → IsUnready identifier
             (held (over (M.heap memory.new) (M.grants memory.new) self.new.contexts)
             self.new.calling) }

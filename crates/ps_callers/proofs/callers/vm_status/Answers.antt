@@ -4,7 +4,7 @@ use Rattle.ps_acts.specs.Lent.{Lent, lent}
 use Rattle.ps_contexts.specs.declared.members.Member.{Member}
 use Rattle.ps_contexts.specs.Desks.{Desk}
 use Rattle.ps_world.specs.Calls.{over}
-use Rattle.ps_callers.proofs.AloneDone.{status_done, status_undone}
+use Rattle.ps_callers.proofs.AloneDone.{raised_only, status_done, status_undone}
 use Rattle.ps_callers.proofs.Ending.{runs_by}
 use Rattle.ps_callers.proofs.callers.vm_status.Goals as goal
 
@@ -18,7 +18,7 @@ returns-in-Ok g c = λ trial.
     let member : Member = c.get_mut-member.result.now in
     let found = sym c.get_mut-member.ensures.value in
     status_done c.args.caller trial c.args.shown d c.requires.steady member found
-    (runs_by d.members c.args.caller member found c.requires.runs) new
+    (runs_by d.members c.args.caller member found c.requires.runs) new c.in-Ok.ensures.heap
     (c.in-Ok.ensures.acts trial)
 
 pub returns-in-Err : goal.returns-in-Err
@@ -32,4 +32,5 @@ returns-in-Err g c = λ trial.
     let found = sym c.get_mut-member.ensures.value in
     status_undone c.args.caller trial c.args.shown d c.requires.steady member found
     (runs_by d.members c.args.caller member found c.requires.runs) new c.in-Err.why
+    (λ reason. raised_only c.in-Err.why reason c.in-Err.ensures.error)
     (c.in-Err.ensures.acts trial)

@@ -5,7 +5,7 @@ use Rattle.ps_language.specs.declared.schedules.Entry.{Entry}
 use Rattle.ps_language.specs.Effect as effect
 use Rattle.ps_language.specs.Effect.{turn_ends}
 use Rattle.ps_language.specs.Locks.{is_ready}
-use Rattle.ps_language.specs.Schedules.{Move, plain_move, count_of, moves}
+use Rattle.ps_language.specs.Schedules.{Move, added, plain_move, count_of, moves}
 use Rattle.ps_language.specs.Worlds.{starting_world, world}
 use Rattle.ps_language.proofs.ScheduleLaws.{count_of-added}
 use Rattle.ps_world.specs.Notes.{note_of}
@@ -19,7 +19,9 @@ use Rattle.ps_vault.proofs.Following.{times_noted}
 use Rattle.ps_mem.specs.Heap.{Space}
 use Rattle.ps_vault.proofs.Keeping.{caller_there, may_step}
 use Rattle.ps_vault.proofs.Reasons.{for_room}
-use Rattle.ps_vault.proofs.Advancing.{keeps_made, count_times, move_fits, all_added, all_times, some_made, tell_made, tell_mid, tell_behind, others_behind, nothing_ends, nothing_wishes, ends_noted, wish_noted, no_wish_noted, keeps_behind, ends_behind, keeps_held, held_behind, kept_none, alone_made, alone_mid, alone_behind, left_held, same_space, same_space_behind, warranted_made, warranted_held, warranted_behind, words_behind}
+use Rattle.ps_vault.proofs.Advancing.{keeps_made, count_times, move_fits, all_added, all_times, some_made, tell_made, nothing_ends, nothing_wishes, ends_noted, wish_noted, no_wish_noted, last_made, alone_made, same_space, warranted_made}
+use Rattle.ps_vault.proofs.Behind.{tell_mid, tell_behind, others_behind, keeps_behind, ends_behind, keeps_held, held_behind, last_mid, shown_behind, alone_mid, alone_behind, left_held, same_space_behind, warranted_held, warranted_behind, words_behind}
+use Rattle.ps_vault.proofs.Showing.{kept_none}
 use Rattle.ps_vault.proofs.Ordering.{adds_times, adds_one, adds_more}
 use Rattle.ps_vault.proofs.vaults.Vault.advance.Given as givens
 use Rattle.ps_vault.proofs.vaults.Vault.advance.Goals as goal
@@ -162,12 +164,19 @@ returns-in_default-clause-alone g c = λ left.
     (rw c.in_default.is at c.go_on-made.ensures.makes) (only_inside g at left)))
 
 pub returns-in_default-clause-warranted : goal.returns-in_default-clause-warranted
-returns-in_default-clause-warranted g c = λ all.
+returns-in_default-clause-warranted g c = λ _ all.
     rw c.note_turn.ensures.added
     (warranted_made c.args.context c.go_on-made.result.made _ _ c.self.inside.schedule.items
     c.self.invariant (ready_before g (goal.at.returns-in_default-clause-warranted g c).After-go_on-made)
     (rw c.in_default.is at c.go_on-made.ensures.makes)
     (warranted_inside g (goal.at.returns-in_default-clause-warranted g c).After-note_turn all))
+
+pub returns-in_default-clause-shown : goal.returns-in_default-clause-shown
+returns-in_default-clause-shown g c = λ before last is some.
+    last_made c.args.context c.go_on-made.result.made _ _ c.self.inside.schedule.items
+    c.self.invariant (ready_before g (goal.at.returns-in_default-clause-shown g c).After-go_on-made)
+    (rw c.in_default.is at c.go_on-made.ensures.makes) _ some before last
+    (ap moves (sym c.note_turn.ensures.added) ∙ is)
 
 pub returns-in_default-clause-space : goal.returns-in_default-clause-space
 returns-in_default-clause-space g c =
@@ -271,13 +280,21 @@ returns-in-Err-clause-left g c = λ held left.
     (rw (c.in-Some.is, c.in-Err.is) at c.go_on-made.ensures.makes) (only_inside g at left))
 
 pub returns-in-Err-clause-warranted : goal.returns-in-Err-clause-warranted
-returns-in-Err-clause-warranted g c = λ all.
+returns-in-Err-clause-warranted g c = λ _ all.
     rw c.note_turn.ensures.added
     (warranted_held g.S.Interpret.asks c.args.context c.slot_of.result c.go_on-made.result.made
     c.in-Some.next.shown _ _ c.self.inside.schedule.items c.self.invariant
     (ready_before g (goal.at.returns-in-Err-clause-warranted g c).After-go_on-made) c.in-Err.reason
     (rw (c.in-Some.is, c.in-Err.is) at c.go_on-made.ensures.makes)
     (warranted_inside g (goal.at.returns-in-Err-clause-warranted g c).After-note_turn all))
+
+pub returns-in-Err-clause-shown : goal.returns-in-Err-clause-shown
+returns-in-Err-clause-shown g c = λ before last is some.
+    last_mid g.S.Interpret.asks c.args.context c.slot_of.result c.go_on-made.result.made
+    c.in-Some.next.shown _ _ c.self.inside.schedule.items c.self.invariant
+    (ready_before g (goal.at.returns-in-Err-clause-shown g c).After-go_on-made) (Err c.in-Err.reason)
+    (rw (c.in-Some.is, c.in-Err.is) at c.go_on-made.ensures.makes) _ some before last
+    (ap moves (sym c.note_turn.ensures.added) ∙ is)
 
 pub returns-in-Err-clause-space : goal.returns-in-Err-clause-space
 returns-in-Err-clause-space g c =
@@ -350,14 +367,26 @@ returns-clause-fits g c =
     (plain_fits g (goal.at.After-note g at).After-note_turn) (behind_fits g at)
 
 pub returns-clause-warranted : goal.returns-clause-warranted
-returns-clause-warranted g c = λ all.
+returns-clause-warranted g c = λ shows all.
     rw (c.note.ensures.added, c.note_turn.ensures.added)
     (warranted_behind g.S.Interpret.asks c.args.context c.slot_of.result c.go_on-made.result.made
     c.in-Some.next.shown _ _ c.self.inside.schedule.items c.self.invariant
     (ready_before g (goal.at.returns-clause-warranted g c).After-go_on-made)
     c.in-Ok.told (rw (c.in-Some.is, c.in-Ok.is) at c.go_on-made.ensures.makes)
     c.kept-kept.result c.kept-kept.ensures
+    ((rw (c.in-Some.is, c.in-Ok.is) at c.go_on-made.ensures.shown) ∙ shows)
     (warranted_inside g (goal.at.returns-clause-warranted g c).After-note_turn all))
+
+pub returns-clause-shown : goal.returns-clause-shown
+returns-clause-shown g c = λ before last is some.
+    shown_behind g.S.Interpret.asks c.args.context c.slot_of.result c.go_on-made.result.made
+    c.in-Some.next.shown _ _ c.self.inside.schedule.items c.self.invariant
+    (ready_before g (goal.at.returns-clause-shown g c).After-go_on-made)
+    c.in-Ok.told (rw (c.in-Some.is, c.in-Ok.is) at c.go_on-made.ensures.makes)
+    c.kept-kept.result c.kept-kept.ensures before last
+    (ap (λ (entries : List Entry). moves (added entries
+    (move_of c.args.context false c.kept-kept.result))) (sym c.note_turn.ensures.added)
+    ∙ ap moves (sym c.note.ensures.added) ∙ is)
 
 pub returns-clause-space : goal.returns-clause-space
 returns-clause-space g c =
@@ -424,11 +453,11 @@ module _ (g : givens.Over) (c : After-note g) where
   abbrev entries_behind : List Entry
   entries_behind = c.note.new.schedule.items
 
-  -- by whether it is a vmreclaim
-  wishes_as : (wish : Option ℤ) → wish_in c.in-Ok.told ≡ wish
-      → WishesAs wish (starting_world c.args.self.now.program) c.args.context
+  -- it is no vmreclaim
+  wishes_none : wish_in c.in-Ok.told ≡ None
+      → WishesAs None (starting_world c.args.self.now.program) c.args.context
       (moves c.args.self.now.schedule) (moves entries_behind)
-  wishes_as None is =
+  wishes_none is =
       of_story g (goal.at.After-note g c).After-note_turn
       (λ p entries. AllTell IsNoWish (starting_world p) (moves entries) (moves entries_behind))
       (rw (c.note.ensures.added, c.note_turn.ensures.added)
@@ -438,7 +467,12 @@ module _ (g : givens.Over) (c : After-note g) where
       c.in-Ok.told (rw (c.in-Some.is, c.in-Ok.is) at c.go_on-made.ensures.makes)
       IsNoWish nothing_wishes c.kept-kept.result
       (no_wish_noted c.in-Ok.told is)))
-  wishes_as (Some number) is =
+
+  -- it is one
+  wishes_last : (number : ℤ) → wish_in c.in-Ok.told ≡ Some number
+      → WishesLast number (starting_world c.args.self.now.program) c.args.context
+      (moves c.args.self.now.schedule) (moves entries_behind)
+  wishes_last number is =
       of_story g (goal.at.After-note g c).After-note_turn
       (λ p entries. WishesLast number (starting_world p) c.args.context (moves entries)
       (moves entries_behind))
@@ -456,6 +490,12 @@ module _ (g : givens.Over) (c : After-note g) where
             c.kept-kept.result (effect.wishes number)
             (wish_noted c.in-Ok.told number is);
       }))
+
+  wishes_as : (wish : Option ℤ) → wish_in c.in-Ok.told ≡ wish
+      → WishesAs wish (starting_world c.args.self.now.program) c.args.context
+      (moves c.args.self.now.schedule) (moves entries_behind)
+  wishes_as None is = wishes_none is
+  wishes_as (Some number) is = wishes_last number is
 
 pub returns-clause-wish : goal.returns-clause-wish
 returns-clause-wish g c =
@@ -476,10 +516,9 @@ returns-clause-alone g c = λ left.
 
 pub returns-clause-plain : goal.returns-clause-plain
 returns-clause-plain g c = λ hides.
-    let hidden : c.in-Some.next.shown ≡ None =
-    (rw c.in-Some.is at c.go_on-made.ensures.hidden) hides in
     let none : c.kept-kept.result ≡ None = c.kept-kept.ensures
-    ∙ kept_none c.in-Ok.told c.in-Some.next.shown hidden in
+    ∙ kept_none c.in-Ok.told c.in-Some.next.shown
+    ((rw (c.in-Some.is, c.in-Ok.is) at c.go_on-made.ensures.shown) ∙ hides) in
     times_noted c.go_on-made.result.made c.args.self.now.schedule c.note_turn.new.schedule.items
     c.note.new.schedule.items c.args.context c.kept-kept.result
     (noted g (goal.at.returns-clause-plain g c).After-note_turn) none c.note.ensures.added

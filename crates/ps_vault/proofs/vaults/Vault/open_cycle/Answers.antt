@@ -4,5 +4,5 @@ use Rattle.ps_vault.proofs.vaults.Vault.open_cycle.Goals as goal
 
 pub invariant_of-self : goal.invariant_of-self
 invariant_of-self g c =
-    keeps_collected _ _ c.self.inside.schedule.items
+    keeps_collected _ _ _ c.self.inside.schedule.items
     (c.open_cycle.ensures.kept c.self.inside.world.calling) c.self.invariant

@@ -8,7 +8,8 @@ use Rattle.ps_language.specs.Worlds.{after_move, world}
 use Rattle.ps_mem.specs.Heap.{Heap, Space}
 use Rattle.ps_vault.specs.Reports.{all_fit, fits}
 use Rattle.ps_vault.specs.Stories.{Story, world_at, move_of}
-use Rattle.ps_vault.proofs.Keeping.{caller_of, caller_there, keeps_step, may_step, same_closed, same_cycle, world_added}
+use Rattle.ps_vault.specs.Warrants.{IsStatus}
+use Rattle.ps_vault.proofs.Keeping.{caller_of, caller_there, keeps_step, may_step, same_closed, same_cycle, status_leaves, world_added}
 use Rattle.ps_vault.proofs.Reasons.{for_room, heap_left, held_step}
 use Rattle.ps_vault.proofs.Advancing.{all_added, move_fits}
 use Rattle.ps_vault.proofs.vaults.Vault.step.Goals as goal
@@ -44,6 +45,17 @@ returns-in-Ok-clause-fits g c = λ words before.
     (move_fits c.args.context c.args.refused c.args.shown
     (let few = c.ranges.context.fits in omega (arith, few)) words)
     (ap (λ (s : Story). all_fit (moves s.schedule)) c.self.view_is ∙ before)
+
+pub returns-in-Ok-clause-status : goal.returns-in-Ok-clause-status
+returns-in-Ok-clause-status g c = λ status.
+    ap (λ (h : Heap). h.used)
+    (status_leaves g.S.Interpret.asks c.args.context _ c.args.shown _ _
+    c.self.inside.schedule.items c.self.invariant
+    (ap (λ (s : Story). is_ready (world_at s) c.args.context) c.self.view_is ∙ c.requires.ready)
+    c.in-Ok.field-0 (rw c.in-Ok.is at c.step-told.ensures)
+    (subst (λ (s : Story). IsStatus (world_at s)
+    (move_of c.args.context c.args.refused c.args.shown)) (sym c.self.view_is) status))
+    ∙ ap (λ (s : Story). s.used) c.self.view_is
 
 pub returns-in-Err-clause-held_up : goal.returns-in-Err-clause-held_up
 returns-in-Err-clause-held_up g c =

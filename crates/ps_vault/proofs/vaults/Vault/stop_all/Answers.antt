@@ -10,7 +10,7 @@ use Rattle.ps_vault.proofs.vaults.Vault.stop_all.Goals as goal
 
 pub invariant_of-self : goal.invariant_of-self
 invariant_of-self g c =
-    keeps_collected _ _ c.self.inside.schedule.items
+    keeps_collected _ _ _ c.self.inside.schedule.items
     (c.stop_all.ensures.kept c.self.inside.world.calling) c.self.invariant
 
 pub returns-clause-lives : goal.returns-clause-lives

@@ -10,5 +10,5 @@ try_flip-requires-clause-open g c =
 
 pub invariant_of-self : goal.invariant_of-self
 invariant_of-self g c =
-    keeps_collected _ _ c.self.inside.schedule.items
+    keeps_collected _ _ _ c.self.inside.schedule.items
     (c.try_flip.ensures.kept c.self.inside.world.calling) c.self.invariant

@@ -60,7 +60,7 @@ module _ (g : givens.Over) (c : After-advance-advanced g) where
 
   -- what is shown is of the space
   warranted_on : AreWarranted c.args.self.now → AreWarranted c.advance-advanced.new.self
-  warranted_on all = c.advance-advanced.ensures.warranted
+  warranted_on all = c.advance-advanced.ensures.warranted refl
       (warranted_same c.loop-context.self c.reserve_entries.new.self c.reserve_entries.ensures.space
       c.reserve_entries.ensures.program c.reserve_entries.ensures.schedule
       (c.loop-context.invariant.warranted all))

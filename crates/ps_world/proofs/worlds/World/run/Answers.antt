@@ -2,6 +2,7 @@
 use Rattle.std.proofs.Common.{None, Ok, Err, refl}
 use Rattle.ps_world.proofs.Behind.{run_settles, run_left, still_there, behind_is_steady, behind_finishes, behind_unmade}
 use Rattle.ps_world.proofs.Ended.{run_ended}
+use Rattle.ps_world.proofs.Telling.{if_ok, shown_if}
 use Rattle.ps_world.proofs.Turned.{lends_desk, lends_runs}
 use Rattle.ps_world.proofs.worlds.World.run.Goals as goal
 
@@ -68,6 +69,11 @@ finish-told-requires-clause-steady g c =
     c.run_of-framed.result.run.made c.shown_by-shown.result c.requires.steady c.requires.course
     (Ok c.in-Ok.turned) (rw (c.in-Some.is, c.in-Ok.is) at (lends_runs _ _ _ _ _ _ _ _ _
     (lends_desk c.args.identifier _ _ _ _ _ _ _ c.run_of-framed.ensures.lends))) c.in-Ok.turned refl)
+
+pub returns-clause-shown : goal.returns-clause-shown
+returns-clause-shown g c =
+    if_ok c.finish-told.result
+    (shown_if _ c.args.shows c.shown_by-shown.result c.shown_by-shown.ensures.shown)
 
 pub returns-clause-makes : goal.returns-clause-makes
 returns-clause-makes g c =
