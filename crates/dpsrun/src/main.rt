@@ -12,9 +12,9 @@ use ps_dispatch::operators::Operators;
 use ps_run::{FileSet, Flushed, ReadFault, WriteFault, drive, refuse_no_text};
 use std::alloc::Global;
 use std::env;
-use std::fs::{self, File};
+use std::fs::{self, File, Files};
 use std::hash::RandomState;
-use std::io::{self, Lock, Read, StdinLock};
+use std::io::{self, Lock, Read, StdinLock, Write};
 use std::process::ExitCode;
 use std::sync::Wait;
 use std::thread::Threads;
@@ -77,6 +77,46 @@ fn read_part<R: Read>(reader: &mut R, most: usize, bytes: &mut Vec<u8>) -> Resul
     Err(ReadFault::NoRead)
 }
 
+/// How many names beside that of a file are tried.
+const BESIDE_NAMES: u32 = 16;
+
+/// Makes a file beside that of a name, to be put in its place: of that name with `.part` and a number
+/// behind it, which no file had.
+fn file_beside(rt: &HostRuntime, name: &str) -> io::Result<(String, File)> {
+    for number in 1..=BESIDE_NAMES {
+        let beside = format!(in rt.alloc(); "{name}.part{number}")?;
+        match File::create_new(rt, beside.as_str()) {
+            Ok(file) => return Ok((beside, file)),
+            Err(error) if error.kind() == io::ErrorKind::AlreadyExists => {}
+            Err(error) => return Err(error),
+        }
+    }
+    Err(io::Error::from(io::ErrorKind::AlreadyExists))
+}
+
+/// Puts bytes in the place of a file, or makes it: they are written beside it, and what has them takes
+/// its name. Where that fails, as on a full disk, the file is as it was.
+fn replace_file(rt: &HostRuntime, name: &str, bytes: &[u8]) -> io::Result<()> {
+    let (beside, mut file) = file_beside(rt, name)?;
+    let written = file
+        .write_all(bytes)
+        .and_then(|()| fs::rename(rt, beside.as_str(), name));
+    if written.is_err() {
+        let _ = fs::remove_file(rt, beside.as_str());
+    }
+    written
+}
+
+/// Writes a file: an ordinary one, or one that isn't there, is replaced, and another, as a device, a
+/// pipe or a link, takes the bytes.
+fn write_file(rt: &HostRuntime, name: &str, bytes: &[u8]) -> io::Result<()> {
+    match rt.symlink_metadata(name) {
+        Ok(known) if known.is_file() => replace_file(rt, name, bytes),
+        Err(error) if error.kind() == io::ErrorKind::NotFound => replace_file(rt, name, bytes),
+        Ok(_) | Err(_) => fs::write(rt, name, bytes),
+    }
+}
+
 impl SystemFiles<'_> {
     /// The file of a name, opened.
     fn opened(&self, name: &str) -> Result<Opened, ReadFault> {
@@ -117,7 +157,7 @@ impl FileSet for SystemFiles<'_> {
     }
 
     fn write(&mut self, name: &str, bytes: &[u8]) -> Result<(), WriteFault> {
-        if fs::write(self.rt, name, bytes).is_err() {
+        if write_file(self.rt, name, bytes).is_err() {
             self.unwritten = true;
             return Err(WriteFault::NoWrite);
         }

@@ -88,7 +88,7 @@ module _ (row : Row) (trial : Trial) (asks : Scene → Asked) (l : Lent) where
             empty = empty;
           };
           keeps = keeps-same l.heap;
-          stays = stays_as l _ refl refl refl (omega (arith, more)) least;
+          stays = stays_as l _ refl refl refl refl (omega (arith, more)) least;
           logs = subst (λ (n : ℕ). KeepsLogsWithin n l.grants grants trial.slot) (sym none) logs;
           framed = framed;
         }

@@ -223,7 +223,7 @@ module _ (l : Lent) (good : IsGood l) (trial : Trial) (new : Heap) (left : Grant
           (did.meets l.names store shown.shows shown.operands);
       good = changed_good l good new left after keeps ready;
       keeps = keeps;
-      stays = stays_as l _ refl refl refl (omega arith) (at_least-same _);
+      stays = stays_as l _ refl refl refl refl (omega arith) (at_least-same _);
       logs = tried_logs result _ _ l.grants left trial.slot (one_record _) (logs l.names);
       framed = tried_framed l.frames result;
     }
@@ -313,7 +313,7 @@ module _ (l : Lent) (good : IsGood l) (trial : Trial) (new : Heap) (left : Grant
         (did.meets l.names store shown.shows shown.operands);
     good = changed_good l good new left after keeps ready;
     keeps = keeps;
-    stays = stays_as l _ refl refl refl (omega arith) (at_least-same _);
+    stays = stays_as l _ refl refl refl refl (omega arith) (at_least-same _);
     logs = logs_more 0 _ l.grants left trial.slot (omega arith) logs;
     framed = tried_framed l.frames result;
   }

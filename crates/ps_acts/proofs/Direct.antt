@@ -82,7 +82,7 @@ module _ (row : Row) (trial : Trial) (asks : Scene → Asked) (l : Lent) (after 
             names = well.names;
             first = well.first;
             empty = empty;
-          }) keeps (stays_as l later_lent refl refl refl (omega arith) least) logs
+          }) keeps (stays_as l later_lent refl refl refl refl (omega arith) least) logs
           (λ store shown. made_store store shown (leaves store shown))
 
     -- operands alone

@@ -139,6 +139,7 @@ module _ (l : Lent) (more names : List (List ℕ)) (are : names ≡ l.names ++ m
       keeps = keeps-same l.heap;
       stays = record {
         program = refl;
+        most = refl;
         error_dictionary = refl;
         formed = more;
         names = are;
@@ -185,7 +186,7 @@ module _ (l : Lent) (more names : List (List ℕ)) (are : names ≡ l.names ++ m
         empty = good.empty;
       };
       keeps = keeps-same l.heap;
-      stays = stays_as l _ refl refl refl (omega arith) (at_least-same _);
+      stays = stays_as l _ refl refl refl refl (omega arith) (at_least-same _);
       logs = logs;
       framed = refl;
     }
@@ -241,6 +242,7 @@ module _ (l : Lent) (more names : List (List ℕ)) (are : names ≡ l.names ++ m
       keeps = acts.keeps;
       stays = record {
         program = acts.stays.program;
+        most = acts.stays.most;
         error_dictionary = acts.stays.error_dictionary;
         formed = more ++ acts.stays.formed;
         names = acts.stays.names
@@ -353,6 +355,7 @@ module _ (l : Lent) (more names : List (List ℕ)) (are : names ≡ l.names ++ m
       keeps = acts.keeps;
       stays = record {
         program = acts.stays.program;
+        most = acts.stays.most;
         error_dictionary = acts.stays.error_dictionary;
         formed = [];
         names = sym (append-nil l.names);

@@ -159,7 +159,7 @@ module _ (l : Lent) (good : IsGood l) (trial : Trial) (after : List Word) where
         (did.meets l.names store good.first shown.shows shown.operands);
     good = changed_good l good l.heap l.grants after (keeps-same l.heap) ready;
     keeps = keeps-same l.heap;
-    stays = stays_as l _ refl refl refl (omega arith) (at_least-same _);
+    stays = stays_as l _ refl refl refl refl (omega arith) (at_least-same _);
     logs = logs-same _ l.grants trial.slot;
     framed = made_framed _ result (unframed _ refl result);
   }
@@ -265,7 +265,7 @@ module _ (l : Lent) (good : IsGood l) (operands : List Word) (frames : List Fram
       empty = good.empty;
     };
     keeps = keeps-same l.heap;
-    stays = stays_as l _ refl refl refl (omega arith) (at_least-same _);
+    stays = stays_as l _ refl refl refl refl (omega arith) (at_least-same _);
     logs = logs-same _ l.grants trial.slot;
     framed = made_framed _ result framed;
   }
@@ -283,7 +283,7 @@ unwinds_acts l good trial effect cause is = record {
       (logs-same 0 l.grants trial.slot));
   good = good;
   keeps = keeps-same l.heap;
-  stays = stays_as l l refl refl refl (omega arith) (at_least-same _);
+  stays = stays_as l l refl refl refl refl (omega arith) (at_least-same _);
   logs = logs-same _ l.grants trial.slot;
   framed = refl;
 }

@@ -60,11 +60,12 @@ at_least-same rooms =
     record { text = omega arith; sought = omega arith; words = omega arith }
 
 pub stays_as : (old new : Lent) → new.program ≡ old.program
-    → new.error_dictionary ≡ old.error_dictionary → new.names ≡ old.names
+    → new.error_dictionary ≡ old.error_dictionary → new.names ≡ old.names → new.most ≡ old.most
     → length old.printed + old.room ≤ length new.printed + new.room
     → IsAtLeast (rooms_of old.scratch) (rooms_of new.scratch) → Stays old new
-stays_as old new program address names capacity scratch = record {
+stays_as old new program address names most capacity scratch = record {
   program = program;
+  most = most;
   error_dictionary = address;
   formed = [];
   names = subst (λ (ns : List (List ℕ)). ns ≡ old.names ++ []) (sym names)
@@ -96,6 +97,7 @@ stays_then old mid new one other =
     let more = other.capacity in
     record {
       program = other.program ∙ one.program;
+      most = other.most ∙ one.most;
       error_dictionary = other.error_dictionary ∙ one.error_dictionary;
       formed = one.formed ++ other.formed;
       names = other.names ∙ (ap (λ (ns : List (List ℕ)). ns ++ other.formed) one.names

@@ -50,7 +50,7 @@ module _ (row : Row) (l : Lent) where
           first = good.first;
           empty = good.empty;
         })
-        (keeps-same l.heap) (stays_as l _ refl refl refl (omega arith) (at_least-same _))
+        (keeps-same l.heap) (stays_as l _ refl refl refl refl (omega arith) (at_least-same _))
         (logs-same _ l.grants trial.slot) λ store shown. record {
           after = store;
           output = [];

@@ -194,6 +194,7 @@ module _ (above : List Frame) (l new : Lent) (asks : Scene → Asked) (row : Row
     keeps = acts.keeps;
     stays = record {
       program = acts.stays.program;
+      most = acts.stays.most;
       error_dictionary = acts.stays.error_dictionary;
       formed = acts.stays.formed;
       names = acts.stays.names;

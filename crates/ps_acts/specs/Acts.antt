@@ -175,6 +175,7 @@ pub record IsAtLeast (few more : Rooms) : Type 0 where
 -- output's capacity, its bytes and its room, nor that of those that are read into
 pub record Stays (old new : Lent) : Type 0 where
   pub program : new.program ≡ old.program
+  pub most : new.most ≡ old.most
   pub error_dictionary : new.error_dictionary ≡ old.error_dictionary
   pub formed : List (List ℕ)
   pub names : new.names ≡ old.names ++ formed

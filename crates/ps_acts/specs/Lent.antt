@@ -26,7 +26,8 @@ pub record Lent : Type 0 where
   pub program : List ℕ
   pub names : List (List ℕ)
   pub printed : List ℕ
-  pub room : ℕ  -- the bytes that can be printed before the output grows
+  pub most : ℕ  -- the bytes that may be printed
+  pub room : ℕ  -- those that can be printed before the output grows or has no more
   pub scratch : Scratch
 
 abbrev pub lent : Heap → Grants → Context → Shared → Lent
@@ -39,8 +40,9 @@ lent heap grants context shared = record {
   error_dictionary = context.error_dictionary;
   program = shared.program.now;
   names = shared.names;
-  printed = shared.printed.items;
-  room = vec_capacity shared.printed - length shared.printed.items;
+  printed = shared.printed.bytes;
+  most = shared.printed.most;
+  room = shared.printed.room;
   scratch = shared.scratch;
 }
 

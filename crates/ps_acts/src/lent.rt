@@ -4,6 +4,7 @@ use ps_control::frames::Frames;
 use ps_names::Names;
 use ps_operands::Operands;
 use ps_stacks::DictionaryStack;
+use ps_text::outputs::Output;
 use ps_word::words::Word;
 
 /// The dictionary stack, the topmost first.
@@ -34,7 +35,8 @@ pub struct Shared<'a> {
     /// The program of the run.
     pub program: &'a [u8],
     pub names: Names,
-    pub printed: Vec<u8>,
+    /// What the run printed, at most so many bytes.
+    pub printed: Output,
     pub scratch: Scratch,
 }
 

@@ -288,6 +288,7 @@ yields caller trial shown d steady runs = record {
   runs = runs;
   keeps = keeps-same d.heap;
   program = refl;
+  most = refl;
   framed = λ framed. framed;
   same = λ w at. tt;
   held_up = λ reason bad. absurd (cc);

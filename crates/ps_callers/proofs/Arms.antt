@@ -208,6 +208,7 @@ module _ (operator : Operator) (caller : ℕ) (trial : Trial) (shown : Option (�
       runs = part_runs d caller member found runs new;
       keeps = acts.keeps;
       program = acts.stays.program;
+      most = acts.stays.most;
       framed = part_framed d caller member found runs new;
       same = λ w at. same_desk d caller member new found (same_so why acts says w at);
       held_up = λ reason is w context at there.
@@ -271,6 +272,7 @@ module _ (operator : Operator) (caller : ℕ) (trial : Trial) (shown : Option (�
     runs = runs_then;
     keeps = acts.keeps;
     program = acts.stays.program;
+    most = acts.stays.most;
     framed = framed_then;
     same = λ w at. tt;
     held_up = λ reason bad. absurd (cc);

@@ -146,6 +146,7 @@ module _ (operator : Operator) (caller : ℕ) (trial : Trial) (shown : Option (�
     steady = settled_steady;
     keeps = done.keeps;
     program = done.program;
+    most = done.most;
     framed = λ framed. framed_with d.members caller (turned_member Goes member)
         (done.framed framed) (frame_after Goes member.context.frames tt tt);
     unmade = tt;
@@ -166,6 +167,7 @@ module _ (operator : Operator) (caller : ℕ) (trial : Trial) (shown : Option (�
     steady = settled_steady;
     keeps = done.keeps;
     program = done.program;
+    most = done.most;
     framed = λ framed. framed_with d.members caller (turned_member Goes member)
         (done.framed framed) (frame_after Goes member.context.frames tt tt);
     unmade = tt;
@@ -186,6 +188,7 @@ module _ (operator : Operator) (caller : ℕ) (trial : Trial) (shown : Option (�
     steady = done.steady;
     keeps = done.keeps;
     program = done.program;
+    most = done.most;
     framed = tt;
     unmade = (done.runs, done.framed);
     same = done.same;
@@ -237,6 +240,7 @@ module _ (operator : Operator) (caller : ℕ) (trial : Trial) (shown : Option (�
             (own_held new.heap turned new.frames);
         keeps = Keeps-then old.heap d.heap new.heap done.keeps made.keeps;
         program = made.stays.program ∙ done.program;
+        most = made.stays.most ∙ done.most;
         framed = λ framed.
             framed_with d.members caller (turned_member (own_of turned)
             (record member { context = returned new })) (done.framed framed)
@@ -316,6 +320,7 @@ module _ (operator : Operator) (caller : ℕ) (trial : Trial) (shown : Option (�
             unmade_steady d steady caller member found nothing_more turn trial new reason unmade;
         keeps = Keeps-then old.heap d.heap new.heap done.keeps unmade.keeps;
         program = unmade.stays.program ∙ done.program;
+        most = unmade.stays.most ∙ done.most;
         framed = tt;
         unmade = (
           part_runs d caller member found runs new,

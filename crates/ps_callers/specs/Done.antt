@@ -57,6 +57,7 @@ pub record DoesBy (operator : Operator) (caller : ℕ) (trial : Trial) (shown : 
   pub runs : RunsAt caller new.members
   pub keeps : Keeps old.heap new.heap
   pub program : new.program ≡ old.program
+  pub most : new.most ≡ old.most
   pub framed : AreFramedBut caller old.members → AreFramedBut caller new.members
   pub same : (w : World) → IsWorld old w → OnErr result (IsSameDesk old new)
   pub held_up : (reason : Reason) → result ≡ Err (NotMade reason) → (w : World)

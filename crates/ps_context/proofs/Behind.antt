@@ -99,6 +99,7 @@ module _ (l new : Lent) (rest : Part) {slot : ℕ} (undone : IsUndone slot l new
     keeps = undone.keeps;
     stays = record {
       program = undone.stays.program;
+      most = undone.stays.most;
       error_dictionary = undone.stays.error_dictionary;
       formed = undone.stays.formed;
       names = undone.stays.names;

@@ -308,7 +308,7 @@ fn take_next<O: Operate, M: Memory>(
     ensures window { OnDone result
         (IsWindow (M.heap memory.new) source.now start.new list.new.items) }
 {
-    let alloc = *shared.printed.allocator();
+    let alloc = *shared.scratch.text.allocator();
     let program = shared.program;
     let scanned = scan_source(*source, at, program, start, list, memory, alloc);
     let text = scanned_bytes(*source, program, list);
@@ -394,7 +394,7 @@ pub fn text_turn<O: Operate, M: Memory>(
         (lent (M.heap memory.old) (M.grants memory.old) context.old shared.old)
         (lent (M.heap memory.new) (M.grants memory.new) context.new shared.new) }
 {
-    let alloc = *shared.printed.allocator();
+    let alloc = *shared.scratch.text.allocator();
     let program = shared.program;
     let mut start = 0;
     list.clear();

@@ -350,7 +350,7 @@ module _ (l : Lent) (top : Word) (one : Some top ≡ first_of l.operands) (body 
                       plain_value new w plain,
                       AreValues-kept l.heap new keeps below stay_held,
                     );
-                  })) keeps (stays_as l left_lent refl refl refl (omega arith) (at_least-same _))
+                  })) keeps (stays_as l left_lent refl refl refl refl (omega arith) (at_least-same _))
                   (logs_more 0 most_records l.grants left trial.slot (omega arith) logs) fork_made
 
   -- ---- the new context

@@ -100,7 +100,7 @@ module _ (l : Lent) (good : IsGood l) (trial : Trial) (taken after : List Word)
           (all_append (IsValue l.heap) taken l.operands held good.operands) from;
     });
     keeps = keeps-same l.heap;
-    stays = stays_as l _ refl refl refl (omega arith) (at_least-same _);
+    stays = stays_as l _ refl refl refl refl (omega arith) (at_least-same _);
     logs = logs-same _ l.grants trial.slot;
     framed = framed_as result;
   }

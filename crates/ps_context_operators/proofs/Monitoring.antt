@@ -191,7 +191,7 @@ module _ (l : Lent) (good : IsGood l) (trial : Trial) (caller : ℕ) where
       → Acts (monitor_asked caller) (monitor_caller caller) trial (Ok tt) l l
   waits_acts is =
       left_acts (monitor_caller caller) trial (monitor_asked caller) l good l good
-      (keeps-same l.heap) (stays_as l l refl refl refl (omega arith) (at_least-same _))
+      (keeps-same l.heap) (stays_as l l refl refl refl refl (omega arith) (at_least-same _))
       (logs-same most_records l.grants trial.slot) λ store shown. record {
         after = store;
         output = [];
@@ -323,5 +323,5 @@ module _ (l : Lent) (good : IsGood l) (trial : Trial) (caller : ℕ) where
       enters_acts =
           left_acts (monitor_caller caller) trial (monitor_asked caller) l good entered_lent
           entered_good keeps
-          (stays_as l entered_lent refl refl refl (omega arith) (at_least-same _))
+          (stays_as l entered_lent refl refl refl refl (omega arith) (at_least-same _))
           (logs_more 1 most_records l.grants left trial.slot (omega arith) logs) entered_made

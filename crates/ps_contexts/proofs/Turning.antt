@@ -59,6 +59,7 @@ goes_by d context new members has_faulted keeps stays good = record {
   formed = stays.formed;
   names = stays.names;
   program = stays.program;
+  most = stays.most;
   sound = good.sound;
   distinct = good.names;
   first = good.first;

@@ -35,7 +35,8 @@ pub record Desk : Type 0 where
   pub program : List ℕ
   pub names : List (List ℕ)
   pub printed : List ℕ
-  pub room : ℕ  -- the bytes that can be printed before the output grows
+  pub most : ℕ  -- the bytes that may be printed
+  pub room : ℕ  -- those that can be printed before the output grows or has no more
   pub scratch : Scratch
   pub has_faulted : Bool  -- whether the line of an error was printed
 
@@ -47,8 +48,9 @@ desk heap grants members shared has_faulted = record {
   members = members;
   program = shared.program.now;
   names = shared.names;
-  printed = shared.printed.items;
-  room = vec_capacity shared.printed - length shared.printed.items;
+  printed = shared.printed.bytes;
+  most = shared.printed.most;
+  room = shared.printed.room;
   scratch = shared.scratch;
   has_faulted = has_faulted;
 }
@@ -66,6 +68,7 @@ lent_to d context = record {
   program = d.program;
   names = d.names;
   printed = d.printed;
+  most = d.most;
   room = d.room;
   scratch = d.scratch;
 }
@@ -88,6 +91,7 @@ desk_of l members has_faulted = record {
   program = l.program;
   names = l.names;
   printed = l.printed;
+  most = l.most;
   room = l.room;
   scratch = l.scratch;
   has_faulted = has_faulted;
@@ -162,6 +166,7 @@ pub record GoesOn (old new : Desk) : Type 0 where
   pub formed : List (List ℕ)
   pub names : new.names ≡ old.names ++ formed
   pub program : new.program ≡ old.program
+  pub most : new.most ≡ old.most
   pub sound : IsSound new.heap
   pub distinct : AllPairs (λ one later. one ≢ later) new.names
   pub first : BeginWithFirst new.names

@@ -40,6 +40,7 @@ undefined_does operator caller trial shown d steady runs is = record {
   runs = runs;
   keeps = keeps-same d.heap;
   program = refl;
+  most = refl;
   framed = λ framed. framed;
   same = λ w at. refl;
   held_up = λ reason bad. absurd (cc);

@@ -334,7 +334,7 @@ module _ (l : Lent) (good : IsGood l) (y x : Word) (two : Some (y, x) ≡ first_
                   first = well.first;
                   empty = empty;
                 })
-                keeps (stays_as l after refl refl refl (omega arith) least)
+                keeps (stays_as l after refl refl refl refl (omega arith) least)
                 (logs_more _ most_records l.grants left trial.slot (few_records plan) logs)
                 λ store shown.
                 let is_left = changed_left l good new left words keeps store

@@ -390,6 +390,7 @@ module _ (l : Lent) (depth : ℕ) (mark : IsMarkAt l.operands depth) (elements :
           }) keeps
           (record {
             program = refl;
+            most = refl;
             error_dictionary = refl;
             formed = more;
             names = are_more;

@@ -235,7 +235,7 @@ module _ (l : Lent) (good : IsGood l) (a : ℕ) (k x : Word) (count : ℕ) (plan
         l good (over l new left words)
         (changed_good l good new left words keeps
         (record { sound = sound; values = AreValues-kept l.heap new keeps words held }))
-        keeps (stays_as l _ refl refl refl (omega arith) (at_least-same _))
+        keeps (stays_as l _ refl refl refl refl (omega arith) (at_least-same _))
         (logs_more _ most_records l.grants left trial.slot (few_records plan) logs)
         λ store shown.
         let is_left = changed_left l good new left words keeps store (left_store store shown)

@@ -109,7 +109,7 @@ module _ (operator : Operator) (trial : Trial) (l : Lent) where
     };
     good = good;
     keeps = keeps-same l.heap;
-    stays = stays_as l l refl refl refl (omega arith) (at_least-same _);
+    stays = stays_as l l refl refl refl refl (omega arith) (at_least-same _);
     logs = logs-same _ l.grants trial.slot;
     framed = tt;
     under_way = tt;
@@ -211,6 +211,7 @@ module _ (operator : Operator) (trial : Trial) (l : Lent) where
             let stays = stays_then l mid new acts.stays turns.stays in
             record {
               program = stays.program;
+              most = stays.most;
               error_dictionary = stays.error_dictionary;
               formed = [];
               names = sym (append-nil l.names);

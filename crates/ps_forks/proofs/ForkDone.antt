@@ -348,6 +348,7 @@ module _ (caller : ℕ) (trial : Trial) (shown : Option (ℤ × ℤ)) (d : Desk)
         runs = record { member = member; found = found; runs = runs };
         keeps = keeps-same d.heap;
         program = refl;
+        most = refl;
         framed = λ framed. framed;
         same = λ w at. refl;
         held_up = λ reason is w context at there.

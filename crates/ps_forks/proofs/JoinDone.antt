@@ -219,6 +219,7 @@ module _ (caller identifier : ℕ) (trial : Trial) (shown : Option (ℤ × ℤ))
       runs = left_runs (Ok tt) acts;
       keeps = acts.keeps;
       program = acts.stays.program;
+      most = acts.stays.most;
       framed = left_framed (Ok tt) acts;
       same = λ w at. tt;
       held_up = λ reason bad. absurd (cc);
@@ -252,6 +253,7 @@ module _ (caller identifier : ℕ) (trial : Trial) (shown : Option (ℤ × ℤ))
       runs = left_runs (Err why) acts;
       keeps = acts.keeps;
       program = acts.stays.program;
+      most = acts.stays.most;
       framed = left_framed (Err why) acts;
       same = λ w at. absurd (never w at);
       held_up = λ reason is w context at there. absurd (never w at);
@@ -338,6 +340,7 @@ module _ (caller : ℕ) (trial : Trial) (shown : Option (ℤ × ℤ)) (d : Desk)
     runs = at;
     keeps = keeps-same d.heap;
     program = refl;
+    most = refl;
     framed = λ framed. framed;
     logs = logs-same 5 d.grants trial.slot;
   }

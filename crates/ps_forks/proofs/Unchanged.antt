@@ -41,6 +41,7 @@ raised_there operator caller trial shown d error steady runs so = record {
   runs = runs;
   keeps = keeps-same d.heap;
   program = refl;
+  most = refl;
   framed = λ framed. framed;
   same = λ w at. refl;
   held_up = λ reason bad. absurd (cc);

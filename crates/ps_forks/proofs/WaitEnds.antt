@@ -58,6 +58,7 @@ module _ (operator : Operator) (caller : ℕ) (trial : Trial) (shown : Option (�
     steady = again_steady;
     keeps = waits.keeps;
     program = waits.program;
+    most = waits.most;
     framed = λ framed. again_framed (waits.framed framed);
     unmade = tt;
     same = λ w at. tt;

@@ -23,5 +23,6 @@ pub record WaitsBy (operator : Operator) (caller : ℕ) (trial : Trial) (shown :
   pub runs : RunsAt caller new.members
   pub keeps : Keeps old.heap new.heap
   pub program : new.program ≡ old.program
+  pub most : new.most ≡ old.most
   pub framed : AreFramedBut caller old.members → AreFramedBut caller new.members
   pub logs : KeepsLogsWithin most_records old.grants new.grants trial.slot

@@ -89,6 +89,7 @@ module _ (l : Lent) (frames : List Frame) where
     keeps = turns.keeps;
     stays = record {
       program = turns.stays.program;
+      most = turns.stays.most;
       error_dictionary = turns.stays.error_dictionary;
       formed = turns.stays.formed;
       names = turns.stays.names;

@@ -148,7 +148,7 @@ breaks_here l trial cause good under_way = record {
   };
   good = good;
   keeps = keeps-same l.heap;
-  stays = stays_as l l refl refl refl (omega arith) (at_least-same _);
+  stays = stays_as l l refl refl refl refl (omega arith) (at_least-same _);
   logs = logs-same _ l.grants trial.slot;
   framed = tt;
   under_way = under_way;

@@ -106,6 +106,7 @@ module _ (l : Lent) (scratch : Scratch) (empty : IsEmpty scratch)
     keeps = turns.keeps;
     stays = record {
       program = turns.stays.program;
+      most = turns.stays.most;
       error_dictionary = turns.stays.error_dictionary;
       formed = turns.stays.formed;
       names = turns.stays.names;
@@ -141,7 +142,7 @@ module _ (l : Lent) (scratch : Scratch) (empty : IsEmpty scratch)
           empty = well.empty;
         };
         keeps = keeps-same l.heap;
-        stays = stays_as l (record roomy { grants = grants; room = room }) refl refl refl
+        stays = stays_as l (record roomy { grants = grants; room = room }) refl refl refl refl
             (omega (arith, more)) least;
         logs = logs;
         framed = refl;

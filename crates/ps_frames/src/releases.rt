@@ -33,7 +33,7 @@ use ps_language::kinds::Kind;
 use ps_mem::{Memory, SLOTS};
 use ps_operands::plain;
 use ps_ops::failure::NotMade;
-use ps_turns::breaks::{append_line, has_new_error, permit_records};
+use ps_turns::breaks::{has_new_error, permit_records, print_line};
 use ps_turns::notes::error_keys;
 use ps_turns::turned::Turned;
 use ps_word::words::Word;
@@ -160,7 +160,7 @@ fn tell<M: Memory>(
         Err(reason) => return Err(reason),
     }
     let keys = error_keys();
-    match append_line(memory, &shared.names, address, keys, &mut shared.printed) {
+    match print_line(memory, &shared.names, address, keys, &mut shared.printed) {
         Ok(()) => {}
         Err(AllocError) => return Err(NotMade::Memory),
     }

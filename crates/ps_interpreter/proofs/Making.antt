@@ -49,6 +49,7 @@ made_none h steady = record {
   ready = λ machine at. refl;
   steady = steady;
   program = refl;
+  most = refl;
 }
 
 -- some, and others from there on
@@ -77,6 +78,7 @@ made_then first second old mid new one other =
           (one.at machine at)))));
       steady = other.steady;
       program = other.program ∙ one.program;
+      most = other.most ∙ one.most;
     }
 
 -- what runs goes on
@@ -159,6 +161,7 @@ module _ (asks : Status → Around → Scene → Asked) (slot made : ℕ) (old m
         (so_far.ready machine at) (still_ready machine at));
     steady = step.steady;
     program = step.stays.program ∙ so_far.program;
+    most = step.stays.most ∙ so_far.most;
   }
 
   -- the next is not made
@@ -168,6 +171,7 @@ module _ (asks : Status → Around → Scene → Asked) (slot made : ℕ) (old m
     ready = so_far.ready;
     steady = step.steady;
     program = step.stays.program ∙ so_far.program;
+    most = step.stays.most ∙ so_far.most;
   }
 
   pub held_after : (reason : Reason) → Steps asks trial (Err reason) mid new

@@ -86,7 +86,7 @@ run_none l good = record {
   };
   good = good;
   keeps = keeps-same l.heap;
-  stays = stays_as l l refl refl refl (omega arith) (at_least-same _);
+  stays = stays_as l l refl refl refl refl (omega arith) (at_least-same _);
 }
 
 lasts_then : (s t u : Store) → Lasts s t → Lasts t u → Lasts s u
@@ -361,4 +361,5 @@ module _ (made : ℕ) (old new : Lent) (run : HasRun made old new) where
     ready = λ machine at. (alone_here machine at).ready;
     steady = steady_after Goes new 0 run.good tt refl;
     program = run.stays.program;
+    most = run.stays.most;
   }

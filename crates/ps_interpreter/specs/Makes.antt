@@ -28,6 +28,7 @@ pub record HasMade (made : ℕ) (old new : Held) : Type 0 where
       → IsTrue (all_alone_ready old.lent.program machine (plain_moves made))
   pub steady : IsSteady new
   pub program : new.lent.program ≡ old.lent.program
+  pub most : new.lent.most ≡ old.lent.most
 
 -- the next ordinary step is held up for this reason, from every machine that it was at before those
 -- that were made

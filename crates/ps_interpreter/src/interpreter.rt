@@ -1,6 +1,6 @@
 //! A context with what it prints, how far it is, and its steps (PLRM2, 3.5, 3.10).
 
-ghost use Rattle.std.specs.Prelude.{◌≡◌, ◌<◌, ◌≤◌, false, true, Option, IsSome, IsNone, OnErr, IfOk, IfErr};
+ghost use Rattle.std.specs.Prelude.{◌≡◌, ◌<◌, ◌≤◌, length, false, true, Option, IsSome, IsNone, OnErr, IfOk, IfErr};
 ghost use Rattle.ps_language.specs.Effect.{Around, Scene};
 ghost use Rattle.ps_language.specs.World.{Status};
 ghost use Rattle.ps_mem.specs.Heap.{SameLogs};
@@ -23,11 +23,10 @@ use ps_language::errors::ErrorName;
 use ps_language::operators::Operator;
 use ps_mem::{Memory, SLOTS};
 use ps_ops::failure::NotMade;
-use ps_start::start::start;
+use ps_start::start::{Setup, start};
 use ps_turns::raises::raise_by;
 use ps_turns::turned::Turned;
 use std::alloc::Global;
-use std::hash::RandomState;
 
 /// A context with what contexts share; its objects stand in a memory that is given to each step.
 #[derive(Drop)]
@@ -49,7 +48,6 @@ pub struct Advance {
 
 impl<'a> Interpreter<'a> {
     /// The first context of a program before its first step, over a memory in which nothing stands.
-    /// The keys are for the names alone.
     ///
     /// `NeedSpace`: the first objects have no room. `Memory`: a growth was refused. There is no
     /// other, and nothing was made then.
@@ -57,7 +55,7 @@ impl<'a> Interpreter<'a> {
         alloc: Global,
         memory: &mut M,
         program: &'a [u8],
-        keys: RandomState,
+        setup: Setup,
     ) -> Result<Interpreter<'a>, NotMade>
         requires heap { IsEmptyHeap (M.heap memory.old) }
         ensures at { IfOk result (λ made. IsAt
@@ -67,11 +65,12 @@ impl<'a> Interpreter<'a> {
             (held (lent (M.heap memory.new) (M.grants memory.new) made.context made.shared)
             made.course made.error_lines)) }
         ensures program { IfOk result (λ made. made.shared.program.now ≡ program.now) }
+        ensures most { IfOk result (λ made. made.shared.printed.most ≡ setup.output) }
         ensures not_made { OnErr result (M.heap memory.new ≡ M.heap memory.old) }
         ensures reason { IfErr result (λ reason. IsStartReason reason (M.heap memory.old)) }
         ensures logs { SameLogs (M.grants memory.old) (M.grants memory.new) }
     {
-        let (context, shared) = start(alloc, memory, program, keys)?;
+        let (context, shared) = start(alloc, memory, program, setup)?;
         Ok(Interpreter {
             context,
             shared,
@@ -99,11 +98,12 @@ impl Interpreter<'_> {
 
     /// The printed bytes, at the end.
     pub fn into_printed(self) -> Vec<u8>
-        ensures { result.items ≡ self.entry.shared.printed.items }
+        ensures bytes { result.items ≡ self.entry.shared.printed.bytes }
+        ensures within { length result.items ≤ self.entry.shared.printed.most }
     {
         let Interpreter { shared, .. } = self;
         let Shared { printed, .. } = shared;
-        printed
+        printed.into_bytes()
     }
 
     /// Makes ordinary steps one after another, at most so many, as long as the context runs. Of one

@@ -105,7 +105,7 @@ module _ (caller : ℕ) (trial : Trial) (d : Desk) (steady : IsSteady d) (member
         })
 
     taken_stays : Stays l taken
-    taken_stays = stays_as l taken refl refl refl (omega arith) (at_least-same _)
+    taken_stays = stays_as l taken refl refl refl refl (omega arith) (at_least-same _)
 
     abbrev pub taken_desk : Desk
     taken_desk =
@@ -174,6 +174,7 @@ module _ (caller : ℕ) (trial : Trial) (d : Desk) (steady : IsSteady d) (member
           (held_after new member.context.frames);
       keeps = keeps;
       program = refl;
+      most = refl;
       framed = λ framed. framed_with d.members caller (turned_member Goes member) framed
           (frame_after Goes member.context.frames tt tt);
       unmade = tt;
@@ -195,7 +196,7 @@ module _ (caller : ℕ) (trial : Trial) (d : Desk) (steady : IsSteady d) (member
     goes : GoesOn d untaken_desk
     goes =
         goes_by d member.context asked d.members d.has_faulted (keeps-same d.heap)
-        (stays_as l asked refl refl refl (omega arith) (at_least-same _))
+        (stays_as l asked refl refl refl refl (omega arith) (at_least-same _))
         (changed_good l good_there.good d.heap left member.context.operands (keeps-same d.heap)
         (record { sound = steady.sound; values = good_there.good.operands }))
 
@@ -211,6 +212,7 @@ module _ (caller : ℕ) (trial : Trial) (d : Desk) (steady : IsSteady d) (member
       };
       keeps = keeps-same d.heap;
       program = refl;
+      most = refl;
       framed = λ framed. framed;
       unmade = refl;
       held_up = λ other is.

@@ -143,6 +143,7 @@ module _ (caller : ℕ) (d : Desk) (steady : IsSteady d) (member : Member)
         (stopped_steady part now_steady caller after there course unfinished held);
     keeps = keeps;
     program = stays.program;
+    most = stays.most;
     framed = λ others.
         subst (λ (one : Desk). AreFramed one.members) stops_is
         (stopped_framed part now_steady caller after there course unfinished framed

@@ -39,11 +39,12 @@ with_sizes app = with_rule
     (with_rule app (number_rule (codes "space") (codes "65536") 4096 1048576))
     (number_rule (codes "workers") (codes "4") 1 32)
 
--- the numbers of steps
+-- the numbers of steps, and that of bytes
 abbrev pub with_limits : App → App
 with_limits app = with_rule
-    (with_rule app (number_rule (codes "quantum") (codes "100") 1 65535))
-    (number_rule (codes "steps") (codes "1000000000") 1 4294967295)
+    (with_rule (with_rule app (number_rule (codes "quantum") (codes "100") 1 65535))
+    (number_rule (codes "steps") (codes "1000000000") 1 4294967295))
+    (within (valued_rule (codes "output")) 0 4294967295)
 
 abbrev pub with_flags : App → App
 with_flags app = with_rule (with_rule app (flag_rule (codes "plain"))) (flag_rule (codes "stats"))
@@ -144,11 +145,11 @@ pub record AreNumbers (words : List Text) (numbers : Numbers) : Type 0 where
   pub quantum : IsNumber (codes "quantum") words numbers.quantum
   pub steps : IsNumber (codes "steps") words numbers.steps
 
--- how many schedules are chosen by chance, as such words ask for it
-abbrev pub IsExplored : List Text → Option ℕ → Type 0
-IsExplored words None = named_in (codes "explore") words ≡ None
-IsExplored words (Some count) =
-    (is_some (named_in (codes "explore") words) ≡ true) × IsNumber (codes "explore") words count
+-- the number of an option that may be left out, such as how many schedules are chosen by chance
+abbrev pub IsOptional : (name : Text) → List Text → Option ℕ → Type 0
+IsOptional name words None = named_in name words ≡ None
+IsOptional name words (Some number) =
+    (is_some (named_in name words) ≡ true) × IsNumber name words number
 
 -- whether a flag stands in such words, by its text
 pub record IsFlag (name : Text) (words : List Text) (truth : Bool) : Type 0 where

@@ -35,6 +35,8 @@ pub struct Options<'a> {
     pub quantum: u32,
     /// The most steps of the run, at least 1.
     pub steps: u32,
+    /// The most bytes that the run may print, if there is a bound.
+    pub output: Option<u32>,
     /// Whether the counts are told at the end.
     pub stats: bool,
     /// Whether the run is over memory that is never collected.
@@ -74,15 +76,22 @@ fn with_sizes<'a>(alloc: Global, command: Command<'a>) -> Result<Command<'a>, Al
         .arg(within(workers, 1, 32))
 }
 
-/// The numbers of steps.
+/// The numbers of steps, and that of bytes.
 fn with_limits<'a>(alloc: Global, command: Command<'a>) -> Result<Command<'a>, AllocError>
     ensures { IfOk result (λ made. app_of made ≡ spec.with_limits (app_of command.entry)) }
 {
     let quantum = number(alloc, "quantum", "100", "most steps of a turn of a context");
     let steps = number(alloc, "steps", "1000000000", "most steps of the run");
+    let output = valued(
+        alloc,
+        "output",
+        "N",
+        "most bytes that the run may print; without it there is no bound",
+    );
     command
         .arg(within(quantum, 1, 65535))?
-        .arg(within(steps, 1, 4294967295))
+        .arg(within(steps, 1, 4294967295))?
+        .arg(within(output, 0, 4294967295))
 }
 
 /// The options without a value.
@@ -277,8 +286,10 @@ pub fn parse<'a>(alloc: Global, words: &'a [&'a str]) -> Result<Options<'a>, Err
           quantum = options.quantum;
           steps = options.steps;
         })) }
-    ensures explore { IfOk result
-        (λ options. spec.IsExplored (map (λ word. word.now) words.entry.now) options.explore) }
+    ensures explore { IfOk result (λ options. spec.IsOptional (codes "explore")
+        (map (λ word. word.now) words.entry.now) options.explore) }
+    ensures output { IfOk result (λ options. spec.IsOptional (codes "output")
+        (map (λ word. word.now) words.entry.now) options.output) }
     ensures explore_range { IfOk result
         (λ options. IfSome options.explore (λ count. (1 ≤ count) × (count ≤ 65535))) }
 {
@@ -298,6 +309,7 @@ pub fn parse<'a>(alloc: Global, words: &'a [&'a str]) -> Result<Options<'a>, Err
         stats: matches.get_flag("stats"),
         plain: matches.get_flag("plain"),
         explore: matches.get_one::<u32>("explore"),
+        output: matches.get_one::<u32>("output"),
         record_file: matches.get_str("record"),
         replay_file: matches.get_str("replay"),
         file: matches.get_str("FILE").unwrap_or(""),

@@ -64,18 +64,16 @@ module _ (l : Lent) (row : Row) (taken : ℕ) (output : Store → List ℕ) wher
     }
 
     -- the output is longer than the room
-    pub prints_wants : (capacity room : ℕ) → l.room ≡ capacity - length l.printed
-        → length l.printed ≤ capacity
-        → ((store : Store) → IsShown l store → capacity < length (l.printed ++ output store))
+    pub prints_wants : (room : ℕ)
+        → ((store : Store) → IsShown l store → l.room < length (output store))
         → (store : Store) → IsShown l store
         → Wants row trial nothing_asked l Memory (record l { room = room }) store
-    prints_wants capacity room is fits full store shown = record {
+    prints_wants room full store shown = record {
       scene = scene_of taken_off store;
       output = output store;
       is = prints store shown;
       enough = lacks_for_same trial.refused store;
-      why = let long = full store shown in
-          let both = length-append l.printed (output store) in inl (omega (arith, is, fits, long, both));
+      why = inl (full store shown);
     }
 
 -- ---- a line of the topmost operand
@@ -117,13 +115,6 @@ module _ (l : Lent) where
 
 -- ---- the bytes of a string
 
-pub part_length : (xs : List ℕ) (from count : ℕ) → from + count ≤ length xs
-    → length (slice_range xs from (from + count)) ≡ count
-part_length xs from count within =
-    let taken = length-take ((from + count) - from) (drop from xs) in
-    let dropped = length-drop from xs in
-    grind (arith, nat_tests, taken, dropped, within)
-
 module _ (l : Lent) (w : Word) (one : Some w ≡ first_of l.operands) where
   abbrev AsString : Option Part → Type 0
   AsString part = (births : ℕ → ℕ) (names : List (List ℕ))
@@ -160,19 +151,3 @@ good_drop l printed room n good = record {
   first = good.first;
   empty = good.empty;
 }
-
--- a capacity that isn't less takes no less, behind an output that begins as the old one
-pub grown : (old new : List ℕ) (few many : ℕ) → few ≤ many → take (length old) new ≡ old
-    → length old + (few - length old) ≤ length new + (many - length new)
-grown old new few many more front =
-    let cut = sym (ap length front) ∙ length-take (length old) new in
-    grind (arith, nat_tests, cut, more)
-
--- a list that is no shorter, of a capacity that isn't less, takes no less
-pub grown_by : (few many old new : ℕ) → few ≤ many → old ≤ new
-    → old + (few - old) ≤ new + (many - new)
-grown_by few many old new more longer = grind (arith, nat_tests, more, longer)
-
--- what stands in a list fits into it
-pub fits : {A : Type 0} (v : Vec ℕ A) → length v.items ≤ vec_capacity v
-fits v = let has = v.ok.0 in let within = v.ok.1 in omega (arith, has, within)

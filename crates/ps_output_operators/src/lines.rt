@@ -12,11 +12,12 @@ use ps_acts::lent::{Context, Shared, Trial};
 use ps_language::errors::ErrorName;
 use ps_mem::Memory;
 use ps_ops::failure::NotMade;
-use ps_text::lines::{Form, append_full_line, append_plain_line, append_stack};
+use ps_text::lines::Form;
 use std::alloc::AllocError;
 
 /// `x =`: the text of the operand and the end of its line. Raises `stackunderflow`. Not made, by
-/// `Memory`, where the output has less room than that and its growth is refused.
+/// `Memory`, where that is more than may be printed, or the output lacks room and its growth is
+/// refused.
 pub fn equals<M: Memory>(
     context: &mut Context,
     shared: &mut Shared,
@@ -31,7 +32,7 @@ pub fn equals<M: Memory>(
     let Some(top) = context.operands.top() else {
         return Err(Break::Raises(ErrorName::StackUnderflow));
     };
-    match append_plain_line(memory, &shared.names, top, &mut shared.printed) {
+    match shared.printed.print_plain_line(memory, &shared.names, top) {
         Ok(()) => {
             context.operands.discard(1);
             Ok(())
@@ -41,7 +42,8 @@ pub fn equals<M: Memory>(
 }
 
 /// `x ==`: the text of the operand in full and the end of its line. Raises `stackunderflow`. Not
-/// made, by `Memory`, where the output has less room than that and a growth is refused.
+/// made, by `Memory`, where that is more than may be printed, or the output lacks room and a growth
+/// is refused.
 pub fn equals_equals<M: Memory>(
     context: &mut Context,
     shared: &mut Shared,
@@ -56,7 +58,7 @@ pub fn equals_equals<M: Memory>(
     let Some(top) = context.operands.top() else {
         return Err(Break::Raises(ErrorName::StackUnderflow));
     };
-    match append_full_line(memory, &shared.names, top, &mut shared.printed) {
+    match shared.printed.print_full_line(memory, &shared.names, top) {
         Ok(()) => {
             context.operands.discard(1);
             Ok(())
@@ -66,7 +68,8 @@ pub fn equals_equals<M: Memory>(
 }
 
 /// `stack` and `pstack`: a line for each operand, from the topmost down; the operands stay. Not
-/// made, by `Memory`, where the output has less room than that and a growth is refused.
+/// made, by `Memory`, where that is more than may be printed, or the output lacks room and a growth
+/// is refused.
 pub fn show_stack<M: Memory>(
     context: &mut Context,
     shared: &mut Shared,
@@ -80,7 +83,10 @@ pub fn show_stack<M: Memory>(
         (lent (M.heap memory.new) (M.grants memory.new) context.new shared.new) }
 {
     let words = context.operands.topmost(context.operands.len());
-    match append_stack(memory, &shared.names, words, form, &mut shared.printed) {
+    match shared
+        .printed
+        .print_stack(memory, &shared.names, words, form)
+    {
         Ok(()) => Ok(()),
         Err(AllocError) => Err(Break::NotMade(NotMade::Memory)),
     }

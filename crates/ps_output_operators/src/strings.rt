@@ -12,12 +12,12 @@ use ps_language::errors::ErrorName;
 use ps_mem::Memory;
 use ps_ops::arrays::is_readable;
 use ps_ops::failure::NotMade;
-use ps_seq::strings::append_bytes;
 use ps_strings::readers::string_of;
 use std::alloc::AllocError;
 
 /// `S print`: its bytes. Raises `stackunderflow`, `typecheck` and `invalidaccess`. Not made, by
-/// `Memory`, where the output has less room than that and its growth is refused.
+/// `Memory`, where that is more than may be printed, or the output lacks room and its growth is
+/// refused.
 pub fn print<M: Memory>(
     context: &mut Context,
     shared: &mut Shared,
@@ -38,7 +38,7 @@ pub fn print<M: Memory>(
     if !is_readable(part.access) {
         return Err(Break::Raises(ErrorName::InvalidAccess));
     }
-    match append_bytes(memory, part, &mut shared.printed) {
+    match shared.printed.print_part(memory, part) {
         Ok(()) => {
             context.operands.discard(1);
             Ok(())

@@ -79,6 +79,7 @@ module _ (d : Desk) (now : Heap) (grants : Grants) (forward : Forwarding)
     steady = steady-led;
     framed = framed-led calling;
     program = refl;
+    most = refl;
   }
 
 -- ---- other grants
@@ -165,6 +166,7 @@ module _ (d : Desk) (grants : Grants) where
     };
     framed = granted-framed calling;
     program = refl;
+    most = refl;
   }
 
 -- ---- one change after another
@@ -175,6 +177,7 @@ keeps-then a b c first then = record {
   steady = λ steady. then.steady (first.steady steady);
   framed = λ framed. then.framed (first.framed framed);
   program = then.program ∙ first.program;
+  most = then.most ∙ first.most;
 }
 
 -- ---- contexts over a memory

@@ -15,6 +15,7 @@ pub record KeepsWorlds (old new : Held) : Type 0 where
   pub steady : IsSteady old.desk → IsSteady new.desk
   pub framed : AreFramedBy old.calling old.desk → AreFramedBy new.calling new.desk
   pub program : new.desk.program ≡ old.desk.program
+  pub most : new.desk.most ≡ old.desk.most
 
 -- ---- what lives
 

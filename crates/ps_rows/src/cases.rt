@@ -88,6 +88,7 @@ fn config_of(numbers: &[u32]) -> Option<Config> {
         workers: *workers,
         quantum: *quantum,
         steps: *steps,
+        output: Config::ANY_OUTPUT,
     })
 }
 

@@ -3,7 +3,7 @@
 use crate::fakes::{deeds_in, steps_in};
 use crate::rows::Verdict;
 use crate::runs::CONFIG;
-use ps_vault::{Config, Entry, Outcome, RunFault, replay, run_plain};
+use ps_vault::{Config, Entry, Outcome, RunFault, Setup, replay, run_plain};
 use std::alloc::{AllocError, Global};
 use std::hash::RandomState;
 
@@ -86,7 +86,7 @@ fn chanced(alloc: Global, keys: RandomState, program: &[u8], wanted: &[u8], seed
         deeds_in(alloc),
         program,
         schedule.as_slice(),
-        keys,
+        Setup::unbounded(keys),
     ) {
         Err(_) => Verdict::WantsMemory,
         Ok(report) => verdict_of(report.outcome, report.printed.as_slice(), wanted),

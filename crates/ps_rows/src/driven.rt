@@ -13,6 +13,9 @@ pub const AMPLE: u32 = 1000;
 /// The exit status for want of memory.
 pub const MEMORY: u8 = 5;
 
+/// The status of a run whose steps are used up.
+pub const STEPS_OUT: u8 = 4;
+
 /// How many writes and flushes each output takes.
 #[derive(Clone, Copy)]
 pub struct Writes {

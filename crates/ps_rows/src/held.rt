@@ -5,7 +5,7 @@ use crate::rows::Verdict;
 use crate::runs::CONFIG;
 use ps_gc::{Inside, SerialSpaces};
 use ps_ops::failure::NotMade;
-use ps_vault::{Closing, Config, Roots, Told, Vault};
+use ps_vault::{Closing, Config, Roots, Setup, Told, Vault};
 use std::alloc::{AllocError, Global};
 use std::hash::RandomState;
 
@@ -32,7 +32,15 @@ pub fn held_up(
     let memory = SerialSpaces::new(alloc, space)?;
     let mut roots = Roots::new(alloc)?;
     let (steps, deeds) = (steps_in(alloc), deeds_in(alloc));
-    let mut vault = Vault::new(alloc, memory, steps, deeds, program, keys, 4)?;
+    let mut vault = Vault::new(
+        alloc,
+        memory,
+        steps,
+        deeds,
+        program,
+        Setup::unbounded(keys),
+        4,
+    )?;
     if vault.is_open() || !vault.open_cycle() {
         return Ok(Verdict::Different);
     }

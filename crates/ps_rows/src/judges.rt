@@ -1,10 +1,10 @@
 //! Whether a case gives what it says.
 
 use crate::cases::{Call, Case, Wanted};
-use crate::driven::{ALL_WRITES, AMPLE, Given, MEMORY, Writes, driven};
+use crate::driven::{ALL_WRITES, AMPLE, Given, MEMORY, STEPS_OUT, Writes, driven};
 use crate::fakes::{Files, deeds_in, steps_in};
 use ps_run::ReadFault;
-use ps_vault::{Config, Entry, Outcome, RunFault, replay, run_plain};
+use ps_vault::{Config, Entry, Outcome, RunFault, Setup, replay, run_plain};
 use std::alloc::{AllocError, Global};
 use std::hash::RandomState;
 use std::sync::Wait;
@@ -123,7 +123,7 @@ impl Case<'_> {
         let mut files = Files::new(alloc, bytes_in(&self.program), bytes_in(&self.schedule));
         files.takes_writes = self.takes_writes;
         let given = driven(rt, alloc, keys, words, &mut files, writes, ROOM)?;
-        self.judge_ended(&given)?;
+        self.judge_ended(&given, self.status)?;
         let tells = self.told.is(given.err.as_slice(), self.err_faults > 0);
         expect(tells, "told")?;
         expect(self.records(files.written.as_ref()), "record")
@@ -142,16 +142,22 @@ impl Case<'_> {
         let mut files = Files::new(alloc, bytes_in(&self.program), Ok(record.as_slice()));
         let words = ["--replay", "s", "f"];
         let given = driven(rt, alloc, keys, &words, &mut files, ALL_WRITES, ROOM)?;
-        self.judge_ended(&given)
+        // Behind the steps of a run that wanted memory, a context could go on.
+        let status = if self.status == MEMORY {
+            STEPS_OUT
+        } else {
+            self.status
+        };
+        self.judge_ended(&given, status)
     }
 
-    /// Fails where the status or what is printed isn't so.
-    fn judge_ended(&self, given: &Given) -> Result<(), Amiss> {
+    /// Fails where the status is another, or what is printed isn't so.
+    fn judge_ended(&self, given: &Given, status: u8) -> Result<(), Amiss> {
         let printed = given.out.as_slice();
-        if given.status == MEMORY && self.status != MEMORY && self.printed.is(printed, true) {
+        if given.status == MEMORY && status != MEMORY && self.printed.is(printed, true) {
             return Err(Amiss::WantsMemory);
         }
-        expect(given.status == self.status, "status")?;
+        expect(given.status == status, "status")?;
         expect(self.printed.is(printed, self.out_faults > 0), "printed")
     }
 
@@ -175,7 +181,8 @@ impl Case<'_> {
         let Ok(program) = bytes_in(&self.program) else {
             return Err(Amiss::Differs("program"));
         };
-        let Ok(report) = replay(alloc, steps, deeds, program, entries, keys) else {
+        let setup = Setup::unbounded(keys);
+        let Ok(report) = replay(alloc, steps, deeds, program, entries, setup) else {
             return Err(Amiss::WantsMemory);
         };
         let given = Given {
@@ -183,7 +190,7 @@ impl Case<'_> {
             out: report.printed,
             err: Vec::new(alloc),
         };
-        self.judge_ended(&given)?;
+        self.judge_ended(&given, self.status)?;
         expect(report.schedule.as_slice() == entries, "entries")
     }
 

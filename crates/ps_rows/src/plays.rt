@@ -14,6 +14,7 @@ use ps_interpreter::interpreter::Interpreter;
 use ps_mem::Memory;
 use ps_mem::bounded::BoundedMemory;
 use ps_ops::failure::NotMade;
+use ps_start::start::Setup;
 use std::alloc::{AllocError, Global};
 use std::hash::RandomState;
 use std::io::Write;
@@ -76,7 +77,8 @@ impl<'a> Play<'a> {
             (first_machine program.now)) }
     {
         let mut memory = BoundedMemory::new(alloc, size)?;
-        let Ok(context) = Interpreter::new(alloc, &mut memory, program, keys) else {
+        let Ok(context) = Interpreter::new(alloc, &mut memory, program, Setup::unbounded(keys))
+        else {
             return Err(AllocError);
         };
         Ok(Play {

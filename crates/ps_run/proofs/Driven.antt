@@ -1,7 +1,7 @@
 -- What a command line comes to, for other words of what it asks.
 use Rattle.std.proofs.Common.{◌≡◌, ◌≢◌, ℕ, List, [], ◌∷◌, Bool, true, false, Option, Some, None, inl, inr, ap, subst}
 use Rattle.std.specs.Prelude.{codes, is_some}
-use Rattle.ps_options.specs.CommandLine.{IsExplored, named_in}
+use Rattle.ps_options.specs.CommandLine.{IsOptional, named_in}
 use Rattle.ps_language.specs.Effect.{Around, Scene}
 use Rattle.ps_language.specs.World as world
 use Rattle.ps_acts.specs.Acts as acts
@@ -48,12 +48,12 @@ driven_more asks names other A B F G told outputs same more fault driven =
 
 -- whether many are asked for, as the words tell it
 pub none_explored : (words : List Text) (explored : Option ℕ) → explored ≡ None
-    → IsExplored words explored → is_some (named_in (codes "explore") words) ≡ false
+    → IsOptional (codes "explore") words explored → is_some (named_in (codes "explore") words) ≡ false
 none_explored words None none given = ap is_some given
 none_explored words (Some count) none given = cc
 
 pub some_explored : (words : List Text) (explored : Option ℕ) (count : ℕ) → explored ≡ Some count
-    → IsExplored words explored → is_some (named_in (codes "explore") words) ≡ true
+    → IsOptional (codes "explore") words explored → is_some (named_in (codes "explore") words) ≡ true
 some_explored words None count some given = cc
 some_explored words (Some other) count some given = given.0
 

@@ -58,11 +58,11 @@ module _ (old new : Contents) (prefix : Text) (endings : List Report) (count : �
 
 -- their schedules can be read again
 pub endings_entries : (asks : world.Status → Around → Scene → acts.Asked) (program : List ℕ)
-    (steps runs : ℕ) (endings : List Report) → steps ≤ 4294967295
-    → AreEndings asks program steps runs endings
+    (steps output runs : ℕ) (endings : List Report) → steps ≤ 4294967295
+    → AreEndings asks program steps output runs endings
     → All (λ ending. AreEntries ending.schedule.items) endings
-endings_entries asks program steps runs endings few are = λ place default less.
-    let ending = each_ending asks program steps runs endings are place default less in
+endings_entries asks program steps output runs endings few are = λ place default less.
+    let ending = each_ending asks program steps output runs endings are place default less in
     are_entries program (slice_index_or endings place default).schedule.items
     (omega (arith, few, ending.run.run.within)) ending.run.run.longest ending.run.run.proper
     ending.run.run.fits

@@ -1,5 +1,5 @@
 -- What a run from a command line is, its exit status, and what is written.
-use Rattle.std.specs.Prelude.{◌≡◌, ◌<◌, ◌≤◌, ◌+◌, ◌⊎◌, ◌++◌, ◌-◌, ◌^◌, ⊤, min, ℕ, Bool, true, false, not, All, List, [], ◌∷◌, slice_index_or, Option, Some, None, IsSome, IfSome, option_map, length, codes, if◌then◌else◌}
+use Rattle.std.specs.Prelude.{◌≡◌, ◌<◌, ◌≤◌, ◌+◌, ◌⊎◌, ◌++◌, ◌-◌, ◌^◌, ⊤, min, unwrap_or, ℕ, Bool, true, false, not, All, List, [], ◌∷◌, slice_index_or, Option, Some, None, IsSome, IfSome, option_map, length, codes, if◌then◌else◌}
 use Rattle.std.specs.Fmt.{decimal}
 use Rattle.std.specs.Io.KnownBytes.{Appends}
 use Rattle.ps_language.specs.declared.schedules.Entry.{Entry}
@@ -12,7 +12,7 @@ use Rattle.ps_mem.specs.Bounded.{bounded_space}
 use Rattle.ps_mem.specs.Heap.{Space}
 use Rattle.ps_mem.specs.Plain.{plain_space}
 use Rattle.ps_options.specs.declared.options.Options.{Options}
-use Rattle.ps_options.specs.CommandLine.{IsNumber, IsFlag, IsExplored, AreNumbers, file_in, named_in}
+use Rattle.ps_options.specs.CommandLine.{IsNumber, IsFlag, IsOptional, AreNumbers, file_in, named_in}
 use Rattle.ps_schedules.specs.Texts.{AreEntries, IsBadAt, text_of}
 use Rattle.clap.specs.Words.{Text}
 use Rattle.ps_vault.specs.declared.reports.Config.{Config}
@@ -89,7 +89,8 @@ abbrev pub most_program_bytes : ℕ
 most_program_bytes = 16777215
 
 -- what the words ask for of a run; plain: whether over memory that is never collected, whatever the
--- space; explored: under how many schedules, if they are chosen by chance
+-- space; explored: under how many schedules, if they are chosen by chance; output: the most bytes
+-- that it may print, if there is a bound
 pub record Asked : Type 0 where
   pub space : ℕ
   pub steps : ℕ
@@ -97,12 +98,18 @@ pub record Asked : Type 0 where
   pub plain : Bool
   pub stats : Bool
   pub explored : Option ℕ
+  pub output : Option ℕ
+
+-- no memory has more bytes than there may be without a bound
+abbrev pub most_output : Option ℕ → ℕ
+most_output asked = unwrap_or asked (2 ^ 64 - 1)
 
 abbrev pub AreAsked : List Text → Asked → Type 0
 AreAsked words asked = IsNumber (codes "space") words asked.space
     × IsNumber (codes "steps") words asked.steps
     × IsNumber (codes "quantum") words asked.quantum × IsFlag (codes "plain") words asked.plain
-    × IsFlag (codes "stats") words asked.stats × IsExplored words asked.explored
+    × IsFlag (codes "stats") words asked.stats × IsOptional (codes "explore") words asked.explored
+    × IsOptional (codes "output") words asked.output
 
 -- the space of its memory
 abbrev pub space_of : Asked → Space
@@ -129,6 +136,7 @@ config_in options = record {
   workers = options.workers;
   quantum = options.quantum;
   steps = options.steps;
+  output = most_output options.output;
 }
 
 abbrev pub asked_of : Options → Asked
@@ -139,6 +147,7 @@ asked_of options = record {
   plain = options.plain;
   stats = options.stats;
   explored = options.explore;
+  output = options.output;
 }
 
 abbrev pub names_of : Options → Names
@@ -225,6 +234,7 @@ pub record IsFileRun (asks : world.Status → Around → Scene → acts.Asked) (
   pub given : Option (List Entry)
   pub is_given : IsGiven contents names.replayed given
   pub run : IsMade asks program given asked report
+  pub bounded : length report.printed.items ≤ most_output asked.output
 
 -- what outputs and files hold before and after, where it is known; flushed: whether the first
 -- output was flushed after its last write
@@ -237,12 +247,24 @@ pub record Outputs : Type 0 where
   pub files_new : Contents
   pub flushed : Bool
 
--- no record was made, though one is asked for: its file was not written, or memory was wanted for
--- its text, and no file has changed
+-- the line that standard error has of a record that wasn't written
+abbrev pub unwritten_line : Text → List ℕ
+unwritten_line name = codes "dpsrun: cannot write " ++ (name ++ codes "\n")
+
+-- what standard error has where the record that is named isn't made: a beginning of one line, and no
+-- counts. Its file was not written, or memory was wanted for its text
+abbrev pub TellsUnwritten : Option Text → Status → (err_old err_new : Option (List ℕ)) → Type 0
+TellsUnwritten (Some name) status.Usage err_old err_new =
+    AppendsPart err_old err_new (unwritten_line name)
+TellsUnwritten (Some name) status.Memory err_old err_new =
+    AppendsPart err_old err_new (line_of status.Memory)
+TellsUnwritten recorded told err_old err_new = ⊥
+
+-- no record was made, though one is asked for; where memory was wanted no file has changed
 abbrev pub IsUnrecorded : Option Text → Status → Outputs → Type 0
-IsUnrecorded recorded told outputs = IsSome recorded
-    × ((told ≡ status.Usage)
-    ⊎ ((told ≡ status.Memory) × (outputs.files_new ≡ outputs.files_old)))
+IsUnrecorded recorded told outputs =
+    TellsUnwritten recorded told outputs.err_old outputs.err_new
+    × (told ≡ status.Memory → outputs.files_new ≡ outputs.files_old)
 
 -- the output took a part alone of what was printed, and the status tells a fault; or it took all
 -- and was flushed, and then the record was made where one is asked for, and the status is that of
@@ -350,7 +372,7 @@ module _ (asks : world.Status → Around → Scene → acts.Asked) (names : Name
     pub is_file : IfSome (outputs.files_old names.file) (λ bytes. program ≡ bytes)
     pub few : length program ≤ most_program_bytes
     pub endings : List Report
-    pub are : AreEndings asks program asked.steps runs endings
+    pub are : AreEndings asks program asked.steps (most_output asked.output) runs endings
     pub entries : All (λ ending. AreEntries ending.schedule.items) endings
     pub written : AreWritten names.recorded runs endings told outputs
 

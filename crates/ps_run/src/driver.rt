@@ -1,11 +1,11 @@
 //! A run from the words of a command line to an exit status.
 
-ghost use Rattle.std.specs.Prelude.{◌≡◌, ◌≢◌, ◌⊎◌, [], is_some, ℕ, List, true, false, Some, Err, map, option_map, IfOk, IfSome, None, codes};
+ghost use Rattle.std.specs.Prelude.{◌≡◌, ◌≢◌, ◌≤◌, ◌⊎◌, [], is_some, length, ℕ, List, true, false, Some, Err, map, option_map, IfOk, IfSome, None, codes};
 ghost use Rattle.ps_options.specs.CommandLine.{faults_in, named_in};
 ghost use Rattle.clap.specs.Values.{kind_of};
 ghost use Rattle.ps_vault.specs.Reports.{IsWithin};
 ghost use Rattle.ps_run.specs.Driving as driving;
-ghost use Rattle.ps_run.specs.Driving.{AreAsked, AreOutOfRange, HasNoSchedule, IsDriven, IsMade, IsRecordName, IsTooLong, asked_of, config_in, names_in, names_of};
+ghost use Rattle.ps_run.specs.Driving.{AreAsked, AreOutOfRange, HasNoSchedule, IsDriven, IsMade, IsRecordName, IsTooLong, asked_of, config_in, most_output, names_in, names_of};
 
 use crate::exploring::explore;
 use crate::files::FileSet;
@@ -17,7 +17,7 @@ use clap::Error;
 use clap::error::ErrorKind;
 use ps_interpreter::interprets::Interpret;
 use ps_options::{Options, no_text, parse};
-use ps_vault::{Config, Entry, Report, RunFault, replay, run_plain};
+use ps_vault::{Config, Entry, Report, RunFault, Setup, replay, run_plain};
 use ps_workers::Job;
 use ps_world::deeds::Deeds;
 use std::alloc::Global;
@@ -213,10 +213,18 @@ fn make<S: Interpret + Drop + Send, D: Deeds + Drop + Send, R: Threads + Wait + 
     ensures config { result ≡ Err RunFault.Config → ¬ IsWithin (config_in options.now) }
     ensures made { IfOk result (IsMade S.asks program.now
         (option_map (λ schedule. schedule.items) given) (asked_of options.now)) }
+    ensures bounded { IfOk result
+        (λ report. length report.printed.items ≤ most_output options.now.output) }
 {
     let config = config_of(options);
     match given {
-        Some(schedule) => replay(alloc, interpret, deeds, program, schedule.as_slice(), keys),
+        Some(schedule) => {
+            let setup = Setup {
+                keys,
+                output: config.output,
+            };
+            replay(alloc, interpret, deeds, program, schedule.as_slice(), setup)
+        }
         None if options.plain => run_plain(alloc, interpret, deeds, program, config, keys),
         None => {
             let job = Job {
@@ -240,5 +248,9 @@ pub(crate) fn config_of(options: &Options<'_>) -> Config
         workers: options.workers,
         quantum: options.quantum,
         steps: options.steps,
+        output: match options.output {
+            Some(most) => u64::from(most),
+            None => Config::ANY_OUTPUT,
+        },
     }
 }

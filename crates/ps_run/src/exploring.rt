@@ -14,6 +14,7 @@ use crate::reading::read_program;
 use crate::statuses::{Status, end};
 use ps_interpreter::interprets::Interpret;
 use ps_options::Options;
+use ps_vault::Setup;
 use ps_world::deeds::Deeds;
 use std::alloc::Global;
 use std::hash::RandomState;
@@ -75,7 +76,10 @@ pub(crate) fn explore<
         program.as_slice(),
         config.steps,
         runs,
-        keys,
+        Setup {
+            keys,
+            output: config.output,
+        },
         &mut order,
     ) {
         Ok(endings) => finish_all(alloc, endings.as_slice(), runs, options, files, out, err),

@@ -4,12 +4,12 @@ ghost use Rattle.std.specs.Prelude.{◌≡◌, ◌≢◌, ◌++◌, ◌-◌, ◌
 ghost use Rattle.std.specs.Io.KnownBytes.{Appends};
 ghost use Rattle.ps_language.specs.Schedules.{count_of};
 ghost use Rattle.ps_run.specs.Driving as driving;
-ghost use Rattle.ps_run.specs.Driving.{AppendsPart, IsRecorded, IsRecordName, IsUnwritten, IsWritten, names_of};
+ghost use Rattle.ps_run.specs.Driving.{AppendsPart, IsRecorded, IsRecordName, IsUnwritten, IsWritten, TellsUnwritten, names_of};
 
 use crate::files::FileSet;
 use crate::outputs::Flushing;
 use crate::statuses::{Status, end, line_of, status_of};
-use crate::writing::{write_number, write_part};
+use crate::writing::{write_number, write_part, write_unwritten};
 use ps_options::Options;
 use ps_schedules::append_schedule;
 use ps_vault::{Entry, Outcome, Report};
@@ -66,9 +66,9 @@ fn record_schedule<F: FileSet, X: Write>(
 ) -> Result<(), Status>
     ensures recorded { OnOk result
         (IsRecorded (F.contents files.new) (names_of options.now).recorded schedule.now) }
-    ensures asked { OnErr result (IsSome (names_of options.now).recorded) }
+    ensures unrecorded { IfErr result (λ told. TellsUnwritten (names_of options.now).recorded told
+        (X.contents err.old) (X.contents err.new)) }
     ensures told { OnOk result (err.new ≡ err.old) }
-    ensures status { IfErr result IsUnwritten }
     ensures memory { result ≡ Err Status.Memory → files.new ≡ files.old }
     ensures others { (other : List ℕ) → ¬ IsRecordName (names_of options.now).recorded false other
         → F.contents files.new other ≡ F.contents files.old other }
@@ -95,6 +95,8 @@ pub(crate) fn write_schedule<F: FileSet, X: Write>(
         (IsRecorded (F.contents files.new) (Some name.now) schedule.now) }
     ensures told { OnOk result (err.new ≡ err.old) }
     ensures status { IfErr result IsUnwritten }
+    ensures unrecorded { IfErr result (λ told. TellsUnwritten (Some name.now) told
+        (X.contents err.old) (X.contents err.new)) }
     ensures memory { result ≡ Err Status.Memory → files.new ≡ files.old }
     ensures others { (other : List ℕ) → other ≢ name.now
         → F.contents files.new other ≡ F.contents files.old other }
@@ -110,7 +112,7 @@ pub(crate) fn write_schedule<F: FileSet, X: Write>(
     match files.write(name, text.as_slice()) {
         Ok(()) => Ok(()),
         Err(_) => {
-            let _ = writeln!(err, "dpsrun: cannot write {name}");
+            let _ = write_unwritten(err, name);
             Err(Status::Usage)
         }
     }

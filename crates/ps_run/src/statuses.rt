@@ -2,6 +2,7 @@
 
 ghost use Rattle.std.specs.Prelude.{◌≡◌};
 ghost use Rattle.ps_run.specs.Driving as driving;
+ghost use Rattle.ps_run.specs.Driving.{AppendsPart};
 
 use crate::writing::write_part;
 use ps_vault::Outcome;
@@ -41,7 +42,8 @@ pub(crate) fn status_of(outcome: Outcome) -> Status
 
 /// Writes the line that belongs to a status, where it has one.
 pub(crate) fn end<X: Write>(err: &mut X, status: Status) -> Status
-    ensures { result ≡ status }
+    ensures status { result ≡ status }
+    ensures told { AppendsPart (X.contents err.old) (X.contents err.new) (driving.line_of status) }
 {
     let _ = write_part(err, line_of(status).as_bytes());
     status

@@ -3,7 +3,7 @@
 ghost use Rattle.std.specs.Prelude.{◌≡◌, ◌++◌, OnOk, codes};
 ghost use Rattle.std.specs.Fmt.{decimal};
 ghost use Rattle.std.specs.Io.KnownBytes.{Appends};
-ghost use Rattle.ps_run.specs.Driving.{AppendsPart, number_line};
+ghost use Rattle.ps_run.specs.Driving.{AppendsPart, number_line, unwritten_line};
 
 use itoa::Buffer;
 use std::io::{self, ErrorKind, Write};
@@ -26,6 +26,16 @@ pub fn write_part<W: Write>(out: &mut W, bytes: &[u8]) -> io::Result<()>
         }
     }
     Err(io::Error::from(ErrorKind::Interrupted))
+}
+
+/// Writes that the file of a name can't be written; where a write fails the output has a beginning
+/// of the line.
+pub fn write_unwritten<W: Write>(out: &mut W, name: &str) -> io::Result<()>
+    ensures { AppendsPart (W.contents out.old) (W.contents out.new) (unwritten_line name.now) }
+{
+    write_part(out, b"dpsrun: cannot write ")?;
+    write_part(out, name.as_bytes())?;
+    write_part(out, b"\n")
 }
 
 /// Writes a label, a number and the end of the line; where a write fails the output has a beginning

@@ -7,7 +7,7 @@ use anyhow::{Result, bail};
 use ps_interpreter::interprets::Interpret;
 use ps_roots::ROOT_LIMIT;
 use ps_seats::{Naming, named_seats};
-use ps_vault::{FIRST_ENTRIES, Outcome, Roots, Vault};
+use ps_vault::{FIRST_ENTRIES, Outcome, Roots, Setup, Vault};
 use ps_world::deeds::Deeds;
 use std::alloc::Global;
 use std::hash::RandomState;
@@ -44,7 +44,7 @@ pub fn stress<J: Naming, S: Interpret + Drop, D: Deeds + Drop>(
         interpret,
         deeds,
         program,
-        keys,
+        Setup::unbounded(keys),
         FIRST_ENTRIES,
     )?;
     let mut made: u32 = 0;

@@ -108,7 +108,7 @@ module _ (l : Lent) (good : IsGood l) (trial : Trial) (after : List Word) (scrat
           empty = empty;
         };
         keeps = keeps-same l.heap;
-        stays = stays_as l new refl refl refl (omega arith) least;
+        stays = stays_as l new refl refl refl refl (omega arith) least;
         logs = logs-same _ l.grants trial.slot;
         framed = tried_framed l.frames result;
       }

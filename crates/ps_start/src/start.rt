@@ -1,6 +1,6 @@
 //! The first context over an empty memory, with what it shares (PLRM2, 3.7, 7.1).
 
-ghost use Rattle.std.specs.Prelude.{◌≡◌, ◌≤◌, ◌<◌, ◌^◌, [], ◌∷◌, false, IfOk, IfErr, OnErr, vec_capacity};
+ghost use Rattle.std.specs.Prelude.{◌≡◌, ◌≤◌, ◌<◌, ◌^◌, ◌-◌, [], ◌∷◌, false, IfOk, IfErr, OnErr, vec_capacity};
 ghost use Rattle.ps_language.specs.Worlds.{first_names};
 ghost use Rattle.ps_mem.specs.Heap.{SameLogs};
 ghost use Rattle.ps_acts.specs.Lent.{lent, IsEmpty};
@@ -16,6 +16,7 @@ use ps_names::Names;
 use ps_operands::Operands;
 use ps_ops::failure::NotMade;
 use ps_ops::makes::granted;
+use ps_text::outputs::Output;
 use ps_word::values::Content;
 use std::alloc::{AllocError, Global};
 use std::hash::RandomState;
@@ -25,6 +26,27 @@ pub const FIRST_WORDS: u32 = 528;
 
 /// How many birth numbers.
 pub const FIRST_BIRTHS: u32 = 3;
+
+/// What a run is set up with beside its program.
+#[derive(Clone, Copy)]
+pub struct Setup {
+    /// The keys of its table of names; they are for that alone.
+    pub keys: RandomState,
+    /// The most bytes that it may print.
+    pub output: u64,
+}
+
+impl Setup {
+    /// These keys, and no bound on what is printed: no memory has as many bytes.
+    pub fn unbounded(keys: RandomState) -> Setup
+        ensures { result.output ≡ 2 ^ 64 - 1 }
+    {
+        Setup {
+            keys,
+            output: u64::MAX,
+        }
+    }
+}
 
 /// The stacks of a context, with all their room.
 #[derive(Drop)]
@@ -53,20 +75,21 @@ fn empty_stacks(alloc: Global) -> Result<Stacks, AllocError>
 fn first_shared<'a>(
     alloc: Global,
     program: &'a [u8],
-    keys: RandomState,
+    setup: Setup,
 ) -> Result<Shared<'a>, AllocError>
     ensures program { IfOk result (λ shared. shared.program.now ≡ program.now) }
     ensures names { IfOk result (λ shared. shared.names ≡ first_names) }
-    ensures printed { IfOk result (λ shared. shared.printed.items ≡ []) }
+    ensures printed { IfOk result (λ shared. shared.printed.bytes ≡ []) }
+    ensures most { IfOk result (λ shared. shared.printed.most ≡ setup.output) }
     ensures scratch { IfOk result (λ shared. IsEmpty shared.scratch) }
     ensures room { IfOk result (λ shared. 208 ≤ vec_capacity shared.scratch.words) }
 {
-    let names = Names::with_first(alloc, keys)?;
+    let names = Names::with_first(alloc, setup.keys)?;
     let words = Vec::with_capacity(alloc, SYSTEM_WORDS)?;
     Ok(Shared {
         program,
         names,
-        printed: Vec::new(alloc),
+        printed: Output::new(alloc, setup.output),
         scratch: Scratch {
             text: Vec::new(alloc),
             sought: Vec::new(alloc),
@@ -109,7 +132,7 @@ fn first_context(stacks: Stacks, made: FirstDictionaries) -> Context
 
 /// Makes what stands at the start of a run of a program, in a memory in which nothing stands:
 /// systemdict, userdict and the first context's `$error`, 528 words together, with the first
-/// context and what contexts share. The keys are for the names alone. No record is put.
+/// context and what contexts share. No record is put.
 ///
 /// `NeedSpace`: the 528 words or the birth numbers have no room. `Memory`: a growth was refused, of
 /// the memory or of a list. There is no other. Nothing was made then.
@@ -117,11 +140,12 @@ pub fn start<'a, M: Memory>(
     alloc: Global,
     memory: &mut M,
     program: &'a [u8],
-    keys: RandomState,
+    setup: Setup,
 ) -> Result<(Context, Shared<'a>), NotMade>
     requires heap { IsEmptyHeap (M.heap memory.old) }
     ensures starts { IfOk result (λ made. Starts program.now
         (lent (M.heap memory.new) (M.grants memory.new) made.0 made.1)) }
+    ensures most { IfOk result (λ made. made.1.printed.most ≡ setup.output) }
     ensures space { (M.heap memory.new).space ≡ (M.heap memory.old).space }
     ensures not_made { OnErr result (M.heap memory.new ≡ M.heap memory.old) }
     ensures reason { IfErr result (λ reason. IsStartReason reason (M.heap memory.old)) }
@@ -130,7 +154,7 @@ pub fn start<'a, M: Memory>(
     let Ok(stacks) = empty_stacks(alloc) else {
         return Err(NotMade::Memory);
     };
-    let Ok(mut shared) = first_shared(alloc, program, keys) else {
+    let Ok(mut shared) = first_shared(alloc, program, setup) else {
         return Err(NotMade::Memory);
     };
     granted(memory, FIRST_WORDS, FIRST_BIRTHS)?;

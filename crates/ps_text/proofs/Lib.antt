@@ -1,3 +1,4 @@
 pub mod Cuts
 pub mod Rests
 pub mod Shown
+mod Parts

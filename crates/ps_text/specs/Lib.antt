@@ -1,3 +1,4 @@
 pub mod Shown
 pub mod Forms
 pub mod Errors
+pub mod Printed

@@ -93,6 +93,7 @@ pub fn append_error_line<M: Memory>(
     requires command { IfSome command (IsValue (M.heap memory.old)) }
     ensures heap { M.heap memory.new ≡ M.heap memory.old }
     ensures grants { M.grants memory.new ≡ M.grants memory.old }
+    ensures front { take (length output.old.items) output.new.items ≡ output.old.items }
     ensures err { OnErr result (output.new.items ≡ output.old.items) }
     ensures appends { (s : Store) → Shows (M.heap memory.old) names.now s
         → IfSome name (IsWithin (birth_at (M.heap memory.old)) names.now s)

@@ -12,5 +12,6 @@ pub mod errors;
 mod escapes;
 pub mod full;
 pub mod lines;
+pub mod outputs;
 pub mod plain;
 pub mod types;

@@ -172,7 +172,7 @@ module _ (asks : Lent → Store → Asked) (turn : Lent → Store → Turn) (tri
       empty = good.empty;
     };
     keeps = keeps-same l.heap;
-    stays = stays_as l granted refl refl refl (omega arith) (at_least-same _);
+    stays = stays_as l granted refl refl refl refl (omega arith) (at_least-same _);
     logs = logs;
     framed = refl;
     under_way = tt;
@@ -202,7 +202,7 @@ module _ (asks : Lent → Store → Asked) (turn : Lent → Store → Turn) (tri
       empty = empty;
     };
     keeps = keeps-same l.heap;
-    stays = stays_as l relisted refl refl refl (omega arith) least;
+    stays = stays_as l relisted refl refl refl refl (omega arith) least;
     logs = logs;
     framed = refl;
     under_way = tt;

@@ -135,6 +135,7 @@ module _ (l : Lent) (more names : List (List ℕ)) (are : names ≡ l.names ++ m
       keeps = turns.keeps;
       stays = record {
         program = turns.stays.program;
+        most = turns.stays.most;
         error_dictionary = turns.stays.error_dictionary;
         formed = more ++ turns.stays.formed;
         names = turns.stays.names
@@ -176,6 +177,7 @@ module _ (l : Lent) (more names : List (List ℕ)) (are : names ≡ l.names ++ m
       keeps = turns.keeps;
       stays = record {
         program = turns.stays.program;
+        most = turns.stays.most;
         error_dictionary = turns.stays.error_dictionary;
         formed = [];
         names = sym (append-nil l.names);

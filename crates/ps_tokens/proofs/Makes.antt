@@ -131,7 +131,7 @@ module _ (asks : Lent → Store → Asked) (turn : Lent → Store → Turn) (tri
             empty = empty;
           };
           keeps = keeps;
-          stays = stays_as l made refl refl refl (omega arith) least;
+          stays = stays_as l made refl refl refl refl (omega arith) least;
           logs = logs_more 0 _ l.grants grants trial.slot (omega arith) logs;
           framed = tt;
           under_way = tt;

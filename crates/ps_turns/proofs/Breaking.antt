@@ -239,7 +239,7 @@ module _ (trial : Trial) (l : Lent) (good : IsGood l) (last : l.frames ≡ []) w
             empty = good.empty;
           };
           keeps = keeps-same l.heap;
-          stays = stays_as l left refl refl refl (omega (arith, more)) (at_least-same _);
+          stays = stays_as l left refl refl refl refl (omega (arith, more)) (at_least-same _);
           logs = logs;
           framed = refl;
           under_way = tt;

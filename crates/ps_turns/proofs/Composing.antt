@@ -136,7 +136,7 @@ module _ (l : Lent) (operands : List Word) (frames : List Frame) where
       };
       good = good;
       keeps = keeps-same l.heap;
-      stays = stays_as l restacked refl refl refl (omega arith) (at_least-same _);
+      stays = stays_as l restacked refl refl refl refl (omega arith) (at_least-same _);
       logs = logs-same _ l.grants trial.slot;
       framed = tt;
       under_way = tt;
@@ -175,6 +175,7 @@ module _ (l : Lent) (operands : List Word) (frames : List Frame) where
     stays_over : (new : Lent) → Stays restacked new → Stays l new
     stays_over new stays = record {
       program = stays.program;
+      most = stays.most;
       error_dictionary = stays.error_dictionary;
       formed = stays.formed;
       names = stays.names;

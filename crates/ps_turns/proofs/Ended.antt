@@ -140,7 +140,7 @@ module _ (error : ErrorName) (command : Word) (trial : Trial) (l : Lent) (good :
               empty = good.empty;
             };
             keeps = keeps-same l.heap;
-            stays = stays_as l new refl refl refl (omega (arith, more)) (at_least-same _);
+            stays = stays_as l new refl refl refl refl (omega (arith, more)) (at_least-same _);
             logs = logs;
             framed = refl;
             under_way = tt;

@@ -1,5 +1,5 @@
--- What stands, by whether it does, and texts for which there is no room.
-use Rattle.std.proofs.Common.{◌≡◌, ℕ, ◌-◌, ◌<◌, ◌≤◌, ◌++◌, arith, Bool, true, false, List, length, refl, length-append}
+-- What stands, by whether it does.
+use Rattle.std.proofs.Common.{◌≡◌, Bool, true, false, refl}
 use Rattle.std.specs.Prelude.{IfSome, option_map}
 use Rattle.ps_turns.specs.Ends.{given_that_stands}
 
@@ -12,8 +12,3 @@ pub stands-if : {A : Type 0} (P : A → Type 0) (there : Bool) (a : A) → P a
     → IfSome (given_that_stands there a) P
 stands-if P true a p = p
 stands-if P false a p = tt
-
-pub room_lacks : (capacity : ℕ) (old text : List ℕ) → length old ≤ capacity
-    → capacity < length (old ++ text) → capacity - length old < length text
-room_lacks capacity old text fits less =
-    let long = length-append old text in omega (arith, fits, less, long)

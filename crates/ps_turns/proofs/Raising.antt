@@ -115,7 +115,7 @@ module _ (error : ErrorName) (command : Word) (trial : Trial) (l : Lent) (good :
     meets = λ s held. record { did = noted_turn notes s held; logs = notes.logs };
     good = good_over l good heap grants notes.keeps notes.sound;
     keeps = notes.keeps;
-    stays = stays_as l noted refl refl refl (omega arith) (at_least-same _);
+    stays = stays_as l noted refl refl refl refl (omega arith) (at_least-same _);
     logs = notes.logs;
     framed = tt;
     under_way = some_frames l.frames some;
@@ -133,7 +133,7 @@ module _ (error : ErrorName) (command : Word) (trial : Trial) (l : Lent) (good :
     meets = λ s held. meets s;
     good = good_over l good heap grants notes.keeps notes.sound;
     keeps = notes.keeps;
-    stays = stays_as l noted refl refl refl (omega arith) (at_least-same _);
+    stays = stays_as l noted refl refl refl refl (omega arith) (at_least-same _);
     logs = notes.logs;
     framed = refl;
     under_way = tt;

@@ -103,7 +103,7 @@ module _ (l : Lent) (good : IsGood l) (frames : List Frame) (are : AreGood l l.o
             empty = empty;
           };
           keeps = keeps;
-          stays = stays_as l later_lent refl refl refl capacity least;
+          stays = stays_as l later_lent refl refl refl refl capacity least;
           logs = logs;
           framed = tt;
           under_way = under_way;

@@ -1,7 +1,7 @@
 //! An unwinding goes on, or ends a context that has no frame left (PLRM2, 3.10, 8 'Operators':
 //! Control).
 
-ghost use Rattle.std.specs.Prelude.{◌≡◌, ◌≢◌, ◌<◌, ◌≤◌, [], ℕ, List, Some, IfSome, IfErr, OnOk, OnErr, vec_capacity};
+ghost use Rattle.std.specs.Prelude.{◌≡◌, ◌≢◌, ◌<◌, ◌≤◌, [], ℕ, List, Some, IfSome, IfErr, OnOk, OnErr};
 ghost use Rattle.std.specs.List.{AllPairs};
 ghost use Rattle.ps_language.specs.Access.{dictionary_at};
 ghost use Rattle.ps_language.specs.StepErrors as language;
@@ -11,7 +11,7 @@ ghost use Rattle.ps_mem.specs.Meaning.{value_of};
 ghost use Rattle.ps_mem.specs.References.{StandsAs};
 ghost use Rattle.ps_mem.specs.Shows.{IsSound, Shows};
 ghost use Rattle.ps_types.specs.Met.{BeginWithFirst};
-ghost use Rattle.ps_text.specs.Errors.{Appends};
+ghost use Rattle.ps_text.specs.Printed.{Prints, StaysBounded};
 ghost use Rattle.ps_acts.specs.Lent.{lent, IsGood};
 ghost use Rattle.ps_control.specs.Turns.{cause_of};
 ghost use Rattle.ps_turns.specs.Entries.{IsNamed};
@@ -31,7 +31,7 @@ use ps_names::Names;
 use ps_operands::plain;
 use ps_ops::changes::permitted;
 use ps_ops::failure::NotMade;
-use ps_text::errors::append_error_line;
+use ps_text::outputs::Output;
 use ps_word::words::Word;
 use std::alloc::AllocError;
 
@@ -64,16 +64,16 @@ pub fn has_new_error<M: Memory>(memory: &mut M, address: u32, keys: ErrorKeys) -
     }
 }
 
-/// Appends the line of the error in the `$error` at an address. The memory is only read.
+/// Prints the line of the error in the `$error` at an address. The memory is only read.
 ///
-/// `AllocError`: the output has no room for the line, and a growth was refused; its bytes are as
-/// they were.
-pub fn append_line<M: Memory>(
+/// `AllocError`: the line is more than may be printed, or the output lacks room and a growth was
+/// refused; its bytes are as they were.
+pub fn print_line<M: Memory>(
     memory: &mut M,
     names: &Names,
     address: u32,
     keys: ErrorKeys,
-    output: &mut Vec<u8>,
+    output: &mut Output,
 ) -> Result<(), AllocError>
     requires sound { IsSound (M.heap memory.old) }
     requires known { StandsAs (M.heap memory.old) Kind.Dictionary address 4 }
@@ -81,17 +81,17 @@ pub fn append_line<M: Memory>(
     requires command { IsNamed 133 keys.command }
     ensures heap { M.heap memory.new ≡ M.heap memory.old }
     ensures grants { M.grants memory.new ≡ M.grants memory.old }
-    ensures err { OnErr result (output.new.items ≡ output.old.items) }
-    ensures appends { (s : Store) → BeginWithFirst names.now
+    ensures bounded { StaysBounded output.old output.new }
+    ensures err { OnErr result (output.new.bytes ≡ output.old.bytes) }
+    ensures prints { (s : Store) → BeginWithFirst names.now
         → AllPairs (λ one later. one ≢ later) names.now → Shows (M.heap memory.old) names.now s
-        → Appends result
+        → Prints result
         (language.error_line s (dictionary_at s (birth_at (M.heap memory.old) address)))
-        output.old.items output.new.items (vec_capacity output.old) (vec_capacity output.new) }
-    ensures capacity { vec_capacity output.old ≤ vec_capacity output.new }
+        output.old output.new }
 {
     let name = value_of_key(memory, address, keys.errorname);
     let command = value_of_key(memory, address, keys.command);
-    append_error_line(memory, names, name, command, output)
+    output.print_error_line(memory, names, name, command)
 }
 
 /// Asks for so many records, at least one.
@@ -144,7 +144,7 @@ fn end_by_stop<M: Memory>(
         Ok(()) => {}
         Err(reason) => return Err(reason),
     }
-    match append_line(memory, &shared.names, address, keys, &mut shared.printed) {
+    match print_line(memory, &shared.names, address, keys, &mut shared.printed) {
         Ok(()) => {}
         Err(AllocError) => return Err(NotMade::Memory),
     }

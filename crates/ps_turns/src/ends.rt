@@ -1,12 +1,12 @@
 //! The end of a context: the line of an error that nothing caught (PLRM2, 3.10).
 
-ghost use Rattle.std.specs.Prelude.{◌≡◌, ◌<◌, ◌≤◌, ◌∷◌, [], OnErr, vec_capacity};
+ghost use Rattle.std.specs.Prelude.{◌≡◌, ◌<◌, ◌≤◌, ◌∷◌, [], OnErr};
 ghost use Rattle.ps_language.specs.Value.{Store};
 ghost use Rattle.ps_mem.specs.Heap.{birth_at};
 ghost use Rattle.ps_mem.specs.Meaning.{value_of};
 ghost use Rattle.ps_mem.specs.Shows.{IsValue, AreValues, IsSound, AreWithin, Shows, words_of_pairs};
 ghost use Rattle.ps_dict.specs.Entries.{entry_pairs};
-ghost use Rattle.ps_text.specs.Errors.{Appends};
+ghost use Rattle.ps_text.specs.Printed.{Prints, StaysBounded};
 ghost use Rattle.ps_acts.specs.Lent.{lent, IsGood};
 ghost use Rattle.ps_turns.specs.Ends as ends;
 ghost use Rattle.ps_turns.specs.Turns.{TurnsWith, error_turn, nothing_more};
@@ -19,7 +19,7 @@ use ps_language::errors::ErrorName;
 use ps_mem::{Memory, SLOTS};
 use ps_names::Names;
 use ps_ops::failure::NotMade;
-use ps_text::errors::append_error_line;
+use ps_text::outputs::Output;
 use ps_word::words::Word;
 use std::alloc::AllocError;
 
@@ -46,27 +46,27 @@ fn given_that_stands(there: bool, word: Word) -> Option<Word>
     if there { Some(word) } else { None }
 }
 
-/// Appends the line of an error whose entries are about to be put by this plan, where it is new
+/// Prints the line of an error whose entries are about to be put by this plan, where it is new
 /// then.
-fn append_line<M: Memory>(
+fn print_line<M: Memory>(
     memory: &mut M,
     names: &Names,
     plan: ErrorPlan,
     entries: ErrorEntries,
-    output: &mut Vec<u8>,
+    output: &mut Output,
 ) -> Result<(), AllocError>
     requires sound { IsSound (M.heap memory.old) }
     requires held { AreValues (M.heap memory.old) (words_of_pairs (entry_pairs entries)) }
     ensures heap { M.heap memory.new ≡ M.heap memory.old }
     ensures grants { M.grants memory.new ≡ M.grants memory.old }
-    ensures err { OnErr result (output.new.items ≡ output.old.items) }
-    ensures appends { (s : Store) → Shows (M.heap memory.old) names.now s
+    ensures bounded { StaysBounded output.old output.new }
+    ensures err { OnErr result (output.new.bytes ≡ output.old.bytes) }
+    ensures prints { (s : Store) → Shows (M.heap memory.old) names.now s
         → AreWithin (M.heap memory.old) names.now s (words_of_pairs (entry_pairs entries))
-        → Appends result (ends.planned_line s plan
+        → Prints result (ends.planned_line s plan
         (value_of (birth_at (M.heap memory.old)) names.now entries.errorname.1)
         (value_of (birth_at (M.heap memory.old)) names.now entries.command.1))
-        output.old.items output.new.items (vec_capacity output.old) (vec_capacity output.new) }
-    ensures capacity { vec_capacity output.old ≤ vec_capacity output.new }
+        output.old output.new }
 {
     if !stands(plan.newerror, 0, plan.room) {
         return Ok(());
@@ -74,12 +74,11 @@ fn append_line<M: Memory>(
     let waiting = vacant(plan.newerror);
     let name = stands(plan.errorname, waiting, plan.room);
     let command = stands(plan.command, waiting + vacant(plan.errorname), plan.room);
-    append_error_line(
+    output.print_error_line(
         memory,
         names,
         given_that_stands(name, entries.errorname.1),
         given_that_stands(command, entries.command.1),
-        output,
     )
 }
 
@@ -112,7 +111,7 @@ pub fn end_by_error<M: Memory>(
     let address = context.error_dictionary;
     let entries = entries_of(error, command, false);
     let plan = plan_error(memory, address, entries);
-    match append_line(memory, &shared.names, plan, entries, &mut shared.printed) {
+    match print_line(memory, &shared.names, plan, entries, &mut shared.printed) {
         Ok(()) => {}
         Err(AllocError) => return Err(NotMade::Memory),
     }

@@ -23,12 +23,12 @@ use Rattle.ps_world.specs.Steps.{AllFrom, HasMade, IsQuiet, IsUnready, KeepsOthe
 use Rattle.ps_vault.specs.Holds.{wish_in}
 use Rattle.ps_vault.specs.Order.{IsOnlyLeft, IsAlone, Tells, IsNoEnd, IsNoWish, AllTell, IsOfOne, AllOfOne}
 use Rattle.ps_vault.specs.Reports.{are_words, fits, is_ordinary}
-use Rattle.ps_vault.specs.Warrants.{AllWarranted}
+use Rattle.ps_vault.specs.Warrants.{AddsShown, AllWarranted}
 use Rattle.ps_vault.specs.Stories.{Keeps, move_of}
 use Rattle.ps_vault.specs.Turns.{added_times}
 use Rattle.ps_vault.proofs.Following.{times_moves}
 use Rattle.ps_vault.proofs.Keeping.{and_both}
-use Rattle.ps_vault.proofs.Showing.{IsLastShown, last_added}
+use Rattle.ps_vault.proofs.Showing.{shown_last}
 use Rattle.ps_vault.proofs.Warrants.{warranted_times}
 
 -- the world after so many more
@@ -212,15 +212,16 @@ module _ (context made : ℕ) (old new : Held) (schedule : List Entry) (keeps : 
           (none_at calling waited))
 
   -- the last of them is shown nothing
-  pub last_made : (P : ℤ × ℤ → Type 0) → 1 ≤ made → IsLastShown P (moves later)
+  pub last_made : (pair : ℤ × ℤ) → 1 ≤ made
+      → AddsShown context made pair (moves schedule) (moves later)
   unfolding added_times
-  last_made P some = last_times made some
+  last_made pair some = by made some
     where
-      last_times : (n : ℕ) → 1 ≤ n
-          → IsLastShown P (moves (added_times n schedule (plain_move context)))
-      last_times zero some = absurd (omega (arith, some))
-      last_times (suc n) some =
-          last_added P (added_times n schedule (plain_move context)) (plain_move context) tt
+      by : (n : ℕ) → 1 ≤ n → AddsShown context n pair (moves schedule)
+          (moves (added_times n schedule (plain_move context)))
+      by zero some = absurd (omega (arith, some))
+      by (suc n) some =
+          shown_last context (suc n) n schedule (plain_move context) pair (omega arith) tt
 
   -- they show nothing, and the space stays
   pub same_space : new.desk.heap.space ≡ old.desk.heap.space

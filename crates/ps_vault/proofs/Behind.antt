@@ -1,5 +1,5 @@
 -- What a vault keeps over steps of one context and the step behind them.
-use Rattle.std.proofs.Common.{◌≡◌, ℕ, ℤ, ◌≤◌, true, false, Option, Some, None, Result, Ok, Err, List, [], ◌∷◌, refl, sym, ◌∙◌, ap, subst}
+use Rattle.std.proofs.Common.{◌≡◌, ℕ, ℤ, ◌≤◌, true, false, Option, Some, None, Result, Ok, Err, List, [], ◌∷◌, refl, sym, ◌∙◌, ap, subst, ◌+◌}
 use Rattle.std.specs.Prelude.{IfSome, is_some}
 use Rattle.ps_language.specs.declared.schedules.Entry.{Entry}
 use Rattle.ps_language.specs.Effect as effect
@@ -27,14 +27,14 @@ use Rattle.ps_vault.specs.Holds as holds
 use Rattle.ps_vault.specs.Holds.{IsHeldUp, wish_in}
 use Rattle.ps_vault.specs.Order.{IsOnlyLeft, Tells, AllTell, IsOfOne, AllOfOne, AllTellButLast, EndsWith}
 use Rattle.ps_vault.specs.Reports.{are_words}
-use Rattle.ps_vault.specs.Warrants.{AllWarranted, IsPairOf, IsWarranted}
+use Rattle.ps_vault.specs.Warrants.{AddsShown, AllWarranted, IsPairOf, IsWarranted}
 use Rattle.ps_vault.specs.Stories.{Story, Keeps, move_of}
 use Rattle.ps_vault.specs.Turns.{added_times}
 use Rattle.ps_vault.proofs.Advancing.{keeps_made, warranted_made, last_made, tell_made, alone_made, left_made, only_left_ready, world_times}
 use Rattle.ps_vault.proofs.Keeping.{keeps_noted, keeps_unmade}
 use Rattle.ps_vault.proofs.Reasons.{held_step, HasNumbersOf}
 use Rattle.ps_vault.proofs.Ordering.{adds_all_more}
-use Rattle.ps_vault.proofs.Showing.{IsLastShown, kept_so, last_added, noted_warranted, words_kept}
+use Rattle.ps_vault.proofs.Showing.{kept_so, noted_warranted, shown_last, words_kept}
 use Rattle.ps_vault.proofs.Warrants.{lives_in, pair_of_space, warranted_added}
 
 -- so many were made, and the step behind them came to this
@@ -87,7 +87,8 @@ module _ (asks : Status → Around → Scene → Asked) (context slot made : ℕ
         (subst (λ (p : List ℕ). AllWarranted behind.mid.desk.heap.space.size p after)
         (sym behind.steps.program) all)
 
-    pub last_mid : (P : ℤ × ℤ → Type 0) → 1 ≤ made → IsLastShown P (moves so_far)
+    pub last_mid : (pair : ℤ × ℤ) → 1 ≤ made
+        → AddsShown context made pair (moves schedule) (moves so_far)
     last_mid = last_made context made old behind.mid schedule keeps ready behind.makes
 
     pub tell_mid : (IsSo : effect.Note → Type 0) → IsSo effect.nothing
@@ -159,11 +160,11 @@ module _ (asks : Status → Around → Scene → Asked) (context slot made : ℕ
 
       -- the memory behind it is the same
       pub shown_behind : (kept : Option (ℤ × ℤ)) → kept ≡ kept_pair (note_of note) shown
-          → IsLastShown (λ pair. pair ≡ shown_words new.desk.heap)
+          → AddsShown context (made + 1) (shown_words new.desk.heap) (moves schedule)
           (moves (added so_far (move_of context false kept)))
       shown_behind kept is =
-          last_added (λ pair. pair ≡ shown_words new.desk.heap) so_far
-          (move_of context false kept)
+          shown_last context (made + 1) made schedule (move_of context false kept)
+          (shown_words new.desk.heap) refl
           (subst (λ (one : Option (ℤ × ℤ)). IfSome one (λ pair. pair ≡ shown_words new.desk.heap))
           (sym is) (kept_so _ note shown λ shows. by shows shown (shows_here shows)))
         where

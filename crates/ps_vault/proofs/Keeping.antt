@@ -272,6 +272,7 @@ pub run_at_end : (asks : Status → Around → Scene → Asked) (space : Space) 
     → Keeps h report.schedule.items
     → record {
       program = h.desk.program;
+      most = h.desk.most;
       schedule = report.schedule.items;
       capacity = vec_capacity report.schedule;
       caller = caller;

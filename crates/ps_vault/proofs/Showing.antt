@@ -1,10 +1,10 @@
 -- What a step is shown, and what a schedule keeps of it.
-use Rattle.std.proofs.Common.{◌≡◌, ◌≢◌, ℕ, ℤ, ◌^◌, true, false, Option, Some, None, List, [], ◌∷◌, ◌++◌, refl, sym, ◌∙◌, ap, subst, arith}
-use Rattle.std.specs.Prelude.{IfSome, is_some, min, max}
+use Rattle.std.proofs.Common.{◌≡◌, ◌≢◌, ℕ, ℤ, ◌^◌, true, false, Option, Some, None, List, [], ◌∷◌, ◌++◌, refl, sym, ◌∙◌, ap, subst, arith, ◌+◌, ◌-◌}
+use Rattle.std.specs.Prelude.{IfSome, is_some, min, max, replicate}
 use Rattle.std.proofs.lemmas.Bool.{lt-ltb, true≢false}
 use Rattle.ps_language.specs.declared.schedules.Entry.{Entry}
 use Rattle.ps_language.specs.Effect as effect
-use Rattle.ps_language.specs.Schedules.{Move, added, moves}
+use Rattle.ps_language.specs.Schedules.{Move, added, moves, plain_move}
 use Rattle.ps_language.specs.Step.{Stepped, stepped}
 use Rattle.ps_language.specs.World.{World}
 use Rattle.ps_language.specs.Worlds.{kept_pair}
@@ -17,7 +17,9 @@ use Rattle.ps_world.specs.Notes.{note_of}
 use Rattle.ps_world.specs.Steps.{AreShown, words_shown}
 use Rattle.ps_vault.specs.Reports.{are_words, is_number_of_words}
 use Rattle.ps_vault.specs.Stories.{move_of}
-use Rattle.ps_vault.specs.Warrants.{IsPairOf, IsWarranted}
+use Rattle.ps_vault.specs.Warrants.{AddsShown, IsPairOf, IsWarranted}
+use Rattle.ps_vault.specs.Turns.{added_times}
+use Rattle.ps_vault.proofs.Following.{times_moves}
 use Rattle.ps_vault.proofs.Keeping.{and_both}
 use Rattle.ps_vault.proofs.Warrants.{ordinary_warranted}
 
@@ -63,29 +65,21 @@ words_kept heap (Wishes number) shown are = refl
 
 -- ---- the last step
 
--- what it is shown
-last_shown : List Move → Option (ℤ × ℤ)
-last_shown [] = None
-last_shown (step ∷ []) = step.shown
-last_shown (step ∷ next ∷ steps) = last_shown (next ∷ steps)
-
-last_of : (steps : List Move) (move : Move) → last_shown (steps ++ move ∷ []) ≡ move.shown
-unfolding last_shown
-last_of [] move = refl
-last_of (first ∷ []) move = refl
-last_of (first ∷ next ∷ steps) move = last_of (next ∷ steps) move
-
--- so it is of the last of these steps, if it is of any
-abbrev pub IsLastShown : (P : ℤ × ℤ → Type 0) → List Move → Type 0
-IsLastShown P steps = (before : List Move) (last : Move) → steps ≡ before ++ last ∷ []
-    → IfSome last.shown P
-
-pub last_added : (P : ℤ × ℤ → Type 0) (schedule : List Entry) (move : Move) → IfSome move.shown P
-    → IsLastShown P (moves (added schedule move))
-last_added P schedule move so before last is =
-    subst (λ (shown : Option (ℤ × ℤ)). IfSome shown P)
-    (sym (last_of (moves schedule) move) ∙ ap last_shown (sym (moves-added schedule move) ∙ is)
-    ∙ last_of before last) so
+-- behind so many plain ones
+pub shown_last : (context made n : ℕ) (schedule : List Entry) (last : Move) (pair : ℤ × ℤ)
+    → made ≡ n + 1 → IfSome last.shown (λ one. one ≡ pair)
+    → AddsShown context made pair (moves schedule)
+    (moves (added (added_times n schedule (plain_move context)) last))
+shown_last context made n schedule last pair same so =
+    let count : n ≡ made - 1 = omega (arith, same) in
+    record {
+      last = last;
+      is = moves-added (added_times n schedule (plain_move context)) last
+          ∙ (ap (λ (steps : List Move). steps ++ last ∷ [])
+          (times_moves n schedule (plain_move context))
+          ∙ ap (λ (m : ℕ). moves schedule ++ replicate m (plain_move context) ++ last ∷ []) count);
+      shown = so;
+    }
 
 -- ---- it is warranted
 

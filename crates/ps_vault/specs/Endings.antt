@@ -1,5 +1,5 @@
 -- What runs in orders of a caller's choice come to.
-use Rattle.std.specs.Prelude.{◌≡◌, ℕ, suc, false, List, [], ◌∷◌, ◌++◌, Any}
+use Rattle.std.specs.Prelude.{◌≡◌, ◌≤◌, ℕ, suc, false, List, [], ◌∷◌, ◌++◌, Any, length}
 use Rattle.ps_language.specs.Effect.{Around, Scene}
 use Rattle.ps_language.specs.World.{Status}
 use Rattle.ps_acts.specs.Acts.{Asked}
@@ -12,10 +12,11 @@ pub record IsAlike (a b : Report) : Type 0 where
   pub outcome : a.outcome ≡ b.outcome
 
 -- asks: what a step asks for that the language doesn't say
-module _ (asks : Status → Around → Scene → Asked) (program : List ℕ) (steps : ℕ) where
-  -- a run of the program with a budget of steps, which wanted no memory
+module _ (asks : Status → Around → Scene → Asked) (program : List ℕ) (steps output : ℕ) where
+  -- a run of the program with a budget of steps and of printed bytes, which wanted no memory
   pub record IsEnding (report : Report) : Type 0 where
     pub run : IsRunOf asks program steps report
+    pub bounded : length report.printed.items ≤ output
     pub known : is_memory report.outcome ≡ false
 
   -- so many runs, one after another, ended so: of those that ended alike the first is here

@@ -1,5 +1,5 @@
 -- What runs promise.
-use Rattle.std.specs.Prelude.{◌≡◌, ℕ, ◌+◌, ◌<◌, ◌≤◌, ◌^◌, ◌==◌, nat_lt, ℤ, pos, negsuc, Bool, true, false, IsTrue, Option, Some, None, List, [], ◌∷◌, length, drop, not, ◌&&◌, ◌⊎◌, vec_capacity}
+use Rattle.std.specs.Prelude.{◌≡◌, ℕ, zero, suc, ◌++◌, take, ◌+◌, ◌<◌, ◌≤◌, ◌^◌, ◌==◌, nat_lt, ℤ, pos, negsuc, Bool, true, false, IsTrue, Option, Some, None, List, [], ◌∷◌, length, drop, not, ◌&&◌, ◌⊎◌, vec_capacity}
 use Rattle.std.specs.List.{list_all}
 use Rattle.ps_language.specs.declared.schedules.Entry.{Entry}
 use Rattle.ps_language.specs.Effect.{Around, Scene}
@@ -147,3 +147,18 @@ abbrev pub MayWantNext : (asks : Status → Around → Scene → Asked) → (pro
 MayWantNext asks program given made =
     MayWant asks true (next_identifier given made) (is_next_refused given made)
     (worlds.world program made)
+
+-- ---- a schedule that was cut
+
+-- so many steps of a context as the end of a schedule: an entry, or nothing where there are none
+abbrev pub entry_of : (context steps : ℕ) → List Entry
+entry_of context zero = []
+entry_of context (suc steps) =
+    record { context = context; steps = suc steps; refused = false; shown = None } ∷ []
+
+-- whole entries of a given schedule, and then perhaps some steps of the next
+pub record IsCutOf (given made : List Entry) : Type 0 where
+  pub place : ℕ
+  pub context : ℕ
+  pub steps : ℕ
+  pub is : made ≡ take place given ++ entry_of context steps

@@ -1,10 +1,10 @@
 -- What the steps of a run may be shown, and when they may be refused (PLRM2, 3.7, 8 'vmstatus',
 -- 'VMerror').
-use Rattle.std.specs.Prelude.{◌≡◌, ℕ, ℤ, ◌+◌, ◌<◌, ◌≤◌, true, false, IfSome, IsSome, List, [], ◌∷◌, length}
+use Rattle.std.specs.Prelude.{◌≡◌, ℕ, ℤ, ◌+◌, ◌<◌, ◌≤◌, true, false, IfSome, IsSome, List, [], ◌∷◌, ◌++◌, ◌-◌, length, replicate}
 use Rattle.ps_language.specs.declared.schedules.Entry.{Entry}
 use Rattle.ps_language.specs.Effect.{shows_memory}
 use Rattle.ps_language.specs.Live.{Live, asked_births, asked_words}
-use Rattle.ps_language.specs.Schedules.{Move, moves}
+use Rattle.ps_language.specs.Schedules.{Move, moves, plain_move}
 use Rattle.ps_language.specs.Step.{stepped}
 use Rattle.ps_language.specs.World.{World}
 use Rattle.ps_language.specs.Worlds.{after_move, starting_world}
@@ -56,3 +56,10 @@ AllWarrantedFrom space now before (step ∷ rest) =
 abbrev pub AllWarranted : (space : ℕ) → (program : List ℕ) → (schedule : List Entry) → Type 0
 AllWarranted space program schedule =
     AllWarrantedFrom space (starting_world program) 0 (moves schedule)
+
+-- behind the old steps, so many of a context: all but the last are plain, and that is shown this
+-- pair or none
+pub record AddsShown (context made : ℕ) (pair : ℤ × ℤ) (old new : List Move) : Type 0 where
+  pub last : Move
+  pub is : new ≡ old ++ replicate (made - 1) (plain_move context) ++ last ∷ []
+  pub shown : IfSome last.shown (λ one. one ≡ pair)

@@ -6,9 +6,9 @@ ghost use Rattle.ps_vault.specs.Endings.{AreEndings, IsAlike};
 use crate::orders::{TurnOrder, run_in_order};
 use crate::reports::Report;
 use ps_interpreter::interprets::Interpret;
+use ps_start::start::Setup;
 use ps_world::deeds::Deeds;
 use std::alloc::{AllocError, Global};
-use std::hash::RandomState;
 
 /// Whether two runs printed the same and had the same outcome.
 fn is_alike(a: &Report, b: &Report) -> bool
@@ -44,7 +44,7 @@ fn keep(endings: &mut Vec<Report>, report: Report) -> Result<(), AllocError>
 }
 
 /// Runs a program so many times, each time for at most so many steps, over memory that is never
-/// collected, in orders that are chosen turn by turn. The keys are for the names alone.
+/// collected, in orders that are chosen turn by turn.
 ///
 /// Gives the first of those runs that ended alike, in the order in which they were made.
 /// `AllocError` where a run ended for want of memory, or the room of what is given can't be had.
@@ -55,11 +55,11 @@ pub fn explore<S: Interpret + Clone + Drop, D: Deeds + Clone + Drop, O: TurnOrde
     program: &[u8],
     steps: u32,
     runs: u32,
-    keys: RandomState,
+    setup: Setup,
     order: &mut O,
 ) -> Result<Vec<Report>, AllocError>
     ensures { IfOk result
-        (λ endings. AreEndings S.asks program.now steps runs endings.items) }
+        (λ endings. AreEndings S.asks program.now steps setup.output runs endings.items) }
 {
     let mut endings = Vec::new(alloc);
     let mut made = 0;
@@ -70,7 +70,7 @@ pub fn explore<S: Interpret + Clone + Drop, D: Deeds + Clone + Drop, O: TurnOrde
             deeds.clone()?,
             program,
             steps,
-            keys,
+            setup,
             order,
         )?;
         if report.outcome.is_memory() {

@@ -1,6 +1,6 @@
 //! Runs in an order that a caller chooses, turn by turn (PLRM2, 7.1).
 
-ghost use Rattle.std.specs.Prelude.{◌≡◌, ℕ, ◌+◌, ◌<◌, ◌≤◌, false, true, IfOk, IfSome, IfNone};
+ghost use Rattle.std.specs.Prelude.{◌≡◌, ℕ, ◌+◌, ◌<◌, ◌≤◌, false, true, length, IfOk, IfSome, IfNone};
 ghost use Rattle.ps_language.specs.Locks as locks;
 ghost use Rattle.ps_language.specs.Schedules.{count_of, moves};
 ghost use Rattle.ps_vault.specs.Holds.{OnlyGrows};
@@ -14,9 +14,9 @@ use crate::vaults::Vault;
 use ps_interpreter::interprets::Interpret;
 use ps_mem::Memory;
 use ps_mem::plain::PlainMemory;
+use ps_start::start::Setup;
 use ps_world::deeds::Deeds;
 use std::alloc::{AllocError, Global};
-use std::hash::RandomState;
 
 /// Whose turn is next, and of how many steps.
 #[derive(Clone, Copy, Debug, PartialEq, Eq)]
@@ -69,6 +69,7 @@ impl<M: Memory + Drop, S: Interpret + Drop, D: Deeds + Drop> Vault<'_, M, S, D> 
     fn run_by<O: TurnOrder>(&mut self, steps: u32, order: &mut O) -> Turn
         requires calling { self.old.caller ≡ None }
         ensures program { self.new.program ≡ self.old.program }
+        ensures most { self.new.most ≡ self.old.most }
         ensures within { result.made ≤ steps }
         ensures counted { count_of self.new.schedule ≡ count_of self.old.schedule + result.made }
         ensures ordinary { are_ordinary (moves self.old.schedule) ≡ true
@@ -101,7 +102,7 @@ impl<M: Memory + Drop, S: Interpret + Drop, D: Deeds + Drop> Vault<'_, M, S, D> 
 }
 
 /// Runs a program for at most so many steps, over memory that is never collected, turn by turn as
-/// they are chosen. The keys are for the names alone.
+/// they are chosen.
 ///
 /// `AllocError` where the room that the run starts with can't be had. A growth that is refused
 /// later ends the run: the outcome is `Memory` then, and the report has what was made so far.
@@ -111,10 +112,11 @@ pub fn run_in_order<S: Interpret + Drop, D: Deeds + Drop, O: TurnOrder>(
     deeds: D,
     program: &[u8],
     steps: u32,
-    keys: RandomState,
+    setup: Setup,
     order: &mut O,
 ) -> Result<Report, AllocError>
     ensures run { IfOk result (IsRunOf S.asks program.now steps) }
+    ensures bounded { IfOk result (λ report. length report.printed.items ≤ setup.output) }
 {
     let memory = PlainMemory::new(alloc);
     let mut vault = Vault::new(
@@ -123,7 +125,7 @@ pub fn run_in_order<S: Interpret + Drop, D: Deeds + Drop, O: TurnOrder>(
         interpret,
         deeds,
         program,
-        keys,
+        setup,
         FIRST_ENTRIES,
     )?;
     let run = vault.run_by(steps, order);

@@ -1,6 +1,6 @@
 //! A run under a schedule of its own.
 
-ghost use Rattle.std.specs.Prelude.{◌≡◌, ◌<◌, ◌≤◌, ℕ, ◌↔◌, true, false, Err, IfOk, vec_capacity};
+ghost use Rattle.std.specs.Prelude.{◌≡◌, ◌<◌, ◌≤◌, ℕ, ◌↔◌, true, false, Err, IfOk, length, vec_capacity};
 ghost use Rattle.ps_language.specs.Schedules.{count_of, moves};
 ghost use Rattle.ps_language.specs.Worlds.{starting_world, world};
 ghost use Rattle.ps_mem.specs.Plain.{plain_space};
@@ -16,6 +16,7 @@ use ps_flips::collected::Counts;
 use ps_interpreter::interprets::Interpret;
 use ps_mem::Memory;
 use ps_mem::plain::PlainMemory;
+use ps_start::start::Setup;
 use ps_world::deeds::Deeds;
 use std::alloc::Global;
 use std::hash::RandomState;
@@ -39,6 +40,7 @@ pub fn run_plain<S: Interpret + Drop, D: Deeds + Drop>(
 ) -> Result<Report, RunFault>
     ensures config { (result ≡ Err RunFault.Config) ↔ ¬ IsWithin config }
     ensures run { IfOk result (IsRunOf S.asks program.now config.steps) }
+    ensures bounded { IfOk result (λ report. length report.printed.items ≤ config.output) }
     ensures order { IfOk result (λ report. InOrder config.quantum
         (starting_world program.now) (moves report.schedule.items)) }
     ensures starved { IfOk result (λ report. is_memory report.outcome ≡ true → (context : ℕ)
@@ -58,7 +60,10 @@ pub fn run_plain<S: Interpret + Drop, D: Deeds + Drop>(
         interpret,
         deeds,
         program,
-        keys,
+        Setup {
+            keys,
+            output: config.output,
+        },
         FIRST_ENTRIES,
     ) else {
         return Err(RunFault::Memory);
@@ -83,6 +88,7 @@ impl<M: Memory + Drop, S: Interpret + Drop, D: Deeds + Drop> Vault<'_, M, S, D> 
             → IsOneStarved S.asks true (world_at self) self.capacity self.schedule }
         requires ended { run.held ≡ false → run.made < steps → IsNoneAbove (world_at self) 0 }
         ensures run { IsRunOf S.asks self.entry.program steps result }
+        ensures bounded { length result.printed.items ≤ self.entry.most }
         ensures schedule { result.schedule.items ≡ self.entry.schedule }
         ensures capacity { vec_capacity result.schedule ≡ self.entry.capacity }
         ensures memory { is_memory result.outcome ≡ run.held }

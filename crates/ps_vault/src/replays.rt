@@ -6,7 +6,7 @@ ghost use Rattle.ps_language.specs.Locks as locks;
 ghost use Rattle.ps_language.specs.Schedules.{last_move, plain_move, moves_of, moves, count_of, Begins};
 ghost use Rattle.ps_language.specs.Worlds as worlds;
 ghost use Rattle.ps_language.specs.Worlds.{after_moves};
-ghost use Rattle.ps_vault.specs.Reports.{EndsAs, MayWant, MayWantNext, is_memory};
+ghost use Rattle.ps_vault.specs.Reports.{EndsAs, IsCutOf, MayWant, MayWantNext, entry_of, is_memory};
 ghost use Rattle.ps_vault.specs.Stories.{world_at};
 ghost use Rattle.ps_vault.specs.Turns.{added_times};
 
@@ -17,9 +17,9 @@ use crate::vaults::{Told, Vault};
 use ps_interpreter::interprets::Interpret;
 use ps_language::schedules::Entry;
 use ps_mem::plain::PlainMemory;
+use ps_start::start::Setup;
 use ps_world::deeds::Deeds;
 use std::alloc::Global;
-use std::hash::RandomState;
 
 /// Makes ordinary steps of a context, at most so many, as long as it is ready, whether or not its
 /// turn would end; a `vmstatus` in them is shown zeros. Fewer, and none held up: the context isn't
@@ -32,6 +32,7 @@ fn steps<S: Interpret + Drop, D: Deeds + Drop>(
     requires calling { vault.old.caller ≡ None }
     requires room { length vault.old.schedule + 3 ≤ vault.old.capacity }
     ensures program { vault.new.program ≡ vault.old.program }
+    ensures most { vault.new.most ≡ vault.old.most }
     ensures within { result.made ≤ most }
     ensures added { vault.new.schedule
         ≡ added_times result.made vault.old.schedule (plain_move context) }
@@ -67,6 +68,7 @@ fn follow_ordinary<S: Interpret + Drop, D: Deeds + Drop>(
     requires room { length vault.old.schedule + 3 ≤ vault.old.capacity }
     requires ordinary { last_move entry ≡ plain_move entry.context }
     ensures program { vault.new.program ≡ vault.old.program }
+    ensures most { vault.new.most ≡ vault.old.most }
     ensures longer { length vault.new.schedule ≤ length vault.old.schedule + 1 }
     ensures capacity { vault.old.capacity ≤ vault.new.capacity }
     ensures within { result ≤ entry.steps }
@@ -96,6 +98,7 @@ fn follow_entry<S: Interpret + Drop, D: Deeds + Drop>(
     requires calling { vault.old.caller ≡ None }
     requires room { length vault.old.schedule + 3 ≤ vault.old.capacity }
     ensures program { vault.new.program ≡ vault.old.program }
+    ensures most { vault.new.most ≡ vault.old.most }
     ensures longer { length vault.new.schedule ≤ length vault.old.schedule + 2 }
     ensures capacity { vault.old.capacity ≤ vault.new.capacity }
     ensures within { result ≤ entry.steps }
@@ -128,10 +131,11 @@ fn follow_entry<S: Interpret + Drop, D: Deeds + Drop>(
     }
 }
 
-/// Runs the steps of a schedule, over memory that is never collected. The keys are for the names
-/// alone. A step of a context that isn't ready changes nothing.
+/// Runs the steps of a schedule, over memory that is never collected. A step of a context that isn't
+/// ready changes nothing.
 ///
-/// The report has the given schedule; where a growth was refused, the outcome is `Memory` and the
+/// The report has the given schedule; where a growth was refused, or more than it may print was to
+/// be printed, the outcome is `Memory` and the
 /// report has the steps that were made, fewer than the given ones: the next of those may want a
 /// growth. The fault is `Memory` where the room that the run starts with can't be had; there is no
 /// other.
@@ -141,17 +145,19 @@ pub fn replay<S: Interpret + Drop, D: Deeds + Drop>(
     deeds: D,
     program: &[u8],
     schedule: &[Entry],
-    keys: RandomState,
+    setup: Setup,
 ) -> Result<Report, RunFault>
     ensures fault { result ≢ Err RunFault.Config }
     ensures prints { IfOk result
         (λ report. report.printed.items ≡ worlds.printed program.now report.schedule.items) }
+    ensures bounded { IfOk result (λ report. length report.printed.items ≤ setup.output) }
     ensures begins { IfOk result (λ report. Begins report.schedule.items schedule.now) }
     ensures whole { IfOk result
         (λ report. is_memory report.outcome ≡ false → report.schedule.items ≡ schedule.now) }
     ensures refused { IfOk result
         (λ report. is_memory report.outcome ≡ true
         → count_of report.schedule.items < count_of schedule.now) }
+    ensures cut { IfOk result (λ report. IsCutOf schedule.now report.schedule.items) }
     ensures ends { IfOk result
         (λ report. EndsAs (worlds.world program.now report.schedule.items)
         (not (is_memory report.outcome))
@@ -166,7 +172,7 @@ pub fn replay<S: Interpret + Drop, D: Deeds + Drop>(
         return Err(RunFault::Memory);
     };
     let memory = PlainMemory::new(alloc);
-    let Ok(mut vault) = Vault::new(alloc, memory, interpret, deeds, program, keys, entries) else {
+    let Ok(mut vault) = Vault::new(alloc, memory, interpret, deeds, program, setup, entries) else {
         return Err(RunFault::Memory);
     };
     for place in 0..schedule.len() {
@@ -187,8 +193,9 @@ pub fn replay<S: Interpret + Drop, D: Deeds + Drop>(
 #[tactic(auto, using(crate::proofs::Following::part_lemmas))]
 fn push_part(schedule: &mut Vec<Entry>, context: u32, made: u32)
     requires { vec_len schedule.old < vec_capacity schedule.old }
-    ensures { moves schedule.new.items ≡ moves schedule.old.items
+    ensures moves { moves schedule.new.items ≡ moves schedule.old.items
         ++ replicate made (plain_move context) }
+    ensures entry { schedule.new.items ≡ schedule.old.items ++ entry_of context made }
 {
     if made > 0 {
         push_within(

@@ -21,6 +21,8 @@ pub struct Config {
     pub quantum: u32,
     /// The most steps of the run, at least 1.
     pub steps: u32,
+    /// The most bytes that the program may print.
+    pub output: u64,
 }
 
 impl Config {
@@ -37,6 +39,9 @@ impl Config {
 
     /// The most steps of a turn.
     pub const MOST_QUANTUM: u32 = 65535;
+
+    /// No bound on what is printed: no memory has as many bytes.
+    pub const ANY_OUTPUT: u64 = u64::MAX;
 
     /// Whether each number is in its range.
     pub fn is_within(&self) -> bool
@@ -63,7 +68,7 @@ pub enum Outcome {
     AllWaiting,
     /// A context is ready, and the steps are used up.
     StepsOut,
-    /// A growth was refused before any of these.
+    /// A growth was refused before any of these, or more was to be printed than may be.
     Memory,
 }
 

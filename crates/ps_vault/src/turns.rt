@@ -49,6 +49,7 @@ impl<M: Memory + Drop, S: Interpret + Drop, D: Deeds + Drop> Vault<'_, M, S, D> 
         requires quantum { 1 ≤ quantum }
         requires some { 1 ≤ most }
         ensures program { self.new.program ≡ self.old.program }
+        ensures most { self.new.most ≡ self.old.most }
         ensures within { result.made ≤ most }
         ensures some { result.held ≡ false → 1 ≤ result.made }
         ensures counted { count_of self.new.schedule ≡ count_of self.old.schedule + result.made }
@@ -113,6 +114,7 @@ impl<M: Memory + Drop, S: Interpret + Drop, D: Deeds + Drop> Vault<'_, M, S, D> 
         requires calling { self.old.caller ≡ None }
         requires quantum { 1 ≤ quantum }
         ensures program { self.new.program ≡ self.old.program }
+        ensures most { self.new.most ≡ self.old.most }
         ensures within { result.made ≤ steps }
         ensures counted { count_of self.new.schedule ≡ count_of self.old.schedule + result.made }
         ensures ordinary { are_ordinary (moves self.old.schedule) ≡ true

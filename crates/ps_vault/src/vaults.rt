@@ -1,10 +1,10 @@
 //! All contexts and their memory, with the program and the schedule that they stand for: after
 //! each call they are at the world of that program and that schedule, whatever the memory is.
 
-ghost use Rattle.std.specs.Prelude.{◌≡◌, ◌≢◌, ◌↔◌, ◌+◌, ◌<◌, ◌≤◌, ℕ, ℤ, false, true, Bool, OnOk, OnErr, IfOk, IfErr, IfSome, IfNone, IsTrue, Option, None, IsSome, List, [], ◌∷◌, ◌++◌, ◌==◌, ◌⊎◌, min, not, nat_eq, vec_capacity, length, if◌then◌else◌};
+ghost use Rattle.std.specs.Prelude.{◌≡◌, ◌≢◌, ◌↔◌, ◌+◌, ◌<◌, ◌≤◌, ℕ, ℤ, false, true, Bool, OnOk, OnErr, IfOk, IfErr, IfSome, IfNone, IsTrue, Option, None, IsSome, [], ◌==◌, ◌⊎◌, min, not, nat_eq, vec_capacity, length, if◌then◌else◌};
 ghost use Rattle.ps_language.specs.Contexts.{count_not_ended};
 ghost use Rattle.ps_language.specs.Locks as locks;
-ghost use Rattle.ps_language.specs.Schedules.{Move, added, count_of, moves, plain_move};
+ghost use Rattle.ps_language.specs.Schedules.{added, count_of, moves, plain_move};
 ghost use Rattle.ps_language.specs.Worlds as worlds;
 ghost use Rattle.ps_language.specs.Worlds.{after_move, after_moves, starting_world};
 ghost use Rattle.ps_vault.specs.Order.{IsNoneAbove, IsOnlyLeft, AddsSteps, AllOfOne, NoneEnds, OnlyLastMayEnd, EndsTurn, WishesAs};
@@ -16,7 +16,7 @@ ghost use Rattle.ps_vault.specs.Reports.{all_fit, are_ordinary, are_words, is_me
 ghost use Rattle.ps_vault.specs.declared.reports.TheConstants.{FIRST_ENTRIES};
 ghost use Rattle.ps_vault.specs.Stories.{Story, HasRoom, MayGo, AreWarranted, world_at, move_of};
 ghost use Rattle.ps_vault.specs.Turns.{added_times};
-ghost use Rattle.ps_vault.specs.Warrants.{IsStatus};
+ghost use Rattle.ps_vault.specs.Warrants.{AddsShown, IsStatus};
 ghost use Rattle.ps_world.specs.Steps.{words_shown};
 
 use crate::reports::{Outcome, Report};
@@ -28,17 +28,17 @@ use ps_interpreter::interprets::Interpret;
 use ps_language::schedules::Entry;
 use ps_mem::{Memory, SLOTS};
 use ps_ops::failure::NotMade;
+use ps_start::start::Setup;
 use ps_world::deeds::Deeds;
 use ps_world::notes::Note;
 use ps_world::runs::Advance;
 use ps_world::starts::start_world;
 use ps_world::worlds::World;
 use std::alloc::{AllocError, Global};
-use std::hash::RandomState;
 use std::marker::Model;
 
 /// All contexts, who makes their steps, their memory, and the steps that they made: seen as the
-/// program, the schedule, how many entries find room, whose call waits, the words of the memory's
+/// program, how many bytes it may print, the schedule, how many entries find room, whose call waits, the words of the memory's
 /// space, those that are used, how often what stands was moved, whether a cycle of the collector is
 /// open, and which logs are closed.
 #[derive(Drop)]
@@ -60,6 +60,7 @@ impl<'a, M: Memory + Drop, S: Interpret + Drop, D: Deeds + Drop> Model for Vault
 
     ghost view = { λ v. record {
       program = v.world.contexts.shared.program.now;
+      most = v.world.contexts.shared.printed.most;
       schedule = v.schedule.items;
       capacity = vec_capacity v.schedule;
       caller = option_map (λ calling. calling.caller) v.world.calling;
@@ -130,26 +131,27 @@ fn wish_of(note: Note) -> Option<i32>
 
 impl<'a, M: Memory + Drop, S: Interpret + Drop, D: Deeds + Drop> Vault<'a, M, S, D> {
     /// The first context before its first step, over a memory in which nothing stands, and an empty
-    /// schedule with room for so many entries. The keys are for the names alone. Fails where that
-    /// room, or the first objects' or the context's, can't be had.
+    /// schedule with room for so many entries. Fails where that room, or the first objects' or the
+    /// context's, can't be had.
     pub fn new(
         alloc: Global,
         mut memory: M,
         interpret: S,
         deeds: D,
         program: &'a [u8],
-        keys: RandomState,
+        setup: Setup,
         entries: usize,
     ) -> Result<Vault<'a, M, S, D>, AllocError>
         requires empty { IsEmptyHeap (M.heap memory) }
         ensures program { IfOk result (λ vault. vault.program ≡ program.now) }
+        ensures most { IfOk result (λ vault. vault.most ≡ setup.output) }
         ensures schedule { IfOk result (λ vault. vault.schedule ≡ []) }
         ensures room { IfOk result (λ vault. entries ≤ vault.capacity) }
         ensures calling { IfOk result (λ vault. vault.caller ≡ None) }
         ensures space { IfOk result (λ vault. vault.space ≡ (M.heap memory).space.size) }
         ensures flips { IfOk result (λ vault. vault.flips ≡ (M.heap memory).space.flips) }
     {
-        let Ok(world) = start_world(alloc, &mut memory, program, keys) else {
+        let Ok(world) = start_world(alloc, &mut memory, program, setup) else {
             return Err(AllocError);
         };
         let schedule = Vec::with_capacity(alloc, entries)?;
@@ -234,6 +236,7 @@ impl<M: Memory + Drop, S: Interpret + Drop, D: Deeds + Drop> Vault<'_, M, S, D> 
     /// Room for two entries of the schedule. `AllocError`: it can't be had; nothing has changed.
     pub fn reserve_entries(&mut self) -> Result<(), AllocError>
         ensures program { self.new.program ≡ self.old.program }
+        ensures most { self.new.most ≡ self.old.most }
         ensures schedule { self.new.schedule ≡ self.old.schedule }
         ensures calling { self.new.caller ≡ self.old.caller }
         ensures capacity { self.old.capacity ≤ self.new.capacity }
@@ -264,6 +267,7 @@ impl<M: Memory + Drop, S: Interpret + Drop, D: Deeds + Drop> Vault<'_, M, S, D> 
         requires ready { locks.is_ready (world_at self.old) context ≡ true }
         requires room { HasRoom self.old }
         ensures program { self.new.program ≡ self.old.program }
+        ensures most { self.new.most ≡ self.old.most }
         ensures made { OnOk result
             (self.new.schedule ≡ added self.old.schedule (move_of context refused shown)) }
         ensures world { OnOk result (world_at self.new
@@ -322,6 +326,7 @@ impl<M: Memory + Drop, S: Interpret + Drop, D: Deeds + Drop> Vault<'_, M, S, D> 
         requires room { HasRoom self.old }
         requires some { 1 ≤ most }
         ensures program { self.new.program ≡ self.old.program }
+        ensures most { self.new.most ≡ self.old.most }
         ensures within { result.made ≤ most }
         ensures some { is_held_up result.told ≡ false → 1 ≤ result.made }
         ensures fewer { is_held_up result.told ≡ true → result.made < most }
@@ -331,9 +336,9 @@ impl<M: Memory + Drop, S: Interpret + Drop, D: Deeds + Drop> Vault<'_, M, S, D> 
         ensures fits { all_fit (moves self.old.schedule) ≡ true
             → all_fit (moves self.new.schedule) ≡ true }
         ensures warranted { shows ≡ true → AreWarranted self.old → AreWarranted self.new }
-        ensures shown { (before : List Move) (last : Move)
-            → moves self.new.schedule ≡ before ++ last ∷ [] → 1 ≤ result.made → IfSome last.shown
-            (λ pair. pair ≡ (words_shown self.new.used, words_shown self.new.space)) }
+        ensures shown { 1 ≤ result.made → AddsShown context result.made
+            (words_shown self.new.used, words_shown self.new.space) (moves self.old.schedule)
+            (moves self.new.schedule) }
         ensures takes { AddsSteps context result.made (moves self.old.schedule)
             (moves self.new.schedule) }
         ensures keeps { result.told ≢ Told.TurnEnds → NoneEnds
@@ -436,6 +441,7 @@ impl<M: Memory + Drop, S: Interpret + Drop, D: Deeds + Drop> Vault<'_, M, S, D> 
     pub fn into_followed(self, entries: &[Entry]) -> (Vec<u8>, Vec<Entry>)
         requires { length entries.now ≤ self.capacity }
         ensures printed { result.0.items ≡ (world_at self.entry).printed }
+        ensures bounded { length result.0.items ≤ self.entry.most }
         ensures entries { result.1.items ≡ entries.now }
         ensures capacity { self.entry.capacity ≤ vec_capacity result.1 }
     {
@@ -449,7 +455,7 @@ impl<M: Memory + Drop, S: Interpret + Drop, D: Deeds + Drop> Vault<'_, M, S, D> 
         let World { contexts, .. } = world;
         let Contexts { shared, .. } = contexts;
         let Shared { printed, .. } = shared;
-        (printed, room)
+        (printed.into_bytes(), room)
     }
 
     /// The report of a run with a budget of steps, at the end, and how much a collector has done.
@@ -462,6 +468,7 @@ impl<M: Memory + Drop, S: Interpret + Drop, D: Deeds + Drop> Vault<'_, M, S, D> 
             (count_of self.entry.schedule == steps) (IsOneStarved S.asks space.grows
             (world_at self.entry) self.entry.capacity self.entry.schedule) outcome
             → IsRunIn S.asks space self.entry.program steps result }
+        ensures bounded { length result.printed.items ≤ self.entry.most }
         ensures schedule { result.schedule.items ≡ self.entry.schedule }
         ensures capacity { vec_capacity result.schedule ≡ self.entry.capacity }
         ensures outcome { result.outcome ≡ outcome }
@@ -477,7 +484,7 @@ impl<M: Memory + Drop, S: Interpret + Drop, D: Deeds + Drop> Vault<'_, M, S, D> 
         let Contexts { shared, .. } = contexts;
         let Shared { printed, .. } = shared;
         Report {
-            printed,
+            printed: printed.into_bytes(),
             schedule,
             outcome,
             flips: counts.flips,

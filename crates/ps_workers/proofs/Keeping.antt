@@ -132,17 +132,19 @@ kept_ends asks p outcome steps keeps is same =
 -- the run ends where it is
 pub keeps_ended : (asks : Status → Around → Scene → Asked) (p : Progress) (story : Story)
     (outcome : Outcome) → Keeps asks p
-    → story.program ≡ p.story.program → story.schedule ≡ p.story.schedule
+    → story.program ≡ p.story.program → story.most ≡ p.story.most
+    → story.schedule ≡ p.story.schedule
     → story.caller ≡ p.story.caller → story.space ≡ p.story.space
     → story.flips ≡ p.story.flips → p.story.capacity ≤ story.capacity
     → EndsAs (world_at story) (p.made == p.config.steps) (IsStarvedAt asks story) outcome
     → Keeps asks (progress story p.config p.made (Some outcome))
-keeps_ended asks p story outcome keeps program schedule caller space flips more ends = record {
+keeps_ended asks p story outcome keeps program most schedule caller space flips more ends = record {
   numbers = keeps.numbers;
   budget = keeps.budget;
   counted = ap count_of schedule ∙ keeps.counted;
   within = keeps.within;
   fits = ap (λ (s : List Entry). all_fit (moves s)) schedule ∙ keeps.fits;
+  most = most ∙ keeps.most;
   space = space ∙ keeps.space;
   warranted = warranted_same p.story story space program schedule keeps.warranted;
   flips = subst (λ (n : ℕ). n ≤ 3 * p.made + 3) (sym flips) keeps.flips;
@@ -154,15 +156,16 @@ keeps_ended asks p story outcome keeps program schedule caller space flips more 
 -- the schedule has no room
 pub short_starved : (asks : Status → Around → Scene → Asked) (p : Progress) (story : Story)
     (context : ℕ) → Keeps asks p → MayGoOn p context
-    → story.program ≡ p.story.program → story.schedule ≡ p.story.schedule
+    → story.program ≡ p.story.program → story.most ≡ p.story.most
+    → story.schedule ≡ p.story.schedule
     → story.caller ≡ p.story.caller → story.space ≡ p.story.space
     → story.flips ≡ p.story.flips → p.story.capacity ≤ story.capacity
     → IsShort story.capacity story.schedule
     → Keeps asks (progress story p.config p.made (Some End))
-short_starved asks p story context keeps may program schedule caller space flips more short =
+short_starved asks p story context keeps may program most schedule caller space flips more short =
     let here : MayGoOn (progress story p.config p.made None) context =
     may_same p story None context may program schedule caller in
-    keeps_ended asks p story End keeps program schedule caller space flips more
+    keeps_ended asks p story End keeps program most schedule caller space flips more
     (ends_starved asks (progress story p.config p.made None) context false here
     (λ is. absurd (true≢false (sym is))) (record { ready = here.ready; wants = inr short }))
 
@@ -198,6 +201,7 @@ keeps_moved asks p story keeps same few =
       counted = keeps.counted;
       within = keeps.within;
       fits = keeps.fits;
+      most = keeps.most;
       space = keeps.space;
       warranted = keeps.warranted;
       flips = few;
@@ -289,6 +293,7 @@ world_stays a b context made program adds none =
 pub record Goes (p : Progress) (story : Story) (count : ℕ) : Type 0 where
   pub counted : count_of story.schedule ≡ count_of p.story.schedule + count
   pub fits : all_fit (moves p.story.schedule) ≡ true → all_fit (moves story.schedule) ≡ true
+  pub most : story.most ≡ p.story.most
   pub space : story.space ≡ p.story.space
   pub warranted : AreWarranted p.story → AreWarranted story
   pub flips : story.flips ≡ p.story.flips
@@ -307,6 +312,7 @@ keeps_made asks p story count outcome keeps goes within waits judged = record {
   counted = goes.counted ∙ ap (λ n. n + count) keeps.counted;
   within = within;
   fits = goes.fits keeps.fits;
+  most = goes.most ∙ keeps.most;
   space = goes.space ∙ keeps.space;
   warranted = goes.warranted keeps.warranted;
   flips = let before = keeps.flips in let same = goes.flips in omega (arith, before, same);
@@ -325,13 +331,14 @@ counts_on asks p count keeps within = omega (arith, within, keeps.budget)
 -- the run ends there
 pub keeps_wanted : (asks : Status → Around → Scene → Asked) (p : Progress) (story : Story)
     (context : ℕ) (refused : Bool) → Keeps asks p → MayGoOn p context
-    → story.program ≡ p.story.program → story.schedule ≡ p.story.schedule
+    → story.program ≡ p.story.program → story.most ≡ p.story.most
+    → story.schedule ≡ p.story.schedule
     → story.space ≡ p.story.space → story.flips ≡ p.story.flips → MayGo story context
     → p.story.capacity ≤ story.capacity
     → (refused ≡ true → MakesObjects asks context (world_at p.story))
     → MayWant asks false context refused (world_at story)
     → Keeps asks (progress story p.config p.made (Some End))
-keeps_wanted asks p story context refused keeps may program schedule space flips calling more
+keeps_wanted asks p story context refused keeps may program most schedule space flips calling more
     makes wanted =
     let here : MayGoOn (progress story p.config p.made None) context =
     record { calling = calling; ready = wanted.ready; left = may.left } in
@@ -341,6 +348,7 @@ keeps_wanted asks p story context refused keeps may program schedule space flips
       counted = ap count_of schedule ∙ keeps.counted;
       within = keeps.within;
       fits = ap (λ (s : List Entry). all_fit (moves s)) schedule ∙ keeps.fits;
+      most = most ∙ keeps.most;
       space = space ∙ keeps.space;
       warranted = warranted_same p.story story space program schedule keeps.warranted;
       flips = subst (λ (n : ℕ). n ≤ 3 * p.made + 3) (sym flips) keeps.flips;

@@ -3,7 +3,7 @@
 //! It keeps (`Keeps`) that the steps made are counted and within the budget, that each refused one
 //! was refused for a reason, and that an outcome, once it stands, is that of the vault's world.
 
-ghost use Rattle.std.specs.Prelude.{◌≡◌, ◌==◌, ◌+◌, ◌<◌, ◌≤◌, ◌≢◌, true, false, IfErr, IfOk, IfSome, IfNone, IsErr, IsSome, None, Err};
+ghost use Rattle.std.specs.Prelude.{◌≡◌, length, ◌==◌, ◌+◌, ◌<◌, ◌≤◌, ◌≢◌, true, false, IfErr, IfOk, IfSome, IfNone, IsErr, IsSome, None, Err};
 ghost use Rattle.ps_mem.specs.Bounded.{bounded_space};
 ghost use Rattle.ps_start.specs.Starts.{IsEmptyHeap};
 ghost use Rattle.ps_vault.specs.Holds.{IfForRoom, IsHeldUp};
@@ -19,7 +19,7 @@ use ps_flips::collected::Counts;
 use ps_interpreter::interprets::Interpret;
 use ps_mem::Memory;
 use ps_ops::failure::NotMade;
-use ps_vault::{Config, FIRST_ENTRIES, Outcome, Report, RunFault, Told, Vault};
+use ps_vault::{Config, FIRST_ENTRIES, Outcome, Report, RunFault, Setup, Told, Vault};
 use ps_world::deeds::Deeds;
 use std::alloc::{AllocError, Global};
 use std::hash::RandomState;
@@ -93,7 +93,10 @@ impl<'a, M: Memory + Drop, S: Interpret + Drop, D: Deeds + Drop> Baton<'a, M, S,
             interpret,
             deeds,
             program,
-            keys,
+            Setup {
+                keys,
+                output: config.output,
+            },
             FIRST_ENTRIES,
         )?;
         Ok(Baton {
@@ -265,6 +268,7 @@ impl<M: Memory + Drop, S: Interpret + Drop, D: Deeds + Drop> Baton<'_, M, S, D> 
     ) -> Result<Report, RunFault>
         ensures run { IfOk result (IsRunIn S.asks (bounded_space config.space) program.now
             config.steps) }
+        ensures bounded { IfOk result (λ report. length report.printed.items ≤ config.output) }
         ensures fault { result ≢ Err RunFault.Config }
     {
         let Baton {

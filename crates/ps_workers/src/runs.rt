@@ -1,7 +1,7 @@
 //! Runs of a program by workers, with a collector on a thread of its own, or with one that works
 //! between steps.
 
-ghost use Rattle.std.specs.Prelude.{◌≡◌, ◌↔◌, false, Err, IfOk};
+ghost use Rattle.std.specs.Prelude.{◌≡◌, ◌↔◌, ◌≤◌, false, length, Err, IfOk};
 ghost use Rattle.ps_core_laws.specs.Runs.{IsSpace};
 ghost use Rattle.ps_core_parts.specs.Steps.{start};
 ghost use Rattle.ps_mem.specs.Bounded.{bounded_space};
@@ -60,6 +60,8 @@ pub fn run_beside<
     ensures config { (result ≡ Err RunFault.Config) ↔ ¬ IsWithin job.entry.config }
     ensures run { IfOk result (IsRunIn S.asks (bounded_space job.entry.config.space)
         job.entry.program.now job.entry.config.steps) }
+    ensures bounded { IfOk result
+        (λ report. length report.printed.items ≤ job.entry.config.output) }
 {
     let (memory, collector) = sides;
     let Job {
@@ -100,6 +102,8 @@ fn run_named<
     ensures fault { (result ≡ Err RunFault.Config) ↔ ¬ IsWithin job.entry.config }
     ensures run { IfOk result (IsRunIn S.asks (bounded_space job.entry.config.space)
         job.entry.program.now job.entry.config.steps) }
+    ensures bounded { IfOk result
+        (λ report. length report.printed.items ≤ job.entry.config.output) }
 {
     let (vm, gc) = seats;
     let space = job.config.space;
@@ -131,6 +135,8 @@ fn run_named_gated<
     ensures fault { (result ≡ Err RunFault.Config) ↔ ¬ IsWithin job.entry.config }
     ensures run { IfOk result (IsRunIn S.asks (bounded_space job.entry.config.space)
         job.entry.program.now job.entry.config.steps) }
+    ensures bounded { IfOk result
+        (λ report. length report.printed.items ≤ job.entry.config.output) }
 {
     let (vm, gc) = seats;
     let space = job.config.space;
@@ -148,7 +154,8 @@ fn run_named_gated<
 /// run starts with can't be had, or a thread can't be started; also where what the lock held was of
 /// another program or other numbers, which no run meets. A growth that is refused later ends the
 /// run, and the report has what was made so far. The outcome is `Memory` only where the step of a
-/// ready context may want a growth that is no object's, or the schedule has no room for it.
+/// ready context may want a growth that is no object's, or prints more than the run may, or the
+/// schedule has no room for it.
 pub fn run<S: Interpret + Drop + Send, D: Deeds + Drop + Send, R: Threads + Wait + Sync>(
     rt: &R,
     alloc: Global,
@@ -157,6 +164,8 @@ pub fn run<S: Interpret + Drop + Send, D: Deeds + Drop + Send, R: Threads + Wait
     ensures config { (result ≡ Err RunFault.Config) ↔ ¬ IsWithin job.entry.config }
     ensures run { IfOk result (IsRunIn S.asks (bounded_space job.entry.config.space)
         job.entry.program.now job.entry.config.steps) }
+    ensures bounded { IfOk result
+        (λ report. length report.printed.items ≤ job.entry.config.output) }
 {
     if !job.config.is_within() {
         return Err(RunFault::Config);
@@ -178,6 +187,8 @@ pub fn run_gated<
     ensures config { (result ≡ Err RunFault.Config) ↔ ¬ IsWithin job.entry.config }
     ensures run { IfOk result (IsRunIn S.asks (bounded_space job.entry.config.space)
         job.entry.program.now job.entry.config.steps) }
+    ensures bounded { IfOk result
+        (λ report. length report.printed.items ≤ job.entry.config.output) }
 {
     if !job.config.is_within() {
         return Err(RunFault::Config);
@@ -203,6 +214,8 @@ pub fn run_serial_in<
     ensures config { (result ≡ Err RunFault.Config) ↔ ¬ IsWithin job.entry.config }
     ensures run { IfOk result (IsRunIn S.asks (bounded_space job.entry.config.space)
         job.entry.program.now job.entry.config.steps) }
+    ensures bounded { IfOk result
+        (λ report. length report.printed.items ≤ job.entry.config.output) }
 {
     let Job {
         interpret,
@@ -249,6 +262,8 @@ pub fn run_serial<S: Interpret + Drop + Send, D: Deeds + Drop + Send, R: Threads
     ensures config { (result ≡ Err RunFault.Config) ↔ ¬ IsWithin job.entry.config }
     ensures run { IfOk result (IsRunIn S.asks (bounded_space job.entry.config.space)
         job.entry.program.now job.entry.config.steps) }
+    ensures bounded { IfOk result
+        (λ report. length report.printed.items ≤ job.entry.config.output) }
 {
     if !job.config.is_within() {
         return Err(RunFault::Config);

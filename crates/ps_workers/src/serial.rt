@@ -1,7 +1,7 @@
 //! Turns of a run whose collector has no thread: it acts between steps, and makes room where one is
 //! held up.
 
-ghost use Rattle.std.specs.Prelude.{◌≡◌, ◌+◌, ◌≤◌, ◌≢◌, false, None, Err, IfOk, IsSome};
+ghost use Rattle.std.specs.Prelude.{◌≡◌, length, ◌+◌, ◌≤◌, ◌≢◌, false, None, Err, IfOk, IsSome};
 ghost use Rattle.ps_mem.specs.Bounded.{bounded_space};
 ghost use Rattle.ps_vault.specs.Holds.{IsHeldUp};
 ghost use Rattle.ps_vault.specs.Reports.{IsRunIn};
@@ -57,6 +57,7 @@ impl<
     pub(crate) fn into_report(self, program: &[u8], config: Config) -> Result<Report, RunFault>
         ensures run { IfOk result (IsRunIn S.asks (bounded_space config.space) program.now
             config.steps) }
+        ensures bounded { IfOk result (λ report. length report.printed.items ≤ config.output) }
         ensures fault { result ≢ Err RunFault.Config }
     {
         let SerialBaton { baton, .. } = self;

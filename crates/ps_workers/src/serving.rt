@@ -1,7 +1,7 @@
 //! Turns of a run whose collector has a thread of its own, and what that thread does when it has the
 //! baton: roots that are handed over, logs that are closed, the flip, and room for who found none.
 
-ghost use Rattle.std.specs.Prelude.{◌≡◌, ◌+◌, ◌*◌, ◌<◌, ◌≤◌, ◌≢◌, true, false, None, Err, IfOk, IsSome};
+ghost use Rattle.std.specs.Prelude.{◌≡◌, length, ◌+◌, ◌*◌, ◌<◌, ◌≤◌, ◌≢◌, true, false, None, Err, IfOk, IsSome};
 ghost use Rattle.ps_mem.specs.Bounded.{bounded_space};
 ghost use Rattle.ps_vault.specs.Holds.{IsHeldUp};
 ghost use Rattle.ps_vault.specs.Reports.{IsRunIn};
@@ -370,6 +370,7 @@ impl<M: LoggedMemory + Drop, S: Interpret + Drop, D: Deeds + Drop> Baton<'_, M, 
     pub(crate) fn into_report(self, program: &[u8], config: Config) -> Result<Report, RunFault>
         ensures run { IfOk result (IsRunIn S.asks (bounded_space config.space) program.now
             config.steps) }
+        ensures bounded { IfOk result (λ report. length report.printed.items ≤ config.output) }
         ensures fault { result ≢ Err RunFault.Config }
     {
         let mut baton = self;

@@ -173,6 +173,7 @@ module _ (asks : Status → Around → Scene → Asked) (d : Desk)
     keeps = calls.keeps;
     steady = record { steady = calls.steady; framed = calls.framed framed_here };
     program = calls.program;
+    most = calls.most;
   }
 
   -- it tries again later
@@ -255,4 +256,5 @@ module _ (asks : Status → Around → Scene → Asked) (d : Desk)
             (calls.unmade.1 framed_here) tt);
       };
       program = calls.program;
+      most = calls.most;
     }

@@ -135,6 +135,7 @@ made_none identifier h steady may = record {
   keeps = keeps-same h.desk.heap;
   steady = steady;
   program = refl;
+  most = refl;
   caller = may;
   first = λ some. (refl, refl);
 }

@@ -37,6 +37,7 @@ module _ (asks : Status → Around → Scene → Asked) (calling : Calling) (tri
       keeps = calls.keeps;
       steady = record { steady = calls.steady; framed = calls.framed steady.framed.0 };
       program = calls.program;
+      most = calls.most;
     }
 
     pub steps_uncalled : (reason : Reason)
@@ -60,4 +61,5 @@ module _ (asks : Status → Around → Scene → Asked) (calling : Calling) (tri
         framed = (calls.unmade.1 steady.framed.0, calls.unmade.0);
       };
       program = calls.program;
+      most = calls.most;
     }

@@ -93,6 +93,7 @@ module _ (asks : Status → Around → Scene → Asked) (d : Desk)
     keeps = keeps-same d.heap;
     steady = steady;
     program = refl;
+    most = refl;
   }
 
   -- ---- one that takes its lock again
@@ -121,6 +122,7 @@ module _ (asks : Status → Around → Scene → Asked) (d : Desk)
       keeps = done.keeps;
       steady = record { steady = done.steady; framed = done.framed steady.framed };
       program = done.program;
+      most = done.most;
     }
 
     pub unretaken : (reason : Reason) → Retakes identifier trial (Err reason) d new
@@ -146,4 +148,5 @@ module _ (asks : Status → Around → Scene → Asked) (d : Desk)
         framed = subst AreFramed (sym (same_members d new done.unmade)) steady.framed;
       };
       program = done.program;
+      most = done.most;
     }

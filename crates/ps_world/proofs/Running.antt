@@ -260,6 +260,7 @@ module _ (d : Desk) (steady : IsSteady d) (framed : AreFramed d.members) (identi
     keeps = run.keeps;
     steady = run_steady;
     program = run.stays.program;
+    most = run.stays.most;
     caller = tt;
     first = λ some. absurd (cc);
   }

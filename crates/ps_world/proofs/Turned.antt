@@ -143,6 +143,7 @@ module _ (asks : Status → Around → Scene → Asked) (unwinding : Option Caus
               (own_steady asks unwinding before steady.steady steady.framed identifier lends.member
               lends.found course_is trial l turned made);
           program = made.stays.program;
+          most = made.stays.most;
         }))
 
   module _ (operator : Operator) (ok : result ≡ Ok (Calls operator)) where
@@ -196,6 +197,7 @@ module _ (asks : Status → Around → Scene → Asked) (unwinding : Option Caus
               on.keeps;
           steady = on.steady;
           program = on.program ∙ (made (Calls operator) ok).stays.program;
+          most = on.most ∙ (made (Calls operator) ok).stays.most;
         }
 
   pub turned_finishes : (turned : Turned) → result ≡ Ok turned → (told : Result Note Reason)
@@ -261,4 +263,5 @@ module _ (asks : Status → Around → Scene → Asked) (unwinding : Option Caus
                 frames_are;
           };
           program = unmade.stays.program;
+          most = unmade.stays.most;
         })

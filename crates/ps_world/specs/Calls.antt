@@ -107,6 +107,7 @@ pub record Calls (operator : Operator) (caller : ℕ) (trial : Trial) (shown : O
   pub steady : IsSteady new
   pub keeps : Keeps old.heap new.heap
   pub program : new.program ≡ old.program
+  pub most : new.most ≡ old.most
   pub framed : OnOk result (AreFramedBut caller old.members → AreFramed new.members)
   pub unmade : OnErr result (StaysAt caller old.members new.members)
   pub same : (w : World) → IsWorld old w → OnErr result (IsSameDesk old new)
@@ -144,6 +145,7 @@ pub record Retakes (caller : ℕ) (trial : Trial) (result : Result Unit Reason) 
   pub steady : IsSteady new
   pub keeps : Keeps old.heap new.heap
   pub program : new.program ≡ old.program
+  pub most : new.most ≡ old.most
   pub framed : AreFramed old.members → AreFramed new.members
   pub unmade : OnErr result (IsSameDesk old new)
   pub held_up : (reason : Reason) → result ≡ Err reason

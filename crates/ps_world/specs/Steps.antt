@@ -56,6 +56,7 @@ pub record Steps (asks : Status → Around → Scene → Asked) (identifier : �
   pub keeps : Keeps old.desk.heap new.desk.heap
   pub steady : IsSteadyHeld new
   pub program : new.desk.program ≡ old.desk.program
+  pub most : new.desk.most ≡ old.desk.most
   pub caller : MayStep new.calling identifier
 
 -- ---- what a vmstatus is shown
@@ -110,6 +111,7 @@ pub record HasMade (identifier made : ℕ) (old new : Held) : Type 0 where
   pub keeps : Keeps old.desk.heap new.desk.heap
   pub steady : IsSteadyHeld new
   pub program : new.desk.program ≡ old.desk.program
+  pub most : new.desk.most ≡ old.desk.most
   pub caller : MayStep new.calling identifier
   pub first : IsSome new.calling → (made ≡ 0) × (new ≡ old)
 

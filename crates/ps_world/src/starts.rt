@@ -14,12 +14,10 @@ use ps_contexts::members::{Course, Member};
 use ps_contexts::table::Table;
 use ps_mem::Memory;
 use ps_ops::failure::NotMade;
-use ps_start::start::start;
+use ps_start::start::{Setup, start};
 use std::alloc::Global;
-use std::hash::RandomState;
 
-/// The first context of a program before its first step, over a memory in which nothing stands. The
-/// keys are for the names alone.
+/// The first context of a program before its first step, over a memory in which nothing stands.
 ///
 /// `NeedSpace`: the first objects have no room. `Memory`: a growth was refused. There is no other,
 /// and nothing was made then.
@@ -27,7 +25,7 @@ pub fn start_world<'a, M: Memory>(
     alloc: Global,
     memory: &mut M,
     program: &'a [u8],
-    keys: RandomState,
+    setup: Setup,
 ) -> Result<World<'a>, NotMade>
     requires heap { IsEmptyHeap (M.heap memory.old) }
     ensures at { IfOk result (λ made. IsWorld
@@ -37,6 +35,7 @@ pub fn start_world<'a, M: Memory>(
         (held (over (M.heap memory.new) (M.grants memory.new) made.contexts) None)) }
     ensures calling { IfOk result (λ made. made.calling ≡ None) }
     ensures program { IfOk result (λ made. made.contexts.shared.program.now ≡ program.now) }
+    ensures most { IfOk result (λ made. made.contexts.shared.printed.most ≡ setup.output) }
     ensures space { (M.heap memory.new).space ≡ (M.heap memory.old).space }
     ensures not_made { OnErr result (M.heap memory.new ≡ M.heap memory.old) }
     ensures reason { IfErr result (λ reason. IsStartReason reason (M.heap memory.old)) }
@@ -45,7 +44,7 @@ pub fn start_world<'a, M: Memory>(
     let Ok(mut table) = Table::new(alloc) else {
         return Err(NotMade::Memory);
     };
-    let (context, shared) = start(alloc, memory, program, keys)?;
+    let (context, shared) = start(alloc, memory, program, setup)?;
     table.push_reserved(Member {
         context,
         course: Course::Running,

@@ -1,6 +1,5 @@
 -- It can't be logged, it can't be told, or it is told and the lock is freed.
 use Rattle.std.proofs.Common.{◌≡◌, true, refl, sym, ap, subst, ◌∙◌, arith, Some, None}
-use Rattle.std.specs.Prelude.{vec_capacity}
 use Rattle.ps_language.specs.Access.{dictionary_at, with_dictionary}
 use Rattle.ps_language.specs.Owners.{with_owner}
 use Rattle.ps_language.specs.StepErrors.{newerror_key, told}
@@ -17,7 +16,6 @@ use Rattle.ps_dict.proofs.Probing.{few-places}
 use Rattle.ps_dict.proofs.Shapes.{count-fits, count-shown, capacity-shown}
 use Rattle.ps_control.specs.declared.frames.Cause.TheVariants.{Stop}
 use Rattle.ps_acts.specs.Lent.{Lent, lent}
-use Rattle.ps_turns.proofs.Lines.{room_lacks}
 use Rattle.ps_turns.proofs.Noting.{named_held, named_within, named_met, newerror_first, logs_asked, logs_changed}
 use Rattle.ps_turns.proofs.Told.{holds_told}
 use Rattle.ps_frames.proofs.Releasing.{release_unmade}
@@ -37,32 +35,30 @@ returns-in-Err g c =
     _ (logs_asked c.args.trial.slot _ _ permit.kept permit.others permit.more)
     c.in-Err.reason 2 (omega arith) refl c.in-Err.ensures.reason)
 
-pub returns-in-Err-append_line : goal.returns-in-Err-append_line
-returns-in-Err-append_line g c =
+pub returns-in-Err-print_line : goal.returns-in-Err-print_line
+returns-in-Err-print_line g c =
     let l : Lent = lent (g.M.Memory.heap c.args.memory.now) (g.M.Memory.grants c.args.memory.now)
     c.args.context.now c.args.shared.now in
     let permit = c.permit_records.ensures in
-    let line = rw permit.heap at c.in-Err-append_line.ensures.appends in
-    let more = c.in-Err-append_line.ensures.capacity in
-    let fits = c.args.shared.now.printed.ok.1 in
-    let has = c.args.shared.now.printed.ok.0 in
+    let line = rw permit.heap at c.in-Err-print_line.ensures.prints in
+    let more = rw c.in-Err-print_line.ensures.err
+    at c.in-Err-print_line.ensures.bounded.capacity in
     rw (
-      c.in-Err-append_line.ensures.heap ∙ permit.heap,
-      c.in-Err-append_line.ensures.grants,
-      c.in-Err-append_line.ensures.err,
+      c.in-Err-print_line.ensures.heap ∙ permit.heap,
+      c.in-Err-print_line.ensures.grants,
+      c.in-Err-print_line.ensures.bounded.most,
+      c.in-Err-print_line.ensures.err,
     )
     (line_lacks l c.requires.good c.args.lock c.requires.known c.args.trial c.requires.last
     (λ t held. c.requires.new l.names t c.requires.good.first c.requires.good.names held.shows)
     _ _ (omega (arith, more))
     (logs_asked c.args.trial.slot _ _ permit.kept permit.others permit.more)
-    (λ s shown. room_lacks (vec_capacity c.args.shared.now.printed)
-    c.args.shared.now.printed.items _ (omega (arith, fits, has))
-    (line s c.requires.good.first c.requires.good.names shown.shows).full))
+    (λ s shown. (line s c.requires.good.first c.requires.good.names shown.shows).full))
 
 pub put-requires-clause-plan : goal.put-requires-clause-plan
 unfolding plan_at
 put-requires-clause-plan g c =
-    let there = c.in-Ok-append_line.ensures.heap ∙ c.permit_records.ensures.heap in
+    let there = c.in-Ok-print_line.ensures.heap ∙ c.permit_records.ensures.heap in
     let h = g.M.Memory.heap c.args.memory.now in
     let address = c.args.context.now.error_dictionary in
     rw there (ap (λ place. plan_from place (count_at h address) (capacity_at h address))
@@ -76,7 +72,7 @@ put-requires-clause-value g c = plain_value _ _ c.boolean.ensures.plain
 
 pub free_lock-requires-clause-known : goal.free_lock-requires-clause-known
 free_lock-requires-clause-known g c =
-    let there = c.in-Ok-append_line.ensures.heap ∙ c.permit_records.ensures.heap in
+    let there = c.in-Ok-print_line.ensures.heap ∙ c.permit_records.ensures.heap in
     stands-kept (g.M.Memory.heap c.args.memory.now) _ (rw there at c.put.ensures.keeps) _
     c.args.lock _ c.requires.known
 
@@ -96,23 +92,21 @@ returns g c =
     let sound = c.requires.good.sound in
     let key = c.requires.key in
     let permit = c.permit_records.ensures in
-    let there = c.in-Ok-append_line.ensures.heap ∙ permit.heap in
-    let line = rw permit.heap at c.in-Ok-append_line.ensures.appends in
-    let more = c.in-Ok-append_line.ensures.capacity in
-    let fits = c.args.shared.now.printed.ok.1 in
-    let has = c.args.shared.now.printed.ok.0 in
+    let there = c.in-Ok-print_line.ensures.heap ∙ permit.heap in
+    let line = rw permit.heap at c.in-Ok-print_line.ensures.prints in
     let keeps_put : Keeps h mid = rw there at c.put.ensures.keeps in
     let same_birth = birth_at-kept h mid keeps_put c.args.lock c.requires.known.object
     c.requires.known.at in
     let key_within : (s : Store) → IsWithin births names s c.args.newerror = λ s.
     named_within names first births _ _ _ key newerror_first s in
-    told_release l c.requires.good c.args.lock c.requires.known c.args.trial c.requires.last
+    rw c.in-Ok-print_line.ensures.bounded.most
+    (told_release l c.requires.good c.args.lock c.requires.known c.args.trial c.requires.last
     (λ t held. c.requires.new l.names t first distinct held.shows) _ _ _ _
     (Keeps-then h mid last keeps_put c.free_lock.ensures.keeps) c.free_lock.ensures.sound
-    (omega (arith, more, fits, has))
+    c.in-Ok-print_line.ensures.bounded.capacity
     (logs_changed c.args.trial.slot _ _ permit.kept permit.others permit.more _ 2
     (then-used _ _ _ c.args.trial.slot 1 1 0 0
-    (rw c.in-Ok-append_line.ensures.grants at c.put.ensures.grants)
+    (rw c.in-Ok-print_line.ensures.grants at c.put.ensures.grants)
     (store-used _ _ _ c.free_lock.ensures.grants)))
     (λ s shown. (line s first distinct shown.shows).ok)
     (λ s shown.
@@ -133,4 +127,4 @@ returns g c =
     (holds_told d c.args.place place (omega (arith, count, capacity, fit))
     (omega (arith, capacity, few)))) in
     subst (λ b. Shows last names (with_owner (with_dictionary s (births address) (told d)) b None))
-    same_birth (c.free_lock.ensures.shows names _ put_shown))
+    same_birth (c.free_lock.ensures.shows names _ put_shown)))

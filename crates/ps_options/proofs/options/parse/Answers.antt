@@ -16,8 +16,8 @@ use Rattle.clap.specs.declared.builder.value_parser.Reading.{Reading}
 use Rattle.clap.proofs.OnLiterals.{clap_on_literals}
 use Rattle.clap.proofs.WalkLemmas.{first_value-rows, one_text-rows}
 use Rattle.clap.proofs.SimpleLemmas.{plain_fields, simple_groups}
-use Rattle.ps_options.specs.CommandLine.{IsExplored, command_line, faults_in, flag_in, excludes, is_excluded, overwrites, is_overwritten}
-use Rattle.ps_options.proofs.Ranges.{HasRange, text_in_range}
+use Rattle.ps_options.specs.CommandLine.{IsOptional, command_line, faults_in, flag_in, excludes, is_excluded, overwrites, is_overwritten}
+use Rattle.ps_options.proofs.Ranges.{HasRange, IsOwn, text_in_range}
 use Rattle.ps_options.proofs.options.parse.Goals as goal
 
 -- the command line is one whose matches and faults the rules decide
@@ -251,32 +251,34 @@ none_is None absent = refl
 none_is (Some text) absent = absurd (true≢false absent)
 
 -- the number of a text that passed its range, and none where there is no text
-abbrev IsRead : Option Text → Option ℕ → Type 0
-IsRead None found = found ≡ None
-IsRead (Some text) found = (number : ℕ) × (found ≡ Some number) × IsUnsignedIn 1 65535 text
+abbrev IsRead : (least most : ℕ) → Option Text → Option ℕ → Type 0
+IsRead least most None found = found ≡ None
+IsRead least most (Some text) found =
+    (number : ℕ) × (found ≡ Some number) × IsUnsignedIn least most text
     × (number ≡ digits_value 10 (without_leading_plus text))
 
-is_read : {E : Type 0} (A B : Text → Result ℕ E → Type 0) (text : Option Text) (found : Option ℕ)
-    → (text ≡ None → found ≡ None)
+is_read : {E : Type 0} (A B : Text → Result ℕ E → Type 0) (least most : ℕ) (text : Option Text)
+    (found : Option ℕ) → most < 2 ^ 32 → (text ≡ None → found ≡ None)
     → ((t : Text) → text ≡ Some t
     → ReadsOne (λ t r. ParsesUnsigned 32 10 t r × A t r × B t r) t found)
-    → ((t : Text) → text ≡ Some t → IsUnsignedIn 1 65535 t) → IsRead text found
-is_read A B None found none reads passes = none refl
-is_read A B (Some t) (Some number) none reads passes =
+    → ((t : Text) → text ≡ Some t → IsUnsignedIn least most t) → IsRead least most text found
+is_read A B least most None found few none reads passes = none refl
+is_read A B least most (Some t) (Some number) few none reads passes =
     (number, refl, passes t refl, (reads t refl).0.1)
-is_read A B (Some t) None none reads passes =
+is_read A B least most (Some t) None few none reads passes =
     let passed = passes t refl in
-    absurd ((reads t refl).1.0 (passed.0, omega arith))
+    let high = passed.2 in
+    absurd ((reads t refl).1.0 (passed.0, omega (arith, few, high)))
 
-explored : (words : List Text) (text : Option Text) (found : Option ℕ)
-    → one_of (codes "explore") (matches_of command_line words) ≡ text → IsRead text found
-    → IsExplored words found
-explored words None found is none =
-    let no = text_or_none (codes "explore") (matches_of command_line words) ∙ ap is_some is in
-    subst (IsExplored words) (sym none) (none_is _ no)
-explored words (Some text) found is read =
-    let has = text_or_none (codes "explore") (matches_of command_line words) ∙ ap is_some is in
-    subst (IsExplored words) (sym read.1) (
+optional : (id : Text) (least most : ℕ) (words : List Text) (text : Option Text) (found : Option ℕ)
+    → one_of id (matches_of command_line words) ≡ text → IsRead least most text found
+    → IsOptional id words found
+optional id least most words None found is none =
+    let no = text_or_none id (matches_of command_line words) ∙ ap is_some is in
+    subst (IsOptional id words) (sym none) (none_is _ no)
+optional id least most words (Some text) found is read =
+    let has = text_or_none id (matches_of command_line words) ∙ ap is_some is in
+    subst (IsOptional id words) (sym read.1) (
       has,
       λ t also numeral small. read.3
           ∙ ap (λ (o : Option Text). digits_value 10 (without_leading_plus (unwrap_or o t)))
@@ -286,12 +288,12 @@ explored words (Some text) found is read =
 abbrev IsInRange : Option ℕ → Type 0
 IsInRange found = IfSome found (λ number. (1 ≤ number) × (number ≤ 65535))
 
-in_range : (text : Option Text) (found : Option ℕ) → IsRead text found → IsInRange found
+in_range : (text : Option Text) (found : Option ℕ) → IsRead 1 65535 text found → IsInRange found
 in_range None found none = subst IsInRange (sym none) tt
 in_range (Some text) found read =
     subst IsInRange (sym read.1) (rw read.3 read.2.2, rw read.3 read.2.3)
 
--- the rules of the line ask for such a number of schedules
+-- the rules of the line ask for such a number of schedules, and such a one of bytes
 explore_rules : HasRange (codes "explore") 1 65535 command_line.top.rules
 explore_rules = (
   λ e. cc,
@@ -309,7 +311,40 @@ explore_rules = (
               λ e. cc,
               (
                 λ e. cc,
-                (λ e. refl, (λ e. cc, tt)),
+                (
+                  λ e. cc,
+                  (λ e. refl, (λ e. cc, tt)),
+                ),
+              ),
+            ),
+          ),
+        ),
+      ),
+    ),
+  ),
+)
+
+output_rules : HasRange (codes "output") 0 4294967295 command_line.top.rules
+output_rules = (
+  λ e. cc,
+  (
+    λ e. cc,
+    (
+      λ e. cc,
+      (
+        λ e. cc,
+        (
+          λ e. refl,
+          (
+            λ e. cc,
+            (
+              λ e. cc,
+              (
+                λ e. cc,
+                (
+                  λ e. cc,
+                  (λ e. cc, (λ e. cc, tt)),
+                ),
               ),
             ),
           ),
@@ -320,42 +355,44 @@ explore_rules = (
 )
 
 -- and so a text that a parse took is one
-explore_passes : (made new : Command) (m : ArgMatches) (has : Bool) → app_of made ≡ command_line
+passes : (id : Text) (least most : ℕ) (made new : Command) (m : ArgMatches) (has : Bool)
+    → HasRange id least most command_line.top.rules → IsOwn id → app_of made ≡ command_line
     → BuildsTo made new → ((out-Command new).has_globals ≡ false → IsParsed new (found_of m) has)
-    → (t : Text) → one_text (found_of m) (codes "explore") ≡ Some t → IsUnsignedIn 1 65535 t
-explore_passes made new m has is builds parsed =
+    → (t : Text) → one_text (found_of m) id ≡ Some t → IsUnsignedIn least most t
+passes id least most made new m has rules own is builds parsed =
     let plain = plain_fields made (ap (λ (app : App). app.top.is_plain) is) in
     let simple = simple_groups made
     (ap (λ (app : App). list_all (λ (r : Rule). r.is_simple) app.top.rules) is) in
-    text_in_range made new (found_of m) (codes "explore") 1 65535 builds
-    (subst (λ (app : App). HasRange (codes "explore") 1 65535 app.top.rules) (sym is)
-    explore_rules)
-    (record { named = λ e. cc; no_help = refl; no_version = refl })
+    text_in_range made new (found_of m) id least most builds
+    (subst (λ (app : App). HasRange id least most app.top.rules) (sym is) rules) own
     ((builds.same_groups simple).1 ∙ plain.groups)
     (parsed (builds.globals ∙ plain.globals)).values
 
 -- what is read of the words
-explore_read : (made new : Command) (words : List Text) (m : ArgMatches) (has : Bool) {E : Type 0}
-    (A B : Text → Result ℕ E → Type 0) (found : Option ℕ) → app_of made ≡ command_line
+number_or_none : (id : Text) (least most : ℕ) (made new : Command) (words : List Text)
+    (m : ArgMatches) (has : Bool) {E : Type 0} (A B : Text → Result ℕ E → Type 0)
+    (found : Option ℕ) → HasRange id least most command_line.top.rules → IsOwn id
+    → most < 2 ^ 32 → app_of made ≡ command_line
     → BuildsTo made new → ((out-Command new).has_globals ≡ false → IsParsed new (found_of m) has)
-    → HasMatchesOf (app_of made) words m
-    → (one_text (found_of m) (codes "explore") ≡ None → found ≡ None)
-    → ((t : Text) → one_text (found_of m) (codes "explore") ≡ Some t
+    → HasMatchesOf (app_of made) words m → (one_text (found_of m) id ≡ None → found ≡ None)
+    → ((t : Text) → one_text (found_of m) id ≡ Some t
     → ReadsOne (λ t r. ParsesUnsigned 32 10 t r × A t r × B t r) t found)
-    → IsRead (one_of (codes "explore") (matches_of command_line words)) found
-explore_read made new words m has A B found is builds parsed matches none reads =
-    let same = flag_is made words m (codes "explore") is matches in
-    is_read A B (one_of (codes "explore") (matches_of command_line words)) found
+    → IsRead least most (one_of id (matches_of command_line words)) found
+number_or_none id least most made new words m has A B found rules own few is builds parsed matches
+    none reads =
+    let same = flag_is made words m id is matches in
+    is_read A B least most (one_of id (matches_of command_line words)) found few
     (λ e. none (same ∙ e)) (λ t e. reads t (same ∙ e))
-    (λ t e. explore_passes made new m has is builds parsed t (same ∙ e))
+    (λ t e. passes id least most made new m has rules own is builds parsed t (same ∙ e))
 
 pub returns-clause-explore : goal.returns-clause-explore
 returns-clause-explore c =
     let words : List Text = map {A = Bor Text} {B = Text} (λ (word : Bor Text). word.now)
     c.args.words.now in
-    explored words _ c.get_one-5.result refl
-    (explore_read c.in_ok-line.line _ words c.in_ok-matches.matches _
+    optional (codes "explore") 1 65535 words _ c.get_one-5.result refl
+    (number_or_none (codes "explore") 1 65535 c.in_ok-line.line _ words c.in_ok-matches.matches _
     (λ t r. ExplainsUnsignedError 10 t r) (λ t r. HasUnsignedDigitsIfOk t r) c.get_one-5.result
+    explore_rules (record { named = λ e. cc; no_help = refl; no_version = refl }) (omega arith)
     c.in_ok-line.ensures c.in_ok-matches.ensures.ok.0 c.in_ok-matches.ensures.ok.1
     c.in_ok-matches.ensures.ok.2 c.get_one-5.ensures.none c.get_one-5.ensures.value)
 
@@ -364,7 +401,19 @@ returns-clause-explore_range c =
     let words : List Text = map {A = Bor Text} {B = Text} (λ (word : Bor Text). word.now)
     c.args.words.now in
     in_range _ c.get_one-5.result
-    (explore_read c.in_ok-line.line _ words c.in_ok-matches.matches _
+    (number_or_none (codes "explore") 1 65535 c.in_ok-line.line _ words c.in_ok-matches.matches _
     (λ t r. ExplainsUnsignedError 10 t r) (λ t r. HasUnsignedDigitsIfOk t r) c.get_one-5.result
+    explore_rules (record { named = λ e. cc; no_help = refl; no_version = refl }) (omega arith)
     c.in_ok-line.ensures c.in_ok-matches.ensures.ok.0 c.in_ok-matches.ensures.ok.1
     c.in_ok-matches.ensures.ok.2 c.get_one-5.ensures.none c.get_one-5.ensures.value)
+
+pub returns-clause-output : goal.returns-clause-output
+returns-clause-output c =
+    let words : List Text = map {A = Bor Text} {B = Text} (λ (word : Bor Text). word.now)
+    c.args.words.now in
+    optional (codes "output") 0 4294967295 words _ c.get_one-6.result refl
+    (number_or_none (codes "output") 0 4294967295 c.in_ok-line.line _ words c.in_ok-matches.matches
+    _ (λ t r. ExplainsUnsignedError 10 t r) (λ t r. HasUnsignedDigitsIfOk t r) c.get_one-6.result
+    output_rules (record { named = λ e. cc; no_help = refl; no_version = refl }) (omega arith)
+    c.in_ok-line.ensures c.in_ok-matches.ensures.ok.0 c.in_ok-matches.ensures.ok.1
+    c.in_ok-matches.ensures.ok.2 c.get_one-6.ensures.none c.get_one-6.ensures.value)

@@ -5,41 +5,47 @@ use Rattle.ps_mem.specs.Shows.{IsValue, IsWithin}
 use Rattle.ps_ops.specs.declared.failure.NotMade.TheVariants.{Memory}
 use Rattle.ps_acts.proofs.Meeting.{keeps-same, logs-same, stays_as, at_least-same}
 use Rattle.ps_acts.proofs.Acting.{wanting_acts, left_acts}
-use Rattle.ps_output_operators.proofs.Printing.{all_turned, stack_prints, prints_made, prints_wants, good_drop, grown, fits}
+use Rattle.ps_output_operators.proofs.Printing.{all_turned, stack_prints, prints_made, prints_wants, good_drop}
 use Rattle.ps_output_operators.proofs.lines.show_stack.Goals as goal
 
-pub append_stack-requires-clause-held : goal.append_stack-requires-clause-held
-append_stack-requires-clause-held g c =
+pub print_stack-requires-clause-held : goal.print_stack-requires-clause-held
+print_stack-requires-clause-held g c =
     let h = g.M.Memory.heap c.args.memory.now in
     all_turned (IsValue h) _ _ _ c.len.ensures.count c.topmost-words.ensures c.requires.good.operands
 
 pub returns-in-Ok : goal.returns-in-Ok
 returns-in-Ok g c =
     let births = birth_at (g.M.Memory.heap c.args.memory.now) in
-    rw (c.append_stack.ensures.heap, c.append_stack.ensures.grants)
+    rw (c.print_stack.ensures.heap, c.print_stack.ensures.grants, c.print_stack.ensures.bounded.most)
     (record {
       acts = λ trial. left_acts _ trial _ _ c.requires.good _ (good_drop _ _ _ 0 c.requires.good)
           (keeps-same _)
-          (stays_as _ _ refl refl refl (grown _ _ _ _ c.append_stack.ensures.capacity
-          c.append_stack.ensures.front) (at_least-same _)) (logs-same _ _ _)
+          (stays_as _ _ refl refl refl refl c.print_stack.ensures.bounded.capacity
+          (at_least-same _)) (logs-same _ _ _)
           (prints_made _ _ 0 _ trial (stack_prints _ c.args.form _ _ c.len.ensures.count
           c.topmost-words.ensures) _ _
-          (λ store shown. c.in-Ok.ensures.ok store shown.shows
+          (λ store shown. (c.in-Ok.ensures.prints store shown.shows
           (all_turned (IsWithin births _ store) _ _ _ c.len.ensures.count c.topmost-words.ensures
-          shown.operands)));
+          shown.operands)).ok));
     })
 
 pub returns-in-Err : goal.returns-in-Err
 returns-in-Err g c =
     let births = birth_at (g.M.Memory.heap c.args.memory.now) in
-    rw (c.append_stack.ensures.heap, c.append_stack.ensures.grants, c.in-Err.ensures.err)
+    rw (
+      c.print_stack.ensures.heap,
+      c.print_stack.ensures.grants,
+      c.print_stack.ensures.bounded.most,
+      c.in-Err.ensures.err,
+    )
     (record {
       acts = λ trial. wanting_acts _ trial _ _ c.requires.good _ _ _
-          (omega (arith, c.append_stack.ensures.capacity)) (at_least-same _)
+          (let kept = rw c.in-Err.ensures.err at c.print_stack.ensures.bounded.capacity in
+          omega (arith, kept)) (at_least-same _)
           c.requires.good.empty (logs-same 0 _ _) Memory
           (prints_wants _ _ 0 _ trial (stack_prints _ c.args.form _ _ c.len.ensures.count
-          c.topmost-words.ensures) _ _ refl (fits c.args.shared.now.printed)
-          (λ store shown. c.in-Err.ensures.full store shown.shows
+          c.topmost-words.ensures) _
+          (λ store shown. (c.in-Err.ensures.prints store shown.shows
           (all_turned (IsWithin births _ store) _ _ _ c.len.ensures.count c.topmost-words.ensures
-          shown.operands)));
+          shown.operands)).full));
     })

@@ -1,7 +1,7 @@
 use Rattle.std.proofs.Common.{◌≡◌, List, ℕ, Option, map, inl, inr, refl, sym, ap, subst, ◌∙◌}
 use Rattle.std.specs.Prelude.{codes, ◌⊎◌}
 use Rattle.clap.specs.Words.{Text}
-use Rattle.ps_options.specs.CommandLine.{IsExplored, IsFlag}
+use Rattle.ps_options.specs.CommandLine.{IsFlag, IsOptional}
 use Rattle.ps_vault.specs.Reports.{IsWithin}
 use Rattle.ps_run.specs.Driving.{AreAsked, AreOutOfRange, Asked, HasNoSchedule, IsTooLong, asked_of, config_in, names_in, names_of}
 use Rattle.ps_run.proofs.Driven.{driven_more, faulty, none_explored, record_named, some_explored}
@@ -35,8 +35,10 @@ are_asked g c asked is = (
       (sym (ap (λ (a : Asked). a.plain) is)) c.in-Ok.ensures.plain,
   subst (IsFlag (codes "stats") (map (λ word. word.now) c.args.words.now))
       (sym (ap (λ (a : Asked). a.stats) is)) c.in-Ok.ensures.stats,
-  subst (IsExplored (map (λ word. word.now) c.args.words.now))
+  subst (IsOptional (codes "explore") (map (λ word. word.now) c.args.words.now))
       (sym (ap (λ (a : Asked). a.explored) is)) c.in-Ok.ensures.explore,
+  subst (IsOptional (codes "output") (map (λ word. word.now) c.args.words.now))
+      (sym (ap (λ (a : Asked). a.output) is)) c.in-Ok.ensures.output,
 )
 
 is_fault : (g : givens.Over) (c : In-Ok g) (err : Option (List ℕ))

@@ -25,6 +25,7 @@ returns-in-Ok-make-clause-run g c = inr (inr (inl (record {
         (option_map (λ schedule. schedule.items) c.in-Ok-read_given.given)) c.in-Ok.ensures.kept
         c.in-Ok-read_given.ensures.given;
     run = rw c.as_slice.ensures.value at c.in-Ok-make.ensures.made;
+    bounded = c.in-Ok-make.ensures.bounded;
   };
   written =
       written_from _ _ c.in-Ok-make.report _ _ _ _

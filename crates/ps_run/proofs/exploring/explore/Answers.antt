@@ -1,5 +1,5 @@
 use Rattle.std.proofs.Common.{◌≡◌, ℕ, inr, refl, ap, subst, arith, length}
-use Rattle.ps_run.specs.Driving.{asked_of}
+use Rattle.ps_run.specs.Driving.{asked_of, most_output}
 use Rattle.ps_vault.specs.declared.reports.Config.{Config}
 use Rattle.ps_vault.specs.Endings.{AreEndings}
 use Rattle.ps_vault.proofs.Endings.{endings_few}
@@ -8,7 +8,7 @@ use Rattle.ps_run.proofs.exploring.explore.Goals as goal
 
 pub finish_all-requires-clause-few : goal.finish_all-requires-clause-few
 finish_all-requires-clause-few g c =
-    let few = endings_few _ _ _ _ _ c.in-Ok-explore.ensures in
+    let few = endings_few _ _ _ _ _ _ c.in-Ok-explore.ensures in
     let same = ap length c.as_slice-in-Ok-explore.ensures.value in
     omega (arith, few, same, c.ranges.runs.fits)
 
@@ -16,8 +16,10 @@ pub returns-in-Ok-explore-clause-run : goal.returns-in-Ok-explore-clause-run
 returns-in-Ok-explore-clause-run g c =
     let steps : c.config_of-config.result.steps ≡ c.args.options.now.steps =
     ap (λ (config : Config). config.steps) c.config_of-config.ensures in
+    let output : c.config_of-config.result.output ≡ most_output c.args.options.now.output =
+    ap (λ (config : Config). config.output) c.config_of-config.ensures in
     let made : AreEndings g.S.Interpret.asks c.in-Ok.program.items c.config_of-config.result.steps
-    c.args.runs c.in-Ok-explore.endings.items =
+    c.config_of-config.result.output c.args.runs c.in-Ok-explore.endings.items =
     rw c.as_slice.ensures.value at c.in-Ok-explore.ensures in
     inr (inr (inr (record {
       asked = asked_of c.args.options.now;
@@ -33,9 +35,11 @@ returns-in-Ok-explore-clause-run g c =
         c.in-Ok.ensures.few,
       );
       endings = c.in-Ok-explore.endings.items;
-      are = subst (λ (n : ℕ). AreEndings g.S.Interpret.asks c.in-Ok.program.items n c.args.runs
-          c.in-Ok-explore.endings.items) steps made;
-      entries = endings_entries _ _ _ _ _ (omega (arith, c.config_of-config.type_inv)) made;
+      are = subst (λ (n : ℕ). AreEndings g.S.Interpret.asks c.in-Ok.program.items n
+          (most_output c.args.options.now.output) c.args.runs c.in-Ok-explore.endings.items) steps
+          (subst (λ (n : ℕ). AreEndings g.S.Interpret.asks c.in-Ok.program.items
+          c.config_of-config.result.steps n c.args.runs c.in-Ok-explore.endings.items) output made);
+      entries = endings_entries _ _ _ _ _ _ (omega (arith, c.config_of-config.type_inv)) made;
       written =
           all_written_from _ _ _ _ _ _ _ (ap g.X.Write.contents c.in-Ok.ensures.told)
           c.in-Ok.ensures.kept (rw c.as_slice-in-Ok-explore.ensures.value at c.finish_all.ensures.written);

@@ -1,6 +1,5 @@
 -- The error is not new, it can't be told, or it is told.
 use Rattle.std.proofs.Common.{◌≡◌, true, sym, ap, ◌∙◌, arith, Some, inl}
-use Rattle.std.specs.Prelude.{vec_capacity}
 use Rattle.ps_language.specs.Access.{dictionary_at}
 use Rattle.ps_language.specs.StepErrors.{newerror_key, has_new_error, told}
 use Rattle.ps_language.specs.Value.{Store}
@@ -13,7 +12,6 @@ use Rattle.ps_dict.proofs.Probing.{few-places}
 use Rattle.ps_dict.proofs.Shapes.{count-fits, count-shown, capacity-shown}
 use Rattle.ps_acts.specs.Lent.{IsShown, lent}
 use Rattle.ps_turns.proofs.Breaking.{stops_turns, told_turns, untold_reason, unlogged}
-use Rattle.ps_turns.proofs.Lines.{room_lacks}
 use Rattle.ps_turns.proofs.Noting.{named_held, named_within, named_met, newerror_first, logs_asked, logs_changed}
 use Rattle.ps_turns.proofs.Told.{holds_told}
 use Rattle.ps_turns.proofs.Truths.{none_found}
@@ -67,28 +65,26 @@ returns-in-Err g c =
     (logs_asked c.args.trial.slot _ _ (rw grants at permit.kept) (rw grants at permit.others)
     (rw grants at permit.more)))
 
-pub returns-in-Err-append_line : goal.returns-in-Err-append_line
-returns-in-Err-append_line g c =
+pub returns-in-Err-print_line : goal.returns-in-Err-print_line
+returns-in-Err-print_line g c =
     let new = rw c.position.ensures.heap at c.has_new_error.ensures.value in
     let grants = c.has_new_error.ensures.grants ∙ c.position.ensures.grants in
     let permit = c.permit_records.ensures in
     let there = permit.heap ∙ (c.has_new_error.ensures.heap ∙ c.position.ensures.heap) in
-    let line = rw there at c.in-Err-append_line.ensures.appends in
-    let more = c.in-Err-append_line.ensures.capacity in
-    let fits = c.args.shared.now.printed.ok.1 in
-    let has = c.args.shared.now.printed.ok.0 in
+    let line = rw there at c.in-Err-print_line.ensures.prints in
+    let more = rw c.in-Err-print_line.ensures.err
+    at c.in-Err-print_line.ensures.bounded.capacity in
     rw (
-      c.in-Err-append_line.ensures.heap ∙ there,
-      c.in-Err-append_line.ensures.grants,
-      c.in-Err-append_line.ensures.err,
+      c.in-Err-print_line.ensures.heap ∙ there,
+      c.in-Err-print_line.ensures.grants,
+      c.in-Err-print_line.ensures.bounded.most,
+      c.in-Err-print_line.ensures.err,
     )
     (untold_reason c.args.trial _ c.requires.good c.requires.last
     (λ s shown. sym (new c.args.shared.now.names s c.requires.good.first c.requires.good.names
     shown.shows) ∙ c.if-not-has_new_error.false)
     _ _ _
-    (λ s shown. inl (room_lacks (vec_capacity c.args.shared.now.printed)
-    c.args.shared.now.printed.items _ (omega (arith, fits, has))
-    (line s c.requires.good.first c.requires.good.names shown.shows).full))
+    (λ s shown. inl ((line s c.requires.good.first c.requires.good.names shown.shows).full))
     (omega (arith, more))
     (logs_asked c.args.trial.slot _ _ (rw grants at permit.kept) (rw grants at permit.others)
     (rw grants at permit.more)))
@@ -97,7 +93,7 @@ pub put-requires-clause-plan : goal.put-requires-clause-plan
 unfolding plan_at
 put-requires-clause-plan g c =
     let there =
-    c.in-Ok-append_line.ensures.heap
+    c.in-Ok-print_line.ensures.heap
     ∙ (c.permit_records.ensures.heap ∙ (c.has_new_error.ensures.heap ∙ c.position.ensures.heap)) in
     let h = g.M.Memory.heap c.args.memory.now in
     let address = c.args.context.now.error_dictionary in
@@ -125,18 +121,17 @@ returns g c =
     let grants = c.has_new_error.ensures.grants ∙ c.position.ensures.grants in
     let permit = c.permit_records.ensures in
     let before = permit.heap ∙ (c.has_new_error.ensures.heap ∙ c.position.ensures.heap) in
-    let there = c.in-Ok-append_line.ensures.heap ∙ before in
-    let line = rw before at c.in-Ok-append_line.ensures.appends in
-    let more = c.in-Ok-append_line.ensures.capacity in
-    let fits = c.args.shared.now.printed.ok.1 in
-    let has = c.args.shared.now.printed.ok.0 in
+    let there = c.in-Ok-print_line.ensures.heap ∙ before in
+    let line = rw before at c.in-Ok-print_line.ensures.prints in
     let key_within : (s : Store) → IsWithin births names s c.error_keys-keys.result.newerror = λ s.
     named_within names first births _ _ _ key newerror_first s in
-    told_turns c.args.trial _ c.requires.good c.requires.last
+    rw c.in-Ok-print_line.ensures.bounded.most
+    (told_turns c.args.trial _ c.requires.good c.requires.last
     (λ s shown. sym (new names s first distinct shown.shows) ∙ c.if-not-has_new_error.false)
-    _ _ _ _ (rw there at c.put.ensures.keeps) c.put.ensures.sound (omega (arith, more, fits, has))
+    _ _ _ _ (rw there at c.put.ensures.keeps) c.put.ensures.sound
+    c.in-Ok-print_line.ensures.bounded.capacity
     (logs_changed c.args.trial.slot _ _ (rw grants at permit.kept) (rw grants at permit.others)
-    (rw grants at permit.more) _ 1 (rw c.in-Ok-append_line.ensures.grants at c.put.ensures.grants))
+    (rw grants at permit.more) _ 1 (rw c.in-Ok-print_line.ensures.grants at c.put.ensures.grants))
     (λ s shown. (line s first distinct shown.shows).ok)
     (λ s shown.
     let d = dictionary_at s (births address) in
@@ -155,4 +150,4 @@ returns g c =
       c.boolean.ensures.value births names,
     )
     (holds_told d c.in-Some.place place (omega (arith, count, capacity, fit))
-    (omega (arith, capacity, few)))))
+    (omega (arith, capacity, few))))))

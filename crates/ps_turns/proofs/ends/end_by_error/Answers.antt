@@ -1,6 +1,5 @@
 -- Its records are not granted, its line has no room, or it has ended.
 use Rattle.std.proofs.Common.{ℕ, ◌<◌, ◌++◌, arith, false, List, length, subst, ◌∙◌}
-use Rattle.std.specs.Prelude.{vec_capacity}
 use Rattle.ps_language.specs.Access.{dictionary_at, with_dictionary}
 use Rattle.ps_mem.specs.Heap.{birth_at}
 use Rattle.ps_mem.specs.Shows.{Shows}
@@ -9,7 +8,6 @@ use Rattle.ps_turns.specs.Ends.{planned_line}
 use Rattle.ps_turns.proofs.Noting.{logs_asked, logs_noted}
 use Rattle.ps_turns.proofs.Raising.{not_raised}
 use Rattle.ps_turns.proofs.Ended.{ended_on, not_ended}
-use Rattle.ps_turns.proofs.Lines.{room_lacks}
 use Rattle.ps_turns.proofs.Valued.{name_valued, command_valued, plan_valued}
 use Rattle.ps_turns.proofs.ends.end_by_error.Goals as goal
 
@@ -18,25 +16,25 @@ returns-in-Err g c =
     not_raised c.args.error c.args.command c.args.trial _ c.requires.good _ _ _
     ((rw c.in-Err.is at c.permit_note.ensures.reason) c.args.error c.args.command _)
 
-pub returns-in-Err-append_line : goal.returns-in-Err-append_line
-returns-in-Err-append_line g c =
+pub returns-in-Err-print_line : goal.returns-in-Err-print_line
+returns-in-Err-print_line g c =
     let permit = c.permit_note.ensures in
     let entries = c.entries_of-entries.ensures in
     let names = c.args.shared.now.names in
     let births = birth_at (g.M.Memory.heap c.args.memory.now) in
     let planned = rw permit.heap at c.plan_error-plan.ensures.value in
     let heap = c.plan_error-plan.ensures.heap ∙ permit.heap in
-    let line = rw heap at c.in-Err-append_line.ensures.appends in
+    let line = rw heap at c.in-Err-print_line.ensures.prints in
     let first = c.requires.good.first in
     let valued = entries.values births names first in
-    let more = c.in-Err-append_line.ensures.capacity in
-    let fits = c.args.shared.now.printed.ok.1 in
-    let has = c.args.shared.now.printed.ok.0 in
+    let more = rw c.in-Err-print_line.ensures.err
+    at c.in-Err-print_line.ensures.bounded.capacity in
     rw (
-      c.in-Err-append_line.ensures.heap ∙ heap,
-      c.in-Err-append_line.ensures.grants
+      c.in-Err-print_line.ensures.heap ∙ heap,
+      c.in-Err-print_line.ensures.grants
           ∙ c.plan_error-plan.ensures.grants,
-      c.in-Err-append_line.ensures.err,
+      c.in-Err-print_line.ensures.bounded.most,
+      c.in-Err-print_line.ensures.err,
     )
     (not_ended c.args.error c.args.command c.args.trial _ c.requires.good c.requires.last
     c.plan_error-plan.result
@@ -44,13 +42,11 @@ returns-in-Err-append_line g c =
     (entries.within _ names s first held.words_within.0)
     ∙ plan_valued births names c.entries_of-entries.result false c.args.error _ valued _)
     _ _
-    (λ s held. room_lacks (vec_capacity c.args.shared.now.printed) c.args.shared.now.printed.items
-    _ (omega (arith, fits, has)) (subst (λ (text : List ℕ). vec_capacity c.args.shared.now.printed
-    < length (c.args.shared.now.printed.items ++ text))
+    (λ s held. subst (λ (text : List ℕ). c.args.shared.now.printed.room < length text)
     (λ i. planned_line s c.plan_error-plan.result
     (name_valued births names c.entries_of-entries.result false c.args.error _ valued i)
     (command_valued births names c.entries_of-entries.result false c.args.error _ valued i))
-    (line s held.shown.shows (entries.within _ names s first held.words_within.0)).full))
+    (line s held.shown.shows (entries.within _ names s first held.words_within.0)).full)
     (omega (arith, more))
     (logs_asked c.args.trial.slot _ _ permit.kept permit.others permit.more))
 
@@ -63,22 +59,20 @@ returns g c =
     let births = birth_at h in
     let planned = rw permit.heap at c.plan_error-plan.ensures.value in
     let heap = c.plan_error-plan.ensures.heap ∙ permit.heap in
-    let there = c.in-Ok-append_line.ensures.heap ∙ heap in
-    let line = rw heap at c.in-Ok-append_line.ensures.appends in
-    let grants = c.in-Ok-append_line.ensures.grants ∙ c.plan_error-plan.ensures.grants in
+    let there = c.in-Ok-print_line.ensures.heap ∙ heap in
+    let line = rw heap at c.in-Ok-print_line.ensures.prints in
+    let grants = c.in-Ok-print_line.ensures.grants ∙ c.plan_error-plan.ensures.grants in
     let first = c.requires.good.first in
     let valued = entries.values births names first in
-    let more = c.in-Ok-append_line.ensures.capacity in
-    let fits = c.args.shared.now.printed.ok.1 in
-    let has = c.args.shared.now.printed.ok.0 in
-    ended_on c.args.error c.args.command c.args.trial _ c.requires.good c.requires.last
+    rw c.in-Ok-print_line.ensures.bounded.most
+    (ended_on c.args.error c.args.command c.args.trial _ c.requires.good c.requires.last
     c.plan_error-plan.result
     (λ s held. planned names s held.shown.shows c.requires.good.names
     (entries.within _ names s first held.words_within.0)
     ∙ plan_valued births names c.entries_of-entries.result false c.args.error _ valued _)
     _ _ _ _ (rw there at c.put_error.ensures.keeps)
     (λ s held. (line s held.shown.shows (entries.within _ names s first held.words_within.0)).ok
-    ∙ (λ i. c.args.shared.now.printed.items ++ planned_line s c.plan_error-plan.result
+    ∙ (λ i. c.args.shared.now.printed.bytes ++ planned_line s c.plan_error-plan.result
     (name_valued births names c.entries_of-entries.result false c.args.error _ valued i)
     (command_valued births names c.entries_of-entries.result false c.args.error _ valued i)))
     (λ s held. subst (λ pairs. Shows (g.M.Memory.heap c.put_error.new.memory) names
@@ -88,4 +82,4 @@ returns g c =
     (entries.within _ names s first held.words_within.0)))
     (logs_noted c.args.trial.slot _ _ permit.kept permit.others permit.more _
     c.plan_error-plan.result (rw grants at c.put_error.ensures.grants))
-    c.put_error.ensures.sound (omega (arith, more, fits, has)) c.stands.result c.stands.ensures
+    c.put_error.ensures.sound c.in-Ok-print_line.ensures.bounded.capacity c.stands.result c.stands.ensures)

@@ -1,5 +1,5 @@
 -- Each entry followed is one entry more of the schedule; where memory runs out a part of one is.
-use Rattle.std.proofs.Common.{ℕ, ◌≡◌, ◌<◌, ◌+◌, ◌++◌, List, take, length, get_or, Bool, true, false, None, refl, sym, ◌∙◌, ap, subst, arith}
+use Rattle.std.proofs.Common.{ℕ, append-nil, ◌≡◌, ◌<◌, ◌+◌, ◌++◌, List, take, length, get_or, Bool, true, false, None, refl, sym, ◌∙◌, ap, subst, arith}
 use Rattle.std.specs.Prelude.{◌&&◌, ◌==◌, replicate}
 use Rattle.std.proofs.lemmas.List.{take_all}
 use Rattle.ps_language.specs.declared.schedules.Entry.{Entry}
@@ -8,7 +8,7 @@ use Rattle.ps_language.specs.World.{World}
 use Rattle.ps_language.specs.Worlds.{after_moves, world, printed}
 use Rattle.ps_mem.specs.Objects.{heap_in}
 use Rattle.ps_vault.specs.Stories.{world_at}
-use Rattle.ps_vault.specs.Reports.{EndsAs, MayWant, MayWantNext, is_next_refused, next_identifier}
+use Rattle.ps_vault.specs.Reports.{EndsAs, entry_of, MayWant, MayWantNext, is_next_refused, next_identifier}
 use Rattle.ps_vault.proofs.Beginning.{nothing_stands}
 use Rattle.ps_vault.proofs.Following.{after_next, after_part, begins_with_part, fewer_with_part, ready_not_over, ends_used}
 use Rattle.ps_vault.proofs.NextStep.{refused_behind, context_behind_part}
@@ -34,6 +34,7 @@ loop-place-preserved g c =
     omega (arith, c.follow_entry-made.ensures.within, c.if-made-entry.false) in
     record {
       program = c.follow_entry-made.ensures.program ∙ c.loop-place.invariant.program;
+      most = c.follow_entry-made.ensures.most ∙ c.loop-place.invariant.most;
       calling = c.follow_entry-made.ensures.calling_on all;
       room = omega (arith, c.follow_entry-made.ensures.capacity, c.loop-place.invariant.room);
       spare = omega (
@@ -68,7 +69,7 @@ stopped_moves : (g : givens.Over) (c : After-report_of g)
 stopped_moves g c =
     let entry : Entry = get_or c.args.schedule.now c.loop-place.place none in
     rw c.report_of.ensures.schedule
-    (c.push_part.ensures ∙ ap (λ (entries : List Entry). moves entries
+    (c.push_part.ensures.moves ∙ ap (λ (entries : List Entry). moves entries
     ++ replicate c.follow_entry-made.result (plain_move entry.context))
     c.into_followed-printed.ensures.entries)
 
@@ -151,3 +152,26 @@ returns-clause-ends g c =
     c.outcome-outcome.result (subst (λ (w : World). EndsAs w true ⊥ c.outcome-outcome.result)
     (finished_world g (goal.at.returns-clause-ends g c).After-report_of-2)
     c.outcome-outcome.ensures.ends))
+
+pub returns-then-made-entry-clause-cut : goal.returns-then-made-entry-clause-cut
+returns-then-made-entry-clause-cut g c = record {
+  place = c.loop-place.place;
+  context = (get_or c.args.schedule.now c.loop-place.place none).context;
+  steps = c.follow_entry-made.result;
+  is = ap (λ (v : _). v.items) c.report_of.ensures.schedule
+      ∙ (c.push_part.ensures.entry
+      ∙ ap (λ (entries : List Entry). entries
+      ++ entry_of (get_or c.args.schedule.now c.loop-place.place none).context
+      c.follow_entry-made.result) c.into_followed-printed.ensures.entries);
+}
+
+pub returns-clause-cut : goal.returns-clause-cut
+returns-clause-cut g c = record {
+  place = c.loop-place.place;
+  context = 0;
+  steps = 0;
+  is = ap (λ (v : _). v.items) c.report_of-2.ensures.schedule
+      ∙ (c.into_followed-printed-2.ensures.entries
+      ∙ (sym (take_all c.loop-place.place c.args.schedule.now
+      (omega (arith, c.loop-place-test.false))) ∙ sym (append-nil _)));
+}

@@ -7,6 +7,7 @@ use Rattle.ps_vault.proofs.replays.replay.Given as goal
 abbrev pub invariant-loop-place : goal.invariant-loop-place
 invariant-loop-place g l = record {
   program : l.vault.program ≡ l.program;
+  most : l.vault.most ≡ l.fn.setup.output;
   calling : l.vault.caller ≡ None;
   room : length l.schedule + 1 ≤ l.vault.capacity;
   spare : length l.vault.schedule + 2 * (length l.schedule - l.place) + 1

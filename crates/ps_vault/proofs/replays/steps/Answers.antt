@@ -15,6 +15,7 @@ unfolding added_times
 loop-made-init g c = record {
   within = omega arith;
   program = refl;
+  most = refl;
   added = refl;
   capacity = omega arith;
   calling = c.requires.calling;
@@ -47,6 +48,11 @@ program_on : (g : givens.Over) (c : After-advance-advanced g)
 program_on g c = c.advance-advanced.ensures.program
     ∙ (ap (λ (s : Story). s.program) c.is_ready.ensures.same ∙ c.loop-made.invariant.program)
 
+most_on : (g : givens.Over) (c : After-advance-advanced g)
+    → c.advance-advanced.new.self.most ≡ c.args.vault.now.most
+most_on g c = c.advance-advanced.ensures.most
+    ∙ (ap (λ (s : Story). s.most) c.is_ready.ensures.same ∙ c.loop-made.invariant.most)
+
 within_on : (g : givens.Over) (c : After-advance-advanced g)
     → c.loop-made.made + c.advance-advanced.result.made ≤ c.args.most
 within_on g c = omega (arith, c.loop-made.invariant.within, c.advance-advanced.ensures.within)
@@ -67,6 +73,7 @@ pub loop-made-preserved : goal.loop-made-preserved
 loop-made-preserved g c = record {
   within = within_on g (goal.at.loop-made-preserved g c).After-advance-advanced;
   program = program_on g (goal.at.loop-made-preserved g c).After-advance-advanced;
+  most = most_on g (goal.at.loop-made-preserved g c).After-advance-advanced;
   added = added_on g (goal.at.loop-made-preserved g c).After-advance-advanced;
   capacity = capacity_on g (goal.at.loop-made-preserved g c).After-advance-advanced;
   calling = c.advance-advanced.ensures.calling_on (search rules);

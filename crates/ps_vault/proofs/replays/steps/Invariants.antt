@@ -8,6 +8,7 @@ abbrev pub invariant-loop-made : goal.invariant-loop-made
 invariant-loop-made g l = record {
   within : l.made ≤ l.most;
   program : l.vault.program ≡ l.fn.vault.program;
+  most : l.vault.most ≡ l.fn.vault.most;
   added : l.vault.schedule ≡ added_times l.made l.fn.vault.schedule (plain_move l.context);
   capacity : l.fn.vault.capacity ≤ l.vault.capacity;
   calling : l.vault.caller ≡ None;

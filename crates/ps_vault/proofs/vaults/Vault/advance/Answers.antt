@@ -5,14 +5,15 @@ use Rattle.ps_language.specs.declared.schedules.Entry.{Entry}
 use Rattle.ps_language.specs.Effect as effect
 use Rattle.ps_language.specs.Effect.{turn_ends}
 use Rattle.ps_language.specs.Locks.{is_ready}
-use Rattle.ps_language.specs.Schedules.{Move, added, plain_move, count_of, moves}
+use Rattle.ps_language.specs.Schedules.{Move, plain_move, count_of, moves}
 use Rattle.ps_language.specs.Worlds.{starting_world, world}
 use Rattle.ps_language.proofs.ScheduleLaws.{count_of-added}
 use Rattle.ps_world.specs.Notes.{note_of}
+use Rattle.ps_world.specs.Steps.{shown_words}
 use Rattle.ps_vault.specs.Holds.{wish_in}
 use Rattle.ps_vault.specs.Order.{IsOnlyLeft, AddsSteps, NoneEnds, AllOfOne, OnlyLastMayEnd, IsNoEnd, IsNoWish, AllTell, WishesLast, WishesAs}
 use Rattle.ps_vault.specs.Reports.{are_words, fits, is_ordinary}
-use Rattle.ps_vault.specs.Warrants.{AllWarranted}
+use Rattle.ps_vault.specs.Warrants.{AddsShown, AllWarranted}
 use Rattle.ps_vault.specs.Stories.{AreWarranted, Story, world_at, move_of}
 use Rattle.ps_vault.specs.Turns.{added_times}
 use Rattle.ps_vault.proofs.Following.{times_noted}
@@ -172,11 +173,15 @@ returns-in_default-clause-warranted g c = λ _ all.
     (warranted_inside g (goal.at.returns-in_default-clause-warranted g c).After-note_turn all))
 
 pub returns-in_default-clause-shown : goal.returns-in_default-clause-shown
-returns-in_default-clause-shown g c = λ before last is some.
-    last_made c.args.context c.go_on-made.result.made _ _ c.self.inside.schedule.items
+returns-in_default-clause-shown g c = λ some.
+    of_story g (goal.at.returns-in_default-clause-shown g c).After-note_turn
+    (λ p entries. AddsShown c.args.context c.go_on-made.result.made
+    (shown_words (g.M.Memory.heap c.go_on-made.new.memory)) (moves entries)
+    (moves c.note_turn.new.schedule.items))
+    (rw c.note_turn.ensures.added
+    (last_made c.args.context c.go_on-made.result.made _ _ c.self.inside.schedule.items
     c.self.invariant (ready_before g (goal.at.returns-in_default-clause-shown g c).After-go_on-made)
-    (rw c.in_default.is at c.go_on-made.ensures.makes) _ some before last
-    (ap moves (sym c.note_turn.ensures.added) ∙ is)
+    (rw c.in_default.is at c.go_on-made.ensures.makes) _ some))
 
 pub returns-in_default-clause-space : goal.returns-in_default-clause-space
 returns-in_default-clause-space g c =
@@ -289,12 +294,16 @@ returns-in-Err-clause-warranted g c = λ _ all.
     (warranted_inside g (goal.at.returns-in-Err-clause-warranted g c).After-note_turn all))
 
 pub returns-in-Err-clause-shown : goal.returns-in-Err-clause-shown
-returns-in-Err-clause-shown g c = λ before last is some.
-    last_mid g.S.Interpret.asks c.args.context c.slot_of.result c.go_on-made.result.made
+returns-in-Err-clause-shown g c = λ some.
+    of_story g (goal.at.returns-in-Err-clause-shown g c).After-note_turn
+    (λ p entries. AddsShown c.args.context c.go_on-made.result.made
+    (shown_words (g.M.Memory.heap c.go_on-made.new.memory)) (moves entries)
+    (moves c.note_turn.new.schedule.items))
+    (rw c.note_turn.ensures.added
+    (last_mid g.S.Interpret.asks c.args.context c.slot_of.result c.go_on-made.result.made
     c.in-Some.next.shown _ _ c.self.inside.schedule.items c.self.invariant
     (ready_before g (goal.at.returns-in-Err-clause-shown g c).After-go_on-made) (Err c.in-Err.reason)
-    (rw (c.in-Some.is, c.in-Err.is) at c.go_on-made.ensures.makes) _ some before last
-    (ap moves (sym c.note_turn.ensures.added) ∙ is)
+    (rw (c.in-Some.is, c.in-Err.is) at c.go_on-made.ensures.makes) _ some))
 
 pub returns-in-Err-clause-space : goal.returns-in-Err-clause-space
 returns-in-Err-clause-space g c =
@@ -378,15 +387,17 @@ returns-clause-warranted g c = λ shows all.
     (warranted_inside g (goal.at.returns-clause-warranted g c).After-note_turn all))
 
 pub returns-clause-shown : goal.returns-clause-shown
-returns-clause-shown g c = λ before last is some.
-    shown_behind g.S.Interpret.asks c.args.context c.slot_of.result c.go_on-made.result.made
+returns-clause-shown g c = λ some.
+    of_story g (goal.at.returns-clause-shown g c).After-note_turn
+    (λ p entries. AddsShown c.args.context (c.go_on-made.result.made + 1)
+    (shown_words (g.M.Memory.heap c.go_on-made.new.memory)) (moves entries)
+    (moves c.note.new.schedule.items))
+    (rw (c.note.ensures.added, c.note_turn.ensures.added)
+    (shown_behind g.S.Interpret.asks c.args.context c.slot_of.result c.go_on-made.result.made
     c.in-Some.next.shown _ _ c.self.inside.schedule.items c.self.invariant
     (ready_before g (goal.at.returns-clause-shown g c).After-go_on-made)
     c.in-Ok.told (rw (c.in-Some.is, c.in-Ok.is) at c.go_on-made.ensures.makes)
-    c.kept-kept.result c.kept-kept.ensures before last
-    (ap (λ (entries : List Entry). moves (added entries
-    (move_of c.args.context false c.kept-kept.result))) (sym c.note_turn.ensures.added)
-    ∙ ap moves (sym c.note.ensures.added) ∙ is)
+    c.kept-kept.result c.kept-kept.ensures))
 
 pub returns-clause-space : goal.returns-clause-space
 returns-clause-space g c =

@@ -16,6 +16,7 @@ pub loop-made-init : goal.loop-made-init
 loop-made-init g c = record {
   within = omega arith;
   program = refl;
+  most = refl;
   counted = omega arith;
   ordinary = λ plain. plain;
   warranted = λ all. all;
@@ -58,6 +59,7 @@ loop-made-preserved-in_default g c =
     record {
       within = c.loop-made.invariant.within;
       program = ap (λ (s : Story). s.program) same ∙ c.loop-made.invariant.program;
+      most = ap (λ (s : Story). s.most) same ∙ c.loop-made.invariant.most;
       counted = ap (λ (s : Story). count_of s.schedule) same ∙ c.loop-made.invariant.counted;
       ordinary = λ plain. ap (λ (s : Story). are_ordinary (moves s.schedule)) same
           ∙ c.loop-made.invariant.ordinary plain;
@@ -89,6 +91,11 @@ program_now : (g : givens.Over) (c : After-turns-turn g)
     → c.next_ready.new.self.program ≡ c.args.self.now.program
 program_now g c =
     ap (λ (s : Story). s.program) c.next_ready.ensures.same ∙ c.loop-made.invariant.program
+
+most_now : (g : givens.Over) (c : After-turns-turn g)
+    → c.next_ready.new.self.most ≡ c.args.self.now.most
+most_now g c =
+    ap (λ (s : Story). s.most) c.next_ready.ensures.same ∙ c.loop-made.invariant.most
 
 due_now : (g : givens.Over) (c : After-turns-turn g) → moves c.args.self.now.schedule ≡ []
     → IsDue c.args.quantum (starting_world c.args.self.now.program) c.in-Some.next
@@ -156,6 +163,7 @@ loop-made-preserved g c =
     record {
       within = omega (arith, c.turns-turn.ensures.within, c.loop-made.invariant.within);
       program = c.turns-turn.ensures.program ∙ program_now g at;
+      most = c.turns-turn.ensures.most ∙ most_now g at;
       counted = omega (arith, count, c.turns-turn.ensures.counted, c.loop-made.invariant.counted);
       ordinary = λ plain. c.turns-turn.ensures.ordinary
           (ap (λ (s : Story). are_ordinary (moves s.schedule)) same

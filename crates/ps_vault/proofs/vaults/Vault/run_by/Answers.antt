@@ -20,6 +20,8 @@ loop-made-preserved g c =
       within = omega (arith, c.turns-turn.ensures.within, c.loop-made.invariant.within);
       program = c.turns-turn.ensures.program ∙ (ap (λ (s : Story). s.program) same
           ∙ c.loop-made.invariant.program);
+      most = c.turns-turn.ensures.most ∙ (ap (λ (s : Story). s.most) same
+          ∙ c.loop-made.invariant.most);
       counted = omega (arith, count, c.turns-turn.ensures.counted, c.loop-made.invariant.counted);
       ordinary = λ plain. c.turns-turn.ensures.ordinary
           (ap (λ (s : Story). are_ordinary (moves s.schedule)) same

@@ -33,6 +33,7 @@ pub loop-context-init : goal.loop-context-init
 loop-context-init g c = record {
   within = omega arith;
   program = refl;
+  most = refl;
   counted = omega arith;
   ordinary = λ plain. plain;
   warranted = λ all. all;
@@ -75,6 +76,9 @@ module _ (g : givens.Over) (c : After-advance-advanced g) where
 
   same_program : c.reserve_entries.new.self.program ≡ c.args.self.now.program
   same_program = c.reserve_entries.ensures.program ∙ c.loop-context.invariant.program
+
+  same_most : c.reserve_entries.new.self.most ≡ c.args.self.now.most
+  same_most = c.reserve_entries.ensures.most ∙ c.loop-context.invariant.most
 
   same_now : moves c.reserve_entries.new.self.schedule ≡ now
   same_now = ap moves same_schedule
@@ -285,6 +289,8 @@ loop-context-preserved g c =
       );
       program = ap (λ (s : Story). s.program) same
           ∙ (c.advance-advanced.ensures.program ∙ same_program g at);
+      most = ap (λ (s : Story). s.most) same
+          ∙ (c.advance-advanced.ensures.most ∙ same_most g at);
       counted = ap (λ (s : Story). count_of s.schedule) same ∙ counted_on g at;
       ordinary = λ plain. ap (λ (s : Story). are_ordinary (moves s.schedule)) same
           ∙ c.advance-advanced.ensures.ordinary

@@ -12,6 +12,7 @@ abbrev pub invariant-loop-context : goal.invariant-loop-context
 invariant-loop-context g l = record {
   within : l.made < l.most;
   program : l.self.program ≡ l.fn.self.program;
+  most : l.self.most ≡ l.fn.self.most;
   counted : count_of l.self.schedule ≡ count_of l.fn.self.schedule + l.made;
   ordinary : are_ordinary (moves l.fn.self.schedule) ≡ true
       → are_ordinary (moves l.self.schedule) ≡ true;

@@ -11,7 +11,8 @@ invariant_of-self g c =
     short_starved g.S.Interpret.asks (progress c.self.inside.vault c.self.inside.config
     c.self.inside.made c.self.inside.outcome) c.reserve_entries.new.self c.args.context
     c.self.invariant (subst (λ (p : Progress). MayGoOn p c.args.context) (sym c.self.view_is)
-    c.requires.may) c.reserve_entries.ensures.program c.reserve_entries.ensures.schedule
+    c.requires.may) c.reserve_entries.ensures.program c.reserve_entries.ensures.most
+    c.reserve_entries.ensures.schedule
     c.reserve_entries.ensures.calling c.reserve_entries.ensures.space
     c.reserve_entries.ensures.flips c.reserve_entries.ensures.capacity (on_error c.reserve_entries.result _
     c.reserve_entries.ensures.short (sym c.is_err.ensures.value ∙ c.if-is_err.true))

@@ -10,6 +10,6 @@ pub invariant_of-self : goal.invariant_of-self
 invariant_of-self g c =
     keeps_ended g.S.Interpret.asks (progress c.self.inside.vault c.self.inside.config
     c.self.inside.made c.self.inside.outcome) c.self.inside.vault c.args.outcome
-    c.self.invariant refl refl refl refl refl (omega arith)
+    c.self.invariant refl refl refl refl refl refl (omega arith)
     (subst (λ (p : Progress). EndsAs (world_at p.story) (p.made == p.config.steps)
     (IsStarvedAt g.S.Interpret.asks p.story) c.args.outcome) (sym c.self.view_is) c.requires.ends)

@@ -17,6 +17,7 @@ invariant_of-result g c = record {
   counted = ap count_of c.in_ok-vault.ensures.schedule ∙ count_of-nil;
   within = omega arith;
   fits = ap (λ (s : List Entry). all_fit (moves s)) c.in_ok-vault.ensures.schedule;
+  most = c.in_ok-vault.ensures.most;
   space = c.in_ok-vault.ensures.space ∙ c.requires.sized;
   warranted = nothing_warranted _ _ _ c.in_ok-vault.ensures.schedule;
   flips = omega (arith, c.in_ok-vault.ensures.flips, c.requires.unmoved);

@@ -16,7 +16,8 @@ invariant_of-self g c =
     short_starved g.S.Interpret.asks (progress c.self.inside.vault c.self.inside.config
     c.self.inside.made c.self.inside.outcome) c.reserve_entries.new.self c.args.context
     c.self.invariant (subst (λ (p : Progress). MayGoOn p c.args.context) (sym c.self.view_is)
-    c.requires.may) c.reserve_entries.ensures.program c.reserve_entries.ensures.schedule
+    c.requires.may) c.reserve_entries.ensures.program c.reserve_entries.ensures.most
+    c.reserve_entries.ensures.schedule
     c.reserve_entries.ensures.calling c.reserve_entries.ensures.space
     c.reserve_entries.ensures.flips c.reserve_entries.ensures.capacity (on_error c.reserve_entries.result _
     c.reserve_entries.ensures.short (sym c.is_err.ensures.value ∙ c.if-is_err.true))
@@ -49,6 +50,7 @@ invariant_of-self-in-Ok g c =
       counted = made;
       fits = λ fit. c.in-Ok.ensures.fits refl
           (ap (λ (s : List Entry). all_fit (moves s)) c.reserve_entries.ensures.schedule ∙ fit);
+      most = c.step.ensures.most ∙ c.reserve_entries.ensures.most;
       space = c.step.ensures.space ∙ c.reserve_entries.ensures.space;
       warranted = refused_added c.self.inside.vault c.step.new.self c.args.context
           (subst (λ (p : Progress). MayRefuse p c.args.context) (sym c.self.view_is)
@@ -72,6 +74,7 @@ invariant_of-self-in-Err-Memory g c =
     keeps_wanted g.S.Interpret.asks (progress c.self.inside.vault c.self.inside.config
     c.self.inside.made c.self.inside.outcome) c.step.new.self c.args.context true
     c.self.invariant may (c.step.ensures.program ∙ c.reserve_entries.ensures.program)
+    (c.step.ensures.most ∙ c.reserve_entries.ensures.most)
     (c.in-Err-Memory.ensures.not_made ∙ c.reserve_entries.ensures.schedule)
     (c.step.ensures.space ∙ c.reserve_entries.ensures.space)
     (c.step.ensures.flips ∙ c.reserve_entries.ensures.flips) c.step.ensures.calling
