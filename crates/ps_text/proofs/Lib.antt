@@ -1,3 +1,4 @@
 pub mod Cuts
 pub mod Rests
+pub mod Runs
 pub mod Shown
