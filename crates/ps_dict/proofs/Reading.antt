@@ -13,7 +13,6 @@ use Rattle.ps_mem.specs.References.{StandsAs}
 use Rattle.ps_mem.specs.Meaning.{value_of}
 use Rattle.ps_mem.specs.Shows.{IsValue, IsSound, IsWithin, Shows, pair_of}
 use Rattle.ps_mem.proofs.Lists.{all_at, slice_get-map}
-use Rattle.ps_dict.specs.Keys.{same_words}
 use Rattle.ps_dict.specs.Places.{count_at, body_at, pairs_at, place_of, first_place}
 use Rattle.ps_dict.specs.Probes.{same_found, same_at}
 use Rattle.ps_mem.specs.Index.{pairs_of_words}

@@ -1,7 +1,7 @@
 -- Two pairs a turn, and the last of an odd number.
-use Rattle.std.proofs.Common.{◌≡◌, ◌+◌, ◌-◌, ◌*◌, ◌<◌, ◌≤◌, ◌∙◌, None, ap, sym, refl, subst, arith, true, false, take}
+use Rattle.std.proofs.Common.{◌≡◌, ◌+◌, ◌-◌, ◌*◌, ◌∙◌, ap, sym, refl, subst, arith, take}
 use Rattle.ps_mem.specs.Heap.{Heap}
-use Rattle.ps_dict.specs.Places.{count_at, body_at, pairs_at, place_of}
+use Rattle.ps_dict.specs.Places.{pairs_at, place_of}
 use Rattle.ps_dict.specs.Probes.{same_at}
 use Rattle.ps_dict.proofs.Reading.{place-here, place-past, position-none}
 use Rattle.ps_dict.proofs.dictionaries.ordered_position.Goals as goal
