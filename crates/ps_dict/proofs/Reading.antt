@@ -13,8 +13,8 @@ use Rattle.ps_mem.specs.References.{StandsAs}
 use Rattle.ps_mem.specs.Meaning.{value_of}
 use Rattle.ps_mem.specs.Shows.{IsValue, IsSound, IsWithin, Shows, pair_of}
 use Rattle.ps_mem.proofs.Lists.{all_at, slice_get-map}
-use Rattle.ps_dict.specs.Keys.{same_words}
 use Rattle.ps_dict.specs.Places.{count_at, body_at, pairs_at, place_of, first_place}
+use Rattle.ps_dict.specs.Probes.{same_found, same_at}
 use Rattle.ps_mem.specs.Index.{pairs_of_words}
 use Rattle.ps_dict.proofs.KeyLemmas.{same_keys}
 use Rattle.ps_dict.proofs.Pairs.{slice_get_there, slice_get-take, slice_get-past, pair_here, place_found, place_not_yet, place_below, find_at, find_none, place-first, all_with}
@@ -54,24 +54,34 @@ module _ (h : Heap) (a : ℕ) (known : StandsAs h DictionaryKind a 4) (sound : I
         slice_get_there (fields_at h (body_at h a)) (2 * place + 1) value-place in
         (v, pair-read k v first second)
 
-    pub position-found : (key : Word) → place_of (take place (pairs_at h a)) key ≡ None
-        → same_words k key ≡ true → place_of (pairs_at h a) key ≡ Some place
-    position-found key before same =
-        place_found key (pairs_at h a) place k key-pair.0 before key-pair.1 same
-
-    pub position-next : (key : Word) → place_of (take place (pairs_at h a)) key ≡ None
-        → same_words k key ≡ false → place_of (take (place + 1) (pairs_at h a)) key ≡ None
-    position-next key before other =
-        let next : place + 1 ≡ suc place = omega arith in
-        ap (λ n. place_of (take n (pairs_at h a)) key) next
-        ∙ place_not_yet key (pairs_at h a) place k key-pair.0 before key-pair.1 other
-
   -- by its value alone
   pub value-pair : (v : Word) → slice_get (fields_at h (body_at h a)) (2 * place + 1) ≡ Some v
       → (k : Word) × (slice_get (pairs_at h a) place ≡ Some (k, v))
   value-pair v second = let (k, first) =
       slice_get_there (fields_at h (body_at h a)) (2 * place) key-place in
       (k, pair-read k v first second)
+
+  -- by whether it has a key
+  module _ (key : Word) (before : place_of (take place (pairs_at h a)) key ≡ None) where
+    pair-there : (pair : Word × Word) × (slice_get (pairs_at h a) place ≡ Some pair)
+    pair-there = let count = length-pairs h a known sound in
+        slice_get_there (pairs_at h a) place (omega (arith, count, below))
+
+    pub place-here : same_at (pairs_at h a) key place ≡ true → place_of (pairs_at h a) key
+        ≡ Some place
+    place-here same =
+        let (pair, there) = pair-there in
+        place_found key (pairs_at h a) place pair.0 pair.1 before there
+        (sym (ap (λ o. same_found o key) there) ∙ same)
+
+    pub place-past : same_at (pairs_at h a) key place ≡ false
+        → place_of (take (place + 1) (pairs_at h a)) key ≡ None
+    place-past other =
+        let (pair, there) = pair-there in
+        let next : place + 1 ≡ suc place = omega arith in
+        ap (λ n. place_of (take n (pairs_at h a)) key) next
+        ∙ place_not_yet key (pairs_at h a) place pair.0 pair.1 before there
+        (sym (ap (λ o. same_found o key) there) ∙ other)
 
 module _ (h : Heap) (a : ℕ) (known : StandsAs h DictionaryKind a 4) (sound : IsSound h) where
   pub position-none : (key : Word) (n : ℕ) → count_at h a ≤ n

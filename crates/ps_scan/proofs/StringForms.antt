@@ -1,8 +1,10 @@
 -- Escapes and parts of strings at a place.
-use Rattle.std.proofs.Common.{◌≡◌, ◌≢◌, refl, sym, ap, ◌∙◌, ℕ, zero, suc, ◌+◌, ◌-◌, ◌*◌, ◌%◌, ◌<◌, ◌≤◌, Bool, true, false, List, [], ◌∷◌, ◌++◌, length, drop, arith, Option, Some, None, inl, inr, add-one, subst, Vec, Global}
-use Rattle.std.specs.Prelude.{option_to_list, is_some, nat_le, ◌==◌, if◌then◌else◌}
+use Rattle.std.proofs.Common.{◌≡◌, ◌≢◌, refl, sym, ap, ◌∙◌, ℕ, zero, suc, ◌+◌, ◌-◌, ◌*◌, ◌%◌, ◌<◌, ◌≤◌, Bool, true, false, List, [], ◌∷◌, ◌++◌, length, take, drop, arith, Option, Some, None, inl, inr, add-one, subst, Vec, Global}
+use Rattle.std.specs.Prelude.{option_to_list, nat_le, ◌==◌, if◌then◌else◌}
 use Rattle.std.proofs.lemmas.Bool.{ne_eqb, cond-true, cond-false, cases_lt, le-leb, lt-leb}
-use Rattle.std.proofs.lemmas.List.{at_drop_more, at_drop_all, drop_more, drop-drop, length-append, append-nil}
+use Rattle.std.specs.List.{slice_range}
+use Rattle.std.proofs.Math.Seq.{take-suc}
+use Rattle.std.proofs.lemmas.List.{at_drop_more, at_drop_all, drop_more, drop-drop, length-append, length-drop, append-nil, get_or-drop}
 use Rattle.ps_language.specs.Bytes.{is_octal, digit_of, value_in}
 use Rattle.ps_language.specs.Reading.{Reading, token_then, stuck, Ending, string_end, unfinished, with_front, sized_string, string_reading}
 use Rattle.ps_language.specs.Token.{string_token, syntax_fault, limit_fault}
@@ -183,6 +185,19 @@ closes_at (suc depth) xs i n below e = string_closes depth xs i below e ∙ ap (
 pub over_at : (depth : ℕ) (xs : List ℕ) (i : ℕ) → depth ≡ 0 → i < length xs → byte_at xs i ≡ 41 → string_from depth (drop i xs) ≡ string_end [] (drop (i + 1) xs)
 over_at depth xs i z below e = ap (λ n. string_from n (drop i xs)) z ∙ string_is_over xs i below e
 
+-- ---- runs
+
+pub run_none : (xs : List ℕ) (at : ℕ) → slice_range xs at at ≡ []
+run_none xs at = ap (λ n. take n (drop at xs)) (let e : at - at ≡ 0 = omega arith in e)
+
+pub run_more : (xs : List ℕ) (at i : ℕ) → at ≤ i → i < length xs
+    → slice_range xs at (i + 1) ≡ slice_range xs at i ++ byte_at xs i ∷ []
+run_more xs at i low below =
+    ap (λ n. take n (drop at xs)) (let e : i + 1 - at ≡ suc (i - at) = omega (arith, low) in e)
+    ∙ (take-suc (drop at xs) (i - at) 0 (let e = length-drop at xs in omega (arith, e, low, below))
+    ∙ ap (λ b. slice_range xs at i ++ b ∷ [])
+    (get_or-drop at xs (i - at) 0 ∙ ap (byte_at xs) (let e : at + (i - at) ≡ i = omega (arith, low) in e)))
+
 -- ---- the extent
 
 extent_front : (so_far : ℕ) (front : List ℕ) (ending : Ending) → extent_of so_far (with_front front ending) ≡ extent_of (so_far + length front) ending
@@ -201,22 +216,11 @@ pub no_extent : (ending : Ending) → extent_of 0 ending ≡ None → ending ≡
 no_extent (string_end value rest) e = cc
 no_extent unfinished e = refl
 
-pub some_length : (byte : Option ℕ) → is_some byte ≡ true → length (option_to_list byte) ≡ 1
-some_length (Some b) e = omega arith
-some_length None e = cc
-
-pub none_length : (byte : Option ℕ) → is_some byte ≡ false → length (option_to_list byte) ≡ 0
-none_length (Some b) e = cc
-none_length None e = refl
-
 -- ---- the bytes
 
 -- what a part adds to the bytes so far
 pub front_more : (so_far more front : List ℕ) (ending rest : Ending) → ending ≡ with_front front rest → more ≡ so_far ++ front → with_front more rest ≡ with_front so_far ending
 front_more so_far more front ending rest e m = ap (λ x. with_front x rest) m ∙ sym (with_front_twice so_far front rest) ∙ ap (with_front so_far) (sym e)
-
-pub front_none : (so_far : List ℕ) (ending rest : Ending) → ending ≡ with_front [] rest → with_front so_far rest ≡ with_front so_far ending
-front_none so_far ending rest e = front_more so_far so_far [] ending rest e (sym (append-nil so_far))
 
 pub no_front : (ending : Ending) → with_front [] ending ≡ ending
 unfolding with_front

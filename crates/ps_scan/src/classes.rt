@@ -1,7 +1,8 @@
 //! Classes of bytes: white space, delimiters, digits (PLRM2, 3.2.1).
 
-ghost use Rattle.std.specs.Prelude.{◌≡◌, ◌≤◌};
+ghost use Rattle.std.specs.Prelude.{◌≡◌, ◌≤◌, IsTrue, min};
 ghost use Rattle.ps_language.specs.Bytes.{is_white, is_comment_end, is_regular, digit_of, is_digit, is_sign, is_exponent_mark};
+ghost use Rattle.ps_language.specs.Scan.{mark_of, plain};
 
 /// White space: NUL, tab, line feed, form feed, carriage return and space.
 pub(crate) fn is_white_byte(b: u8) -> bool
@@ -10,11 +11,31 @@ pub(crate) fn is_white_byte(b: u8) -> bool
     b == 0 || b == 9 || b == 10 || b == 12 || b == 13 || b == 32
 }
 
-/// What ends a comment: a newline or a form feed.
+/// What ends a comment: a newline or a form feed. Few bytes are as small.
+#[inline(always)]
 pub(crate) fn ends_comment(b: u8) -> bool
     ensures { result ≡ is_comment_end b }
 {
-    b == b'\n' || b == b'\x0c' || b == b'\r'
+    b <= b'\r' && (b == b'\n' || b == b'\x0c' || b == b'\r')
+}
+
+/// A byte of a string that stands for itself: no parenthesis, no backslash and no carriage return.
+/// Most are behind the parentheses.
+#[inline(always)]
+pub(crate) fn is_plain_byte(b: u8) -> bool
+    ensures { IsTrue result → mark_of b ≡ plain }
+{
+    if b == b'\\' {
+        false
+    } else if b > b')' {
+        true
+    } else if b >= b'(' {
+        false
+    } else if b == b'\r' {
+        false
+    } else {
+        true
+    }
 }
 
 /// A byte that is neither white space nor one of `( ) < > [ ] { } / %`, which delimit tokens. Those
@@ -49,6 +70,22 @@ pub(crate) fn digit_value(b: u8) -> u8
         b - b'a' + 10
     } else {
         36
+    }
+}
+
+/// The value of a hexadecimal digit, and 16 for any other byte.
+#[inline(always)]
+pub(crate) fn hex_value(b: u8) -> u8
+    ensures { result ≡ min (digit_of b) 16 }
+{
+    if b >= b'0' && b <= b'9' {
+        b - b'0'
+    } else if b >= b'a' && b <= b'f' {
+        b - b'a' + 10
+    } else if b >= b'A' && b <= b'F' {
+        b - b'A' + 10
+    } else {
+        16
     }
 }
 

@@ -7,7 +7,7 @@ ghost use Rattle.ps_language.specs.Scan.{leading, beyond, after_hex_start};
 ghost use Rattle.ps_scan.specs.Shown.{IsAnswer, IsSomeString};
 ghost use Rattle.ps_scan.specs.Strings.{IsSized};
 
-use crate::classes::{digit_value, is_white_byte};
+use crate::classes::{digit_value, hex_value, is_white_byte};
 use crate::strings::Extent;
 use crate::tokens::{SEQUENCE_LIMIT, ScanFault, Span, Token, TokenKind};
 use std::alloc::{AllocError, Global};
@@ -28,17 +28,22 @@ fn hex_digits(bytes: &[u8], at: usize) -> Digits
     ensures low { at ≤ result.end }
     ensures high { result.end ≤ length bytes.now }
 {
-    let mut count: usize = 0;
+    let mut blanks: usize = 0;
     for here in at..bytes.len() {
         let byte = bytes[here];
         if digit_value(byte) < 16 {
-            count += 1;
-        } else if !is_white_byte(byte) {
-            return Digits { count, end: here };
+            continue;
         }
+        if !is_white_byte(byte) {
+            return Digits {
+                count: here - at - blanks,
+                end: here,
+            };
+        }
+        blanks += 1;
     }
     Digits {
-        count,
+        count: bytes.len() - at - blanks,
         end: bytes.len(),
     }
 }
@@ -51,7 +56,7 @@ fn hex_bytes(alloc: Global, inner: &[u8], capacity: usize) -> Result<Vec<u8>, Al
     let mut string = Vec::with_capacity(alloc, capacity)?;
     let mut high: Option<u8> = None;
     for here in 0..inner.len() {
-        let digit = digit_value(inner[here]);
+        let digit = hex_value(inner[here]);
         if digit < 16 {
             match high {
                 None => high = Some(digit),

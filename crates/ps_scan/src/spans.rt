@@ -15,12 +15,15 @@ fn comment_end(bytes: &[u8], at: usize) -> usize
     ensures rest { behind_blank false (drop result bytes.now)
         ≡ behind_blank true (drop at bytes.now) }
 {
-    for here in at..bytes.len() {
-        if ends_comment(bytes[here]) {
-            return here + 1;
+    let mut here = at;
+    while here < bytes.len() {
+        let byte = bytes[here];
+        here += 1;
+        if ends_comment(byte) {
+            return here;
         }
     }
-    bytes.len()
+    here
 }
 
 /// The place behind white space and comments.

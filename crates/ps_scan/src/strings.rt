@@ -1,13 +1,13 @@
 //! Strings in parentheses, with their escapes (PLRM2, 3.2.2).
 
-ghost use Rattle.std.specs.Prelude.{◌≡◌, ◌≢◌, ℕ, ◌+◌, ◌-◌, ◌*◌, ◌%◌, ◌<◌, ◌≤◌, ◌^◌, List, length, drop, slice_index, Some, IfOk, IfSome, IfNone, MatchOption, option_to_list, true, false};
+ghost use Rattle.std.specs.Prelude.{◌≡◌, ◌≢◌, ℕ, ◌+◌, ◌-◌, ◌*◌, ◌%◌, ◌<◌, ◌≤◌, ◌^◌, ◌++◌, List, length, drop, slice_index, slice_range, Some, OnOk, IfOk, IfSome, IfNone, MatchOption, option_to_list, true, false};
 ghost use Rattle.ps_language.specs.Bytes.{value_in, digit_of, is_octal};
 ghost use Rattle.ps_language.specs.Reading.{string_end, unfinished, with_front, string_reading};
 ghost use Rattle.ps_language.specs.Scan.{after_return, octal_front, octal_rest, escape_of, byte_escape, string_escape, string_from};
 ghost use Rattle.ps_scan.specs.Shown.{IsAnswer, IsSomeString};
 ghost use Rattle.ps_scan.specs.Strings.{extent_of, IsSized, PartReads};
 
-use crate::classes::digit_value;
+use crate::classes::{digit_value, is_plain_byte};
 use crate::tokens::{SEQUENCE_LIMIT, ScanFault, Token, TokenKind};
 use std::alloc::{AllocError, Global};
 
@@ -164,6 +164,48 @@ fn string_part(bytes: &[u8], at: usize) -> Option<Part>
     })
 }
 
+/// How many bytes a part gives.
+#[inline(always)]
+fn bytes_in(part: Part) -> usize
+    ensures count { result ≡ length (option_to_list part.byte) }
+    ensures few { result ≤ 1 }
+{
+    if part.byte.is_some() { 1 } else { 0 }
+}
+
+/// Adds the byte that a part gives, if any.
+#[inline(always)]
+fn push_part(part: Part, string: &mut Vec<u8>) -> Result<(), AllocError>
+    ensures { OnOk result (string.new.items ≡ string.old.items ++ option_to_list part.byte) }
+{
+    match part.byte {
+        Some(byte) => {
+            string.push(byte)?;
+            Ok(())
+        }
+        None => Ok(()),
+    }
+}
+
+/// The place behind a run of bytes of a string that stand for themselves: no parentheses, no
+/// backslashes and no carriage returns.
+#[inline(always)]
+fn plain_end(bytes: &[u8], at: usize) -> usize
+    requires { at ≤ length bytes.now }
+    ensures low { at ≤ result }
+    ensures high { result ≤ length bytes.now }
+    ensures rest { (depth : ℕ) → string_from depth (drop at bytes.now)
+        ≡ with_front (slice_range bytes.now at result)
+        (string_from depth (drop result bytes.now)) }
+{
+    for here in at..bytes.len() {
+        if !is_plain_byte(bytes[here]) {
+            return here;
+        }
+    }
+    bytes.len()
+}
+
 /// How many bytes the string has that begins at a place, and where it ends; nothing where it
 /// doesn't end.
 fn string_extent(bytes: &[u8], at: usize) -> Option<Extent>
@@ -194,10 +236,9 @@ fn string_extent(bytes: &[u8], at: usize) -> Option<Extent>
             here += 1;
         } else {
             let part = string_part(bytes, here)?;
-            if part.byte.is_some() {
-                length += 1;
-            }
-            here = part.next;
+            let end = plain_end(bytes, part.next);
+            length += bytes_in(part) + (end - part.next);
+            here = end;
         }
     }
     None
@@ -234,10 +275,10 @@ fn string_bytes(
             match string_part(bytes, here) {
                 None => break,
                 Some(part) => {
-                    if let Some(byte) = part.byte {
-                        string.push(byte)?;
-                    }
-                    here = part.next;
+                    let end = plain_end(bytes, part.next);
+                    push_part(part, &mut string)?;
+                    string.extend_from_slice(&bytes[part.next..end])?;
+                    here = end;
                 }
             }
         }

@@ -1,7 +1,7 @@
 //! Strings in any memory, as lists of bytes (PLRM2, 3.3.6 and 8: get, put, getinterval,
 //! putinterval, copy, string, eq, gt).
 
-ghost use Rattle.std.specs.Prelude.{◌≡◌, ◌↔◌, ℕ, ◌+◌, ◌-◌, ◌*◌, ◌/◌, ◌^◌, ◌<◌, ◌≤◌, ◌≢◌, ◌%◌, ◌++◌, ◌⊎◌, List, [], ◌∷◌, length, drop, replicate, slice_get, slice_range, Some, IfSome, OnOk, OnErr, IsOk, vec_len, vec_capacity};
+ghost use Rattle.std.specs.Prelude.{◌≡◌, ◌↔◌, ℕ, ◌+◌, ◌-◌, ◌*◌, ◌/◌, ◌^◌, ◌<◌, ◌≤◌, ◌≢◌, ◌%◌, ◌++◌, ◌⊎◌, List, [], ◌∷◌, length, take, drop, replicate, slice_get, slice_range, Some, IfSome, OnOk, OnErr, IsOk, vec_len, vec_capacity};
 ghost use Rattle.std.specs.Int.{w64, to_le_bytes};
 ghost use Rattle.std.specs.Ordering.{nat_cmp};
 ghost use Rattle.std.specs.Cmp.Lexicographic.{slice_cmp};
@@ -91,6 +91,7 @@ pub fn append_bytes<M: Memory>(
         → OnOk result (output.new.items ≡ output.old.items ++ part_bytes s (part_of (birth_at
         (M.heap memory.old)) part)) }
     ensures length { OnOk result (vec_len output.new ≡ vec_len output.old + part.length) }
+    ensures front { take (length output.old.items) output.new.items ≡ output.old.items }
     ensures unchanged { OnErr result (output.new.items ≡ output.old.items) }
     ensures full { OnErr result (vec_capacity output.old < vec_len output.old + part.length) }
     ensures room { vec_capacity output.old ≤ vec_capacity output.new }

@@ -116,3 +116,8 @@ was_ok P (Err error) is holds = cc
 pub was_err : {T E : Type 0} (P : Type 0) (r : Result T E) → true ≡ is_err r → OnErr r P → P
 was_err P (Ok done) is holds = cc
 was_err P (Err error) is holds = holds
+
+-- where there is room it was done
+pub with_room : {P Q : Type 0} (r : Result Unit AllocError) → OnErr r P → (P → ⊥) → OnOk r Q → Q
+with_room (Ok done) full room holds = holds
+with_room (Err error) full room holds = absurd (room full)

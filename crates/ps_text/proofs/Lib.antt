@@ -1,4 +1,5 @@
 pub mod Cuts
 pub mod Rests
+pub mod Runs
 pub mod Shown
 mod Parts

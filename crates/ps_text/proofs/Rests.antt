@@ -1,8 +1,10 @@
 -- What is left of a text: of elements, of bytes and of lines.
-use Rattle.std.proofs.Common.{◌≡◌, ℕ, zero, suc, ◌+◌, ◌-◌, ◌<◌, ◌≤◌, List, [], ◌∷◌, ◌++◌, length, map, take, drop, reverse, Some, refl, sym, ap, arith, ◌∙◌, append_assoc}
+use Rattle.std.proofs.Common.{◌≡◌, ℕ, zero, suc, ◌+◌, ◌-◌, ◌<◌, ◌≤◌, List, [], ◌∷◌, ◌++◌, length, map, take, drop, reverse, get_or, Some, refl, sym, ap, arith, ◌∙◌, append_assoc}
 use Rattle.std.specs.Prelude.{slice_get, slice_range}
 use Rattle.std.specs.List.{flat_map, join_with_byte, AllByRecursion}
-use Rattle.std.proofs.lemmas.List.{append-nil, length-append, reverse-append, take_all}
+use Rattle.std.proofs.Math.Seq.{take-suc}
+use Rattle.std.proofs.lemmas.Grind.{flat_map-append}
+use Rattle.std.proofs.lemmas.List.{append-nil, length-append, length-drop, reverse-append, take_all, get_or-drop}
 use Rattle.ps_text.specs.Shown.{separator}
 use Rattle.ps_text.proofs.Cuts.{cut_more, cut_full, longer}
 
@@ -93,32 +95,9 @@ full_is_all end all now more full short rest = sym (cut_full end now more full s
 
 -- ---- the texts of the bytes from an index on
 
-module _ {A : Type 0} (end : ℕ) (text : A → List ℕ) (all now : List ℕ) (i : ℕ) (xs : List A) (x : A) (left : drop i xs ≡ x ∷ drop (i + 1) xs)
-    (rest : take end (now ++ flat_map text (drop i xs)) ≡ all) where
-  abbrev texts_after : List ℕ
-  texts_after = flat_map text (drop (i + 1) xs)
-
-  texts_here : take end (now ++ (text x ++ texts_after)) ≡ all
-  texts_here = sym (ap (λ ys. take end (now ++ flat_map text ys)) left) ∙ rest
-
-  pub texts_step : (new : List ℕ) → new ≡ take end (now ++ text x) → take end (new ++ texts_after) ≡ all
-  texts_step new written = cut_more end now (text x) texts_after new written ∙ texts_here
-
-  pub text_full : (room : ℕ) → room < length (take end (now ++ text x)) → room < length all
-  text_full room h = let more = longer end now (text x) texts_after in omega (arith, h, more, ap length texts_here)
-
 pub texts_end : {A : Type 0} (end : ℕ) (text : A → List ℕ) (all now : List ℕ) (xs : List A) → xs ≡ [] → length now ≤ end → take end (now ++ flat_map text xs) ≡ all → now ≡ all
 texts_end end text all now xs none short rest =
     sym (ap (λ ys. take end (now ++ flat_map text ys)) none ∙ (ap (take end) (append-nil now) ∙ take_all end now short)) ∙ rest
-
--- ---- bytes that are added one by one
-
-module _ (all now : List ℕ) (i : ℕ) (xs : List ℕ) (x : ℕ) (left : drop i xs ≡ x ∷ drop (i + 1) xs) (rest : now ++ drop i xs ≡ all) where
-  pub bytes_step : (new : List ℕ) → new ≡ now ++ x ∷ [] → new ++ drop (i + 1) xs ≡ all
-  bytes_step new added = ap (λ ys. ys ++ drop (i + 1) xs) added ∙ (append_assoc now (x ∷ []) (drop (i + 1) xs) ∙ (ap (λ ys. now ++ ys) (sym left) ∙ rest))
-
-pub bytes_end : (all now xs : List ℕ) → xs ≡ [] → now ++ xs ≡ all → now ≡ all
-bytes_end all now xs none rest = sym (append-nil now) ∙ (ap (λ ys. now ++ ys) (sym none) ∙ rest)
 
 -- ---- lines, the last first
 
@@ -143,3 +122,31 @@ module _ {A : Type 0} (P : A → Type 0) where
   pub all_last : (xs : List A) (x : A) → AllByRecursion P (xs ++ x ∷ []) → P x
   all_last [] x p = p.0
   all_last (y ∷ xs) x p = all_last xs x p.1
+
+-- ---- runs of bytes that are shown so
+
+module _ (end : ℕ) (text : ℕ → List ℕ) (all now : List ℕ) (i n : ℕ) (xs run shown : List ℕ) (left : drop i xs ≡ run ++ drop (i + n) xs)
+    (is : flat_map text run ≡ shown) (rest : take end (now ++ flat_map text (drop i xs)) ≡ all) where
+  abbrev runs_after : List ℕ
+  runs_after = flat_map text (drop (i + n) xs)
+
+  runs_here : take end (now ++ (shown ++ runs_after)) ≡ all
+  runs_here = sym (ap (λ ys. take end (now ++ flat_map text ys)) left ∙ (ap (λ t. take end (now ++ t)) (flat_map-append text run (drop (i + n) xs)) ∙ ap (λ t. take end (now ++ (t ++ runs_after))) is)) ∙ rest
+
+  pub run_step : (new : List ℕ) → new ≡ take end (now ++ shown) → take end (new ++ runs_after) ≡ all
+  run_step new written = cut_more end now shown runs_after new written ∙ runs_here
+
+  pub run_full : (room : ℕ) → room < length (take end (now ++ shown)) → room < length all
+  run_full room h = let more = longer end now shown runs_after in omega (arith, h, more, ap length runs_here)
+
+pub slice_none : (xs : List ℕ) (at : ℕ) → slice_range xs at at ≡ []
+slice_none xs at = ap (λ k. take k (drop at xs)) (let e : at - at ≡ 0 = omega arith in e)
+
+pub slice_next : (xs : List ℕ) (at i : ℕ) → at ≤ i → i < length xs → slice_range xs at (i + 1) ≡ slice_range xs at i ++ get_or xs i 0 ∷ []
+slice_next xs at i low below =
+    ap (λ k. take k (drop at xs)) (let e : i + 1 - at ≡ suc (i - at) = omega (arith, low) in e)
+    ∙ (take-suc (drop at xs) (i - at) 0 (let e = length-drop at xs in omega (arith, e, low, below))
+    ∙ ap (λ b. slice_range xs at i ++ b ∷ []) (get_or-drop at xs (i - at) 0 ∙ ap (λ k. get_or xs k 0) (let e : at + (i - at) ≡ i = omega (arith, low) in e)))
+
+pub slice_one : (xs : List ℕ) (i : ℕ) → i < length xs → slice_range xs i (i + 1) ≡ get_or xs i 0 ∷ []
+slice_one xs i below = slice_next xs i i (omega arith) below ∙ ap (λ ys. ys ++ get_or xs i 0 ∷ []) (slice_none xs i)

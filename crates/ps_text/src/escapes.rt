@@ -1,6 +1,6 @@
 //! Strings in parentheses, with escapes.
 
-ghost use Rattle.std.specs.Prelude.{◌≡◌, ◌<◌, ◌≤◌, ◌+◌, ◌++◌, ℕ, List, take, length, OnOk, OnErr, vec_capacity};
+ghost use Rattle.std.specs.Prelude.{◌≡◌, ◌<◌, ◌≤◌, ◌+◌, ◌++◌, ◌∷◌, [], ℕ, List, take, length, slice_range, IsTrue, OnOk, OnErr, vec_capacity};
 ghost use Rattle.std.specs.List.{flat_map};
 ghost use Rattle.ps_language.specs.Access.{bytes, part_bytes};
 ghost use Rattle.ps_language.specs.Texts as texts;
@@ -14,9 +14,11 @@ ghost use Rattle.ps_text.specs.Shown.{GoesOn};
 use crate::appends::{append_cut, is_readable};
 use ps_language::kinds::Kind;
 use ps_mem::Memory;
-use ps_seq::strings::byte;
 use ps_word::values::Part;
 use std::alloc::AllocError;
+
+/// The bytes of a word.
+const BYTES: u32 = 8;
 
 /// A backslash and three octal digits.
 fn octal_escape(byte: u8) -> [u8; 4]
@@ -54,6 +56,41 @@ fn append_escape(byte: u8, end: usize, output: &mut Vec<u8>) -> Result<(), Alloc
     }
 }
 
+/// Whether a byte is shown as it is: a printable one that is no parenthesis and no backslash. Most
+/// are behind the parentheses.
+#[inline(always)]
+fn is_plain(byte: u8) -> bool
+    ensures { IsTrue result → texts.escaped byte ≡ byte ∷ [] }
+{
+    if byte == b'\\' {
+        false
+    } else if byte > b')' {
+        byte <= b'~'
+    } else if byte >= b'(' {
+        false
+    } else {
+        byte >= b' '
+    }
+}
+
+/// Where the bytes of a word end that are shown as they are, from one of them on and before another.
+#[inline(always)]
+fn plain_end(bytes: [u8; 8], first: u32, last: u32) -> u32
+    requires eight { length bytes ≡ 8 }
+    requires from { first ≤ last }
+    requires within { last ≤ 8 }
+    ensures low { first ≤ result }
+    ensures high { result ≤ last }
+    ensures plain { let run = slice_range bytes first result in flat_map texts.escaped run ≡ run }
+{
+    for at in first..last {
+        if !is_plain(bytes[at as usize]) {
+            return at;
+        }
+    }
+    last
+}
+
 /// Appends the bytes of a part of a string with their escapes, as far as they fit. Once the text is
 /// full no more is read.
 fn append_escaped<M: Memory>(
@@ -79,12 +116,24 @@ fn append_escaped<M: Memory>(
         → OnErr result (vec_capacity output.old < length (take end (output.old.items ++ flat_map
         texts.escaped (part_bytes s (part_of (birth_at (M.heap memory.old)) part))))) }
 {
-    for index in 0..part.length {
+    let length = part.length as u32;
+    let mut index: u32 = 0;
+    while index < length {
         if output.len() >= end {
             return Ok(());
         }
-        let next = byte(memory, part, index);
-        append_escape(next, end, output)?;
+        let at = part.offset as u32 + index;
+        let bytes = memory.load(part.address, at / BYTES).0.to_le_bytes();
+        let first = at % BYTES;
+        let last = BYTES.min(first + (length - index));
+        let behind = plain_end(bytes, first, last);
+        if behind == first {
+            append_escape(bytes[first as usize], end, output)?;
+            index += 1;
+        } else {
+            append_cut(&bytes[first as usize..behind as usize], end, output)?;
+            index += behind - first;
+        }
     }
     Ok(())
 }

@@ -1,6 +1,6 @@
 //! The text of `=`, `stack` and `cvs`.
 
-ghost use Rattle.std.specs.Prelude.{◌≡◌, ◌<◌, ◌≤◌, ◌+◌, ◌++◌, ◌∷◌, [], ℕ, List, take, length, OnOk, OnErr, vec_len, vec_capacity};
+ghost use Rattle.std.specs.Prelude.{◌≡◌, ◌<◌, ◌≤◌, ◌+◌, ◌++◌, ℕ, List, take, length, OnOk, OnErr, vec_capacity};
 ghost use Rattle.std.specs.Fmt.{signed_decimal};
 ghost use Rattle.ps_language.specs.Access.{bytes, part_bytes};
 ghost use Rattle.ps_language.specs.Texts.{plain_text_in, plain_text};
@@ -16,7 +16,7 @@ use ps_language::kinds::Kind;
 use ps_mem::Memory;
 use ps_names::texts::operator_name;
 use ps_names::{NameId, Names};
-use ps_seq::strings::byte;
+use ps_seq::strings::append_bytes;
 use ps_word::values::{Content, Part};
 use ps_word::words::Word;
 use std::alloc::AllocError;
@@ -38,16 +38,6 @@ fn append_decimal(number: i32, ending: &[u8], output: &mut Vec<u8>) -> Result<()
 {
     let mut buffer = Buffer::new();
     append_ended(buffer.format(number).as_bytes(), ending, output)
-}
-
-/// Adds a byte where there is room for it.
-#[inline]
-fn add_byte(byte: u8, output: &mut Vec<u8>)
-    requires { vec_len output.old < vec_capacity output.old }
-    ensures items { output.new.items ≡ output.old.items ++ byte ∷ [] }
-    ensures capacity { vec_capacity output.old ≤ vec_capacity output.new }
-{
-    let _ = output.push(byte);
 }
 
 /// Appends the bytes of a part of a string and what ends them, by one growth. Where that is refused
@@ -76,10 +66,7 @@ fn append_part<M: Memory>(
     ensures stays { OnErr result (vec_capacity output.new ≡ vec_capacity output.old) }
 {
     output.reserve(part.length as usize + ending.len())?;
-    for index in 0..part.length {
-        let next = byte(memory, part, index);
-        add_byte(next, output);
-    }
+    let _ = append_bytes(memory, part, output);
     add(ending, output);
     Ok(())
 }

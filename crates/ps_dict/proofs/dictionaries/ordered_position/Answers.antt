@@ -1,96 +1,118 @@
-use Rattle.std.proofs.Common.{◌≡◌, ◌<◌, ◌*◌, ◌∙◌, sym, refl, arith, subst, length}
-use Rattle.ps_mem.specs.Heap.{Heap, fields_at}
-use Rattle.ps_dict.specs.Places.{body_at, place_of}
-use Rattle.ps_dict.proofs.Reading.{loaded, key-place, key-value, position-found, position-next, position-none}
-use Rattle.ps_dict.proofs.Shapes.{count-fits}
-use Rattle.ps_dict.proofs.Probing.{few-places}
+-- Two pairs a turn, and the last of an odd number.
+use Rattle.std.proofs.Common.{◌≡◌, ◌+◌, ◌-◌, ◌*◌, ◌∙◌, ap, sym, refl, subst, arith, take}
+use Rattle.ps_mem.specs.Heap.{Heap}
+use Rattle.ps_dict.specs.Places.{pairs_at, place_of}
+use Rattle.ps_dict.specs.Probes.{same_at}
+use Rattle.ps_dict.proofs.Reading.{place-here, place-past, position-none}
 use Rattle.ps_dict.proofs.dictionaries.ordered_position.Goals as goal
 
-pub loop-place-init : goal.loop-place-init
+pub loop-turn-init : goal.loop-turn-init
 unfolding place_of
-loop-place-init g c = (refl, refl, refl)
+loop-turn-init g c = record {
+  heap = c.body-body.ensures.heap ∙ c.length-count.ensures.heap;
+  grants = c.body-body.ensures.grants ∙ c.length-count.ensures.grants;
+  absent = refl;
+}
 
-pub load-word-requires : goal.load-word-requires
-load-word-requires g c =
+pub returns-then-has_key-clause-words : goal.returns-then-has_key-clause-words
+returns-then-has_key-clause-words g c =
     let h = g.M.Memory.heap c.args.memory.now in
-    let same : g.M.Memory.heap c.loop-place.memory ≡ h = c.loop-place.invariant.0
-    ∙ c.body-body.ensures.heap in
-    let is : c.body-body.result ≡ body_at h c.args.address = c.body-body.ensures.words in
-    let count = c.requires.count in
-    let fits : 2 * c.loop-place.place < length (fields_at h (body_at h c.args.address)) =
-    key-place h c.args.address c.requires.known c.requires.sound c.loop-place.place
-    (omega (arith, count)) in
+    let a = c.args.address in
+    let count = c.length-count.ensures.words in
+    let more = c.loop-turn-test.true in
+    let same = subst (λ (k : Heap). c.has_key.result
+    ≡ same_at (pairs_at k a) c.args.key (2 * c.loop-turn.turn)) c.loop-turn.invariant.heap
+    c.has_key.ensures.answer in
+    sym (place-here h a c.requires.known c.requires.sound (2 * c.loop-turn.turn)
+    (omega (arith, count, more)) c.args.key c.loop-turn.invariant.absent
+    (sym same ∙ c.if-has_key.true))
+
+pub returns-then-has_key-2-clause-words : goal.returns-then-has_key-2-clause-words
+returns-then-has_key-2-clause-words g c =
+    let h = g.M.Memory.heap c.args.memory.now in
+    let a = c.args.address in
+    let count = c.length-count.ensures.words in
+    let more = c.loop-turn-test.true in
+    let first = subst (λ (k : Heap). c.has_key.result
+    ≡ same_at (pairs_at k a) c.args.key (2 * c.loop-turn.turn)) c.loop-turn.invariant.heap
+    c.has_key.ensures.answer in
+    let second = subst (λ (k : Heap). c.has_key-in-loop-turn.result
+    ≡ same_at (pairs_at k a) c.args.key (2 * c.loop-turn.turn + 1))
+    (c.has_key.ensures.heap ∙ c.loop-turn.invariant.heap) c.has_key-in-loop-turn.ensures.answer in
+    sym (place-here h a c.requires.known c.requires.sound (2 * c.loop-turn.turn + 1)
+    (omega (arith, count, more)) c.args.key
+    (place-past h a c.requires.known c.requires.sound (2 * c.loop-turn.turn)
+    (omega (arith, count, more)) c.args.key c.loop-turn.invariant.absent
+    (sym first ∙ c.if-has_key.false)) (sym second ∙ c.if-has_key-2.true))
+
+pub loop-turn-preserved : goal.loop-turn-preserved
+loop-turn-preserved g c =
+    let h = g.M.Memory.heap c.args.memory.now in
+    let a = c.args.address in
+    let count = c.length-count.ensures.words in
+    let more = c.loop-turn-test.true in
+    let first = subst (λ (k : Heap). c.has_key.result
+    ≡ same_at (pairs_at k a) c.args.key (2 * c.loop-turn.turn)) c.loop-turn.invariant.heap
+    c.has_key.ensures.answer in
+    let second = subst (λ (k : Heap). c.has_key-in-loop-turn.result
+    ≡ same_at (pairs_at k a) c.args.key (2 * c.loop-turn.turn + 1))
+    (c.has_key.ensures.heap ∙ c.loop-turn.invariant.heap) c.has_key-in-loop-turn.ensures.answer in
+    let next : 2 * c.loop-turn.turn + 1 + 1 ≡ 2 * (c.loop-turn.turn + 1) = omega arith in
     record {
-      place = subst (λ (k : Heap). 2 * c.loop-place.place < length
-          (fields_at k c.body-body.result)) (sym same)
-          (subst (λ b. 2 * c.loop-place.place < length (fields_at h b)) (sym is) fits);
+      heap = c.has_key-in-loop-turn.ensures.heap
+          ∙ (c.has_key.ensures.heap ∙ c.loop-turn.invariant.heap);
+      grants = c.has_key-in-loop-turn.ensures.grants
+          ∙ (c.has_key.ensures.grants ∙ c.loop-turn.invariant.grants);
+      absent = ap (λ n. place_of (take n (pairs_at h a)) c.args.key) (sym next)
+          ∙ place-past h a c.requires.known c.requires.sound (2 * c.loop-turn.turn + 1)
+          (omega (arith, count, more)) c.args.key
+          (place-past h a c.requires.known c.requires.sound (2 * c.loop-turn.turn)
+          (omega (arith, count, more)) c.args.key c.loop-turn.invariant.absent
+          (sym first ∙ c.if-has_key.false)) (sym second ∙ c.if-has_key-2.false);
     }
 
-pub is_same_key-requires-clause-left : goal.is_same_key-requires-clause-left
-is_same_key-requires-clause-left g c =
+pub returns-then-has_key-3-clause-words : goal.returns-then-has_key-3-clause-words
+returns-then-has_key-3-clause-words g c =
     let h = g.M.Memory.heap c.args.memory.now in
-    let same : g.M.Memory.heap c.loop-place.memory ≡ h = c.loop-place.invariant.0
-    ∙ c.body-body.ensures.heap in
-    let is : c.body-body.result ≡ body_at h c.args.address = c.body-body.ensures.words in
-    let count = c.requires.count in
-    let value = key-value h c.args.address c.requires.known c.requires.sound c.loop-place.place
-    (omega (arith, count)) c.load-word.result
-    (loaded _ h c.args.address _ _ _ same is c.load-word.ensures.answer) in
-    value.word
+    let a = c.args.address in
+    let count = c.length-count.ensures.words in
+    let past = c.loop-turn-test.false in
+    let ends = c.loop-turn.auto.turn-end in
+    let odd = c.if-count-eq1.true in
+    let last : 2 * c.loop-turn.turn ≡ c.length-count.result - 1 = omega (arith, past, ends, odd) in
+    let same = subst (λ (k : Heap). c.has_key-then-count-eq1.result
+    ≡ same_at (pairs_at k a) c.args.key (c.length-count.result - 1)) c.loop-turn.invariant.heap
+    c.has_key-then-count-eq1.ensures.answer in
+    sym (place-here h a c.requires.known c.requires.sound (c.length-count.result - 1)
+    (omega (arith, count, odd)) c.args.key
+    (ap (λ n. place_of (take n (pairs_at h a)) c.args.key) (sym last)
+    ∙ c.loop-turn.invariant.absent) (sym same ∙ c.if-has_key-3.true))
 
-pub is_same_key-requires-clause-visible : goal.is_same_key-requires-clause-visible
-is_same_key-requires-clause-visible g c =
+pub returns-else-has_key-3-clause-words : goal.returns-else-has_key-3-clause-words
+returns-else-has_key-3-clause-words g c =
     let h = g.M.Memory.heap c.args.memory.now in
-    let same : g.M.Memory.heap c.loop-place.memory ≡ h = c.loop-place.invariant.0
-    ∙ c.body-body.ensures.heap in
-    let is : c.body-body.result ≡ body_at h c.args.address = c.body-body.ensures.words in
-    let count = c.requires.count in
-    let value = key-value h c.args.address c.requires.known c.requires.sound c.loop-place.place
-    (omega (arith, count)) c.load-word.result
-    (loaded _ h c.args.address _ _ _ same is c.load-word.ensures.answer) in
-    value.visible
+    let a = c.args.address in
+    let count = c.length-count.ensures.words in
+    let past = c.loop-turn-test.false in
+    let ends = c.loop-turn.auto.turn-end in
+    let odd = c.if-count-eq1.true in
+    let last : 2 * c.loop-turn.turn ≡ c.length-count.result - 1 = omega (arith, past, ends, odd) in
+    let same = subst (λ (k : Heap). c.has_key-then-count-eq1.result
+    ≡ same_at (pairs_at k a) c.args.key (c.length-count.result - 1)) c.loop-turn.invariant.heap
+    c.has_key-then-count-eq1.ensures.answer in
+    sym (position-none h a c.requires.known c.requires.sound c.args.key
+    (c.length-count.result - 1 + 1) (omega (arith, count, odd))
+    (place-past h a c.requires.known c.requires.sound (c.length-count.result - 1)
+    (omega (arith, count, odd)) c.args.key
+    (ap (λ n. place_of (take n (pairs_at h a)) c.args.key) (sym last)
+    ∙ c.loop-turn.invariant.absent) (sym same ∙ c.if-has_key-3.false)))
 
-pub returns-then-is_same_key-clause-words : goal.returns-then-is_same_key-clause-words
-returns-then-is_same_key-clause-words g c =
+pub returns-else-count-eq1-clause-words : goal.returns-else-count-eq1-clause-words
+returns-else-count-eq1-clause-words g c =
     let h = g.M.Memory.heap c.args.memory.now in
-    let before : g.M.Memory.heap c.body-body.new.memory ≡ h = c.body-body.ensures.heap in
-    let is : c.body-body.result ≡ body_at h c.args.address = c.body-body.ensures.words in
-    let count = c.requires.count in
-    sym (position-found h c.args.address c.requires.known c.requires.sound c.loop-place.place
-    (omega (arith, count)) c.load-word.result
-    (loaded _ h c.args.address _ _ _ (c.loop-place.invariant.0 ∙ before) is
-    c.load-word.ensures.answer) c.args.key
-    (rw before at c.loop-place.invariant.2) (sym c.is_same_key.ensures ∙ c.if-is_same_key.true))
-
-pub loop-place-preserved : goal.loop-place-preserved
-loop-place-preserved g c =
-    let h = g.M.Memory.heap c.args.memory.now in
-    let before : g.M.Memory.heap c.body-body.new.memory ≡ h = c.body-body.ensures.heap in
-    let is : c.body-body.result ≡ body_at h c.args.address = c.body-body.ensures.words in
-    let count = c.requires.count in (
-      c.load-word.ensures.heap ∙ c.loop-place.invariant.0,
-      c.load-word.ensures.grants ∙ c.loop-place.invariant.1,
-      rw before
-          (position-next h c.args.address c.requires.known c.requires.sound c.loop-place.place
-          (omega (arith, count)) c.load-word.result
-          (loaded _ h c.args.address _ _ _ (c.loop-place.invariant.0 ∙ before) is
-          c.load-word.ensures.answer) c.args.key
-          (rw before at c.loop-place.invariant.2)
-          (sym c.is_same_key.ensures ∙ c.if-is_same_key.false)),
-    )
-
-pub returns-clause-words : goal.returns-clause-words
-returns-clause-words g c =
-    let h = g.M.Memory.heap c.args.memory.now in
-    let before : g.M.Memory.heap c.body-body.new.memory ≡ h = c.body-body.ensures.heap in
-    let count = c.requires.count in
-    sym (position-none h c.args.address c.requires.known c.requires.sound c.args.key
-    c.loop-place.place (omega (arith, count)) (rw before at c.loop-place.invariant.2))
-
-pub overflow_mul-place : goal.overflow_mul-place
-overflow_mul-place g c =
-    let h = g.M.Memory.heap c.args.memory.now in
-    let few = few-places h c.args.address c.requires.known c.requires.sound in
-    let fits = count-fits h c.args.address c.requires.known c.requires.sound in
-    let count = c.requires.count in
-    omega (arith, few, fits, count)
+    let a = c.args.address in
+    let count = c.length-count.ensures.words in
+    let past = c.loop-turn-test.false in
+    let even = c.if-count-eq1.false in
+    sym (position-none h a c.requires.known c.requires.sound c.args.key
+    (2 * c.loop-turn.turn) (omega (arith, count, past, even)) c.loop-turn.invariant.absent)

@@ -14,23 +14,23 @@ loop-here-preserved c =
     let rest = filter is_hex (drop (c.loop-here.here + 1) c.args.inner.now) in
     elim c.if-digit-lt16.branch [
       | then-digit-lt16+in-None w ↦
-          let digit : is_hex (byte_at c.args.inner.now c.loop-here.here) ≡ true = lt-ltb _ 16 (omega (arith, c.digit_value-digit.ensures.value, w.if-digit-lt16.true)) in
+          let digit : is_hex (byte_at c.args.inner.now c.loop-here.here) ≡ true = lt-ltb _ 16 (omega (arith, c.hex_value-digit.ensures, w.if-digit-lt16.true)) in
           record {
             small = subst (λ h. IfSome h (λ value. value < 16)) (sym w.high-is) w.if-digit-lt16.true;
             whole = ap (λ v. v.items ++ pairs_behind c.if-digit-lt16.high rest) w.string-is ∙ ap (λ h. c.loop-here.string.items ++ pairs_behind h rest) w.high-is
-                ∙ high_half c.loop-here.string.items c.args.inner.now c.loop-here.here c.digit_value-digit.result c.loop-here-test.true c.digit_value-digit.ensures.value digit
+                ∙ high_half c.loop-here.string.items c.args.inner.now c.loop-here.here c.hex_value-digit.result c.loop-here-test.true (omega (arith, c.hex_value-digit.ensures, w.if-digit-lt16.true)) digit
                 ∙ ap (λ h. c.loop-here.string.items ++ pairs_behind h (filter is_hex (drop c.loop-here.here c.args.inner.now))) (sym w.in-None.is) ∙ c.loop-here.invariant.whole;
           }
       | then-digit-lt16+in-Some+in_ok-push-in-Some w ↦
-          let digit : is_hex (byte_at c.args.inner.now c.loop-here.here) ≡ true = lt-ltb _ 16 (omega (arith, c.digit_value-digit.ensures.value, w.if-digit-lt16.true)) in
+          let digit : is_hex (byte_at c.args.inner.now c.loop-here.here) ≡ true = lt-ltb _ 16 (omega (arith, c.hex_value-digit.ensures, w.if-digit-lt16.true)) in
           record {
             small = subst (λ h. IfSome h (λ value. value < 16)) (sym w.high-is) tt;
             whole = ap (λ v. v.items ++ pairs_behind c.if-digit-lt16.high rest) w.string-is ∙ ap (λ h. w.push.new.self.items ++ pairs_behind h rest) w.high-is
-                ∙ low_half c.loop-here.string.items w.push.new.self.items c.args.inner.now c.loop-here.here w.in-Some.value c.digit_value-digit.result c.loop-here-test.true c.digit_value-digit.ensures.value digit w.in_ok-push-in-Some.ensures.items
+                ∙ low_half c.loop-here.string.items w.push.new.self.items c.args.inner.now c.loop-here.here w.in-Some.value c.hex_value-digit.result c.loop-here-test.true (omega (arith, c.hex_value-digit.ensures, w.if-digit-lt16.true)) digit w.in_ok-push-in-Some.ensures.items
                 ∙ ap (λ h. c.loop-here.string.items ++ pairs_behind h (filter is_hex (drop c.loop-here.here c.args.inner.now))) (sym w.in-Some.is) ∙ c.loop-here.invariant.whole;
           }
       | else-digit-lt16 w ↦
-          let digit : is_hex (byte_at c.args.inner.now c.loop-here.here) ≡ false = le-ltb _ 16 (omega (arith, c.digit_value-digit.ensures.value, w.if-digit-lt16.false)) in
+          let digit : is_hex (byte_at c.args.inner.now c.loop-here.here) ≡ false = le-ltb _ 16 (omega (arith, c.hex_value-digit.ensures, w.if-digit-lt16.false)) in
           record {
             small = subst (λ h. IfSome h (λ value. value < 16)) (sym w.high-is) c.loop-here.invariant.small;
             whole = ap (λ v. v.items ++ pairs_behind c.if-digit-lt16.high rest) w.string-is ∙ ap (λ h. c.loop-here.string.items ++ pairs_behind h rest) w.high-is

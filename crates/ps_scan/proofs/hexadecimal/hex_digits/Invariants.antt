@@ -3,10 +3,10 @@ use Rattle.ps_language.specs.Bytes.{is_hex, is_hex_or_white}
 use Rattle.ps_language.specs.Scan.{leading, beyond}
 use Rattle.ps_scan.proofs.hexadecimal.hex_digits.Given as goal
 
--- the digits so far and those in what is left are all
+-- the digits so far, all but blanks, and those in what is left are all
 abbrev pub invariant-loop-here : goal.invariant-loop-here
 invariant-loop-here l = record {
-  few : l.count ≤ l.here;
-  count : l.count + length (filter is_hex (leading is_hex_or_white (drop l.here l.bytes))) ≡ length (filter is_hex (leading is_hex_or_white (drop l.fn.at l.bytes)));
+  few : l.fn.at + l.blanks ≤ l.here;
+  count : l.here + length (filter is_hex (leading is_hex_or_white (drop l.here l.bytes))) ≡ l.fn.at + (l.blanks + length (filter is_hex (leading is_hex_or_white (drop l.fn.at l.bytes))));
   rest : beyond is_hex_or_white (drop l.here l.bytes) ≡ beyond is_hex_or_white (drop l.fn.at l.bytes);
 }

@@ -1,10 +1,11 @@
 -- Each part adds its byte, if it gives one, to the string.
-use Rattle.std.proofs.Common.{◌∙◌, sym, ap, ◌∷◌, [], ◌++◌, drop, arith}
+use Rattle.std.proofs.Common.{◌∙◌, ap, ◌∷◌, [], ◌++◌, drop, arith}
 use Rattle.std.specs.Prelude.{option_to_list}
+use Rattle.std.specs.List.{slice_range}
 use Rattle.ps_language.specs.Reading.{with_front}
 use Rattle.ps_language.specs.Scan.{string_from}
 use Rattle.ps_language.proofs.StringPlaces.{string_no_end}
-use Rattle.ps_scan.proofs.StringForms.{opens_at, closes_at, over_at, front_more, front_none, no_front, front_over, front_unfinished}
+use Rattle.ps_scan.proofs.StringForms.{opens_at, closes_at, over_at, front_more, no_front, front_over, front_unfinished}
 use Rattle.ps_scan.proofs.strings.string_bytes.Goals as goal
 use Rattle.ps_scan.proofs.strings.string_bytes.Goals.{else-loop-here-test, then-loop-here-test+else-byte-eq40+then-byte-eq41+then-level-eq0, then-loop-here-test+else-byte-eq40+else-byte-eq41+in-None}
 
@@ -31,20 +32,21 @@ loop-here-preserved-then-byte-eq41 c = record {
       (c.in_ok-push-2.ensures.items ∙ ap (λ b. c.loop-here.string.items ++ b ∷ []) c.if-byte-eq41.true) ∙ c.loop-here.invariant.whole;
 }
 
-pub loop-here-preserved-in_ok-push-in-Some : goal.loop-here-preserved-in_ok-push-in-Some
-loop-here-preserved-in_ok-push-in-Some c = record {
-  high = c.in-Some.ensures.place.1;
-  level = omega (arith, c.in-Some.ensures.place);
-  whole = front_more c.loop-here.string.items c.push-in-Some-byte.new.self.items (option_to_list c.in-Some.part.byte) _ _ (c.in-Some.ensures.part c.loop-here.level)
-      (c.in_ok-push-in-Some.ensures.items ∙ ap (λ b. c.loop-here.string.items ++ option_to_list b) (sym c.in-Some-byte.is)) ∙ c.loop-here.invariant.whole;
-}
-
 pub loop-here-preserved : goal.loop-here-preserved
-loop-here-preserved c = record {
-  high = c.in-Some.ensures.place.1;
-  level = omega (arith, c.in-Some.ensures.place);
-  whole = front_none c.loop-here.string.items _ _ (c.in-Some.ensures.part c.loop-here.level ∙ ap (λ b. with_front (option_to_list b) (string_from c.loop-here.level (drop c.in-Some.part.next c.args.bytes.now))) c.in_default.is) ∙ c.loop-here.invariant.whole;
-}
+loop-here-preserved c =
+    let xs = c.args.bytes.now in
+    let part = c.in-Some.part in
+    let end = c.plain_end-end.result in
+    let low = c.plain_end-end.ensures.low in
+    let level = c.loop-here.level in
+    let middle = c.push_part.new.string.items in
+    record {
+      high = c.plain_end-end.ensures.high;
+      level = omega (arith, c.in-Some.ensures.place, low);
+      whole = front_more middle c.extend_from_slice.new.self.items (slice_range xs part.next end) _ _ (c.plain_end-end.ensures.rest level) c.in_ok-extend_from_slice-in-Some.ensures.items
+          ∙ front_more c.loop-here.string.items middle (option_to_list part.byte) _ _ (c.in-Some.ensures.part level) c.in_ok-push_part-in-Some.ensures
+          ∙ c.loop-here.invariant.whole;
+    }
 
 pub returns : goal.returns
 returns c value rest e = elim c.loop-here-test.branch [

@@ -1,4 +1,5 @@
-use Rattle.std.proofs.Common.{◌≡◌, ◌+◌, ◌/◌, ◌%◌, ◌++◌, Some, length, arith, rules, sym, ap, ◌∙◌, subst, refl}
+use Rattle.std.proofs.Common.{◌≡◌, ◌+◌, ◌/◌, ◌%◌, ◌++◌, ℕ, List, Some, length, take, arith, length-take, rules, sym, ap, ◌∙◌, subst, refl}
+use Rattle.std.proofs.lemmas.List.{take-append-le}
 use Rattle.std.specs.Prelude.{slice_get, slice_range}
 use Rattle.std.specs.Int.{w64, to_le_bytes}
 use Rattle.ps_language.specs.Access.{bytes}
@@ -6,6 +7,13 @@ use Rattle.ps_mem.specs.Heap.{Heap, birth_at, fields_at}
 use Rattle.ps_mem.specs.References.{words_for}
 use Rattle.ps_seq.proofs.TextLemmas.{text_reaches, text_at, loaded_more}
 use Rattle.ps_seq.proofs.strings.append_bytes.Goals as goal
+
+-- what stood in front stays there
+front_on : (old now more : List ℕ) → take (length old) now ≡ old
+    → take (length old) (now ++ more) ≡ old
+front_on old now more is =
+    let long = ap length is in
+    take-append-le (length old) now more (omega (arith, long, length-take (length old) now)) ∙ is
 
 pub load-requires : goal.load-requires
 load-requires g c =
@@ -25,6 +33,8 @@ loop-place-preserved g c = record {
   count = search rules;
   room = search rules;
   kept = search rules;
+  front = ap (take (length c.args.output.now.items)) c.in_ok-append_some.ensures.items
+      ∙ front_on c.args.output.now.items c.loop-place.output.items _ c.loop-place.invariant.front;
   value = λ names s shows within.
       let h = g.M.Memory.heap c.args.memory.now in
       let p = c.args.part in
@@ -57,6 +67,8 @@ loop-place-preserved-then-end-place-ge-BYTES g c = record {
   count = search rules;
   room = search rules;
   kept = search rules;
+  front = ap (take (length c.args.output.now.items)) c.in_ok-extend_from_slice.ensures.items
+      ∙ front_on c.args.output.now.items c.loop-place.output.items _ c.loop-place.invariant.front;
   value = λ names s shows within.
       let h = g.M.Memory.heap c.args.memory.now in
       let p = c.args.part in

@@ -1,4 +1,4 @@
-use Rattle.std.proofs.Common.{◌≡◌, ℕ, ◌+◌, ◌-◌, ◌≤◌, ◌++◌, List, length, vec_len, vec_capacity}
+use Rattle.std.proofs.Common.{◌≡◌, ℕ, ◌+◌, ◌-◌, ◌≤◌, ◌++◌, List, length, take, vec_len, vec_capacity}
 use Rattle.std.specs.Prelude.{slice_range}
 use Rattle.ps_language.specs.Value.{Store}
 use Rattle.ps_language.specs.Access.{bytes}
@@ -16,6 +16,7 @@ invariant-loop-place g l = record {
   count : vec_len l.output ≡ vec_len l.fn.output + (l.place - l.part.offset);
   room : vec_len l.output + ((l.part.offset + l.part.length) - l.place) ≤ vec_capacity l.output;
   kept : vec_capacity l.fn.output ≤ vec_capacity l.output;
+  front : take (length l.fn.output.items) l.output.items ≡ l.fn.output.items;
   value : (names : List (List ℕ)) (s : Store) → Shows (g.M.Memory.heap l.fn.memory) names s
       → l.part.offset + l.part.length ≤ length (bytes s (birth_at
       (g.M.Memory.heap l.fn.memory) l.part.address)) →
