@@ -21,7 +21,7 @@ all_get P [] i d p h = absurd (omega arith)
 all_get P (x ∷ xs) zero d p h = p.0
 all_get P (x ∷ xs) (suc i) d p h = all_get P xs i d p.1 (omega arith)
 
-splice_all : {A : Type 0} (old items : List A) → length old ≡ length items → splice old 0 items
+pub splice_all : {A : Type 0} (old items : List A) → length old ≡ length items → splice old 0 items
     ≡ items
 splice_all old items same = splice-zero old items ∙ (ap (λ rest. items ++ rest) (drop_all
     (length items) old (omega (arith, same))) ∙ append-nil items)

@@ -3,7 +3,7 @@ use Rattle.std.proofs.Common.{◌≡◌, ℕ, zero, suc, ◌+◌, ◌-◌, ◌*�
 use Rattle.std.specs.Int.{w64, from_le_bytes}
 use borrow.Rule.Slice.PartMut.{put_mid}
 use Rattle.std.proofs.lemmas.Bool.{cases_lt}
-use Rattle.std.proofs.lemmas.List.{get_or-take, get_or-drop, get_or_past, drop-drop, length-take, take_at, drop_at, drop_all}
+use Rattle.std.proofs.lemmas.List.{get_or-take, get_or-drop, get_or_past, drop-drop, length-take, length-take-le, length-drop, take_at, drop_at, drop_all}
 use Rattle.ps_language.specs.Access.{splice}
 use Rattle.ps_mem.specs.Objects.{word_of}
 use Rattle.ps_mem.specs.References.{words_for}
@@ -120,6 +120,35 @@ pub words_from-more : (n : ℕ) (bs : List ℕ) → words_from n bs ++ word_of (
     (drop (8 * n) bs))) ∷ [] ≡ words_from (n + 1) bs
 unfolding words_from
 words_from-more n bs = sym (words_from-add n 1 bs)
+
+-- a run of the words of a text
+pub words_from-run : (n first count : ℕ) (bs : List ℕ) → first + count ≤ n
+    → take count (drop first (words_from n bs)) ≡ words_from count (drop (8 * first) bs)
+words_from-run n first count bs fits =
+    let rest = n - (first + count) in
+    let behind = words_from rest (drop (8 * count) (drop (8 * first) bs)) in
+    let whole : n ≡ first + (count + rest) = omega (arith, fits) in
+    ap (λ m. take count (drop first (words_from m bs))) whole
+    ∙ (ap (λ ws. take count (drop first ws)) (words_from-add first (count + rest) bs)
+    ∙ (ap (take count) (drop_at (words_from first bs) (words_from (count + rest) (drop
+    (8 * first) bs)) first (length-words_from first bs))
+    ∙ (ap (take count) (words_from-add count rest (drop (8 * first) bs))
+    ∙ take_at (words_from count (drop (8 * first) bs)) behind count (length-words_from count (drop
+    (8 * first) bs)))))
+
+-- bytes of a text that are put at the beginning of a word of another are these words there
+pub words_from-copied : (text from : List ℕ) (first source count : ℕ)
+    → 8 * first + 8 * count ≤ length text → 8 * source + 8 * count ≤ length from
+    → words_from count (drop (8 * source) from) ≡ words_from count (drop (8 * first) (splice text
+    (8 * first) (take (8 * count) (drop (8 * source) from))))
+words_from-copied text from first source count fits within =
+    let bs = take (8 * count) (drop (8 * source) from) in
+    let size : length bs ≡ 8 * count = length-take-le (8 * count) (drop (8 * source) from) (omega
+    (arith, within, length-drop (8 * source) from)) in
+    same_words count (drop (8 * source) from) (drop (8 * first) (splice text (8 * first) bs))
+    (λ i below. sym (get_or-take (8 * count) (drop (8 * source) from) i 0 below)
+    ∙ (sym (splice_within text (8 * first) bs i (omega (arith, below, size)) (omega (arith, fits)))
+    ∙ sym (get_or-drop (8 * first) (splice text (8 * first) bs) i 0)))
 
 -- where only bytes of the words of a run differ, the run alone has changed
 pub splice_words : (old new : List ℕ) (first count rest : ℕ) → ((i : ℕ) → i < 8 * first

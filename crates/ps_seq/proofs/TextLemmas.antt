@@ -48,6 +48,17 @@ module _ (h : Heap) (a n : ℕ) (known : StandsAs h TextKind a n) where
         words = fields-text ∙ (words ∙ ap words_of (sym is));
       }
 
+-- fewer words stand
+pub stands_shorter : (h : Heap) (a n m : ℕ) → m ≤ n → StandsAs h TextKind a n
+    → StandsAs h TextKind a m
+stands_shorter h a n m less known =
+    let fits = known.fits in record {
+      object = known.object;
+      at = known.at;
+      kind_is = known.kind_is;
+      fits = omega (arith, fits, less);
+    }
+
 -- ---- bytes of a word that was read
 
 module _ (h : Heap) (a : ℕ) (s : Store) (text : TextAt h a s) (k : ℕ) (w : Word) (read : slice_get
@@ -110,3 +121,16 @@ module _ (h : Heap) (a : ℕ) (s : Store) (text : TextAt h a s) (k : ℕ) (w : W
       ∙ (ap (λ r. (xs ++ slice_range t from place) ++ r) run
       ∙ (append_assoc xs (slice_range t from place) (take count (drop place t)) ∙ ap (λ r. xs ++ r)
       (sym joined)))
+
+-- ---- runs
+
+-- a run and the one behind it
+pub runs_joined : (t : List ℕ) (from place next : ℕ) → from ≤ place → place ≤ next
+    → slice_range t from place ++ slice_range t place next ≡ slice_range t from next
+runs_joined t from place next low high =
+    let more : next - from ≡ (place - from) + (next - place) = omega (arith, low, high) in
+    let there : from + (place - from) ≡ place = omega (arith, low) in
+    sym (ap (λ n. take n (drop from t)) more
+    ∙ (take-add (place - from) (next - place) (drop from t)
+    ∙ ap (λ ds. slice_range t from place ++ take (next - place) ds)
+    (drop-drop (place - from) from t ∙ ap (λ m. drop m t) there)))

@@ -14,6 +14,7 @@ ghost use Rattle.ps_mem.specs.Meaning.{part_of};
 ghost use Rattle.ps_mem.specs.Strings.{number_of_bytes, words_from};
 ghost use Rattle.ps_mem.specs.Shows.{IsSound, Shows};
 
+use crate::reads::read_part;
 use ps_language::access::Access;
 use ps_language::kinds::Kind;
 use ps_mem::Memory;
@@ -23,7 +24,7 @@ use std::alloc::AllocError;
 use std::cmp::Ordering;
 
 /// The bytes of a word.
-const BYTES: u32 = 8;
+pub(crate) const BYTES: u32 = 8;
 
 /// The words that so many bytes take.
 #[inline]
@@ -52,27 +53,6 @@ pub fn byte<M: Memory>(memory: &mut M, part: Part, index: u16) -> u8
     word.0.to_le_bytes()[(at % BYTES) as usize]
 }
 
-/// Appends so many of a word's bytes to an output, from one of them on.
-///
-/// `AllocError`: the output lacks the room, and its growth was refused; it is as it was.
-#[inline(always)]
-fn append_some(
-    bytes: [u8; 8],
-    first: u32,
-    count: u32,
-    output: &mut Vec<u8>,
-) -> Result<(), AllocError>
-    requires { first + count ≤ 8 }
-    ensures items { OnOk result (output.new.items
-        ≡ output.old.items ++ slice_range bytes first (first + count)) }
-    ensures length { OnOk result (vec_len output.new ≡ vec_len output.old + count) }
-    ensures unchanged { OnErr result (output.new.items ≡ output.old.items) }
-    ensures full { OnErr result (vec_capacity output.old < vec_len output.old + count) }
-    ensures room { vec_capacity output.old ≤ vec_capacity output.new }
-{
-    output.extend_from_slice(&bytes[first as usize..(first + count) as usize])
-}
-
 /// Appends the bytes of a part to an output, which grows once. The memory stays as it is.
 ///
 /// `AllocError`: the output lacks the room, and its growth was refused; it is as it was.
@@ -96,23 +76,21 @@ pub fn append_bytes<M: Memory>(
     ensures full { OnErr result (vec_capacity output.old < vec_len output.old + part.length) }
     ensures room { vec_capacity output.old ≤ vec_capacity output.new }
 {
-    output.reserve(part.length as usize)?;
-    let end = part.offset as u32 + part.length as u32;
-    let mut place = part.offset as u32;
-    while place < end {
-        let bytes = memory.load(part.address, place / BYTES).0.to_le_bytes();
-        let first = place % BYTES;
-        if first == 0 && end - place >= BYTES {
-            // a whole word is one store
-            output.extend_from_slice(&bytes)?;
-            place += BYTES;
-        } else {
-            let count = (BYTES - first).min(end - place);
-            append_some(bytes, first, count, output)?;
-            place += count;
-        }
-    }
+    let start = output.len();
+    output.resize(start + part.length as usize, 0)?;
+    read_part(memory, part, &mut output.as_mut_slice()[start..]);
     Ok(())
+}
+
+/// The word of eight bytes.
+#[inline]
+fn whole_word(bytes: &[u8]) -> Word
+    requires { length bytes.now ≡ 8 }
+    ensures { result.0 ≡ number_of_bytes bytes.now }
+{
+    let mut all = [0; 8];
+    all.copy_from_slice(&bytes[..8]);
+    Word(u64::from_le_bytes(all))
 }
 
 /// A word with other bytes from one of its bytes on.
@@ -121,6 +99,9 @@ fn with_bytes(word: Word, first: usize, bytes: &[u8]) -> Word
     requires { first + length bytes.now ≤ 8 }
     ensures { result.0 ≡ number_of_bytes (splice (to_le_bytes w64 word.0) first bytes.now) }
 {
+    if bytes.len() == BYTES as usize {
+        return whole_word(bytes);
+    }
     let mut all = word.0.to_le_bytes();
     all[first..first + bytes.len()].copy_from_slice(bytes);
     Word(u64::from_le_bytes(all))
@@ -311,9 +292,9 @@ pub fn set_bytes<M: Memory>(
 }
 
 /// Copies all bytes of one part of a string into another from a place on, as if all were read
-/// first, by one store with one record in a cycle; the two may be of one string. Where there are
-/// none, nothing is done and no record is put. The scratch lists are empty before and after; their
-/// room is kept for the next call.
+/// first, by one store or copy with one record in a cycle; the two may be of one string. Where
+/// there are none, nothing is done and no record is put. The scratch lists are empty before and
+/// after; their room is kept for the next call.
 ///
 /// `AllocError`: `read` lacks room for these bytes or `scratch` for the words that have them, and a
 /// growth was refused; nothing has changed.
@@ -357,6 +338,21 @@ pub fn copy_bytes<M: Memory>(
     ensures room { (vec_capacity read.old ≤ vec_capacity read.new) ×
         (vec_capacity scratch.old ≤ vec_capacity scratch.new) }
 {
+    let source = from.offset as u32;
+    let target = to.offset as u32 + place as u32;
+    let count = from.length as u32;
+    if source % BYTES == 0 && target % BYTES == 0 && count % BYTES == 0 && count > 0 {
+        let words = count / BYTES;
+        memory.copy(
+            slot,
+            from.address,
+            source / BYTES,
+            to.address,
+            target / BYTES,
+            words,
+        );
+        return Ok(());
+    }
     append_bytes(memory, from, read)?;
     let copied = set_bytes(memory, slot, to, place, read.as_slice(), scratch);
     read.clear();
@@ -423,6 +419,9 @@ pub fn compare_bytes<M: Memory>(memory: &mut M, left: Part, right: Part) -> Orde
         (birth_at (M.heap memory.old)) left) ≡ part_bytes s (part_of (birth_at
         (M.heap memory.old)) right)) }
 {
+    if left.address == right.address && left.offset == right.offset && left.length == right.length {
+        return Ordering::Equal;
+    }
     let shared = left.length.min(right.length) as u32;
     let mut index = 0;
     let mut left_held = None;

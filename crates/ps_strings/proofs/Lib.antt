@@ -10,3 +10,4 @@ pub mod Reading
 pub mod Searched
 pub mod StringReads
 pub mod Taken
+pub mod Windows

@@ -6,6 +6,7 @@ ghost use Rattle.ps_language.specs.Value.{Store};
 ghost use Rattle.ps_language.specs.Access.{bytes, part_bytes};
 ghost use Rattle.ps_language.specs.Access as language;
 ghost use Rattle.ps_language.specs.RowsSequences as sequences;
+ghost use Rattle.memchr.specs.Find.{OccursAt, FindsNeedle};
 ghost use Rattle.ps_mem.specs.Heap.{Heap, birth_at};
 ghost use Rattle.ps_mem.specs.References.{StandsAs, words_for};
 ghost use Rattle.ps_mem.specs.Meaning.{part_of};
@@ -18,6 +19,7 @@ ghost use Rattle.ps_strings.specs.Searches.{Searches, IsFound};
 use crate::readers::{string_interval, string_of};
 use crate::reads::read_bytes;
 use memchr::memmem;
+use memchr::memmem::Finder;
 use ps_language::access::Access;
 use ps_language::errors::ErrorName;
 use ps_language::kinds::Kind;
@@ -33,6 +35,9 @@ use ps_word::values::Part;
 use ps_word::words::Word;
 use std::alloc::AllocError;
 use std::cmp::Ordering;
+
+/// Bytes of a string that are read before the first look for others, beside as many as are sought.
+const FIRST_WINDOW: usize = 128;
 
 /// Whether a part of a string begins with the bytes of another. The memory stays as it is.
 fn begins_with<M: Memory>(memory: &mut M, part: Part, wanted: Part) -> bool
@@ -97,40 +102,61 @@ pub fn anchorsearch<M: Memory>(operands: &mut Operands, memory: &mut M) -> Resul
     Ok(())
 }
 
-/// The first place of a text that has the bytes of a part of a string, if one has. The memory stays
-/// as it is; `sought` is empty before and after, and its room is kept for the next call.
+/// The first place of a text from `from` on that has the bytes sought.
+fn find_behind(text: &[u8], from: usize, sought: &Finder) -> Option<usize>
+    requires { from ≤ length text.now }
+    ensures { FindsNeedle text.now sought.now from result }
+{
+    let place = sought.find(&text[from..])?;
+    Some(from + place)
+}
+
+/// The first place of a part of a string that has the bytes sought, if one has. The part is read
+/// by windows, each of four times as many bytes as all before it, so what is read is at most some
+/// four times what stands before the match. The memory stays as it is; `text` holds what was read.
 ///
-/// `AllocError`: `sought` lacks room for the bytes of the part, and its growth was refused.
-fn find_in<M: Memory>(
+/// `AllocError`: `text` lacks room for the bytes of the part, and its growth was refused.
+fn find_by_windows<M: Memory>(
     memory: &mut M,
-    text: &[u8],
-    wanted: Part,
-    sought: &mut Vec<u8>,
+    part: Part,
+    sought: &[u8],
+    text: &mut Vec<u8>,
 ) -> Result<Option<usize>, AllocError>
     requires sound { IsSound (M.heap memory.old) }
-    requires wanted { StandsAs (M.heap memory.old) Kind.Text wanted.address (words_for
-        (wanted.offset + wanted.length)) }
-    requires empty { sought.old.items ≡ [] }
+    requires part { StandsAs (M.heap memory.old) Kind.Text part.address (words_for
+        (part.offset + part.length)) }
+    requires end { part.offset + part.length < 2 ^ 16 }
+    requires sought { length sought.now < 2 ^ 16 }
+    requires text { text.old.items ≡ [] }
     ensures heap { M.heap memory.new ≡ M.heap memory.old }
     ensures grants { M.grants memory.new ≡ M.grants memory.old }
     ensures value { (names : List (List ℕ)) (s : Store) → Shows (M.heap memory.old) names s
-        → wanted.offset + wanted.length ≤ length (bytes s (birth_at
-        (M.heap memory.old) wanted.address)) → IfOk result (λ found. found ≡ sequences.place_of
-        (part_bytes s (part_of (birth_at (M.heap memory.old)) wanted)) text.now) }
-    ensures fits { IfOk result (λ found. IfSome found (λ place. place + wanted.length ≤ length
-        text.now)) }
-    ensures full { OnErr result (vec_capacity sought.old < wanted.length) }
-    ensures empty { sought.new.items ≡ [] }
-    ensures room { vec_capacity sought.old ≤ vec_capacity sought.new }
+        → part.offset + part.length ≤ length (bytes s (birth_at (M.heap memory.old) part.address))
+        → IfOk result (λ found. found ≡ sequences.place_of sought.now (part_bytes s (part_of
+        (birth_at (M.heap memory.old)) part))) }
+    ensures fits { IfOk result (λ found. IfSome found (λ place. place + length sought.now ≤
+        part.length)) }
+    ensures full { OnErr result (vec_capacity text.old < part.length) }
+    ensures room { vec_capacity text.old ≤ vec_capacity text.new }
 {
-    append_bytes(memory, wanted, sought)?;
-    let found = memmem::find(text, sought.as_slice());
-    sought.clear();
-    Ok(found)
+    let finder = Finder::new(sought);
+    let overlap = sought.len().saturating_sub(1);
+    let length = part.length as usize;
+    let mut from = 0;
+    loop {
+        let end = text.len();
+        let more = (FIRST_WINDOW + sought.len() + 3 * end).min(length - end);
+        append_bytes(memory, interval(part, end as u16, more as u16), text)?;
+        let found = find_behind(text.as_slice(), from, &finder);
+        if found.is_some() || text.len() == length {
+            return Ok(found);
+        }
+        from = text.len().saturating_sub(overlap);
+    }
 }
 
-/// The first place of a part of a string that has the bytes of another, if one has. The memory
-/// stays as it is; the lists are empty before and after, and their room is kept for the next call.
+/// The first place of a part of a string that has the bytes of another, if one has. No more of the
+/// part is read than must be, but for some windows. The memory stays as it is; the lists are empty before and after, and their room is kept for the next call.
 ///
 /// `AllocError`: `text` lacks room for the bytes of the first part or `sought` for those of the
 /// second, and a growth was refused.
@@ -146,6 +172,7 @@ fn find_part<M: Memory>(
         (part.offset + part.length)) }
     requires wanted { StandsAs (M.heap memory.old) Kind.Text wanted.address (words_for
         (wanted.offset + wanted.length)) }
+    requires end { part.offset + part.length < 2 ^ 16 }
     requires text { text.old.items ≡ [] }
     requires sought { sought.old.items ≡ [] }
     ensures heap { M.heap memory.new ≡ M.heap memory.old }
@@ -165,9 +192,13 @@ fn find_part<M: Memory>(
     ensures room { (vec_capacity text.old ≤ vec_capacity text.new) ×
         (vec_capacity sought.old ≤ vec_capacity sought.new) }
 {
-    append_bytes(memory, part, text)?;
-    let found = find_in(memory, text.as_slice(), wanted, sought);
+    if wanted.length > part.length {
+        return Ok(None);
+    }
+    append_bytes(memory, wanted, sought)?;
+    let found = find_by_windows(memory, part, sought.as_slice(), text);
     text.clear();
+    sought.clear();
     found
 }
 

@@ -6,9 +6,19 @@ use Rattle.std.proofs.lemmas.Bool.{cases_lt}
 use Rattle.ps_language.specs.Access.{bytes}
 use Rattle.ps_mem.specs.Heap.{Heap, birth_at, fields_at}
 use Rattle.ps_mem.specs.References.{words_for}
-use Rattle.ps_seq.proofs.CompareLemmas.{length_part, run_more, run_length, runs_decide, then_decided, then_equal, at_end, equal_exactly}
+use Rattle.ps_seq.proofs.CompareLemmas.{length_part, run_more, run_length, runs_decide, then_decided, then_equal, at_end, cmp-same, equal_exactly}
 use Rattle.ps_seq.proofs.TextLemmas.{text_reaches}
 use Rattle.ps_seq.proofs.strings.compare_bytes.Goals as goal
+
+-- a part beside itself
+pub returns-then-left-right-3-clause-order : goal.returns-then-left-right-3-clause-order
+returns-then-left-right-3-clause-order g c = λ names s shows within within'.
+    let births = birth_at (g.M.Memory.heap c.args.memory.now) in
+    let address = c.if-left-right.true in
+    let offset = c.if-left-right-2.true in
+    let count = c.if-left-right-3.true in
+    cmp-same _ _ (λ i. slice_range (bytes s (births (address i))) (offset i)
+    (offset i + count i))
 
 pub word_with-left_word-requires-clause-reach : goal.word_with-left_word-requires-clause-reach
 word_with-left_word-requires-clause-reach g c =
