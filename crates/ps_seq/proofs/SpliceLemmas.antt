@@ -136,6 +136,24 @@ words_from-run n first count bs fits =
     ∙ take_at (words_from count (drop (8 * first) bs)) behind count (length-words_from count (drop
     (8 * first) bs)))))
 
+words_from-taken : (n : ℕ) (bs : List ℕ) → words_from n (take (8 * n) bs) ≡ words_from n bs
+words_from-taken n bs = same_words n (take (8 * n) bs) bs
+    (λ i below. get_or-take (8 * n) bs i 0 below)
+
+-- where a text has others put into it, words of which all bytes are among these are theirs
+pub words_from-spliced : (old : List ℕ) (place : ℕ) (text : List ℕ) (k from n : ℕ)
+    → place + from ≡ 8 * k → from + 8 * n ≤ length text → place ≤ length old
+    → words_from n (take (8 * n) (drop from text))
+    ≡ words_from n (drop (8 * k) (splice old place text))
+words_from-spliced old place text k from n at fits within =
+    words_from-taken n (drop from text)
+    ∙ same_words n (drop from text) (drop (8 * k) (splice old place text)) (λ i below.
+    let there : place + (from + i) ≡ 8 * k + i = omega (arith, at) in
+    get_or-drop from text i 0
+    ∙ (sym (splice_within old place text (from + i) (omega (arith, below, fits)) within)
+    ∙ (ap (λ m. get_or (splice old place text) m 0) there
+    ∙ sym (get_or-drop (8 * k) (splice old place text) i 0))))
+
 -- bytes of a text that are put at the beginning of a word of another are these words there
 pub words_from-copied : (text from : List ℕ) (first source count : ℕ)
     → 8 * first + 8 * count ≤ length text → 8 * source + 8 * count ≤ length from
@@ -145,10 +163,10 @@ words_from-copied text from first source count fits within =
     let bs = take (8 * count) (drop (8 * source) from) in
     let size : length bs ≡ 8 * count = length-take-le (8 * count) (drop (8 * source) from) (omega
     (arith, within, length-drop (8 * source) from)) in
-    same_words count (drop (8 * source) from) (drop (8 * first) (splice text (8 * first) bs))
-    (λ i below. sym (get_or-take (8 * count) (drop (8 * source) from) i 0 below)
-    ∙ (sym (splice_within text (8 * first) bs i (omega (arith, below, size)) (omega (arith, fits)))
-    ∙ sym (get_or-drop (8 * first) (splice text (8 * first) bs) i 0)))
+    sym (words_from-taken count (drop (8 * source) from))
+    ∙ (sym (words_from-taken count bs)
+    ∙ words_from-spliced text (8 * first) bs first 0 count (omega arith) (omega (arith, size))
+    (omega (arith, fits)))
 
 -- where only bytes of the words of a run differ, the run alone has changed
 pub splice_words : (old new : List ℕ) (first count rest : ℕ) → ((i : ℕ) → i < 8 * first

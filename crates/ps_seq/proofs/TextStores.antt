@@ -19,7 +19,7 @@ use Rattle.ps_mem.proofs.StoreLemmas.{IsSound-stored_text}
 use Rattle.ps_mem.proofs.StoreShows.{Shows-stored_text}
 use Rattle.ps_seq.proofs.ArrayLemmas.{set_same}
 use Rattle.ps_seq.proofs.TextLemmas.{TextAt, fields-text, birth-text, text_reaches, text_at, loaded_bytes}
-use Rattle.ps_seq.proofs.SpliceLemmas.{length-words_from, words_from-more, words_of-splice, changed_word}
+use Rattle.ps_seq.proofs.SpliceLemmas.{length-words_from, words_from-add, words_from-more, words_of-splice, changed_word}
 
 pub bytes_fit : (bs : List ℕ) → ((i : ℕ) → get_or bs i 0 < 256) → AreBytes bs
 bytes_fit [] fit = tt
@@ -176,4 +176,19 @@ next_word new ws w first k behind so_far value =
     ∙ (ap (λ ds. words_from (k - first) (drop (8 * first) new) ++ word_of (number_of_bytes
     (take 8 ds)) ∷ []) (sym dropped)
     ∙ (words_from-more (k - first) (drop (8 * first) new) ∙ ap (λ n. words_from n (drop
+    (8 * first) new)) count))
+
+-- ---- a run of words, so many words more
+
+pub next_words : (new : List ℕ) (ws more : List Word) (first k n : ℕ) → first ≤ k → ws
+    ≡ words_from (k - first) (drop (8 * first) new) → more ≡ words_from n (drop (8 * k) new)
+    → ws ++ more ≡ words_from ((k + n) - first) (drop (8 * first) new)
+next_words new ws more first k n behind so_far next =
+    let there : 8 * first + 8 * (k - first) ≡ 8 * k = omega (arith, behind) in
+    let count : (k - first) + n ≡ (k + n) - first = omega (arith, behind) in
+    let dropped : drop (8 * (k - first)) (drop (8 * first) new) ≡ drop (8 * k) new = drop-drop (8 *
+    (k - first)) (8 * first) new ∙ ap (λ m. drop m new) there in
+    (λ i. so_far i ++ next i)
+    ∙ (ap (λ ds. words_from (k - first) (drop (8 * first) new) ++ words_from n ds) (sym dropped)
+    ∙ (sym (words_from-add (k - first) n (drop (8 * first) new)) ∙ ap (λ m. words_from m (drop
     (8 * first) new)) count))

@@ -201,6 +201,25 @@ pub fn set_byte<M: Memory>(memory: &mut M, slot: u32, part: Part, index: u16, by
     memory.store(slot, part.address, place / BYTES, &[changed]);
 }
 
+/// Pushes the words that bytes make, eight a word.
+///
+/// `AllocError`: the list of words lacks the room, and its growth was refused.
+fn push_words(text: &[u8], words: &mut Vec<Word>) -> Result<(), AllocError>
+    requires { length text.now % 8 ≡ 0 }
+    ensures items { OnOk result (words.new.items ≡ words.old.items ++ words_from
+        (length text.now / 8) text.now) }
+    ensures length { OnOk result (vec_len words.new ≡ vec_len words.old + length text.now / 8) }
+    ensures full { OnErr result (vec_capacity words.old < vec_len words.old + length text.now / 8) }
+    ensures room { vec_capacity words.old ≤ vec_capacity words.new }
+{
+    let count = text.len() / 8;
+    words.reserve(count)?;
+    for index in 0..count {
+        words.push(whole_word(&text[8 * index..8 * index + 8]))?;
+    }
+    Ok(())
+}
+
 /// Pushes the words of a string that bytes are put into from a place on, with these bytes in them.
 ///
 /// `AllocError`: the list of words lacks the room, and its growth was refused; it is as it was.
@@ -233,13 +252,22 @@ fn changed_words<M: Memory>(
     let end = place + text.len() as u32;
     let first = place / BYTES;
     let last = (end + BYTES - 1) / BYTES;
+    let whole = end / BYTES;
     words.reserve((last - first) as usize)?;
-    for index in first..last {
-        let start = place.max(index * BYTES);
-        let stop = end.min(index * BYTES + BYTES);
-        let chunk = &text[(start - place) as usize..(stop - place) as usize];
-        let word = memory.load(address, index);
-        words.push(with_bytes(word, (start - index * BYTES) as usize, chunk))?;
+    let mut index = first;
+    while index < last {
+        if place <= index * BYTES && index < whole {
+            let from = (index * BYTES - place) as usize;
+            push_words(&text[from..(whole * BYTES - place) as usize], words)?;
+            index = whole;
+        } else {
+            let start = place.max(index * BYTES);
+            let stop = end.min(index * BYTES + BYTES);
+            let chunk = &text[(start - place) as usize..(stop - place) as usize];
+            let word = memory.load(address, index);
+            words.push(with_bytes(word, (start - index * BYTES) as usize, chunk))?;
+            index += 1;
+        }
     }
     Ok(())
 }

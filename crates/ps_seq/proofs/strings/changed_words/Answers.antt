@@ -1,12 +1,14 @@
-use Rattle.std.proofs.Common.{◌≡◌, ◌+◌, ◌-◌, ◌*◌, ◌/◌, Some, length, drop, arith, rules, sym, ap, ◌∙◌, subst}
+use Rattle.std.proofs.Common.{◌≡◌, ◌+◌, ◌-◌, ◌*◌, ◌/◌, Some, length, take, drop, arith, rules, sym, ap, ◌∙◌, subst}
 use Rattle.std.specs.Prelude.{slice_get, slice_range}
 use Rattle.std.specs.Int.{w64, to_le_bytes}
 use Rattle.ps_language.specs.Access.{bytes, splice}
 use Rattle.ps_mem.specs.Heap.{Heap, birth_at, fields_at}
 use Rattle.ps_mem.specs.References.{words_for}
 use Rattle.ps_mem.specs.Strings.{number_of_bytes, words_from}
+use Rattle.std.proofs.lemmas.List.{length-take-le, length-drop}
+use Rattle.ps_seq.proofs.SpliceLemmas.{words_from-spliced}
 use Rattle.ps_seq.proofs.TextLemmas.{text_reaches, text_at}
-use Rattle.ps_seq.proofs.TextStores.{loaded_changed, next_word}
+use Rattle.ps_seq.proofs.TextStores.{loaded_changed, next_word, next_words}
 use Rattle.ps_seq.proofs.strings.changed_words.Goals as goal
 
 pub loop-index-init : goal.loop-index-init
@@ -75,6 +77,43 @@ loop-index-preserved g c = record {
       ∙ next_word (splice (bytes s (birth_at h a)) place text) c.loop-index.words.items
       c.with_bytes.result (place / 8) k from (c.loop-index.invariant.value names s shows within)
       value;
+}
+
+pub loop-index-preserved-then-index-whole : goal.loop-index-preserved-then-index-whole
+loop-index-preserved-then-index-whole g c = record {
+  heap = search rules;
+  grants = search rules;
+  from = search rules;
+  upto = search rules;
+  count = search rules;
+  room = search rules;
+  kept = search rules;
+  value = λ names s shows within.
+      let t = bytes s (birth_at (g.M.Memory.heap c.args.memory.now) c.args.address) in
+      let place = c.args.place in
+      let text = c.args.text.now in
+      let k = c.loop-index.index in
+      let whole = (place + length text) / 8 in
+      let low = c.if-place-index.true in
+      let below = c.if-index-whole.true in
+      let from = c.loop-index.invariant.from in
+      let start = k * 8 - place in
+      let n = whole - k in
+      let count : (whole * 8 - place) - start ≡ 8 * n = omega (arith, low, below) in
+      let size : length (take ((whole * 8 - place) - start) (drop start text)) ≡ 8 * n =
+      ap (λ m. length (take m (drop start text))) count
+      ∙ length-take-le (8 * n) (drop start text) (omega
+      (arith, low, below, length-drop start text)) in
+      let words : length (take ((whole * 8 - place) - start) (drop start text)) / 8 ≡ n = omega
+      (arith, size) in
+      let more = (λ i. words_from (words i) (take (count i) (drop start text)))
+      ∙ words_from-spliced t place text k start n (omega (arith, low)) (omega (arith, low, below))
+      (omega (arith, within)) in
+      let at_end : k + n ≡ whole = omega (arith, below) in
+      c.in_ok-push_words.ensures.items
+      ∙ (next_words (splice t place text) c.loop-index.words.items _ (place / 8) k n from
+      (c.loop-index.invariant.value names s shows within) more
+      ∙ ap (λ m. words_from (m - place / 8) (drop (8 * (place / 8)) (splice t place text))) at_end);
 }
 
 pub returns-clause-value : goal.returns-clause-value

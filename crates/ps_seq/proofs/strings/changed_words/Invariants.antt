@@ -22,3 +22,6 @@ invariant-loop-index g l = record {
       l.words.items ≡ words_from (l.index - l.first) (drop (8 * l.first) (splice (bytes s (birth_at
       (g.M.Memory.heap l.fn.memory) l.address)) l.place l.text));
 }
+
+abbrev pub decreases-loop-index : goal.decreases-loop-index
+decreases-loop-index g l = l.last - l.index

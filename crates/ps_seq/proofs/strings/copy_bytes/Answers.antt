@@ -1,9 +1,9 @@
-use Rattle.std.proofs.Common.{◌≡◌, ℕ, List, [], ◌∷◌, ◌+◌, ◌-◌, ◌*◌, ◌/◌, ◌%◌, ◌≤◌, ◌++◌, length, take, drop, OnOk, arith, sym, ap, ◌∙◌, subst, length-drop}
+use Rattle.std.proofs.Common.{◌≡◌, ℕ, List, ◌+◌, ◌-◌, ◌*◌, ◌/◌, ◌≤◌, ◌++◌, length, take, drop, OnOk, arith, sym, ap, ◌∙◌, subst, length-drop}
 use Rattle.std.specs.Prelude.{slice_range}
 use Rattle.std.proofs.lemmas.List.{length-take-le}
 use Rattle.ps_language.specs.Access.{bytes, part_bytes, with_part_bytes, splice}
 use Rattle.ps_word.specs.declared.words.Word.{Word}
-use Rattle.ps_mem.specs.Heap.{Heap, birth_at, fields_at, stored}
+use Rattle.ps_mem.specs.Heap.{Heap, birth_at, fields_at}
 use Rattle.ps_mem.specs.Keeps.{Keeps}
 use Rattle.ps_mem.specs.Meaning.{part_of}
 use Rattle.ps_mem.specs.References.{words_for}
@@ -14,7 +14,7 @@ use Rattle.ps_seq.proofs.ByteLemmas.{all_take_bytes, all_drop_bytes}
 use Rattle.ps_seq.proofs.CompareLemmas.{length_part}
 use Rattle.ps_seq.proofs.SpliceLemmas.{words_from-run, words_from-copied}
 use Rattle.ps_seq.proofs.TextLemmas.{text_reaches, text_at}
-use Rattle.ps_seq.proofs.TextStores.{text_names, text_store_sound, text_store_keeps, text_store_shows}
+use Rattle.ps_seq.proofs.TextStores.{text_store_sound, text_store_keeps, text_store_shows}
 use Rattle.ps_seq.proofs.strings.copy_bytes.Goals as goal
 
 copied_size : (ws : List Word) (source count : ℕ) → source + count ≤ length ws

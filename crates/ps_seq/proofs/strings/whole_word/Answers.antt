@@ -1,4 +1,4 @@
-use Rattle.std.proofs.Common.{◌≡◌, length, ap, ◌∙◌, arith}
+use Rattle.std.proofs.Common.{ap, ◌∙◌, arith}
 use Rattle.ps_mem.specs.Strings.{number_of_bytes}
 use Rattle.std.proofs.lemmas.List.{take_all}
 use Rattle.ps_seq.proofs.SpliceLemmas.{from_le_bytes-number}
