@@ -9,5 +9,4 @@ pub mod Places
 pub mod Reading
 pub mod Searched
 pub mod StringReads
-pub mod Taken
 pub mod Windows

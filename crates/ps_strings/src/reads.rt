@@ -10,7 +10,7 @@ ghost use Rattle.ps_mem.specs.Shows.{IsSound, Shows};
 
 use ps_language::kinds::Kind;
 use ps_mem::Memory;
-use ps_seq::strings::byte;
+use ps_seq::reads::read_part;
 use ps_word::values::Part;
 
 /// Reads the bytes of a part of a string into the front of a list, which is at least as long. The
@@ -28,7 +28,5 @@ pub fn read_bytes<M: Memory>(memory: &mut M, part: Part, text: &mut [u8])
         → take part.length text.new
         ≡ part_bytes s (part_of (birth_at (M.heap memory.old)) part) }
 {
-    for index in 0..part.length {
-        text[index as usize] = byte(memory, part, index);
-    }
+    read_part(memory, part, &mut text[..part.length as usize]);
 }
