@@ -1,4 +1,3 @@
-pub mod Counting
 pub mod Written
 pub mod Driven
 pub mod Ranges

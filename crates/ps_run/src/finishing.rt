@@ -11,7 +11,7 @@ use crate::outputs::Flushing;
 use crate::statuses::{Status, end, line_of, status_of};
 use crate::writing::{write_number, write_part, write_unwritten};
 use ps_options::Options;
-use ps_schedules::append_schedule;
+use ps_schedules::{append_schedule, steps_of};
 use ps_vault::{Entry, Outcome, Report};
 use std::alloc::Global;
 use std::io::{self, Write};
@@ -140,15 +140,4 @@ fn tell_counts<X: Write>(report: &Report, err: &mut X) -> io::Result<()>
     write_number(err, b"flips ", u64::from(report.flips))?;
     write_number(err, b"taken ", report.taken)?;
     write_number(err, b"steps ", steps_of(report.schedule.as_slice()))
-}
-
-/// The steps of a schedule together, up to 18,446,744,073,709,551,615.
-fn steps_of(schedule: &[Entry]) -> u64
-    ensures { result ≡ min (count_of schedule.now) (2 ^ 64 - 1) }
-{
-    let mut steps = 0u64;
-    for entry in schedule {
-        steps = steps.saturating_add(u64::from(entry.steps));
-    }
-    steps
 }

@@ -1,3 +1,4 @@
+pub mod Counting
 pub mod Beginnings
 pub mod Once
 pub mod Nones

@@ -1,4 +1,5 @@
-//! The text of a schedule: a line for each entry, written and read (the profile's own).
+//! The text of a schedule: a line for each entry, written and read (the profile's own); and how many
+//! steps it has.
 //!
 //! Why so:
 //! - A text is a schedule's exactly where writing that schedule gives it: no leading zeros, one
@@ -12,8 +13,10 @@ mod fields;
 mod laws;
 mod lines;
 mod reading;
+mod steps;
 mod writing;
 
 pub use laws::schedule_text_laws;
 pub use reading::{MOST_LINE_BYTES, ScheduleFault, read_entries};
+pub use steps::steps_of;
 pub use writing::append_schedule;

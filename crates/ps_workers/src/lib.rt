@@ -24,6 +24,8 @@
 //!   known by its type alone. So program and numbers are compared at the end (`report`).
 //! - `run_serial` is over plain words, and its collector works between steps: a host that wants no
 //!   thread needs no shared word, each of which is dearer. The baton is the same.
+//! - `run_alone` is that with no lock: a host's thread makes the turns itself. So it may be called
+//!   where nothing may wait, and its return is proved.
 //! - A gate is a memory around a memory (`Gated`), so a run without one pays nothing. That it is
 //!   told of each store is shown by tests alone.
 #![tactic(auto)]
@@ -38,4 +40,4 @@ mod serving;
 mod waits;
 
 pub use gates::{Gate, Gated, Nobody, Past};
-pub use runs::{Job, run, run_beside, run_gated, run_serial, run_serial_in};
+pub use runs::{Job, run, run_alone, run_beside, run_gated, run_serial, run_serial_in};

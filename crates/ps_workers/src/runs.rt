@@ -217,24 +217,8 @@ pub fn run_serial_in<
     ensures bounded { IfOk result
         (λ report. length report.printed.items ≤ job.entry.config.output) }
 {
-    let Job {
-        interpret,
-        deeds,
-        program,
-        config,
-        keys,
-    } = job;
-    if !config.is_within() {
-        return Err(RunFault::Config);
-    }
-    let Ok(roots) = Roots::new(alloc) else {
-        return Err(RunFault::Memory);
-    };
-    let Ok(baton) = Baton::new(alloc, memory, interpret, deeds, program, config, keys) else {
-        return Err(RunFault::Memory);
-    };
-    let lent = Lent { collector, roots };
-    let shared = Mutex::new(SerialBaton { baton, lent });
+    let (program, config) = (job.program, job.config);
+    let shared = Mutex::new(SerialBaton::new(alloc, memory, collector, job)?);
     work_all_serially(rt, &shared, config.workers);
     shared.into_inner().into_report(program, config)
 }
@@ -272,4 +256,32 @@ pub fn run_serial<S: Interpret + Drop + Send, D: Deeds + Drop + Send, R: Threads
         return Err(RunFault::Memory);
     };
     run_serial_in(rt, alloc, memory, Inside, job)
+}
+
+/// As `run_serial`, made by the caller's own thread, so with no lock: it needs no handle, and
+/// returns. The number `workers` must be in its range; none is started.
+pub fn run_alone<S: Interpret + Drop, D: Deeds + Drop>(
+    alloc: Global,
+    job: Job<'_, S, D>,
+) -> Result<Report, RunFault>
+    ensures config { (result ≡ Err RunFault.Config) ↔ ¬ IsWithin job.entry.config }
+    ensures run { IfOk result (IsRunIn S.asks (bounded_space job.entry.config.space)
+        job.entry.program.now job.entry.config.steps) }
+    ensures bounded { IfOk result
+        (λ report. length report.printed.items ≤ job.entry.config.output) }
+{
+    if !job.config.is_within() {
+        return Err(RunFault::Config);
+    }
+    let Ok(memory) = space_of(alloc, job.config) else {
+        return Err(RunFault::Memory);
+    };
+    let (program, config) = (job.program, job.config);
+    let mut baton = SerialBaton::new(alloc, memory, Inside, job)?;
+    for _ in 0..u64::MAX {
+        if baton.turns() {
+            break;
+        }
+    }
+    baton.into_report(program, config)
 }

@@ -1,20 +1,23 @@
 //! Turns of a run whose collector has no thread: it acts between steps, and makes room where one is
 //! held up.
 
-ghost use Rattle.std.specs.Prelude.{◌≡◌, length, ◌+◌, ◌≤◌, ◌≢◌, false, None, Err, IfOk, IsSome};
+ghost use Rattle.std.specs.Prelude.{◌≡◌, length, ◌+◌, ◌≤◌, ◌≢◌, ◌↔◌, false, None, Err, IfOk, IsSome};
 ghost use Rattle.ps_mem.specs.Bounded.{bounded_space};
+ghost use Rattle.ps_start.specs.Starts.{IsEmptyHeap};
 ghost use Rattle.ps_vault.specs.Holds.{IsHeldUp};
-ghost use Rattle.ps_vault.specs.Reports.{IsRunIn};
+ghost use Rattle.ps_vault.specs.Reports.{IsRunIn, IsWithin};
 ghost use Rattle.ps_workers.specs.Batons.{GoesOn, SameProgress, MayGoOn};
 
 use crate::batons::{Baton, TURNS};
+use crate::runs::Job;
 use crate::serving::Lent;
 use ps_flips::collected::CollectedMemory;
 use ps_flips::sides::Collects;
 use ps_interpreter::interprets::Interpret;
 use ps_ops::failure::NotMade;
-use ps_vault::{Config, Outcome, Report, RunFault};
+use ps_vault::{Config, Outcome, Report, Roots, RunFault};
 use ps_world::deeds::Deeds;
+use std::alloc::Global;
 
 /// The actions of the collector behind the steps of a turn, in an open cycle.
 const ACTIONS: u32 = 64;
@@ -33,6 +36,48 @@ pub(crate) struct SerialBaton<
 > {
     pub(crate) baton: Baton<'a, M, S, D>,
     pub(crate) lent: Lent<C>,
+}
+
+impl<
+    'a,
+    M: CollectedMemory + Drop,
+    S: Interpret + Drop,
+    D: Deeds + Drop,
+    C: Collects<M> + Drop,
+> SerialBaton<'a, M, S, D, C> {
+    /// The baton of a run that begins, over a memory of the configuration's size in which nothing
+    /// stands. `Config`: a number is out of its range. `Memory`: the room that the run starts with
+    /// can't be had.
+    pub(crate) fn new(
+        alloc: Global,
+        memory: M,
+        collector: C,
+        job: Job<'a, S, D>,
+    ) -> Result<Self, RunFault>
+        requires empty { IsEmptyHeap (M.heap memory) }
+        requires sized { (M.heap memory).space.size ≡ job.config.space }
+        requires unmoved { (M.heap memory).space.flips ≡ 0 }
+        ensures config { (result ≡ Err RunFault.Config) ↔ ¬ IsWithin job.entry.config }
+    {
+        let Job {
+            interpret,
+            deeds,
+            program,
+            config,
+            keys,
+        } = job;
+        if !config.is_within() {
+            return Err(RunFault::Config);
+        }
+        let Ok(roots) = Roots::new(alloc) else {
+            return Err(RunFault::Memory);
+        };
+        let Ok(baton) = Baton::new(alloc, memory, interpret, deeds, program, config, keys) else {
+            return Err(RunFault::Memory);
+        };
+        let lent = Lent { collector, roots };
+        Ok(SerialBaton { baton, lent })
+    }
 }
 
 impl<

@@ -3,8 +3,8 @@ use Rattle.std.specs.Prelude.{min}
 use Rattle.ps_language.specs.declared.schedules.Entry.{Entry}
 use Rattle.ps_language.specs.Schedules.{count_of}
 use Rattle.ps_language.proofs.ScheduleLaws.{count_of-nil}
-use Rattle.ps_run.proofs.Counting.{count_next, saturated_more}
-use Rattle.ps_run.proofs.finishing.steps_of.Goals as goal
+use Rattle.ps_schedules.proofs.Counting.{count_next, saturated_more}
+use Rattle.ps_schedules.proofs.steps.steps_of.Goals as goal
 
 -- what is past the end
 abbrev none : Entry

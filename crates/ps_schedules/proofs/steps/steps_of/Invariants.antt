@@ -1,7 +1,7 @@
 use Rattle.std.proofs.Common.{◌≡◌, ◌-◌, ◌^◌, take}
 use Rattle.std.specs.Prelude.{min}
 use Rattle.ps_language.specs.Schedules.{count_of}
-use Rattle.ps_run.proofs.finishing.steps_of.Given as goal
+use Rattle.ps_schedules.proofs.steps.steps_of.Given as goal
 
 -- the steps of the entries so far
 abbrev pub invariant-loop-entry : goal.invariant-loop-entry
