@@ -1,0 +1,170 @@
+"""Runs PostScript Level 2 programs in the process of its host, by the library behind tallowmarch.h.
+
+    >>> import tallowmarch
+    >>> report = tallowmarch.run(b'1 2 add =')
+    >>> report.printed, report.outcome
+    (b'3\\n', <Outcome.FINISHED: 0>)
+
+Nothing is shared between calls: any number of threads may run programs at once, and Python's lock is not held meanwhile. A call blocks its
+thread until the program ended or its budget of steps is used up.
+
+The shared object is that of the variable TALLOWMARCH_LIBRARY, or libtallowmarch.so beside this file, or the system's. It wants Python 3.7 and
+nothing else.
+"""
+import ctypes
+import ctypes.util
+import dataclasses
+import enum
+import os
+import secrets
+import typing
+
+VERSION = 100
+_FIRST_BYTES, _FIRST_ENTRIES = 4096, 256
+
+
+class Outcome(enum.Enum):
+    """How a run ended."""
+    FINISHED = 0  #: each context finished, and no error was reported
+    FAULTED = 1  #: each context finished, and at least one line of an error was printed
+    ALL_WAITING = 3  #: a context is left, and all that are left wait
+    STEPS_OUT = 4  #: a context is ready, and the steps are used up
+    MEMORY = 5  #: memory was refused, or more was to be printed than may be; the report has what was made so far
+
+
+class Error(Exception):
+    """There is no run."""
+
+
+class OutOfRange(Error, ValueError):
+    """A number of the settings is out of its range."""
+
+
+class NoRoom(Error, MemoryError):
+    """There is no memory to start with."""
+
+
+class Entry(typing.NamedTuple):
+    """Neighbouring steps of one context in a schedule."""
+    context: int  #: the context's identifier, from 1
+    steps: int  #: how many steps
+    refused: bool = False  #: whether the last step finds no memory for an object
+    shown: typing.Optional[typing.Tuple[int, int]] = None  #: what a vmstatus in the last step shows: words used, words there are
+
+
+@dataclasses.dataclass(frozen=True)
+class Report:
+    """What a run came to."""
+    printed: bytes  #: what the program printed
+    schedule: typing.Tuple[Entry, ...]  #: which context made each step
+    outcome: Outcome  #: how it ended
+    steps: int  #: how many steps were made
+    flips: int  #: the collector's cycles
+    taken: int  #: the stores that the collector had to follow
+
+
+class _Keys(ctypes.Structure):
+    _fields_ = [('first', ctypes.c_uint64), ('second', ctypes.c_uint64)]
+
+
+class _Settings(ctypes.Structure):
+    _fields_ = [*((it, ctypes.c_uint32) for it in ('space', 'quantum', 'steps', 'plain')), ('output', ctypes.c_uint64), ('keys', _Keys)]
+
+
+class _Entry(ctypes.Structure):
+    _fields_ = [*((it, ctypes.c_uint32) for it in ('context', 'steps', 'refused', 'shown')), ('used', ctypes.c_int32), ('size', ctypes.c_int32)]
+
+
+class _Counts(ctypes.Structure):
+    _fields_ = [(it, ctypes.c_uint64) for it in ('bytes', 'entries', 'steps', 'flips', 'taken')]
+
+
+def _load():
+    """The shared object, with the types of its functions."""
+    beside = os.path.join(os.path.dirname(os.path.abspath(__file__)), 'libtallowmarch.so')
+    name = os.environ.get('TALLOWMARCH_LIBRARY') or (beside if os.path.exists(beside) else ctypes.util.find_library('tallowmarch'))
+    if not name:
+        raise ImportError('there is no libtallowmarch.so: tools/library links one, and TALLOWMARCH_LIBRARY names it')
+    library = ctypes.CDLL(name)
+    size, bytes_of, pointer = ctypes.c_size_t, ctypes.c_char_p, ctypes.POINTER
+    rooms = [pointer(ctypes.c_char), size, pointer(_Entry), size, pointer(_Counts)]
+    library.tallowmarch_version.restype = library.tallowmarch_run.restype = library.tallowmarch_replay.restype = ctypes.c_uint32
+    library.tallowmarch_version.argtypes = []
+    library.tallowmarch_run.argtypes = [bytes_of, size, pointer(_Settings), *rooms]
+    library.tallowmarch_replay.argtypes = [bytes_of, size, pointer(_Settings), pointer(_Entry), size, *rooms]
+    if library.tallowmarch_version() != VERSION:
+        raise ImportError(f'{name} is of version {library.tallowmarch_version()}, and this module of {VERSION}')
+    return library
+
+
+_LIBRARY = _load()
+_ERRORS = {16: OutOfRange('a number of the settings is out of its range'), 17: NoRoom('out of memory')}
+
+
+def _entry_of(raw):
+    return Entry(raw.context, raw.steps, raw.refused != 0, (raw.used, raw.size) if raw.shown else None)
+
+
+def _with_rooms(call):
+    """Calls with rooms of which each is large enough: where one wasn't, the call is made again, which comes to the same run."""
+    most_bytes, most_entries = _FIRST_BYTES, _FIRST_ENTRIES
+    while True:
+        printed, schedule, counts = ctypes.create_string_buffer(most_bytes), (_Entry * most_entries)(), _Counts()
+        code = call(printed, most_bytes, schedule, most_entries, counts)
+        if code in _ERRORS:
+            raise type(_ERRORS[code])(*_ERRORS[code].args)
+        if counts.bytes <= most_bytes and counts.entries <= most_entries:
+            made = tuple(_entry_of(it) for it in schedule[:counts.entries])
+            return Report(printed.raw[:counts.bytes], made, Outcome(code), counts.steps, counts.flips, counts.taken)
+        most_bytes, most_entries = max(most_bytes, counts.bytes), max(most_entries, counts.entries)
+
+
+def _keys(given):
+    return _Keys(*(given or (secrets.randbits(64), secrets.randbits(64))))
+
+
+def _within(**numbers):
+    """The numbers, if each fits what it crosses in."""
+    for name, number in numbers.items():
+        if not 0 <= number < 2 ** (64 if name == 'output' else 32):
+            raise OutOfRange(f'{name} is out of its range')
+    return numbers
+
+
+def run(program, *, space=65536, quantum=100, steps=2 ** 32 - 1, plain=False, output=0, keys=None):
+    """Runs a program, given as bytes.
+
+    space: the words, of 8 bytes, that its objects may take, 4,096 to 1,048,576; quantum: the most steps of a context's turn, 1 to 65,535;
+    steps: the most steps of the run, at least 1; plain: memory that grows and is never collected, in place of a collected space; output: the
+    most bytes that it may print, 0 for no bound; keys: two numbers of 64 bits for the table of names, else such as nobody knows.
+    Raises OutOfRange or NoRoom where there is no run; whatever the program does is no exception.
+
+    >>> run(b'{} loop', steps=1000).outcome
+    <Outcome.STEPS_OUT: 4>
+    >>> run(b'{(flood) =} loop', output=13).printed
+    b'flood\\nflood\\n'
+    >>> run(b'', space=1)
+    Traceback (most recent call last):
+    tallowmarch.OutOfRange: a number of the settings is out of its range
+    """
+    program, settings = bytes(program), _Settings(keys=_keys(keys), plain=bool(plain), **_within(space=space, quantum=quantum, steps=steps, output=output))
+    return _with_rooms(lambda *rooms: _LIBRARY.tallowmarch_run(program, len(program), settings, *rooms))
+
+
+def replay(program, schedule, *, output=0, keys=None):
+    """Follows a schedule of a run of the same program, over memory that grows and is never collected. It prints what that run printed.
+
+    output and keys are as for a run. Where memory was wanted the outcome is MEMORY, and the report has the schedule as far as it was followed.
+    Raises NoRoom where there is no memory to start with.
+
+    >>> program = b'mark {(a) print} fork mark {(b) print} fork join cleartomark join cleartomark'
+    >>> report = run(program, quantum=1)
+    >>> replay(program, report.schedule).printed == report.printed
+    True
+    """
+    settings = _Settings(keys=_keys(keys), **_within(output=output))
+    program, given = bytes(program), (_Entry * max(1, len(schedule)))()
+    for at, (context, steps, refused, shown) in enumerate(schedule):
+        _within(context=context, steps=steps)
+        given[at] = _Entry(context, steps, bool(refused), shown is not None, *(shown or (0, 0)))
+    return _with_rooms(lambda *rooms: _LIBRARY.tallowmarch_replay(program, len(program), settings, given, len(schedule), *rooms))

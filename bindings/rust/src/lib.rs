@@ -1,0 +1,255 @@
+//! Runs PostScript Level 2 programs in the host's own process, by the library behind `tallowmarch.h`.
+//!
+//! ```
+//! use tallowmarch::{Outcome, Run};
+//!
+//! let report = Run::new(b"1 2 add =").run()?;
+//! assert_eq!(report.printed, b"3\n");
+//! assert_eq!(report.outcome, Outcome::Finished);
+//! # Ok::<(), tallowmarch::Error>(())
+//! ```
+//!
+//! A run is a value: nothing is shared between calls, so any number of threads may run programs at the same time. A call blocks its thread
+//! until the program ended or its budget of steps is used up; it takes less than 256 KiB of stack.
+//!
+//! A [`Schedule`] tells which context made each step. With it a run can be made again, step by step:
+//!
+//! ```
+//! use tallowmarch::Run;
+//!
+//! let run = Run::new(b"mark {(a) print} fork mark {(b) print} fork join cleartomark join cleartomark").quantum(1);
+//! let report = run.run()?;
+//! let again = run.replay(&report.schedule)?;
+//! assert_eq!(again.printed, report.printed);
+//! # Ok::<(), tallowmarch::Error>(())
+//! ```
+#![warn(missing_docs)]
+
+use std::fmt;
+use std::hash::{BuildHasher, Hasher, RandomState};
+
+mod raw;
+
+/// A program with the settings of its run. See [`Run::new`].
+#[derive(Clone, Debug)]
+#[must_use = "nothing is run until `run` is called"]
+pub struct Run<'a> {
+    program: &'a [u8],
+    settings: raw::Settings,
+}
+
+impl<'a> Run<'a> {
+    /// A run of a program, in a collected space of 65,536 words, by turns of 100 steps, for 4,294,967,295 steps at most.
+    ///
+    /// The keys of the table of names are taken from the system's random numbers. They change nothing of what is printed.
+    pub fn new(program: &'a [u8]) -> Run<'a> {
+        let settings = raw::Settings { space: 65_536, quantum: 100, steps: u32::MAX, plain: 0, output: 0, keys: raw::Keys::random() };
+        Run { program, settings }
+    }
+
+    /// How many words, of 8 bytes, the program's objects may take: 4,096 to 1,048,576.
+    pub fn space(mut self, words: u32) -> Self {
+        self.settings.space = words;
+        self
+    }
+
+    /// The most steps of a context's turn: 1 to 65,535.
+    pub fn quantum(mut self, steps: u32) -> Self {
+        self.settings.quantum = steps;
+        self
+    }
+
+    /// The budget: the most steps of the run, at least 1. A program without end stops there, with [`Outcome::StepsOut`].
+    ///
+    /// ```
+    /// use tallowmarch::{Outcome, Run};
+    ///
+    /// let report = Run::new(b"(on it) = {} loop").steps(1000).run()?;
+    /// assert_eq!(report.outcome, Outcome::StepsOut);
+    /// assert_eq!(report.printed, b"on it\n");
+    /// assert_eq!(report.steps, 1000);
+    /// # Ok::<(), tallowmarch::Error>(())
+    /// ```
+    pub fn steps(mut self, most: u32) -> Self {
+        self.settings.steps = most;
+        self
+    }
+
+    /// The most bytes that the run may print; 0 is no bound. A step that would print past it is not made, and ends the run, with
+    /// [`Outcome::Memory`].
+    ///
+    /// ```
+    /// use tallowmarch::{Outcome, Run};
+    ///
+    /// let report = Run::new(b"{(flood) =} loop").output(13).run()?;
+    /// assert_eq!((report.outcome, &report.printed[..]), (Outcome::Memory, &b"flood\nflood\n"[..]));
+    /// # Ok::<(), tallowmarch::Error>(())
+    /// ```
+    pub fn output(mut self, most: u64) -> Self {
+        self.settings.output = most;
+        self
+    }
+
+    /// Memory that grows and is never collected, in place of a collected space.
+    pub fn plain(mut self) -> Self {
+        self.settings.plain = 1;
+        self
+    }
+
+    /// Makes the run.
+    ///
+    /// # Errors
+    ///
+    /// [`Error::OutOfRange`] where a number of the settings is out of its range, and [`Error::NoRoom`] where there is no memory to start with.
+    /// Whatever the program does is no error of the call: see [`Report::outcome`].
+    ///
+    /// ```
+    /// use tallowmarch::{Error, Run};
+    ///
+    /// assert_eq!(Run::new(b"").space(1).run(), Err(Error::OutOfRange));
+    /// ```
+    pub fn run(&self) -> Result<Report, Error> {
+        raw::run(self.program, &self.settings)
+    }
+
+    /// Follows a schedule of a run of this program, by whatever settings, over memory that grows and is never collected. It prints what that run
+    /// printed. Of these settings the bound on the output alone counts. With [`Outcome::Memory`] the report has the schedule as far as it was
+    /// followed.
+    ///
+    /// # Errors
+    ///
+    /// [`Error::NoRoom`] where there is no memory to start with.
+    pub fn replay(&self, schedule: &Schedule) -> Result<Report, Error> {
+        raw::replay(self.program, &self.settings, &schedule.0)
+    }
+}
+
+/// What a run came to.
+#[derive(Clone, Debug, PartialEq, Eq)]
+pub struct Report {
+    /// The bytes that the program printed.
+    pub printed: Vec<u8>,
+    /// Which context made each step.
+    pub schedule: Schedule,
+    /// How the run ended.
+    pub outcome: Outcome,
+    /// How many steps were made; 18,446,744,073,709,551,615 where there were more.
+    pub steps: u64,
+    /// The collector's cycles.
+    pub flips: u64,
+    /// The stores that the collector had to follow.
+    pub taken: u64,
+}
+
+/// How a run ended.
+#[derive(Clone, Copy, Debug, PartialEq, Eq, Hash)]
+pub enum Outcome {
+    /// Each context finished, and no error was reported.
+    Finished,
+    /// Each context finished, and at least one line of an error was printed.
+    Faulted,
+    /// A context is left, and all that are left wait.
+    AllWaiting,
+    /// A context is ready, and the steps are used up.
+    StepsOut,
+    /// Memory was refused, or more was to be printed than the run may; the report has what was made so far.
+    Memory,
+}
+
+/// Why there is no run.
+#[derive(Clone, Copy, Debug, PartialEq, Eq, Hash)]
+pub enum Error {
+    /// A number of the settings is out of its range.
+    OutOfRange,
+    /// There is no memory to start with.
+    NoRoom,
+    /// The library is of another version than this crate.
+    Version,
+}
+
+impl fmt::Display for Error {
+    fn fmt(&self, f: &mut fmt::Formatter<'_>) -> fmt::Result {
+        f.write_str(match self {
+            Error::OutOfRange => "a number of the settings is out of its range",
+            Error::NoRoom => "out of memory",
+            Error::Version => "libtallowmarch is of another version",
+        })
+    }
+}
+
+impl std::error::Error for Error {}
+
+/// Neighbouring steps of one context in a schedule.
+#[derive(Clone, Copy, Debug, PartialEq, Eq, Hash)]
+pub struct Entry {
+    /// The context's identifier, from 1.
+    pub context: u32,
+    /// How many steps.
+    pub steps: u32,
+    /// Whether the last step finds no memory for an object.
+    pub refused: bool,
+    /// What a `vmstatus` in the last step shows, if one does: the words used, and the words there are.
+    pub shown: Option<(i32, i32)>,
+}
+
+/// Which context made each step of a run.
+#[derive(Clone, Debug, Default, PartialEq, Eq)]
+pub struct Schedule(Vec<raw::Entry>);
+
+impl Schedule {
+    /// The entries, in order.
+    pub fn entries(&self) -> impl ExactSizeIterator<Item = Entry> + '_ {
+        self.0.iter().map(|entry| Entry {
+            context: entry.context,
+            steps: entry.steps,
+            refused: entry.refused != 0,
+            shown: (entry.shown != 0).then_some((entry.used, entry.size)),
+        })
+    }
+
+    /// How many entries there are.
+    pub fn len(&self) -> usize {
+        self.0.len()
+    }
+
+    /// Whether there is no entry.
+    pub fn is_empty(&self) -> bool {
+        self.0.is_empty()
+    }
+}
+
+impl FromIterator<Entry> for Schedule {
+    fn from_iter<I: IntoIterator<Item = Entry>>(entries: I) -> Schedule {
+        let raw = |entry: Entry| {
+            let (used, size) = entry.shown.unwrap_or_default();
+            raw::Entry {
+                context: entry.context,
+                steps: entry.steps,
+                refused: entry.refused.into(),
+                shown: entry.shown.is_some().into(),
+                used,
+                size,
+            }
+        };
+        Schedule(entries.into_iter().map(raw).collect())
+    }
+}
+
+impl fmt::Display for Schedule {
+    /// The text that `dpsrun --record` writes and `dpsrun --replay` reads: a line for each entry.
+    fn fmt(&self, f: &mut fmt::Formatter<'_>) -> fmt::Result {
+        for entry in self.entries() {
+            write!(f, "{} {} {}", entry.context, entry.steps, u8::from(entry.refused))?;
+            if let Some((used, size)) = entry.shown {
+                write!(f, " {used} {size}")?;
+            }
+            writeln!(f)?;
+        }
+        Ok(())
+    }
+}
+
+/// A random number of the system's, as a hash map of std takes its own.
+fn random() -> u64 {
+    RandomState::new().build_hasher().finish()
+}

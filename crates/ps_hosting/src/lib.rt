@@ -1,0 +1,23 @@
+//! Runs for hosts in other languages: numbers and the host's own rooms in, and what a run printed,
+//! its schedule and its counts out.
+//!
+//! Why so:
+//! - All that crosses is numbers, since no handle, callback or cell may. So a call keeps nothing, and
+//!   any number of a host's threads may call at once.
+//! - Who makes the steps is a parameter. The exports name the language's, and cite these contracts.
+//! - A host's flag may be any number, so no byte of a host's is a value that no type has.
+//! - Codes below 16 are the statuses of `dpsrun`, and tell how a run ended; behind the others no run
+//!   stands, and nothing was written.
+#![tactic(auto)]
+
+mod handing;
+mod hosting;
+mod keys;
+mod laws;
+mod numbers;
+
+pub use handing::hand_out;
+pub use hosting::{Makers, Refusal, replay_for, run_for};
+pub use keys::Keys;
+pub use laws::host_entry_laws;
+pub use numbers::{Counts, HostEntry, Settings};

@@ -1,0 +1,94 @@
+//! The exports for hosts in other languages: each makes what its function of `ps_hosting` makes, by
+//! the steps and the operators of the language, and hands it out.
+//!
+//! Why so:
+//! - What crosses is flat, a room as a pointer and a number, so an export has more parameters than
+//!   another function.
+//! - An export has no handle: it takes no lock and starts no thread, so it returns.
+#![tactic(auto)]
+
+ghost use Rattle.std.specs.Prelude.{◌≡◌, map, Result};
+ghost use Rattle.ps_vault.specs.declared.reports.Report.{Report};
+ghost use Rattle.ps_hosting.specs.declared.hosting.Refusal.{Refusal};
+ghost use Rattle.ps_hosting.specs.Hosts.{given_entry, IsFollowed, IsHandedOut, IsMade};
+
+use ps_context::steps::Steps;
+use ps_deeds::operators::WorldOperators;
+use ps_dispatch::operators::Operators;
+use ps_hosting::{Counts, HostEntry, Makers, Settings, hand_out, replay_for, run_for};
+use ps_interpreter::interprets::Interpret;
+use std::alloc::Global;
+
+/// The version of this interface: 10,000 for each first number, 100 for each second one, 1 for each
+/// third one.
+const VERSION: u32 = 100;
+
+/// The version of this interface, which a host compares with that of its header.
+#[unsafe(no_mangle)]
+pub extern "C" fn tallowmarch_version() -> u32
+    ensures { result ≡ 100 }
+{
+    VERSION
+}
+
+/// Who makes the steps and does the operators of the language.
+fn makers(alloc: Global) -> Makers<Steps<Operators>, WorldOperators> {
+    Makers {
+        interpret: Steps {
+            operators: Operators,
+            text: Vec::new(alloc),
+        },
+        deeds: WorldOperators { alloc },
+    }
+}
+
+/// Runs a program, and hands out what it printed, its schedule and its counts. The result says how
+/// it ended: 0 where each context finished, 1 where an error was printed too, 3 where all contexts
+/// wait, 4 where the steps are used up, 5 where memory was wanted or more was to be printed than may
+/// be. With 16 a number is out of its range, and with 17 there was no room to start with: then
+/// nothing is written.
+///
+/// Of the bytes and of the entries as many are written as there is room for, from the first on.
+#[unsafe(no_mangle)]
+pub extern "C" fn tallowmarch_run(
+    alloc: Global,
+    program: &[u8],
+    settings: &Settings,
+    printed: &mut [u8],
+    schedule: &mut [HostEntry],
+    counts: &mut Counts,
+) -> u32
+    ensures { (made : Result Report Refusal)
+        × IsMade ⟦<Steps<Operators> as Interpret>⟧.asks program.now settings.now made
+        × IsHandedOut made
+        (record { printed = printed.old; schedule = schedule.old; counts = counts.old })
+        (record { printed = printed.new; schedule = schedule.new; counts = counts.new }) result }
+{
+    let made = run_for(alloc, makers(alloc), program, settings);
+    hand_out(&made, printed, schedule, counts)
+}
+
+/// Follows a schedule over memory that is never collected, and hands out what was printed, the
+/// steps that were made and their counts. Of the settings the keys and the bound on the output count.
+/// The results are those of `tallowmarch_run`, without 16: with 5 the schedule was followed as far as
+/// memory and that bound went.
+#[unsafe(no_mangle)]
+pub extern "C" fn tallowmarch_replay(
+    alloc: Global,
+    program: &[u8],
+    settings: &Settings,
+    given: &[HostEntry],
+    printed: &mut [u8],
+    schedule: &mut [HostEntry],
+    counts: &mut Counts,
+) -> u32
+    ensures { (made : Result Report Refusal)
+        × IsFollowed ⟦<Steps<Operators> as Interpret>⟧.asks program.now settings.now
+        (map given_entry given.now) made
+        × IsHandedOut made
+        (record { printed = printed.old; schedule = schedule.old; counts = counts.old })
+        (record { printed = printed.new; schedule = schedule.new; counts = counts.new }) result }
+{
+    let made = replay_for(alloc, makers(alloc), program, settings, given);
+    hand_out(&made, printed, schedule, counts)
+}
