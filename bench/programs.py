@@ -1,7 +1,11 @@
-"""Ten programs, each of which spends its time in one thing.
+"""Ten programs, each of which spends its time in one thing, and ten in ordinary style.
 
-Each has its name, how many rounds are enough to count its instructions, how many to measure its time, and its text, which makes `n` rounds.
+Each of the first has its name, how many rounds are enough to count its instructions, how many to measure its time, and its text, which makes
+`n` rounds. The others are the files of bench/ordinary, whose first line says how many rounds they make.
 """
+import glob
+import os
+
 PROGRAMS = [
     ('integer loop, bound', 20000, 6000000, '0 1 1 n { 3 mul add 65521 mod } bind for ='),
     ('nested loops, not bound', 1, 60,
@@ -39,3 +43,12 @@ PROGRAMS = [
 def text_of(text, rounds):
     """The program that makes so many rounds."""
     return f'/n {rounds} def\n{text}\n'
+
+
+def ordinary():
+    """The names and texts of the programs in ordinary style."""
+    made = []
+    for path in sorted(glob.glob(os.path.join(os.path.dirname(os.path.abspath(__file__)), 'ordinary', '*.ps'))):
+        with open(path, encoding='ascii') as file:
+            made.append((os.path.basename(path).removesuffix('.ps'), file.read()))
+    return made
