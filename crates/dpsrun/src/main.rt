@@ -12,7 +12,7 @@ use ps_dispatch::operators::Operators;
 use ps_run::{FileSet, Flushed, ReadFault, WriteFault, drive, refuse_no_text};
 use std::alloc::Global;
 use std::env;
-use std::fs::{self, File, Files};
+use std::fs::{self, File, Files, Permissions};
 use std::hash::RandomState;
 use std::io::{self, Lock, Read, StdinLock, Write};
 use std::process::ExitCode;
@@ -94,25 +94,61 @@ fn file_beside(rt: &HostRuntime, name: &str) -> io::Result<(String, File)> {
     Err(io::Error::from(io::ErrorKind::AlreadyExists))
 }
 
+/// Whether this failure to make a file leaves it open that one of that name can be written: the folder
+/// takes no new file, or each name beside it is taken.
+fn is_of_folder(error: &io::Error) -> bool {
+    matches!(
+        error.kind(),
+        io::ErrorKind::PermissionDenied | io::ErrorKind::AlreadyExists
+    )
+}
+
+/// Writes these bytes and lets a file take a name.
+fn take_name(
+    rt: &HostRuntime,
+    file: &mut File,
+    names: (&str, &str),
+    bytes: &[u8],
+) -> io::Result<()> {
+    file.write_all(bytes)?;
+    fs::rename(rt, names.0, names.1)
+}
+
 /// Puts bytes in the place of a file, or makes it: they are written beside it, and what has them takes
-/// its name. Where that fails, as on a full disk, the file is as it was.
-fn replace_file(rt: &HostRuntime, name: &str, bytes: &[u8]) -> io::Result<()> {
-    let (beside, mut file) = file_beside(rt, name)?;
-    let written = file
-        .write_all(bytes)
-        .and_then(|()| fs::rename(rt, beside.as_str(), name));
+/// its name, with what the old one says of who may read and write it. Where that fails, as on a full
+/// disk, the file is as it was. Where no file can be made beside it, it is written itself.
+fn replace_file(
+    rt: &HostRuntime,
+    name: &str,
+    old: Option<Permissions>,
+    bytes: &[u8],
+) -> io::Result<()> {
+    let (beside, mut file) = match file_beside(rt, name) {
+        Ok(made) => made,
+        Err(error) if is_of_folder(&error) => return fs::write(rt, name, bytes),
+        Err(error) => return Err(error),
+    };
+    if let Some(permissions) = old {
+        let _ = file.set_permissions(permissions);
+    }
+    let written = take_name(rt, &mut file, (beside.as_str(), name), bytes);
     if written.is_err() {
         let _ = fs::remove_file(rt, beside.as_str());
     }
     written
 }
 
-/// Writes a file: an ordinary one, or one that isn't there, is replaced, and another, as a device, a
-/// pipe or a link, takes the bytes.
+/// Writes a file: an ordinary one that may be written, or one that isn't there, is replaced, and
+/// another, as a device, a pipe or a link, takes the bytes. One that may only be read stays.
 fn write_file(rt: &HostRuntime, name: &str, bytes: &[u8]) -> io::Result<()> {
     match rt.symlink_metadata(name) {
-        Ok(known) if known.is_file() => replace_file(rt, name, bytes),
-        Err(error) if error.kind() == io::ErrorKind::NotFound => replace_file(rt, name, bytes),
+        Ok(known) if known.is_file() => {
+            File::options().append(true).open(rt, name)?;
+            replace_file(rt, name, Some(known.permissions()), bytes)
+        }
+        Err(error) if error.kind() == io::ErrorKind::NotFound => {
+            replace_file(rt, name, None, bytes)
+        }
         Ok(_) | Err(_) => fs::write(rt, name, bytes),
     }
 }
