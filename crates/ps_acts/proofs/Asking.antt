@@ -6,7 +6,7 @@ use Rattle.ps_language.specs.Value.{Part, Value, Object, Store}
 use Rattle.ps_language.specs.Outcome.{Outcome, leaves, fails, given, given_that, Change}
 use Rattle.ps_language.specs.Objects.{made_between, making, changing}
 use Rattle.ps_language.specs.Access.{with_part_elements}
-use Rattle.ps_language.specs.ArrayRows.{array_put_row}
+use Rattle.ps_ops.specs.ArrayRows.{array_put_row}
 use Rattle.ps_language.specs.RowsSequences.{array_row, end_array_row, string_row, astore_row}
 use Rattle.ps_language.proofs.AskedLemmas.{elements-unasked}
 

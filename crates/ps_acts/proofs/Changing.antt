@@ -12,7 +12,7 @@ use Rattle.ps_language.specs.Readers.{as_array, array_in, as_integer, index_belo
 use Rattle.ps_language.specs.Effect.{Scene, makes}
 use Rattle.ps_language.specs.Acts.{change_effect}
 use Rattle.ps_language.specs.Rows.{changing_row}
-use Rattle.ps_language.specs.ArrayRows.{array_put_row}
+use Rattle.ps_ops.specs.ArrayRows.{array_put_row}
 use Rattle.ps_language.specs.RowsSequences.{astore_row}
 use Rattle.ps_language.proofs.AskedLemmas.{made-new}
 use Rattle.ps_word.specs.declared.words.Word.{Word}

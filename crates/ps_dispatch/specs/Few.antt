@@ -6,7 +6,7 @@ use Rattle.ps_language.specs.declared.operators.Operator.{Operator}
 use Rattle.ps_language.specs.declared.operators.Operator.TheVariants.{Put, Copy, PutInterval, Astore, Search, EndDict, Def, Store as StoreKey, Undef, NoAccess, ReadOnly, Cvs}
 use Rattle.ps_language.specs.Access.{dictionary_at}
 use Rattle.ps_language.specs.Acts.{effect_of}
-use Rattle.ps_language.specs.ArrayRows.{topmost_count}
+use Rattle.ps_ops.specs.ArrayRows.{topmost_count}
 use Rattle.ps_language.specs.Dictionaries.{current, look_up}
 use Rattle.ps_language.specs.Effect.{Scene, Effect, unwinds, raises, calls}
 use Rattle.ps_language.specs.Equality.{key_of}

@@ -5,7 +5,7 @@ use Rattle.ps_language.specs.declared.operators.Operator.TheVariants.{Put, Copy,
 use Rattle.ps_language.specs.Effect.{Scene}
 use Rattle.ps_language.specs.Scan.{scan}
 use Rattle.ps_language.specs.Rows.{Row, row_of}
-use Rattle.ps_language.specs.ArrayRows.{topmost_count}
+use Rattle.ps_ops.specs.ArrayRows.{topmost_count}
 use Rattle.ps_sequence_operators.specs.Asks.{putinterval_asks, reduce_asks, search_asks}
 use Rattle.ps_conversion_operators.specs.Asks.{cvs_asks}
 use Rattle.ps_dictionary_operators.specs.Asks.{def_asks, end_dict_asks, store_asks, undef_asks}

@@ -1,6 +1,5 @@
 pub mod Access
 pub mod Acts
-pub mod ArrayRows
 pub mod Bytes
 pub mod Contexts
 pub mod Control

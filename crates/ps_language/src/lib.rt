@@ -14,8 +14,6 @@
 //!   shows need no exception. It can't be told from a context that never was.
 //! - The operators on contexts, `vmstatus` and `vmreclaim` are left to the world with their element
 //!   taken. So no other step is handed the contexts or the numbers that memory shows.
-//! - The rows of `ArrayRows` are cut from the whole rows, so that each operator on arrays alone is
-//!   exact for every operand. They cost a short definition each.
 //! - The three entries of an error are noted in the step that raises it, and each later step takes
 //!   one frame off. So a step is small, and a context with many frames ends that many steps later.
 #![tactic(auto)]

@@ -18,7 +18,7 @@ use Rattle.ps_mem.specs.References.{StandsAs}
 use Rattle.ps_mem.specs.Meaning.{value_of, part_of}
 use Rattle.ps_mem.specs.Shows.{IsValue, AreValues, IsSound, IsReady, IsWithin, AreWithin, Shows}
 use Rattle.ps_mem.proofs.Lists.{all_drop}
-use Rattle.ps_language.specs.ArrayRows.{topmost_count}
+use Rattle.ps_ops.specs.ArrayRows.{topmost_count}
 use Rattle.ps_ops.specs.Does.{values_in, Changes}
 use Rattle.ps_ops.proofs.Operands.{first_split}
 use Rattle.ps_ops.proofs.Held.{first_held, rest_held}

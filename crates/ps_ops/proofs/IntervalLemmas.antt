@@ -16,7 +16,7 @@ use Rattle.ps_mem.specs.Keeps.{Keeps}
 use Rattle.ps_mem.specs.References.{StandsAs}
 use Rattle.ps_mem.specs.Meaning.{value_of, part_of}
 use Rattle.ps_mem.specs.Shows.{IsValue, AreValues, IsReady, IsWithin, AreWithin, Shows}
-use Rattle.ps_language.specs.ArrayRows.{array_putinterval_row, array_copy_row, topmost_count, second_count}
+use Rattle.ps_ops.specs.ArrayRows.{array_putinterval_row, array_copy_row, topmost_count, second_count}
 use Rattle.ps_ops.specs.Does.{values_in, Changes}
 use Rattle.ps_ops.proofs.Operands.{first_two_split, first_three_split}
 use Rattle.ps_ops.proofs.Held.{rest_held}

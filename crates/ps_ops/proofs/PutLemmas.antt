@@ -14,7 +14,7 @@ use Rattle.ps_mem.specs.Keeps.{Keeps}
 use Rattle.ps_mem.specs.References.{StandsAs}
 use Rattle.ps_mem.specs.Meaning.{value_of, part_of}
 use Rattle.ps_mem.specs.Shows.{IsValue, AreValues, IsSound, IsReady, IsWithin, AreWithin, Shows}
-use Rattle.ps_language.specs.ArrayRows.{array_put_row, one_stored}
+use Rattle.ps_ops.specs.ArrayRows.{array_put_row, one_stored}
 use Rattle.ps_ops.specs.Does.{values_in, Changes}
 use Rattle.ps_ops.proofs.Operands.{first_three_split}
 use Rattle.ps_ops.proofs.Held.{first_of_three_held, rest_held}

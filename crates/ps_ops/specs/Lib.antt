@@ -1,1 +1,2 @@
+pub mod ArrayRows
 pub mod Does

@@ -8,8 +8,8 @@ ghost use Rattle.ps_language.specs.RowsSequences.{aload_row};
 ghost use Rattle.ps_mem.specs.Heap.{Heap, fields_at};
 ghost use Rattle.ps_mem.specs.References.{StandsAs};
 ghost use Rattle.ps_mem.specs.Shows.{IsReady};
-ghost use Rattle.ps_language.specs.ArrayRows as rows;
-ghost use Rattle.ps_language.specs.ArrayRows.{array_get_row};
+ghost use Rattle.ps_ops.specs.ArrayRows as rows;
+ghost use Rattle.ps_ops.specs.ArrayRows.{array_get_row};
 ghost use Rattle.ps_ops.specs.Does.{Observes};
 
 use crate::Operands;

@@ -10,8 +10,8 @@ ghost use Rattle.ps_mem.specs.References.{StandsAs};
 ghost use Rattle.ps_mem.specs.Meaning.{part_of};
 ghost use Rattle.ps_mem.specs.Keeps.{Keeps};
 ghost use Rattle.ps_mem.specs.Shows.{IsSound, IsReady, AreWithin, Shows};
-ghost use Rattle.ps_language.specs.ArrayRows as rows;
-ghost use Rattle.ps_language.specs.ArrayRows.{array_putinterval_row, topmost_count};
+ghost use Rattle.ps_ops.specs.ArrayRows as rows;
+ghost use Rattle.ps_ops.specs.ArrayRows.{array_putinterval_row, topmost_count};
 ghost use Rattle.ps_ops.specs.Does.{values_in, Changes, KeepsLogs, KeepsLogsWithin, spent};
 
 use crate::Operands;

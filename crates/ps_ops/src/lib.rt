@@ -5,6 +5,8 @@
 //!   speaks of what is granted after the call, since a memory may go by an old head of the log.
 //! - `IsReasonFor` is the one table of why a step is not made. A reason for records alone has a
 //!   case for words in it, to which nothing can come.
+//! - The rows of `ArrayRows` are cut from the language's whole rows, so that each operator on arrays
+//!   alone is exact for every operand. They cost a short definition each.
 //! - An operator puts at most `most_records` records, which is five: an error's entries take so
 //!   many. Each operator's own clause says what it asks for.
 #![tactic(auto)]

@@ -6,7 +6,7 @@ use Rattle.ps_language.specs.Value.{What, array_value, string_value, dictionary_
 use Rattle.ps_language.specs.Outcome.{given, unchanged, unnamed}
 use Rattle.ps_language.specs.Readers.{array_in, string_in, dictionary_in, as_array, as_string, as_dictionary}
 use Rattle.ps_language.specs.Acts.{naming_effect}
-use Rattle.ps_language.specs.ArrayRows.{array_get_row, array_put_row}
+use Rattle.ps_ops.specs.ArrayRows.{array_get_row, array_put_row}
 use Rattle.ps_language.specs.Rows.{reading_row, changing_row, naming_row}
 use Rattle.ps_language.specs.RowsDictionaries.{get_by, get_row, put_by, put_row}
 use Rattle.ps_language.specs.RowsSequences.{get_element, get_byte, put_element, put_byte}

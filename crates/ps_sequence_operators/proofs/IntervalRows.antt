@@ -4,7 +4,7 @@ use Rattle.std.specs.Prelude.{is_some}
 use Rattle.ps_language.specs.Value.{What, array_value, string_value, Value, Store}
 use Rattle.ps_language.specs.Readers.{array_in, string_in, as_array, as_string}
 use Rattle.ps_language.specs.Acts.{operands_effect}
-use Rattle.ps_language.specs.ArrayRows.{array_getinterval_row}
+use Rattle.ps_ops.specs.ArrayRows.{array_getinterval_row}
 use Rattle.ps_language.specs.Rows.{reading_row}
 use Rattle.ps_language.specs.RowsSequences.{sequence_in, as_sequence, getinterval_row}
 use Rattle.ps_word.specs.declared.words.Word.{Word}

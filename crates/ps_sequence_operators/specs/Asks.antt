@@ -1,7 +1,7 @@
 -- What the operators that change strings and arrays ask for, and why they are not made.
 use Rattle.std.specs.Prelude.{ℕ, ◌+◌, min, List, ◌∷◌, vec_capacity}
 use Rattle.ps_language.specs.Value.{What, integer_value, array_value, string_value, dictionary_value, Value}
-use Rattle.ps_language.specs.ArrayRows.{count_in}
+use Rattle.ps_ops.specs.ArrayRows.{count_in}
 use Rattle.ps_language.specs.Readers.{as_string}
 use Rattle.ps_language.specs.Effect.{Scene}
 use Rattle.ps_mem.specs.Heap.{Grants}

@@ -2,7 +2,7 @@
 //! Array, String).
 
 ghost use Rattle.std.specs.Prelude.{◌≡◌, ◌<◌, false};
-ghost use Rattle.ps_language.specs.ArrayRows.{one_stored, topmost_count};
+ghost use Rattle.ps_ops.specs.ArrayRows.{one_stored, topmost_count};
 ghost use Rattle.ps_language.specs.Rows.{changing_row, naming_row};
 ghost use Rattle.ps_language.specs.RowsDictionaries.{get_row, put_row};
 ghost use Rattle.ps_language.specs.RowsSequences as sequences;

@@ -8,7 +8,7 @@ use Rattle.ps_language.specs.Outcome.{Outcome, Change}
 use Rattle.ps_language.specs.Objects.{changing}
 use Rattle.ps_language.specs.Readers.{as_string, as_integer, index_below}
 use Rattle.ps_language.specs.Access.{is_writable, bytes, bytes_in, with_bytes, with_part_bytes, splice}
-use Rattle.ps_language.specs.ArrayRows.{one_stored}
+use Rattle.ps_ops.specs.ArrayRows.{one_stored}
 use Rattle.ps_stacks.specs.Tops.{first_three_of}
 use Rattle.ps_word.specs.declared.words.Word.{Word}
 use Rattle.ps_word.specs.declared.values.Part.{Part}

@@ -3,7 +3,7 @@ use Rattle.std.specs.Prelude.{◌≡◌, ◌⊎◌, ℕ, ◌+◌, ◌-◌, ◌<�
 use Rattle.ps_language.specs.Value.{Value, Store}
 use Rattle.ps_language.specs.Outcome.{Outcome}
 use Rattle.ps_language.specs.Readers.{as_string, boolean, part_at, with_part}
-use Rattle.ps_language.specs.ArrayRows.{count_in}
+use Rattle.ps_ops.specs.ArrayRows.{count_in}
 use Rattle.ps_word.specs.declared.words.Word.{Word}
 use Rattle.ps_word.specs.declared.values.Part.{Part}
 use Rattle.ps_mem.specs.Heap.{Heap}

@@ -7,7 +7,7 @@ use Rattle.ps_language.specs.Value.{Value, Store}
 use Rattle.ps_language.specs.Outcome.{Outcome, leaves, fails, given, given_that, Change}
 use Rattle.ps_language.specs.Readers.{natural, as_integer, as_string, count_of, part_at, with_part}
 use Rattle.ps_language.specs.Access.{is_readable, is_writable, part_bytes, with_part_bytes}
-use Rattle.ps_language.specs.ArrayRows.{count_in}
+use Rattle.ps_ops.specs.ArrayRows.{count_in}
 use Rattle.ps_language.specs.Objects.{changing}
 use Rattle.ps_language.specs.RowsSequences.{get_byte, put_byte, interval_within}
 

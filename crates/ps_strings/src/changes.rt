@@ -1,7 +1,7 @@
 //! The operators that change strings (PLRM2, 8 'Operators': String).
 
 ghost use Rattle.std.specs.Prelude.{◌≡◌, ◌<◌};
-ghost use Rattle.ps_language.specs.ArrayRows.{one_stored};
+ghost use Rattle.ps_ops.specs.ArrayRows.{one_stored};
 ghost use Rattle.ps_mem.specs.Heap.{Heap};
 ghost use Rattle.ps_mem.specs.Keeps.{Keeps};
 ghost use Rattle.ps_mem.specs.Shows.{IsReady};

@@ -6,7 +6,7 @@ use Rattle.ps_word.specs.declared.words.Word.{Word}
 use Rattle.ps_mem.specs.Meaning.{part_of}
 use Rattle.ps_mem.specs.Heap.{Heap, birth_at}
 use Rattle.ps_mem.specs.Shows.{IsValue, IsReady, AreWithin, Shows}
-use Rattle.ps_language.specs.ArrayRows.{topmost_count}
+use Rattle.ps_ops.specs.ArrayRows.{topmost_count}
 use Rattle.ps_ops.specs.Does.{values_in, Changes}
 use Rattle.ps_ops.proofs.Held.{first_held}
 use Rattle.ps_ops.proofs.AstoreLemmas.{astore_ready, astore_does}

@@ -6,7 +6,7 @@ use Rattle.ps_mem.specs.Heap.{Heap}
 use Rattle.ps_mem.specs.References.{StandsAs}
 use Rattle.ps_mem.specs.Meaning.{value_of, part_of}
 use Rattle.ps_mem.specs.Shows.{IsValue, IsReady}
-use Rattle.ps_language.specs.ArrayRows.{array_copy_row, second_count}
+use Rattle.ps_ops.specs.ArrayRows.{array_copy_row, second_count}
 use Rattle.ps_ops.specs.Does.{Changes}
 use Rattle.ps_ops.proofs.Held.{first_of_two_held, replaced_held, stands_less}
 use Rattle.ps_ops.proofs.Changed.{ready_changed}

@@ -3,7 +3,7 @@ use mir.Val.{SFits}
 use Rattle.std.proofs.lemmas.Int.{to_z-of_z}
 use Rattle.ps_mem.specs.Heap.{Heap}
 use Rattle.ps_mem.specs.Shows.{IsValue, IsReady}
-use Rattle.ps_language.specs.ArrayRows.{array_putinterval_row, topmost_count}
+use Rattle.ps_ops.specs.ArrayRows.{array_putinterval_row, topmost_count}
 use Rattle.ps_ops.specs.Does.{Changes}
 use Rattle.ps_ops.proofs.Held.{third_held}
 use Rattle.ps_ops.proofs.PutLemmas.{put_ready}

@@ -1,7 +1,7 @@
 use Rattle.std.proofs.Common.{sym, subst, ◌∙◌, Ok, rules, w32, arith}
 use mir.Val.{SFits}
 use Rattle.std.proofs.lemmas.Int.{to_z-of_z}
-use Rattle.ps_language.specs.ArrayRows.{one_stored}
+use Rattle.ps_ops.specs.ArrayRows.{one_stored}
 use Rattle.ps_mem.specs.Heap.{Heap}
 use Rattle.ps_mem.specs.Shows.{IsValue, IsReady, AreValues}
 use Rattle.ps_ops.specs.Does.{Changes}
