@@ -4,7 +4,7 @@ use Rattle.std.specs.Fmt.{decimal}
 use Rattle.std.specs.Io.KnownBytes.{Appends}
 use Rattle.ps_language.specs.declared.schedules.Entry.{Entry}
 use Rattle.ps_language.specs.Effect.{Around, Scene}
-use Rattle.ps_language.specs.Schedules.{count_of, moves, Begins}
+use Rattle.ps_language.specs.Schedules.{count_of, moves}
 use Rattle.ps_language.specs.World as world
 use Rattle.ps_language.specs.Worlds as worlds
 use Rattle.ps_acts.specs.Acts as acts
@@ -21,7 +21,7 @@ use Rattle.ps_vault.specs.declared.reports.Report.{Report}
 use Rattle.ps_vault.specs.declared.reports.Outcome.TheVariants.{Finished, Faulted, AllWaiting, StepsOut, Memory}
 use Rattle.ps_vault.specs.Endings.{AreEndings}
 use Rattle.ps_vault.specs.Order.{InOrder}
-use Rattle.ps_vault.specs.Reports.{EndsAs, IsRunIn, IsWithin, MayWantNext, are_ordinary, is_memory}
+use Rattle.ps_vault.specs.Reports.{IsReplayOf, IsRunIn, IsUncollected, IsWithin, are_ordinary}
 use Rattle.ps_run.specs.declared.files.ReadFault.{ReadFault}
 use Rattle.ps_run.specs.declared.files.ReadFault.TheVariants as fault
 use Rattle.ps_run.specs.declared.statuses.Status.{Status}
@@ -185,25 +185,8 @@ IsRecorded contents None schedule = ⊤
 IsRecorded contents (Some name) schedule =
     IfSome (contents name) (λ bytes. bytes ≡ text_of schedule)
 
--- no collector has worked
-abbrev pub IsUncollected : Report → Type 0
-IsUncollected report = (report.flips ≡ 0) × (report.taken ≡ 0)
-
 -- asks: what a step asks for that the language doesn't say
 module _ (asks : world.Status → Around → Scene → acts.Asked) (program : List ℕ) where
-  -- a run under a given schedule: its bytes are those that the definitions print under the steps
-  -- that were made. Those steps are all that are given, or for want of memory fewer, and the
-  -- outcome is that of their world
-  pub record IsReplayOf (given : List Entry) (report : Report) : Type 0 where
-    pub prints : report.printed.items ≡ worlds.printed program report.schedule.items
-    pub begins : Begins report.schedule.items given
-    pub whole : is_memory report.outcome ≡ false → report.schedule.items ≡ given
-    pub refused : is_memory report.outcome ≡ true
-        → count_of report.schedule.items < count_of given
-    pub ends : EndsAs (worlds.world program report.schedule.items) (not (is_memory report.outcome))
-        (MayWantNext asks program given report.schedule.items) report.outcome
-    pub uncollected : IsUncollected report
-
   -- a run with a budget of steps, in a memory of this space, whose schedule has a text that can be
   -- read again
   pub record IsRecordable (space : Space) (steps : ℕ) (report : Report) : Type 0 where
@@ -223,7 +206,7 @@ module _ (asks : world.Status → Around → Scene → acts.Asked) (program : Li
   IsMade None asked report =
       IsRecordable (space_of asked) asked.steps report
       × (asked.plain ≡ true → IsPlain asked.quantum report)
-  IsMade (Some given) asked report = IsReplayOf given report
+  IsMade (Some given) asked report = IsReplayOf asks program given report
 
 -- a run of a file's bytes, under the schedule of another file where one is named
 pub record IsFileRun (asks : world.Status → Around → Scene → acts.Asked) (contents : Contents)

@@ -4,7 +4,7 @@ use Rattle.std.specs.List.{list_all}
 use Rattle.ps_language.specs.declared.schedules.Entry.{Entry}
 use Rattle.ps_language.specs.Effect.{Around, Scene}
 use Rattle.ps_language.specs.Locks.{is_ready}
-use Rattle.ps_language.specs.Schedules.{Move, moves, count_of, is_longest}
+use Rattle.ps_language.specs.Schedules.{Begins, Move, moves, count_of, is_longest}
 use Rattle.ps_language.specs.World.{Status, World}
 use Rattle.ps_language.specs.Worlds as worlds
 use Rattle.ps_language.specs.Worlds.{IsProper, is_all_over, is_some_ready, IsFinished, IsFaulted, IsAllWaiting}
@@ -162,3 +162,24 @@ pub record IsCutOf (given made : List Entry) : Type 0 where
   pub context : ℕ
   pub steps : ℕ
   pub is : made ≡ take place given ++ entry_of context steps
+
+-- ---- a schedule that was followed
+
+-- no collector has worked
+abbrev pub IsUncollected : Report → Type 0
+IsUncollected report = (report.flips ≡ 0) × (report.taken ≡ 0)
+
+-- a run under a given schedule: its bytes are those that the definitions print under the steps that
+-- were made. Those are all of the given ones, or for want of memory a beginning of them, and the
+-- outcome is that of their world. Asks: what a step asks for that the language doesn't say
+pub record IsReplayOf (asks : Status → Around → Scene → Asked) (program : List ℕ)
+    (given : List Entry) (report : Report) : Type 0 where
+  pub prints : report.printed.items ≡ worlds.printed program report.schedule.items
+  pub begins : Begins report.schedule.items given
+  pub cut : IsCutOf given report.schedule.items
+  pub whole : is_memory report.outcome ≡ false → report.schedule.items ≡ given
+  pub refused : is_memory report.outcome ≡ true
+      → count_of report.schedule.items < count_of given
+  pub ends : EndsAs (worlds.world program report.schedule.items) (not (is_memory report.outcome))
+      (MayWantNext asks program given report.schedule.items) report.outcome
+  pub uncollected : IsUncollected report
