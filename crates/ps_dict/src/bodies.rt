@@ -32,11 +32,7 @@ pub(crate) fn push_nulls(scratch: &mut Vec<Word>, count: u32) -> Result<(), Allo
     ensures full { OnErr result (vec_capacity scratch.old < length scratch.old.items + count) }
     ensures room { vec_capacity scratch.old ≤ vec_capacity scratch.new }
 {
-    scratch.reserve(count as usize)?;
-    for _ in 0..count {
-        scratch.push(Word::null())?;
-    }
-    Ok(())
+    scratch.resize(scratch.len() + count as usize, Word::null())
 }
 
 /// Makes the words of pairs, key before value, those of a whole body of a capacity: nulls behind

@@ -144,8 +144,24 @@ pub(crate) fn free_place<M: Memory>(memory: &mut M, body: u32, capacity: u32, ke
     start
 }
 
-/// The free place of an index outside the memory in which the next position goes.
+/// The free place of an index outside the memory in which the next position goes: mostly the start.
+#[inline(always)]
 pub(crate) fn free_in(places: &[Word], start: u32, capacity: u32) -> u32
+    requires start { start < capacity }
+    requires few { capacity ≤ capacity_limit }
+    requires all { length places.now ≡ capacity }
+    ensures below { result < capacity }
+    ensures placed { IsPlaceFor places.now capacity start result }
+{
+    match places[start as usize].as_integer() {
+        Some(_) => free_from(places, start, capacity),
+        None => start,
+    }
+}
+
+/// The same, place by place.
+#[inline(never)]
+fn free_from(places: &[Word], start: u32, capacity: u32) -> u32
     requires start { start < capacity }
     requires few { capacity ≤ capacity_limit }
     requires all { length places.now ≡ capacity }

@@ -1,6 +1,6 @@
 -- Hexadecimal strings by their places.
-use Rattle.std.proofs.Common.{◌≡◌, refl, sym, ap, ◌∙◌, ℕ, ◌+◌, ◌*◌, ◌/◌, ◌%◌, ◌<◌, ◌≤◌, true, false, List, [], ◌∷◌, ◌++◌, length, drop, filter, arith, Option, Some, None}
-use Rattle.std.specs.Prelude.{◌==◌}
+use Rattle.std.proofs.Common.{◌≡◌, refl, sym, ap, ◌∙◌, subst, ℕ, zero, suc, ◌+◌, ◌*◌, ◌/◌, ◌%◌, ◌<◌, ◌≤◌, true, false, List, [], ◌∷◌, ◌++◌, length, take, drop, filter, arith, Option, Some, None}
+use Rattle.std.specs.Prelude.{◌==◌, slice_set}
 use Rattle.std.specs.List.{slice_range}
 use Rattle.std.proofs.lemmas.Bool.{or_left, or_right, or_from, ne_eqb, eq-eqb}
 use Rattle.std.proofs.lemmas.List.{at_drop_more, at_drop_all, append_assoc, append-nil}
@@ -8,7 +8,7 @@ use Rattle.ps_language.specs.Bytes.{is_hex, is_hex_or_white, is_white, digit_of}
 use Rattle.ps_language.specs.Token.{executable_name_token, syntax_fault}
 use Rattle.ps_language.specs.Reading.{token_then, stuck, pairs, sized_string}
 use Rattle.ps_language.specs.Scan.{leading, beyond, hex_reading, after_hex_start}
-use Rattle.ps_language.proofs.Places.{byte_at, leading_on, leading_off, leading_slice}
+use Rattle.ps_language.proofs.Places.{byte_at, leading_on, leading_off, leading_slice, beyond_on}
 use Rattle.ps_scan.proofs.Pairs.{pairs_behind}
 
 -- ---- digits one by one
@@ -141,3 +141,59 @@ hex_bad_byte xs start end inside n e high m = angle_hex xs start inside n ∙ ap
 pub hex_size : (xs : List ℕ) (start end count : ℕ) → drop end xs ≡ beyond is_hex_or_white (drop start xs) → start ≤ end → end ≤ length xs → count ≡ digits_from xs start → length (pairs (filter is_hex (slice_range xs start end))) ≡ count / 2 + count % 2
 hex_size xs start end count e low high f = length-pairs (filter is_hex (slice_range xs start end))
     ∙ ap (λ n. n / 2 + n % 2) (ap (λ t. length (filter is_hex t)) (sym (leading_slice is_hex_or_white xs start end (sym e) low high)) ∙ sym f)
+
+-- ---- several at once
+
+-- a digit, and the place behind it
+digit_step : (xs : List ℕ) (i next : ℕ) → i + 1 ≡ next → i < length xs
+    → is_hex (byte_at xs i) ≡ true → (digits_from xs i ≡ 1 + digits_from xs next)
+    × (beyond is_hex_or_white (drop i xs) ≡ beyond is_hex_or_white (drop next xs))
+digit_step xs i next is below e =
+    subst (λ n. (digits_from xs i ≡ 1 + digits_from xs n)
+    × (beyond is_hex_or_white (drop i xs) ≡ beyond is_hex_or_white (drop n xs))) is
+    (digits_on xs i below e, beyond_on is_hex_or_white xs i below (hex_or_white_digit (byte_at xs i) e))
+
+pub four_digits : (xs : List ℕ) (i : ℕ) → i + 4 ≤ length xs → is_hex (byte_at xs i) ≡ true
+    → is_hex (byte_at xs (i + 1)) ≡ true → is_hex (byte_at xs (i + 2)) ≡ true
+    → is_hex (byte_at xs (i + 3)) ≡ true → (digits_from xs i ≡ 4 + digits_from xs (i + 4))
+    × (beyond is_hex_or_white (drop i xs) ≡ beyond is_hex_or_white (drop (i + 4) xs))
+four_digits xs i below e0 e1 e2 e3 =
+    let s0 = digit_step xs i (i + 1) refl (omega (arith, below)) e0 in
+    let s1 = digit_step xs (i + 1) (i + 2) (omega arith) (omega (arith, below)) e1 in
+    let s2 = digit_step xs (i + 2) (i + 3) (omega arith) (omega (arith, below)) e2 in
+    let s3 = digit_step xs (i + 3) (i + 4) (omega arith) (omega (arith, below)) e3 in
+    (omega (arith, s0.0, s1.0, s2.0, s3.0), s0.1 ∙ s1.1 ∙ s2.1 ∙ s3.1)
+
+-- two digits write a byte
+pair_on : (xs : List ℕ) (i : ℕ) → i + 1 < length xs → is_hex (byte_at xs i) ≡ true
+    → is_hex (byte_at xs (i + 1)) ≡ true → pairs (filter is_hex (drop i xs))
+    ≡ (digit_of (byte_at xs i) * 16 + digit_of (byte_at xs (i + 1)))
+    ∷ pairs (filter is_hex (drop (i + 1 + 1) xs))
+unfolding pairs
+pair_on xs i below e f = ap pairs (hex_on xs i (omega (arith, below)) e
+    ∙ ap (λ t. byte_at xs i ∷ t) (hex_on xs (i + 1) below f))
+
+take_set : (items : List ℕ) (k v : ℕ) → k < length items
+    → take (suc k) (slice_set items k v) ≡ take k items ++ v ∷ []
+take_set [] k v below = absurd (omega (arith, below))
+take_set (x ∷ xs) zero v below = refl
+take_set (x ∷ xs) (suc k) v below = ap (λ t. x ∷ t) (take_set xs k v (omega (arith, below)))
+
+-- a byte that is put behind those so far
+pub pair_put : (items inner : List ℕ) (k i high low : ℕ) → k < length items → i + 1 < length inner
+    → is_hex (byte_at inner i) ≡ true → is_hex (byte_at inner (i + 1)) ≡ true
+    → high ≡ digit_of (byte_at inner i) → low ≡ digit_of (byte_at inner (i + 1))
+    → (next after : ℕ) → suc k ≡ next → i + 1 + 1 ≡ after
+    → take next (slice_set items k (high * 16 + low)) ++ pairs (filter is_hex (drop after inner))
+    ≡ take k items ++ pairs (filter is_hex (drop i inner))
+pair_put items inner k i high low below more e f is_high is_low next after is_next is_after =
+    let v = high * 16 + low in
+    let tail = pairs (filter is_hex (drop after inner)) in
+    ap (λ n. take n (slice_set items k v) ++ tail) (sym is_next)
+    ∙ ap (λ t. t ++ tail) (take_set items k v below)
+    ∙ append_assoc (take k items) (v ∷ []) tail
+    ∙ ap (λ n. take k items ++ (n * 16 + low) ∷ tail) is_high
+    ∙ ap (λ n. take k items ++ (digit_of (byte_at inner i) * 16 + n) ∷ tail) is_low
+    ∙ ap (λ n. take k items ++ (digit_of (byte_at inner i) * 16 + digit_of (byte_at inner (i + 1)))
+    ∷ pairs (filter is_hex (drop n inner))) (sym is_after)
+    ∙ ap (λ t. take k items ++ t) (sym (pair_on inner i more e f))

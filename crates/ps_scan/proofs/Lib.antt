@@ -5,5 +5,6 @@ pub mod ProcedureForms
 pub mod ReadingForms
 pub mod ScannerForms
 pub mod StringForms
+pub mod Tables
 pub mod TokenForms
 pub mod Passing

@@ -34,6 +34,7 @@ pub(crate) fn token_from(
 }
 
 /// The same; a word goes no way round.
+#[cycle(procedures)]
 #[inline(always)]
 pub(crate) fn outer_token(
     alloc: Global,
@@ -87,7 +88,7 @@ fn procedure_token(alloc: Global, bytes: &[u8], at: usize, room: u8) -> Result<T
                 end: here + 1,
             });
         }
-        let token = match token_from(alloc, bytes, here, room) {
+        let token = match outer_token(alloc, bytes, here, room) {
             Ok(token) => token,
             Err(fault) => return Err(fault),
         };

@@ -1,33 +1,29 @@
-use Rattle.std.proofs.Common.{rules, ◌≡◌, ◌+◌, ◌++◌, ◌∙◌, ℕ, zero, suc, List, [], ◌∷◌, replicate, refl, sym, ap, arith, append_assoc, append-nil}
+use Rattle.std.proofs.Common.{◌≡◌, ◌+◌, ◌-◌, ◌++◌, ◌∙◌, ℕ, List, OnOk, length, take, replicate, vec_len, ap, arith}
+use Rattle.std.specs.Prelude.{is_ok, Ok, Err, if◌then◌else◌}
+use Rattle.std.proofs.lemmas.List.{take_all}
 use Rattle.ps_word.specs.declared.words.Word.{Word}
 use Rattle.ps_mem.specs.Heap.{zero_word}
 use Rattle.ps_dict.proofs.Removing.{null_is_zero}
 use Rattle.ps_dict.proofs.bodies.push_nulls.Goals as goal
 
-null_more : (n : ℕ) → replicate n zero_word ++ zero_word ∷ [] ≡ replicate (n + 1) zero_word
-null_more zero = refl
-null_more (suc n) = ap (λ ws. zero_word ∷ ws) (null_more n)
-    ∙ ap (λ k. replicate k zero_word) (let e : suc (n + 1) ≡ suc n + 1 = omega arith in e)
+-- a list made longer by so many of one word
+more_of : (items : List Word) (here len count : ℕ) → here ≡ len → len ≡ length items → (w : Word)
+    → w ≡ zero_word → take (here + count) items ++ replicate (here + count - len) w ≡ items
+    ++ replicate count zero_word
+more_of items here len count is long w null =
+    ap (λ front. front ++ replicate (here + count - len) w)
+    (take_all (here + count) items (omega (arith, is, long)))
+    ∙ (ap (λ n. items ++ replicate n w) (let e : here + count - len ≡ count = omega (arith, is) in e)
+    ∙ ap (λ x. items ++ replicate count x) null)
 
-pub loop-init : goal.loop-init
-loop-init c = record {
-  items = c.in_ok-reserve.ensures.items ∙ sym (append-nil c.args.scratch.now.items);
-  count = search rules;
-  room = search rules;
-  kept = search rules;
-}
-
-pub loop-preserved : goal.loop-preserved
-loop-preserved c =
-    let old : List Word = c.args.scratch.now.items in
-    record {
-      items = c.in_ok-push.ensures.items
-          ∙ (ap (λ ws. ws ++ c.null.result ∷ []) c.loop.invariant.items
-          ∙ (append_assoc old (replicate c.loop.counter zero_word) (c.null.result ∷ [])
-          ∙ ap (λ ws. old ++ ws) (ap (λ w. replicate c.loop.counter zero_word ++ w ∷ [])
-          (null_is_zero c.null.result c.null.ensures.value c.null.ensures.word)
-          ∙ null_more c.loop.counter)));
-      count = search rules;
-      room = search rules;
-      kept = search rules;
-    }
+pub returns-clause-nulls : goal.returns-clause-nulls
+returns-clause-nulls c =
+    let list = c.args.scratch.now in
+    elim c.resize.result as
+    (λ r. c.resize.new.self.items ≡ (if is_ok r then take (c.len.result + c.args.count) list.items
+    ++ replicate (c.len.result + c.args.count - vec_len list) c.null.result else list.items)
+    → OnOk r (c.resize.new.self.items ≡ list.items ++ replicate c.args.count zero_word)) [
+      | Ok _ ↦ λ e. e ∙ more_of list.items c.len.result (vec_len list) c.args.count c.len.ensures
+          list.ok.0 c.null.result (null_is_zero c.null.result c.null.ensures.value c.null.ensures.word)
+      | Err _ ↦ λ e. tt
+    ] c.resize.ensures.items

@@ -1,10 +1,12 @@
 -- A procedure element by element; a token by its first byte.
 use Rattle.std.proofs.Common.{◌≡◌, ◌∙◌, sym, ap, subst, ◌+◌, ◌∷◌, [], ◌++◌, drop, arith, inl, inr}
 use Rattle.std.proofs.lemmas.List.{length-append}
+use Rattle.std.proofs.lemmas.Bool.{true≢false}
+use Rattle.ps_language.specs.Bytes.{is_regular}
 use Rattle.ps_language.specs.Reading.{token_then}
 use Rattle.ps_scan.specs.Shown.{IsSomeString, token_of}
 use Rattle.ps_scan.proofs.TokenForms.{procedure_is}
-use Rattle.ps_scan.proofs.ReadingForms.{same_answer}
+use Rattle.ps_scan.proofs.ReadingForms.{same_answer, regular_at}
 use Rattle.ps_scan.proofs.ProcedureForms.{with_all, elements_at, all_more, missing_brace, closing_brace, one_element, faulty_answer, enclosed_fault, enclosed_short, enclosed_long, nothing_left, brace_at, deep_brace_at, no_brace_at, kept_more, on_ok}
 use Rattle.ps_scan.proofs.procedures.+procedures.Goals as goal
 
@@ -71,3 +73,10 @@ token_from-returns-then-room-eq0 t c = deep_brace_at c.args.room c.args.bytes.no
 
 pub token_from-returns : goal.token_from-returns
 token_from-returns t c = same_answer _ _ c.args.bytes.now c.args.at _ _ _ (λ h. inl c.if-bytes-at-ne123.false) (brace_at c.args.room c.args.bytes.now c.args.at c.if-room-eq0.false c.if-bytes-at-ne123.false) c.procedure_token.ensures
+
+pub outer_token-returns-then-is_regular_byte : goal.outer_token-returns-then-is_regular_byte
+outer_token-returns-then-is_regular_byte t c =
+    let regular = sym c.is_regular_byte.ensures ∙ c.if-is_regular_byte.true in
+    same_answer ⊥ _ c.args.bytes.now c.args.at _ _ _ (λ no. absurd no)
+    (no_brace_at c.args.room c.args.bytes.now c.args.at (λ brace. true≢false (sym regular ∙ ap is_regular brace))
+    ∙ regular_at c.args.bytes.now c.args.at regular) c.word_token.ensures

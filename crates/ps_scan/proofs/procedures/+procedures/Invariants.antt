@@ -5,10 +5,13 @@ use Rattle.ps_scan.proofs.ProcedureForms.{with_all, elements_at}
 use Rattle.ps_scan.proofs.procedures.+procedures.Given as goal
 
 abbrev pub decreases-procedure_token : goal.decreases-procedure_token
-decreases-procedure_token l = 2 * l.room + 1
+decreases-procedure_token l = 3 * l.room + 2
 
 abbrev pub decreases-token_from : goal.decreases-token_from
-decreases-token_from l = 2 * l.room
+decreases-token_from l = 3 * l.room
+
+abbrev pub decreases-outer_token : goal.decreases-outer_token
+decreases-outer_token l = 3 * l.room + 1
 
 -- so many elements were read, and those up to the limit are kept
 abbrev pub invariant-procedure_token-loop-place : goal.invariant-procedure_token-loop-place

@@ -2,7 +2,7 @@ use Rattle.std.proofs.Common.{◌≡◌, ◌<◌, ◌^◌, ℕ, List, Option, So
 use Rattle.std.specs.Prelude.{slice_get}
 use Rattle.ps_mem.specs.Index.{has_free, index_word}
 use Rattle.ps_dict.specs.Probes.{turned}
-use Rattle.ps_dict.proofs.index.free_in.Given as goal
+use Rattle.ps_dict.proofs.index.free_from.Given as goal
 
 -- no place so far was free
 abbrev pub invariant-loop-behind : goal.invariant-loop-behind

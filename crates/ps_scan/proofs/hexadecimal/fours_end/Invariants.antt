@@ -1,0 +1,18 @@
+use Rattle.std.proofs.Common.{◌≡◌, ◌+◌, ◌-◌, ◌≤◌, length, drop, filter}
+use Rattle.ps_language.specs.Bytes.{is_hex, is_hex_or_white}
+use Rattle.ps_language.specs.Scan.{leading, beyond}
+use Rattle.ps_scan.proofs.hexadecimal.fours_end.Given as goal
+
+-- all so far are digits
+abbrev pub invariant-loop-here : goal.invariant-loop-here
+invariant-loop-here l = record {
+  low : l.at ≤ l.here;
+  high : l.here ≤ length l.bytes;
+  count : length (filter is_hex (leading is_hex_or_white (drop l.at l.bytes)))
+      ≡ (l.here - l.at) + length (filter is_hex (leading is_hex_or_white (drop l.here l.bytes)));
+  rest : beyond is_hex_or_white (drop l.here l.bytes)
+      ≡ beyond is_hex_or_white (drop l.at l.bytes);
+}
+
+abbrev pub decreases-loop-here : goal.decreases-loop-here
+decreases-loop-here l = length l.bytes - l.here
