@@ -107,11 +107,10 @@ impl<
             let Some((context, most)) = guide.next() else {
                 return;
             };
-            let before = self.baton.made;
-            if !self.baton.turn_as(context, most, &mut self.lent) {
+            let Some(made) = self.baton.turn_as(context, most, &mut self.lent) else {
                 return;
-            }
-            guide.pass(self.baton.made.saturating_sub(before));
+            };
+            guide.pass(made);
         }
     }
 
@@ -141,17 +140,24 @@ impl<M: CollectedMemory + Drop, S: Interpret + Drop, D: Deeds + Drop> Baton<'_, 
         self.outcome.is_some()
     }
 
-    /// A turn of this context, of at most so many steps. False: it may not go on, or the run is over.
-    fn turn_as<C: Collects<M>>(&mut self, context: u32, most: u32, lent: &mut Lent<C>) -> bool
+    /// A turn of this context, of at most so many steps, and how many it made. None: it may not go
+    /// on, or the run is over.
+    fn turn_as<C: Collects<M>>(
+        &mut self,
+        context: u32,
+        most: u32,
+        lent: &mut Lent<C>,
+    ) -> Option<u32>
         requires { 1 ≤ most }
         ensures goes_on { GoesOn self.old self.new }
-        ensures same { result ≡ false → self.new ≡ self.old }
+        ensures none { result ≡ None → self.new ≡ self.old }
     {
         if self.is_over() || !self.may_go_on(context) {
-            return false;
+            return None;
         }
+        let before = self.made;
         self.turn_within(context, most, lent);
-        true
+        Some(self.made.saturating_sub(before))
     }
 
     /// A turn of a context: at most so many steps and a quantum, and only one while a cycle is open.
