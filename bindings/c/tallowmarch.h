@@ -6,8 +6,8 @@
  * State.    A call keeps nothing: there is nothing to open, to free or to close, and calls don't see one another. It reads no file, no
  *           clock and no variable of the environment, and prints nothing.
  * Threads.  Any number of threads may call at once, each with rooms of its own. A call starts no thread, takes no lock and never waits.
- * Time.     A call makes at most `steps` steps of the program, and returns then. It can't be interrupted; see docs/EMBEDDING.md for
- *           how a host stops a run.
+ * Time.     A call makes at most `steps` steps of the program, and returns then. It can't be interrupted: a host that looks at a clock makes
+ *           a run of a small budget, and goes on from it (`tallowmarch_go_on`).
  * Memory.   All that a call takes from malloc it gives back before it returns. Where memory is refused to it, it says so by its code,
  *           and loses nothing. A host may give the memory itself: see the end of this file.
  * Stack.    A call takes less than 256 KiB of its thread's stack.
@@ -30,7 +30,7 @@ extern "C" {
 #endif
 
 /* The version of this header: 10000 for each major number, 100 for each minor one, 1 for each patch. */
-#define TALLOWMARCH_VERSION 100
+#define TALLOWMARCH_VERSION 200
 
 /* What a call returns. Below 16 there was a run: its bytes, entries and counts are handed out. From 16 on there was none, and the rooms and
  * the counts are as they were. The codes of runs are the exit statuses of dpsrun.
@@ -42,7 +42,8 @@ enum tallowmarch_code {
     TALLOWMARCH_STEPS_OUT = 4,     /* a context is ready, and the steps are used up */
     TALLOWMARCH_MEMORY = 5,        /* memory was refused, or more was to be printed than `output`; what was made so far is handed out */
     TALLOWMARCH_OUT_OF_RANGE = 16, /* `space`, `quantum` or `steps` is out of its range */
-    TALLOWMARCH_NO_ROOM = 17       /* no memory to start with */
+    TALLOWMARCH_NO_ROOM = 17,      /* no memory to start with */
+    TALLOWMARCH_OTHER_SCHEDULE = 18 /* the schedule to go on from isn't that of a run of this program by these settings */
 };
 
 /* Two numbers that who wrote the program can't guess, as from getentropy: with them it can't make the table of names slow. They change nothing
@@ -100,6 +101,19 @@ uint32_t tallowmarch_version(void);
  */
 uint32_t tallowmarch_run(const uint8_t *program, size_t length, const tallowmarch_settings *settings, uint8_t *printed, size_t printed_room,
                          tallowmarch_entry *schedule, size_t schedule_room, tallowmarch_counts *counts);
+
+/* Goes on from a schedule of `given_length` entries, which a run of the same program by the same settings was handed: makes a run that begins
+ * with its steps and has at most `settings->steps` more behind them, up to 4294967295 together. What is handed out is that whole run, from its
+ * start; so it prints what the given run did, and then more. `output` may be larger than before, and `keys` may be others; with another
+ * `quantum` or `space` it goes on as far as what steps are shown and refused stays the same. The given steps are made again: where a host doubles
+ * its budgets, all calls together make at most some three times the steps of the last one.
+ *
+ * With TALLOWMARCH_MEMORY memory may have been wanted before all given steps were made: then as many are handed out. With
+ * TALLOWMARCH_OTHER_SCHEDULE the run didn't begin with them. That is told when it is over, after as many steps as were asked for at most.
+ */
+uint32_t tallowmarch_go_on(const uint8_t *program, size_t length, const tallowmarch_settings *settings, const tallowmarch_entry *given,
+                           size_t given_length, uint8_t *printed, size_t printed_room, tallowmarch_entry *schedule, size_t schedule_room,
+                           tallowmarch_counts *counts);
 
 /* Follows a schedule of `given_length` entries, from a run of the same program by whatever settings, over memory that grows and is never
  * collected. It prints what that run printed. Of the settings here only `output` and `keys` count. The schedule that is handed out is the given

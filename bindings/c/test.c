@@ -46,6 +46,11 @@ static const char contexts[] =
     "/work { 200 { turn { /made made 1 add store } monitor 10 string pop yield } repeat } def\n"
     "mark { work } fork mark { work } fork mark { work } fork 3 { join cleartomark } repeat made =\n";
 
+/* Contexts that are shown how much memory is used, and are refused some, in a space that is collected. */
+static const char statuses[] =
+    "/work { 12 { vmstatus pop exch pop = 300 array pop { 4000 array pop } stopped { pop } if yield } repeat } def\n"
+    "mark { work } fork mark { work } fork work join cleartomark join cleartomark 1 1 40 { pop vmstatus pop exch pop = } for\n";
+
 static tallowmarch_settings small(void) {
     tallowmarch_settings settings = TALLOWMARCH_SETTINGS;
     settings.space = 4096;
@@ -171,22 +176,143 @@ static void replays(struct made *made) {
               !memcmp(made->schedule + 1, &second, sizeof second), "steps of contexts that there aren't");
 }
 
-/* Each allocation of a run, and of its replay, refused in turn: the code is one of memory, and no block is lost. */
+static void go_on_in(struct made *made, const char *text, tallowmarch_settings settings, const tallowmarch_entry *given, size_t given_length, size_t bytes,
+                     size_t entries) {
+    memset(made, 0x5a, sizeof *made);
+    made->code = tallowmarch_go_on((const uint8_t *)text, strlen(text), &settings, given, given_length, made->printed, bytes, made->schedule, entries,
+                                   &made->counts);
+}
+
+/* A run that was cut behind so many steps, and gone on from, is the one that wasn't cut. */
+static void cut_runs(struct made *made, const char *text, uint32_t plain) {
+    static struct made whole, part;
+    tallowmarch_settings settings = small(), cut = settings;
+    settings.plain = cut.plain = plain;
+    run_in(&whole, text, settings, BYTES, ENTRIES);
+    const uint32_t steps = (uint32_t)whole.counts.steps;
+    count(whole.code == TALLOWMARCH_FINISHED && whole.counts.entries < ENTRIES && whole.counts.bytes < BYTES, "a run that isn't cut");
+    const uint32_t tried[] = {1, 2, 9, 10, 11, steps / 7, steps / 3, steps / 3 + 1, steps / 2, steps - 10, steps - 1, steps, steps + 5};
+    for (size_t at = 0; at < sizeof tried / sizeof *tried; at++) {
+        cut.steps = tried[at];
+        run_in(&part, text, cut, BYTES, ENTRIES);
+        count(part.code == (tried[at] < steps ? TALLOWMARCH_STEPS_OUT : TALLOWMARCH_FINISHED) && part.counts.bytes <= whole.counts.bytes &&
+                  !memcmp(part.printed, whole.printed, part.counts.bytes), "the output of a run that is cut");
+        go_on_in(made, text, settings, part.schedule, part.counts.entries, BYTES, ENTRIES);
+        count(!memcmp(made, &whole, sizeof whole), "a run that goes on");
+    }
+    part.counts.entries = 0;
+    for (cut.steps = 1; part.counts.entries == 0 || part.code == TALLOWMARCH_STEPS_OUT; cut.steps *= 2) {
+        go_on_in(made, text, cut, part.schedule, part.counts.entries, BYTES, ENTRIES);
+        count(made->counts.bytes >= part.counts.bytes || part.counts.entries == 0, "output that grows");
+        part = *made;
+    }
+    count(!memcmp(&part, &whole, sizeof whole), "a run in many parts");
+}
+
+static int is_shown(const tallowmarch_entry *entry) { return entry->shown != 0; }
+static int is_refused_in(const tallowmarch_entry *entry) { return entry->refused != 0; }
+
+/* The place of the first such entry of a run; their number where there is none. */
+static size_t first_of(const struct made *made, int (*is_such)(const tallowmarch_entry *)) {
+    size_t place = 0;
+    while (place < made->counts.entries && !is_such(&made->schedule[place])) place++;
+    return place;
+}
+
+/* Schedules that no run has: of another program, of nobody, longer than the run, with another pair, another refusal, and another last step. */
+static void other_schedules(struct made *made) {
+    static struct made whole;
+    static tallowmarch_entry given[ENTRIES];
+    const tallowmarch_settings settings = small();
+    const tallowmarch_entry nobody = {7, 1, 0, 0, 0, 0}, none = {9, 0, 1, 1, 1, 1};
+    run_in(&whole, contexts, settings, BYTES, ENTRIES);
+    go_on_in(made, "1 =", settings, whole.schedule, whole.counts.entries, BYTES, ENTRIES);
+    count(is_refused(made, TALLOWMARCH_OTHER_SCHEDULE), "a schedule of another program");
+    go_on_in(made, "1 =", settings, &nobody, 1, BYTES, ENTRIES);
+    count(is_refused(made, TALLOWMARCH_OTHER_SCHEDULE), "a step of nobody");
+    run_in(&whole, statuses, settings, BYTES, ENTRIES);
+    const size_t entries = whole.counts.entries, shown = first_of(&whole, is_shown), refused = first_of(&whole, is_refused_in);
+    count(shown < entries && refused < entries && whole.counts.flips > 2, "pairs and refusals");
+    for (int at = 0; at < 7; at++) {
+        memcpy(given, whole.schedule, sizeof given);
+        size_t length = at < 2 ? entries + 1 : at < 5 ? entries : refused + 1;
+        if (at == 0) given[entries] = (tallowmarch_entry){1, 1, 0, 0, 0, 0};
+        if (at == 1) given[entries] = nobody;
+        if (at == 2) given[shown].used++;
+        if (at == 3) given[shown].shown = 0;
+        if (at == 4) given[entries - 1].steps++;
+        if (at == 5) given[refused].refused = 0;
+        if (at == 6) given[refused].refused = 7;
+        go_on_in(made, statuses, settings, given, length, BYTES, ENTRIES);
+        if (at < 6)
+            count(is_refused(made, TALLOWMARCH_OTHER_SCHEDULE), "a schedule that no run has");
+        else
+            count(!memcmp(made, &whole, sizeof whole), "any number but 0 is a refusal");
+    }
+    size_t length = 0;
+    for (size_t place = 0; place < entries && length + 3 < ENTRIES; place++) {
+        const tallowmarch_entry entry = whole.schedule[place];
+        given[length++] = none;
+        if (entry.steps > 1) given[length++] = (tallowmarch_entry){entry.context, entry.steps - 1, 0, 0, 0, 0};
+        given[length++] = (tallowmarch_entry){entry.context, 1, entry.refused, entry.shown, entry.used, entry.size};
+    }
+    go_on_in(made, statuses, settings, given, length, BYTES, ENTRIES);
+    count(!memcmp(made, &whole, sizeof whole), "a schedule in other entries");
+}
+
+/* Runs that go on: rooms of no item, numbers out of their range, and a bound on the output that is met in the given steps. */
+static void goings_on(struct made *made) {
+    static struct made whole;
+    tallowmarch_settings settings = small();
+    for (uint32_t plain = 0; plain < 2; plain++) {
+        cut_runs(made, contexts, plain);
+        cut_runs(made, statuses, plain);
+    }
+    other_schedules(made);
+    run_in(&whole, contexts, settings, BYTES, ENTRIES);
+    go_on_in(made, contexts, settings, whole.schedule, 5, 0, 0);
+    count(made->code == whole.code && !memcmp(&made->counts, &whole.counts, sizeof whole.counts) && is_untouched(made->schedule, sizeof made->schedule),
+          "rooms of no item");
+    settings.quantum = 3;
+    go_on_in(made, contexts, settings, whole.schedule, 100, BYTES, ENTRIES);
+    count(prints(made, TALLOWMARCH_FINISHED, "600\n") && !memcmp(made->schedule, whole.schedule, 99 * sizeof(tallowmarch_entry)) &&
+              made->counts.entries > whole.counts.entries, "turns of another length behind the given ones");
+    settings.steps = 0;
+    go_on_in(made, contexts, settings, whole.schedule, 5, BYTES, ENTRIES);
+    count(is_refused(made, TALLOWMARCH_OUT_OF_RANGE), "no step more");
+    settings = small();
+    left = 0;
+    go_on_in(made, contexts, settings, whole.schedule, 5, BYTES, ENTRIES);
+    left = 1L << 40;
+    count(is_refused(made, TALLOWMARCH_NO_ROOM), "no room to go on");
+    for (settings.plain = 0; settings.plain < 2; settings.plain++) {
+        settings.output = 0;
+        run_in(&whole, "(12345) = (123456) = {} loop", settings, BYTES, ENTRIES);
+        settings.output = 12;
+        go_on_in(made, "(12345) = (123456) = {} loop", settings, whole.schedule, whole.counts.entries, BYTES, ENTRIES);
+        count(prints(made, TALLOWMARCH_MEMORY, "12345\n") && made->counts.steps < whole.counts.steps, "output that is bounded in the given steps");
+    }
+}
+
+/* Each allocation of a run, of what goes on from a part of it, and of its replay, refused in turn: the code is one of memory, and no block is lost. */
 static void refusals(struct made *made, uint32_t plain) {
     static const char text[] = "mark { 1 1 300 { 20 array pop = } for } fork { (0123456789) print } repeat join";
     static struct made whole;
     tallowmarch_settings settings = small();
     settings.plain = plain;
     run_in(&whole, text, settings, BYTES, ENTRIES);
-    for (int replayed = 0; replayed < 2; replayed++) {
+    const size_t given[] = {0, whole.counts.entries / 2, whole.counts.entries};
+    uint32_t (*const calls[])(const uint8_t *, size_t, const tallowmarch_settings *, const tallowmarch_entry *, size_t, uint8_t *, size_t, tallowmarch_entry *,
+                              size_t, tallowmarch_counts *) = {NULL, tallowmarch_go_on, tallowmarch_replay};
+    for (int which = 0; which < 3; which++) {
         long others = 0, lost = 0, differ = 0, few = 0;
         for (long at = 0; at < 100000; at++) {
             memset(made, 0x5a, sizeof *made);
             left = at;
             asked = standing = 0;
-            made->code = replayed ? tallowmarch_replay((const uint8_t *)text, strlen(text), &settings, whole.schedule, whole.counts.entries, made->printed, BYTES,
-                                                       made->schedule, ENTRIES, &made->counts)
-                                  : tallowmarch_run((const uint8_t *)text, strlen(text), &settings, made->printed, BYTES, made->schedule, ENTRIES, &made->counts);
+            made->code = calls[which] ? calls[which]((const uint8_t *)text, strlen(text), &settings, whole.schedule, given[which], made->printed, BYTES,
+                                                     made->schedule, ENTRIES, &made->counts)
+                                      : tallowmarch_run((const uint8_t *)text, strlen(text), &settings, made->printed, BYTES, made->schedule, ENTRIES, &made->counts);
             lost += standing != 0;
             if (asked <= at) break;
             if (made->code == TALLOWMARCH_NO_ROOM) {
@@ -229,6 +355,7 @@ int main(void) {
     outputs(&made);
     rooms(&made);
     replays(&made);
+    goings_on(&made);
     refusals(&made, 0);
     refusals(&made, 1);
     threads();

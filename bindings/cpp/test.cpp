@@ -40,6 +40,17 @@ int main() {
     count(again.printed == made.printed && again.steps == made.steps && again.schedule.size() == made.schedule.size(), "a replay");
     count(Run("1 =").replay({}).outcome == Outcome::steps_out, "a replay of no step");
     count(code_of(Run("").space(1)) == TALLOWMARCH_OUT_OF_RANGE && code_of(Run("").quantum(0)) == TALLOWMARCH_OUT_OF_RANGE, "a range");
+    const auto cut = Run(contexts).quantum(3).steps(150).run(), whole = Run(contexts).quantum(3).run();
+    const auto further = Run(contexts).quantum(3).go_on(cut.schedule);
+    count(cut.outcome == Outcome::steps_out && further.outcome == Outcome::finished && further.printed == whole.printed &&
+              further.steps == whole.steps && further.schedule.size() == whole.schedule.size(), "a run that goes on");
+    count(Run("1 =").go_on({}).printed == "1\n", "a run that goes on from its start");
+    try {
+        Run("1 =").steps(1000).go_on(cut.schedule);
+        count(false, "another schedule");
+    } catch (const tallowmarch::Error &error) {
+        count(error.code() == TALLOWMARCH_OTHER_SCHEDULE, "another schedule");
+    }
     const auto flood = Run("{(flood) =} loop").output(13).run();
     count(flood.outcome == Outcome::memory && flood.printed == "flood\nflood\n", "a bound on the output");
     count(Run("{} loop").steps(1000).run().outcome == Outcome::steps_out, "steps");

@@ -19,7 +19,7 @@ import os
 import secrets
 import typing
 
-VERSION = 100
+VERSION = 200
 _FIRST_BYTES, _FIRST_ENTRIES = 4096, 256
 
 
@@ -42,6 +42,10 @@ class OutOfRange(Error, ValueError):
 
 class NoRoom(Error, MemoryError):
     """There is no memory to start with."""
+
+
+class OtherSchedule(Error, ValueError):
+    """The schedule to go on from isn't that of a run of this program by these settings."""
 
 
 class Entry(typing.NamedTuple):
@@ -88,17 +92,19 @@ def _load():
     library = ctypes.CDLL(name)
     size, bytes_of, pointer = ctypes.c_size_t, ctypes.c_char_p, ctypes.POINTER
     rooms = [pointer(ctypes.c_char), size, pointer(_Entry), size, pointer(_Counts)]
-    library.tallowmarch_version.restype = library.tallowmarch_run.restype = library.tallowmarch_replay.restype = ctypes.c_uint32
-    library.tallowmarch_version.argtypes = []
-    library.tallowmarch_run.argtypes = [bytes_of, size, pointer(_Settings), *rooms]
-    library.tallowmarch_replay.argtypes = [bytes_of, size, pointer(_Settings), pointer(_Entry), size, *rooms]
+    asked, given = [bytes_of, size, pointer(_Settings)], [pointer(_Entry), size]
+    library.tallowmarch_version.restype, library.tallowmarch_version.argtypes = ctypes.c_uint32, []
     if library.tallowmarch_version() != VERSION:
         raise ImportError(f'{name} is of version {library.tallowmarch_version()}, and this module of {VERSION}')
+    library.tallowmarch_run.restype = library.tallowmarch_go_on.restype = library.tallowmarch_replay.restype = ctypes.c_uint32
+    library.tallowmarch_run.argtypes = [*asked, *rooms]
+    library.tallowmarch_go_on.argtypes = library.tallowmarch_replay.argtypes = [*asked, *given, *rooms]
     return library
 
 
 _LIBRARY = _load()
-_ERRORS = {16: OutOfRange('a number of the settings is out of its range'), 17: NoRoom('out of memory')}
+_ERRORS = {16: OutOfRange('a number of the settings is out of its range'), 17: NoRoom('out of memory'),
+           18: OtherSchedule('the schedule is not that of a run by these settings')}
 
 
 def _entry_of(raw):
@@ -131,6 +137,19 @@ def _within(**numbers):
     return numbers
 
 
+def _settings(keys, plain, **numbers):
+    return _Settings(keys=_keys(keys), plain=bool(plain), **_within(**numbers))
+
+
+def _entries(schedule):
+    """A schedule as it crosses."""
+    given = (_Entry * max(1, len(schedule)))()
+    for at, (context, steps, refused, shown) in enumerate(schedule):
+        _within(context=context, steps=steps)
+        given[at] = _Entry(context, steps, bool(refused), shown is not None, *(shown or (0, 0)))
+    return given
+
+
 def run(program, *, space=65536, quantum=100, steps=2 ** 32 - 1, plain=False, output=0, keys=None):
     """Runs a program, given as bytes.
 
@@ -147,8 +166,30 @@ def run(program, *, space=65536, quantum=100, steps=2 ** 32 - 1, plain=False, ou
     Traceback (most recent call last):
     tallowmarch.OutOfRange: a number of the settings is out of its range
     """
-    program, settings = bytes(program), _Settings(keys=_keys(keys), plain=bool(plain), **_within(space=space, quantum=quantum, steps=steps, output=output))
+    program, settings = bytes(program), _settings(keys, plain, space=space, quantum=quantum, steps=steps, output=output)
     return _with_rooms(lambda *rooms: _LIBRARY.tallowmarch_run(program, len(program), settings, *rooms))
+
+
+def go_on(program, schedule, *, space=65536, quantum=100, steps=2 ** 32 - 1, plain=False, output=0, keys=None):
+    """Goes on from a schedule that a run of the same program by the same settings was handed, for at most so many steps more.
+
+    The report is of the whole run, from its start: it begins with the given steps, and with what they printed; but with MEMORY it may end before.
+    The given steps are made again, so a host that looks at a clock doubles its budgets. Raises OtherSchedule where the run doesn't begin with the
+    schedule, and OutOfRange or NoRoom as a run does.
+
+    >>> first = run(b'1 1 1000 {=} for', steps=100)
+    >>> second = go_on(b'1 1 1000 {=} for', first.schedule, steps=100)
+    >>> second.outcome, second.steps, second.printed.startswith(first.printed)
+    (<Outcome.STEPS_OUT: 4>, 200, True)
+    >>> go_on(b'1 1 1000 {=} for', second.schedule).printed[-6:]
+    b'\\n1000\\n'
+    >>> go_on(b'1 =', first.schedule)
+    Traceback (most recent call last):
+    tallowmarch.OtherSchedule: the schedule is not that of a run by these settings
+    """
+    program, settings = bytes(program), _settings(keys, plain, space=space, quantum=quantum, steps=steps, output=output)
+    given = _entries(schedule)
+    return _with_rooms(lambda *rooms: _LIBRARY.tallowmarch_go_on(program, len(program), settings, given, len(schedule), *rooms))
 
 
 def replay(program, schedule, *, output=0, keys=None):
@@ -162,9 +203,5 @@ def replay(program, schedule, *, output=0, keys=None):
     >>> replay(program, report.schedule).printed == report.printed
     True
     """
-    settings = _Settings(keys=_keys(keys), **_within(output=output))
-    program, given = bytes(program), (_Entry * max(1, len(schedule)))()
-    for at, (context, steps, refused, shown) in enumerate(schedule):
-        _within(context=context, steps=steps)
-        given[at] = _Entry(context, steps, bool(refused), shown is not None, *(shown or (0, 0)))
+    program, settings, given = bytes(program), _settings(keys, False, output=output), _entries(schedule)
     return _with_rooms(lambda *rooms: _LIBRARY.tallowmarch_replay(program, len(program), settings, given, len(schedule), *rooms))

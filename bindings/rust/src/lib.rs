@@ -112,6 +112,41 @@ impl<'a> Run<'a> {
         raw::run(self.program, &self.settings)
     }
 
+    /// Goes on from a schedule that a run of this program by these settings was handed, for at most so many steps more as the settings say.
+    ///
+    /// The report is of the whole run, from its start: it begins with the given steps, and with what they printed. With [`Outcome::Memory`]
+    /// it may end before the given steps do. The given steps are made again, so a host that looks at a clock doubles its budgets: then all
+    /// runs together make at most some three times the steps of the last one.
+    ///
+    /// ```
+    /// use tallowmarch::{Outcome, Run};
+    ///
+    /// let run = Run::new(b"1 1 1000 {=} for").steps(100);
+    /// let first = run.run()?;
+    /// let second = run.go_on(&first.schedule)?;
+    /// assert_eq!((second.outcome, second.steps), (Outcome::StepsOut, 200));
+    /// assert!(second.printed.starts_with(&first.printed));
+    /// let last = run.steps(10_000).go_on(&second.schedule)?;
+    /// assert_eq!(last.outcome, Outcome::Finished);
+    /// assert!(last.printed.ends_with(b"\n1000\n"));
+    /// # Ok::<(), tallowmarch::Error>(())
+    /// ```
+    ///
+    /// # Errors
+    ///
+    /// [`Error::OtherSchedule`] where the run doesn't begin with the schedule, [`Error::OutOfRange`] and [`Error::NoRoom`] as for [`Run::run`].
+    ///
+    /// ```
+    /// use tallowmarch::{Error, Run};
+    ///
+    /// let other = Run::new(b"{} loop").steps(100).run()?;
+    /// assert_eq!(Run::new(b"1 =").go_on(&other.schedule), Err(Error::OtherSchedule));
+    /// # Ok::<(), Error>(())
+    /// ```
+    pub fn go_on(&self, schedule: &Schedule) -> Result<Report, Error> {
+        raw::go_on(self.program, &self.settings, &schedule.0)
+    }
+
     /// Follows a schedule of a run of this program, by whatever settings, over memory that grows and is never collected. It prints what that run
     /// printed. Of these settings the bound on the output alone counts. With [`Outcome::Memory`] the report has the schedule as far as it was
     /// followed.
@@ -163,6 +198,8 @@ pub enum Error {
     OutOfRange,
     /// There is no memory to start with.
     NoRoom,
+    /// The schedule to go on from isn't that of a run of this program by these settings.
+    OtherSchedule,
     /// The library is of another version than this crate.
     Version,
 }
@@ -172,6 +209,7 @@ impl fmt::Display for Error {
         f.write_str(match self {
             Error::OutOfRange => "a number of the settings is out of its range",
             Error::NoRoom => "out of memory",
+            Error::OtherSchedule => "the schedule is not that of a run by these settings",
             Error::Version => "libtallowmarch is of another version",
         })
     }

@@ -3,7 +3,7 @@
 use crate::{random, Error, Outcome, Report, Schedule};
 
 /// The version of `tallowmarch.h` that these types are of.
-const VERSION: u32 = 100;
+const VERSION: u32 = 200;
 /// The items of the rooms of a first call.
 const FIRST_BYTES: usize = 4096;
 const FIRST_ENTRIES: usize = 256;
@@ -66,6 +66,18 @@ extern "C" {
         schedule_room: usize,
         counts: *mut Counts,
     ) -> u32;
+    fn tallowmarch_go_on(
+        program: *const u8,
+        length: usize,
+        settings: *const Settings,
+        given: *const Entry,
+        given_length: usize,
+        printed: *mut u8,
+        printed_room: usize,
+        schedule: *mut Entry,
+        schedule_room: usize,
+        counts: *mut Counts,
+    ) -> u32;
     fn tallowmarch_replay(
         program: *const u8,
         length: usize,
@@ -79,6 +91,20 @@ extern "C" {
         counts: *mut Counts,
     ) -> u32;
 }
+
+/// A call that is given a schedule.
+type From = unsafe extern "C" fn(
+    *const u8,
+    usize,
+    *const Settings,
+    *const Entry,
+    usize,
+    *mut u8,
+    usize,
+    *mut Entry,
+    usize,
+    *mut Counts,
+) -> u32;
 
 /// Makes a run.
 pub(crate) fn run(program: &[u8], settings: &Settings) -> Result<Report, Error> {
@@ -100,12 +126,22 @@ pub(crate) fn run(program: &[u8], settings: &Settings) -> Result<Report, Error> 
     })
 }
 
+/// Goes on from a schedule.
+pub(crate) fn go_on(program: &[u8], settings: &Settings, given: &[Entry]) -> Result<Report, Error> {
+    from(tallowmarch_go_on, program, settings, given)
+}
+
 /// Follows a schedule.
 pub(crate) fn replay(program: &[u8], settings: &Settings, given: &[Entry]) -> Result<Report, Error> {
+    from(tallowmarch_replay, program, settings, given)
+}
+
+/// Calls with a schedule.
+fn from(call: From, program: &[u8], settings: &Settings, given: &[Entry]) -> Result<Report, Error> {
     with_rooms(|printed, schedule, counts| {
         // SAFETY: as in `run`.
         unsafe {
-            tallowmarch_replay(
+            call(
                 program.as_ptr(),
                 program.len(),
                 settings,
@@ -154,6 +190,7 @@ fn outcome_of(code: u32) -> Result<Outcome, Error> {
         5 => Ok(Outcome::Memory),
         16 => Err(Error::OutOfRange),
         17 => Err(Error::NoRoom),
+        18 => Err(Error::OtherSchedule),
         _ => Err(Error::Version),
     }
 }

@@ -1,5 +1,5 @@
 -- What a host asks for, and what it is handed of a run.
-use Rattle.std.specs.Prelude.{◌≡◌, ◌≤◌, ◌++◌, ◌<◌, ◌^◌, ◌-◌, ◌==◌, min, ℕ, ℤ, pos, Bool, true, false, not, List, Option, Some, None, Result, Ok, Err, take, drop, map, length, if◌then◌else◌}
+use Rattle.std.specs.Prelude.{◌≡◌, ◌≤◌, ◌++◌, ◌<◌, ◌+◌, ◌^◌, ◌-◌, ◌⊎◌, ◌==◌, min, ℕ, ℤ, pos, Bool, true, false, not, List, Option, Some, None, Result, Ok, Err, take, drop, map, length, if◌then◌else◌}
 use Rattle.ps_language.specs.declared.schedules.Entry.{Entry}
 use Rattle.ps_language.specs.Effect.{Around, Scene}
 use Rattle.ps_language.specs.Schedules.{count_of, Begins}
@@ -15,7 +15,7 @@ use Rattle.ps_vault.specs.declared.reports.Outcome.TheVariants.{Finished, Faulte
 use Rattle.ps_vault.specs.declared.reports.Report.{Report}
 use Rattle.ps_vault.specs.Reports.{EndsAs, IsCutOf, IsRunIn, IsWithin, MayWantNext, is_memory}
 use Rattle.ps_hosting.specs.declared.hosting.Refusal.{Refusal}
-use Rattle.ps_hosting.specs.declared.hosting.Refusal.TheVariants.{OutOfRange, NoRoom}
+use Rattle.ps_hosting.specs.declared.hosting.Refusal.TheVariants.{OutOfRange, NoRoom, OtherSchedule}
 use Rattle.ps_hosting.specs.declared.numbers.Settings.{Settings}
 use Rattle.ps_hosting.specs.declared.numbers.Counts.{Counts}
 use Rattle.ps_hosting.specs.declared.numbers.HostEntry.{HostEntry}
@@ -82,6 +82,7 @@ code_of Memory = 5
 abbrev pub code_of_refusal : Refusal → ℕ
 code_of_refusal OutOfRange = 16
 code_of_refusal NoRoom = 17
+code_of_refusal OtherSchedule = 18
 
 -- the rooms of a host, before or after a call
 pub record Rooms : Type 0 where
@@ -105,16 +106,46 @@ abbrev pub IsHandedOut : Result Report Refusal → (old new : Rooms) → (code :
 IsHandedOut (Ok report) old new code = IsHanded report old new code
 IsHandedOut (Err refusal) old new code = (new ≡ old) × (code ≡ code_of_refusal refusal)
 
+-- a run of a program by these settings, with a budget of so many steps, which prints no more than it
+-- may. Asks: what a step asks for that the language doesn't say
+abbrev pub IsRunFor : (asks : Status → Around → Scene → Asked) → (program : List ℕ) → Settings
+    → (steps : ℕ) → Report → Type 0
+IsRunFor asks program settings steps report =
+    IsRunIn asks (space_in settings) program steps report
+    × (length report.printed.items ≤ most_output settings.output)
+
 -- what is made where a host asks for a run of a program: a number is out of its range, or there is no
--- room to start with; or it is such a run, which prints no more than it may. Asks: what a step asks
--- for that the language doesn't say
+-- room to start with; or it is such a run
 abbrev pub IsMade : (asks : Status → Around → Scene → Asked) → (program : List ℕ) → Settings
     → Result Report Refusal → Type 0
 IsMade asks program settings (Err OutOfRange) = ¬ IsWithin (config_in settings)
 IsMade asks program settings (Err NoRoom) = IsWithin (config_in settings)
-IsMade asks program settings (Ok report) = IsWithin (config_in settings)
-    × IsRunIn asks (space_in settings) program settings.steps report
-    × (length report.printed.items ≤ most_output settings.output)
+IsMade asks program settings (Err OtherSchedule) = ⊥
+IsMade asks program settings (Ok report) =
+    IsWithin (config_in settings) × IsRunFor asks program settings settings.steps report
+
+-- the steps of a schedule and so many more, up to as many as a run may have
+abbrev pub budget_behind : (given : List Entry) → (steps : ℕ) → ℕ
+budget_behind given steps = min (count_of given + steps) (2 ^ 32 - 1)
+
+-- a run goes on from a schedule: it begins with it; or memory was wanted on the way
+abbrev pub GoesOnFrom : (given : List Entry) → Report → Type 0
+GoesOnFrom given report = Begins given report.schedule.items
+    ⊎ ((is_memory report.outcome ≡ true) × Begins report.schedule.items given)
+
+-- what is made where a host asks to go on from a schedule: as where it asks for a run, but with a
+-- budget behind the schedule, and the run goes on from it; or there is a run that doesn't
+abbrev pub IsGoneOn : (asks : Status → Around → Scene → Asked) → (program : List ℕ) → Settings
+    → (given : List Entry) → Result Report Refusal → Type 0
+IsGoneOn asks program settings given (Err OutOfRange) = ¬ IsWithin (config_in settings)
+IsGoneOn asks program settings given (Err NoRoom) = IsWithin (config_in settings)
+IsGoneOn asks program settings given (Err OtherSchedule) = IsWithin (config_in settings)
+    × ((report : Report)
+    × IsRunFor asks program settings (budget_behind given settings.steps) report
+    × (¬ GoesOnFrom given report))
+IsGoneOn asks program settings given (Ok report) = IsWithin (config_in settings)
+    × IsRunFor asks program settings (budget_behind given settings.steps) report
+    × GoesOnFrom given report
 
 -- a report of a schedule that was followed: it has the steps that were made, which are all of the
 -- given ones but where memory was wanted, what the definitions print for them, which is no more than

@@ -1,16 +1,18 @@
 //! Runs that a host asks for.
 
-ghost use Rattle.std.specs.Prelude.{◌≤◌, length, map, IfOk};
+ghost use Rattle.std.specs.Prelude.{◌≡◌, ◌≤◌, ◌↔◌, length, map, IfOk, IsTrue};
 ghost use Rattle.ps_vault.specs.Reports.{IsRunIn};
 ghost use Rattle.ps_hosting.specs.Hosts as hosts;
-ghost use Rattle.ps_hosting.specs.Hosts.{IsFollowed, IsMade, space_in};
+ghost use Rattle.ps_hosting.specs.Hosts.{GoesOnFrom, IsFollowed, IsGoneOn, IsMade, space_in};
 
 use crate::handing::given_entries;
 use crate::keys::keys_of;
 use crate::numbers::{HostEntry, Settings, config_in, most_output};
 use ps_interpreter::interprets::Interpret;
-use ps_vault::{Report, RunFault, Setup, replay, run_plain};
-use ps_workers::{Job, run_alone};
+use ps_language::schedules::Entry;
+use ps_schedules::{begins, steps_of};
+use ps_vault::{Report, RunFault, Setup, replay, run_plain_behind};
+use ps_workers::{Job, run_alone_behind};
 use ps_world::deeds::Deeds;
 use std::alloc::Global;
 
@@ -28,6 +30,8 @@ pub enum Refusal {
     OutOfRange,
     /// The room that a run starts with can't be had.
     NoRoom,
+    /// The schedule to go on from isn't that of such a run.
+    OtherSchedule,
 }
 
 /// Runs a program by these settings.
@@ -43,10 +47,61 @@ pub fn run_for<S: Interpret + Drop, D: Deeds + Drop>(
     if !config.is_within() {
         return Err(Refusal::OutOfRange);
     }
-    match make(alloc, makers, program, settings) {
+    match make(alloc, makers, program, settings, &[]) {
         Ok(report) => Ok(report),
         Err(_) => Err(Refusal::NoRoom),
     }
+}
+
+/// The budget of a run that goes on from a schedule: its steps and so many more, up to as many as a
+/// run may have.
+fn budget_behind(given: &[Entry], settings: &Settings) -> u32
+    ensures { result ≡ hosts.budget_behind given.now settings.now.steps }
+{
+    let steps = steps_of(given).saturating_add(u64::from(settings.steps));
+    steps.min(u64::from(u32::MAX)) as u32
+}
+
+/// Whether a run goes on from a schedule: it begins with it, or memory was wanted on the way.
+fn goes_on_from(given: &[Entry], report: &Report) -> bool
+    ensures { IsTrue result ↔ GoesOnFrom given.now report.now }
+{
+    let made = report.schedule.as_slice();
+    begins(given, made) || report.outcome.is_memory() && begins(made, given)
+}
+
+/// Goes on from a schedule: a run of the program by these settings, of the steps that were given and
+/// so many more, which begins with them. So what a run that was cut printed is the beginning of what
+/// this one prints. Where memory was wanted on the way the report has the given steps that were made.
+///
+/// The refusal is `OtherSchedule` where the schedule isn't that of a run by these settings, or is
+/// that of one that was over before.
+pub fn go_on_for<S: Interpret + Drop, D: Deeds + Drop>(
+    alloc: Global,
+    makers: Makers<S, D>,
+    program: &[u8],
+    settings: &Settings,
+    given: &[HostEntry],
+) -> Result<Report, Refusal>
+    ensures { IsGoneOn S.asks program.now settings.now (map hosts.given_entry given.now) result }
+{
+    if !config_in(settings).is_within() {
+        return Err(Refusal::OutOfRange);
+    }
+    let Ok(entries) = given_entries(alloc, given) else {
+        return Err(Refusal::NoRoom);
+    };
+    let further = Settings {
+        steps: budget_behind(entries.as_slice(), settings),
+        ..*settings
+    };
+    let Ok(report) = make(alloc, makers, program, &further, entries.as_slice()) else {
+        return Err(Refusal::NoRoom);
+    };
+    if !goes_on_from(entries.as_slice(), &report) {
+        return Err(Refusal::OtherSchedule);
+    }
+    Ok(report)
 }
 
 /// Follows a schedule, over memory that is never collected. Of the settings the keys and the bound
@@ -79,12 +134,14 @@ pub fn replay_for<S: Interpret + Drop, D: Deeds + Drop>(
     }
 }
 
-/// The report of a run by these settings, in a space that is collected or over memory that grows.
+/// The report of a run by these settings, in a space that is collected or over memory that grows. Its
+/// first turns are of the contexts that a schedule has, as long as each is ready.
 fn make<S: Interpret + Drop, D: Deeds + Drop>(
     alloc: Global,
     makers: Makers<S, D>,
     program: &[u8],
     settings: &Settings,
+    given: &[Entry],
 ) -> Result<Report, RunFault>
     ensures run { IfOk result
         (IsRunIn S.asks (space_in settings.now) program.now settings.now.steps) }
@@ -97,7 +154,7 @@ fn make<S: Interpret + Drop, D: Deeds + Drop>(
     let config = config_in(settings);
     let Makers { interpret, deeds } = makers;
     if settings.plain != 0 {
-        return run_plain(alloc, interpret, deeds, program, config, keys);
+        return run_plain_behind(alloc, interpret, deeds, program, config, keys, given);
     }
     let job = Job {
         interpret,
@@ -106,5 +163,5 @@ fn make<S: Interpret + Drop, D: Deeds + Drop>(
         config,
         keys,
     };
-    run_alone(alloc, job)
+    run_alone_behind(alloc, job, given)
 }

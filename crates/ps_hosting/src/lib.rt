@@ -6,6 +6,8 @@
 //!   any number of a host's threads may call at once.
 //! - Who makes the steps is a parameter. The exports name the language's, and cite these contracts.
 //! - A host's flag may be any number, so no byte of a host's is a value that no type has.
+//! - A call that goes on makes the run anew, since nothing is kept. It looks at the schedule that it
+//!   made, and not at how it came to it, so its answer is that of the steps alone.
 //! - Codes below 16 are the statuses of `dpsrun`, and tell how a run ended; behind the others no run
 //!   stands, and nothing was written.
 #![tactic(auto)]
@@ -17,7 +19,7 @@ mod laws;
 mod numbers;
 
 pub use handing::hand_out;
-pub use hosting::{Makers, Refusal, replay_for, run_for};
+pub use hosting::{Makers, Refusal, go_on_for, replay_for, run_for};
 pub use keys::Keys;
 pub use laws::host_entry_laws;
 pub use numbers::{Counts, HostEntry, Settings};

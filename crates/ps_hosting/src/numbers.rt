@@ -104,6 +104,7 @@ pub(crate) fn code_of_refusal(refusal: Refusal) -> u32
     match refusal {
         Refusal::OutOfRange => 16,
         Refusal::NoRoom => 17,
+        Refusal::OtherSchedule => 18,
     }
 }
 

@@ -1,4 +1,5 @@
 pub mod Counting
+pub mod Heads
 pub mod Beginnings
 pub mod Once
 pub mod Nones

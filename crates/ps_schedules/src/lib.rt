@@ -1,5 +1,5 @@
-//! The text of a schedule: a line for each entry, written and read (the profile's own); and how many
-//! steps it has.
+//! The text of a schedule: a line for each entry, written and read (the profile's own); how many
+//! steps it has, and whether it begins another.
 //!
 //! Why so:
 //! - A text is a schedule's exactly where writing that schedule gives it: no leading zeros, one
@@ -10,12 +10,14 @@
 #![tactic(auto)]
 
 mod fields;
+mod fronts;
 mod laws;
 mod lines;
 mod reading;
 mod steps;
 mod writing;
 
+pub use fronts::begins;
 pub use laws::schedule_text_laws;
 pub use reading::{MOST_LINE_BYTES, ScheduleFault, read_entries};
 pub use steps::steps_of;

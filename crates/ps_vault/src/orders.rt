@@ -39,7 +39,7 @@ pub trait TurnOrder {
 impl<M: Memory + Drop, S: Interpret + Drop, D: Deeds + Drop> Vault<'_, M, S, D> {
     /// The ready context of the least identifier above another, or of the least of all where none
     /// is above it.
-    fn next_round(&mut self, after: u32) -> Option<u32>
+    pub(crate) fn next_round(&mut self, after: u32) -> Option<u32>
         requires { self.old.caller ≡ None }
         ensures same { self.new ≡ self.old }
         ensures ready { IfSome result (λ next. locks.is_ready (world_at self.old) next ≡ true) }

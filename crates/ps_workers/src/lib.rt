@@ -26,6 +26,8 @@
 //!   thread needs no shared word, each of which is dearer. The baton is the same.
 //! - `run_alone` is that with no lock: a host's thread makes the turns itself. So it may be called
 //!   where nothing may wait, and its return is proved.
+//! - `run_alone_behind` takes from a schedule whose turns come first, and makes them as its own: so a
+//!   turn that the schedule ends in goes on behind it, as it would in a run that wasn't cut.
 //! - A gate is a memory around a memory (`Gated`), so a run without one pays nothing. That it is
 //!   told of each store is shown by tests alone.
 #![tactic(auto)]
@@ -40,4 +42,6 @@ mod serving;
 mod waits;
 
 pub use gates::{Gate, Gated, Nobody, Past};
-pub use runs::{Job, run, run_alone, run_beside, run_gated, run_serial, run_serial_in};
+pub use runs::{
+    Job, run, run_alone, run_alone_behind, run_beside, run_gated, run_serial, run_serial_in,
+};

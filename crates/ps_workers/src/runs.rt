@@ -23,7 +23,7 @@ use ps_mem::Memory;
 use ps_roots::ROOT_LIMIT;
 use ps_seats::{Naming, named_seats};
 use ps_table::{GcSeat, PlainWords, Shared, VmSeat};
-use ps_vault::{Config, Report, Roots, RunFault};
+use ps_vault::{Config, Entry, Report, Roots, RunFault};
 use ps_world::deeds::Deeds;
 use std::alloc::{AllocError, Global};
 use std::hash::RandomState;
@@ -270,6 +270,22 @@ pub fn run_alone<S: Interpret + Drop, D: Deeds + Drop>(
     ensures bounded { IfOk result
         (λ report. length report.printed.items ≤ job.entry.config.output) }
 {
+    run_alone_behind(alloc, job, &[])
+}
+
+/// As `run_alone`, but that the first turns are of the contexts that a schedule has, in its order,
+/// as long as each may go on. Only whose turn it is is taken from it.
+pub fn run_alone_behind<S: Interpret + Drop, D: Deeds + Drop>(
+    alloc: Global,
+    job: Job<'_, S, D>,
+    given: &[Entry],
+) -> Result<Report, RunFault>
+    ensures config { (result ≡ Err RunFault.Config) ↔ ¬ IsWithin job.entry.config }
+    ensures run { IfOk result (IsRunIn S.asks (bounded_space job.entry.config.space)
+        job.entry.program.now job.entry.config.steps) }
+    ensures bounded { IfOk result
+        (λ report. length report.printed.items ≤ job.entry.config.output) }
+{
     if !job.config.is_within() {
         return Err(RunFault::Config);
     }
@@ -278,6 +294,7 @@ pub fn run_alone<S: Interpret + Drop, D: Deeds + Drop>(
     };
     let (program, config) = (job.program, job.config);
     let mut baton = SerialBaton::new(alloc, memory, Inside, job)?;
+    baton.follow(given);
     for _ in 0..u64::MAX {
         if baton.turns() {
             break;

@@ -15,7 +15,7 @@ use ps_flips::collected::CollectedMemory;
 use ps_flips::sides::Collects;
 use ps_interpreter::interprets::Interpret;
 use ps_ops::failure::NotMade;
-use ps_vault::{Config, Outcome, Report, Roots, RunFault};
+use ps_vault::{Config, Entry, Guide, Outcome, Report, Roots, RunFault};
 use ps_world::deeds::Deeds;
 use std::alloc::Global;
 
@@ -98,6 +98,22 @@ impl<
         false
     }
 
+    /// Turns of the contexts that a schedule has, in its order, as long as each may go on.
+    pub(crate) fn follow(&mut self, given: &[Entry])
+        ensures goes_on { GoesOn self.old.baton self.new.baton }
+    {
+        let mut guide = Guide::new(given);
+        for _ in 0..u64::MAX {
+            let Some((context, most)) = guide.next() else {
+                return;
+            };
+            let Some(made) = self.baton.turn_as(context, most, &mut self.lent) else {
+                return;
+            };
+            guide.pass(made);
+        }
+    }
+
     /// The run's report, if it is over and was one of this program with these numbers.
     pub(crate) fn into_report(self, program: &[u8], config: Config) -> Result<Report, RunFault>
         ensures run { IfOk result (IsRunIn S.asks (bounded_space config.space) program.now
@@ -120,14 +136,44 @@ impl<M: CollectedMemory + Drop, S: Interpret + Drop, D: Deeds + Drop> Baton<'_, 
         let Some(context) = self.turn_of() else {
             return true;
         };
+        self.turn_within(context, u32::MAX, lent);
+        self.outcome.is_some()
+    }
+
+    /// A turn of this context, of at most so many steps, and how many it made. None: it may not go
+    /// on, or the run is over.
+    fn turn_as<C: Collects<M>>(
+        &mut self,
+        context: u32,
+        most: u32,
+        lent: &mut Lent<C>,
+    ) -> Option<u32>
+        requires { 1 ≤ most }
+        ensures goes_on { GoesOn self.old self.new }
+        ensures none { result ≡ None → self.new ≡ self.old }
+    {
+        if self.is_over() || !self.may_go_on(context) {
+            return None;
+        }
+        let before = self.made;
+        self.turn_within(context, most, lent);
+        Some(self.made.saturating_sub(before))
+    }
+
+    /// A turn of a context: at most so many steps and a quantum, and only one while a cycle is open.
+    fn turn_within<C: Collects<M>>(&mut self, context: u32, most: u32, lent: &mut Lent<C>)
+        requires may { MayGoOn self.old context }
+        requires outcome { self.old.outcome ≡ None }
+        requires some { 1 ≤ most }
+        ensures goes_on { GoesOn self.old self.new }
+    {
         let left = self.config.steps - self.made;
         let most = if self.vault.is_open() {
             1
         } else {
-            self.config.quantum.min(left)
+            most.min(self.config.quantum).min(left)
         };
         self.make_serially(context, most, lent);
-        self.outcome.is_some()
     }
 
     /// Steps of a context, at most so many, and the collector's work behind them; where the next is

@@ -10,23 +10,23 @@
 ghost use Rattle.std.specs.Prelude.{◌≡◌, map, Result};
 ghost use Rattle.ps_vault.specs.declared.reports.Report.{Report};
 ghost use Rattle.ps_hosting.specs.declared.hosting.Refusal.{Refusal};
-ghost use Rattle.ps_hosting.specs.Hosts.{given_entry, IsFollowed, IsHandedOut, IsMade};
+ghost use Rattle.ps_hosting.specs.Hosts.{given_entry, IsFollowed, IsGoneOn, IsHandedOut, IsMade};
 
 use ps_context::steps::Steps;
 use ps_deeds::operators::WorldOperators;
 use ps_dispatch::operators::Operators;
-use ps_hosting::{Counts, HostEntry, Makers, Settings, hand_out, replay_for, run_for};
+use ps_hosting::{Counts, HostEntry, Makers, Settings, go_on_for, hand_out, replay_for, run_for};
 use ps_interpreter::interprets::Interpret;
 use std::alloc::Global;
 
 /// The version of this interface: 10,000 for each first number, 100 for each second one, 1 for each
 /// third one.
-const VERSION: u32 = 100;
+const VERSION: u32 = 200;
 
 /// The version of this interface, which a host compares with that of its header.
 #[unsafe(no_mangle)]
 pub extern "C" fn tallowmarch_version() -> u32
-    ensures { result ≡ 100 }
+    ensures { result ≡ 200 }
 {
     VERSION
 }
@@ -65,6 +65,32 @@ pub extern "C" fn tallowmarch_run(
         (record { printed = printed.new; schedule = schedule.new; counts = counts.new }) result }
 {
     let made = run_for(alloc, makers(alloc), program, settings);
+    hand_out(&made, printed, schedule, counts)
+}
+
+/// Goes on from a schedule that a run of the program by these settings was handed, and hands out the
+/// longer run: `steps` counts the steps behind the given ones. What was printed, and the schedule,
+/// are whole, from the start. The results are those of `tallowmarch_run`; with 5 memory may have been
+/// wanted before the end of the given steps, and with 18 the schedule isn't that of such a run: then
+/// nothing is written.
+#[unsafe(no_mangle)]
+pub extern "C" fn tallowmarch_go_on(
+    alloc: Global,
+    program: &[u8],
+    settings: &Settings,
+    given: &[HostEntry],
+    printed: &mut [u8],
+    schedule: &mut [HostEntry],
+    counts: &mut Counts,
+) -> u32
+    ensures { (made : Result Report Refusal)
+        × IsGoneOn ⟦<Steps<Operators> as Interpret>⟧.asks program.now settings.now
+        (map given_entry given.now) made
+        × IsHandedOut made
+        (record { printed = printed.old; schedule = schedule.old; counts = counts.old })
+        (record { printed = printed.new; schedule = schedule.new; counts = counts.new }) result }
+{
+    let made = go_on_for(alloc, makers(alloc), program, settings, given);
     hand_out(&made, printed, schedule, counts)
 }
 

@@ -1,4 +1,4 @@
-use Rattle.std.proofs.Common.{◌≡◌, ◌+◌, ◌++◌, ◌∷◌, [], ◌∙◌, rules, ap, subst, sym}
+use Rattle.std.proofs.Common.{◌≡◌, ◌++◌, ◌∷◌, [], ◌∙◌, rules, ap, subst, sym}
 use Rattle.ps_schedules.specs.Texts.{AreEntries, text_of}
 use Rattle.ps_schedules.proofs.WholeLines.{bad_here}
 use Rattle.ps_schedules.proofs.Once.{text_more, entries_more}
