@@ -1,5 +1,5 @@
 -- Bytes of one word of a string, shown behind those before them.
-use Rattle.std.proofs.Common.{◌≡◌, ℕ, ◌+◌, ◌-◌, ◌/◌, ◌%◌, ◌<◌, ◌≤◌, List, ◌++◌, length, take, drop, get_or, Some, refl, ap, sym, ◌∙◌, arith}
+use Rattle.std.proofs.Common.{◌≡◌, ℕ, ◌+◌, ◌-◌, ◌*◌, ◌/◌, ◌%◌, ◌<◌, ◌≤◌, List, ◌++◌, length, take, drop, get_or, Some, refl, ap, sym, ◌∙◌, arith}
 use Rattle.std.specs.Prelude.{slice_get, slice_range}
 use Rattle.std.specs.Int.{w64, to_le_bytes}
 use Rattle.std.specs.List.{flat_map}
@@ -15,6 +15,7 @@ use Rattle.ps_mem.specs.Meaning.{part_of}
 use Rattle.ps_mem.specs.References.{StandsAs, words_for}
 use Rattle.ps_mem.specs.Shows.{Shows}
 use Rattle.ps_seq.proofs.CompareLemmas.{run_more}
+use Rattle.ps_seq.proofs.TextLemmas.{text_at, loaded_run}
 use Rattle.ps_text.proofs.Rests.{run_step, run_full, slice_one}
 
 module _ (h : Heap) (part : Part)
@@ -36,8 +37,25 @@ module _ (h : Heap) (part : Part)
   run = slice_range (to_le_bytes w64 word.0) ((part.offset + index) % 8)
       ((part.offset + index) % 8 + count)
 
+  lies : run ≡ slice_range (bytes s (birth_at h part.address)) (part.offset + index)
+      (part.offset + index + count)
+  lies =
+      let t = bytes s (birth_at h part.address) in
+      let first = (part.offset + index) % 8 in
+      let at = (part.offset + index) / 8 in
+      let text = text_at h part.address (words_for (part.offset + part.length)) known names s shows
+      in
+      let long : first + count - first ≡ count = omega arith in
+      let long' : count ≡ part.offset + index + count - (part.offset + index) = omega arith in
+      let place : 8 * at + first ≡ part.offset + index = omega arith in
+      ap (λ n. take n (drop first (to_le_bytes w64 word.0))) long
+      ∙ (loaded_run h part.address s text at word read first count fits some
+      (omega (arith, place, within, inside))
+      ∙ (λ i. take (long' i) (drop (place i) t)))
+
   left : drop index whole ≡ run ++ drop (index + count) whole
-  left = run_more h part known names s shows within word index count read fits some inside
+  left = run_more (bytes s (birth_at h part.address)) part.offset part.length index count within
+      inside run lies
 
   pub shown_step : (new : List ℕ) → new ≡ take end (now ++ shown)
       → take end (new ++ flat_map escaped (drop (index + count) whole)) ≡ all
