@@ -1,12 +1,12 @@
 //! Texts of values in strings (PLRM2, 8 'cvs').
 
-ghost use Rattle.std.specs.Prelude.{◌≡◌, ℕ, ◌+◌, ◌<◌, ◌≤◌, ◌^◌, List, [], length, min, OnOk, OnErr, IfErr, vec_capacity};
-ghost use Rattle.ps_language.specs.Access.{bytes, with_part_bytes};
+ghost use Rattle.std.specs.Prelude.{◌≡◌, ℕ, ◌+◌, ◌<◌, ◌≤◌, ◌^◌, List, [], length, min, OnOk, OnErr, IfErr, IfSome, vec_capacity};
+ghost use Rattle.ps_language.specs.Access.{bytes, part_bytes, with_part_bytes};
 ghost use Rattle.ps_language.specs.Rows.{changing_row};
 ghost use Rattle.ps_language.specs.RowsTypes.{cvs_row};
 ghost use Rattle.ps_language.specs.Texts.{plain_text};
 ghost use Rattle.ps_language.specs.Value.{Store};
-ghost use Rattle.ps_mem.specs.Heap.{birth_at};
+ghost use Rattle.ps_mem.specs.Heap.{Heap, birth_at};
 ghost use Rattle.ps_mem.specs.Keeps.{Keeps};
 ghost use Rattle.ps_mem.specs.References.{StandsAs, words_for};
 ghost use Rattle.ps_mem.specs.Meaning.{part_of, value_of};
@@ -23,15 +23,33 @@ use ps_language::errors::ErrorName;
 use ps_language::kinds::Kind;
 use ps_mem::{Memory, SLOTS};
 use ps_names::Names;
-use ps_ops::arrays::is_writable;
+use ps_ops::arrays::{is_readable, is_writable};
 use ps_ops::changes::{permitted, records_for};
 use ps_ops::failure::NotMade;
 use ps_seq::strings::set_bytes;
+use ps_sequence_operators::pairs::{Pair, Sequence, copy_contents};
 use ps_strings::readers::{string_interval, string_of};
 use ps_text::plain::{append_plain, plain_length};
 use ps_word::values::Part;
 use ps_word::words::Word;
 use std::alloc::AllocError;
+
+/// The part of a string that may be read, whose text is its bytes.
+#[inline]
+fn readable_part(word: Word) -> Option<Part>
+    ensures text { (births : ℕ → ℕ) (names : List (List ℕ)) (s : Store) → IfSome result
+        (λ part. plain_text s (value_of births names word) ≡ part_bytes s (part_of births part)) }
+    ensures stands { (h : Heap) → IsValue h word → IfSome result
+        (λ part. StandsAs h Kind.Text part.address (words_for (part.offset + part.length))) }
+    ensures within { (births : ℕ → ℕ) (names : List (List ℕ)) (s : Store)
+        → IsWithin births names s word → IfSome result (λ part. part.offset + part.length ≤
+        length (bytes s (births part.address))) }
+{
+    match string_of(word) {
+        Some(part) if is_readable(part.access) => Some(part),
+        _ => None,
+    }
+}
 
 /// Why a text was not read.
 #[derive(Clone, Copy, Debug, PartialEq, Eq)]
@@ -163,6 +181,23 @@ pub fn cvs<M: Memory>(
     };
     if !is_writable(part.access) {
         return Err(Break::Raises(ErrorName::InvalidAccess));
+    }
+    if let Some(from) = readable_part(word) {
+        if from.length > part.length {
+            return Err(Break::Raises(ErrorName::RangeCheck));
+        }
+        let pair = Pair {
+            of: Sequence::Strings,
+            from,
+            to: part,
+        };
+        if let Err(reason) = copy_contents(memory, trial.slot, pair, 0, &mut shared.scratch) {
+            return Err(Break::NotMade(reason));
+        }
+        context
+            .operands
+            .replace(2, string_interval(target, part, 0, from.length));
+        return Ok(());
     }
     match read_text(
         memory,

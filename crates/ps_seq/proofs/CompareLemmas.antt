@@ -1,7 +1,6 @@
 -- Two parts of strings, a run of bytes after another.
-use Rattle.std.proofs.Common.{◌≡◌, ◌≢◌, ℕ, zero, suc, ◌+◌, ◌-◌, ◌*◌, ◌/◌, ◌%◌, ◌<◌, ◌≤◌, ◌⊎◌, List, [], ◌∷◌, ◌++◌, length, take, drop, Some, Less, Equal, Greater, Ordering, refl, sym, ap, arith, ◌∙◌, inl, inr, length-drop}
-use Rattle.std.specs.Prelude.{◌↔◌, slice_get, slice_range}
-use Rattle.std.specs.Int.{w64, to_le_bytes}
+use Rattle.std.proofs.Common.{◌≡◌, ◌≢◌, ℕ, ◌+◌, ◌-◌, ◌<◌, ◌≤◌, ◌⊎◌, List, [], ◌∷◌, ◌++◌, length, take, drop, Less, Equal, Greater, Ordering, refl, sym, ap, arith, ◌∙◌, inl, inr, length-drop}
+use Rattle.std.specs.Prelude.{◌↔◌, slice_range}
 use Rattle.std.specs.Ordering.{nat_cmp, ordering_then}
 use Rattle.std.specs.Cmp.Lexicographic.{slice_cmp}
 use Rattle.std.proofs.lemmas.Bool.{cases_lt}
@@ -9,15 +8,7 @@ use Rattle.std.proofs.lemmas.Bool.Decides.{nat_tests}
 use Rattle.std.proofs.lemmas.Cmp.{nat_list_cmp_total, tied_itself}
 use Rattle.std.proofs.lemmas.Map.Lookups.{exact_bytes}
 use Rattle.std.proofs.lemmas.List.{length-take-le, drop_more, drop_all, drop-drop, take-append-drop}
-use Rattle.ps_language.specs.declared.kinds.Kind.TheVariants.{Text as TextKind}
-use Rattle.ps_language.specs.Value.{Store}
-use Rattle.ps_language.specs.Access.{bytes}
-use Rattle.ps_word.specs.declared.words.Word.{Word}
-use Rattle.ps_word.specs.declared.values.Part.{Part}
-use Rattle.ps_mem.specs.Heap.{Heap, birth_at, fields_at}
-use Rattle.ps_mem.specs.References.{StandsAs, words_for}
-use Rattle.ps_mem.specs.Shows.{Shows}
-use Rattle.ps_seq.proofs.TextLemmas.{text_at, loaded_run}
+use Rattle.ps_seq.proofs.TextLemmas.{run-take}
 
 -- ---- the bytes of a part
 
@@ -28,50 +19,22 @@ length_part t offset count within =
     ap (λ n. length (take n (drop offset t))) long ∙ length-take-le count (drop offset t) (omega
     (arith, within, length-drop offset t))
 
-run-take : (n : ℕ) (ys : List ℕ) (i c : ℕ) → i + c ≤ n
-    → take c (drop i (take n ys)) ≡ take c (drop i ys)
-run-take n ys zero zero fits = refl
-run-take zero ys zero (suc c) fits = absurd (omega arith)
-run-take (suc n) [] zero (suc c) fits = refl
-run-take (suc n) (y ∷ ys) zero (suc c) fits =
-    ap (λ zs. y ∷ zs) (run-take n ys zero c (omega arith))
-run-take zero ys (suc i) c fits = absurd (omega arith)
-run-take (suc n) [] (suc i) c fits = refl
-run-take (suc n) (y ∷ ys) (suc i) c fits = run-take n ys i c (omega arith)
-
--- a run of a part's bytes that lies in one word
-module _ (h : Heap) (part : Part)
-    (known : StandsAs h TextKind part.address (words_for (part.offset + part.length)))
-    (names : List (List ℕ)) (s : Store) (shows : Shows h names s)
-    (within : part.offset + part.length ≤ length (bytes s (birth_at h part.address))) (word : Word)
-    (index count : ℕ)
-    (read : slice_get (fields_at h part.address) ((part.offset + index) / 8) ≡ Some word)
-    (fits : (part.offset + index) % 8 + count ≤ 8) (some : 0 < count)
-    (inside : index + count ≤ part.length) where
+-- a run of a part's bytes
+module _ (t : List ℕ) (offset long index count : ℕ) (within : offset + long ≤ length t)
+    (inside : index + count ≤ long) (run : List ℕ)
+    (is : run ≡ slice_range t (offset + index) (offset + index + count)) where
   abbrev whole : List ℕ
-  whole = slice_range (bytes s (birth_at h part.address)) part.offset (part.offset + part.length)
-
-  abbrev run : List ℕ
-  run = slice_range (to_le_bytes w64 word.0) ((part.offset + index) % 8)
-      ((part.offset + index) % 8 + count)
+  whole = slice_range t offset (offset + long)
 
   run_is : run ≡ take count (drop index whole)
   run_is =
-      let t = bytes s (birth_at h part.address) in
-      let first = (part.offset + index) % 8 in
-      let at = (part.offset + index) / 8 in
-      let text = text_at h part.address (words_for (part.offset + part.length)) known names s shows
-      in
-      let long : first + count - first ≡ count = omega arith in
-      let place : 8 * at + first ≡ part.offset + index = omega arith in
-      let all : part.offset + part.length - part.offset ≡ part.length = omega arith in
-      ap (λ n. take n (drop first (to_le_bytes w64 word.0))) long
-      ∙ (loaded_run h part.address s text at word read first count fits some
-      (omega (arith, place, within, inside))
-      ∙ (ap (λ m. take count (drop m t)) place
-      ∙ (ap (take count) (sym (drop-drop index part.offset t))
-      ∙ (sym (run-take part.length (drop part.offset t) index count inside)
-      ∙ ap (λ n. take count (drop index (take n (drop part.offset t)))) (sym all)))))
+      let few : offset + index + count - (offset + index) ≡ count = omega arith in
+      let all : offset + long - offset ≡ long = omega arith in
+      is
+      ∙ (ap (λ n. take n (drop (offset + index) t)) few
+      ∙ (ap (take count) (sym (drop-drop index offset t))
+      ∙ (sym (run-take long (drop offset t) index count inside)
+      ∙ ap (λ n. take count (drop index (take n (drop offset t)))) (sym all))))
 
   pub run_more : drop index whole ≡ run ++ drop (index + count) whole
   run_more =
@@ -81,12 +44,7 @@ module _ (h : Heap) (part : Part)
   pub run_length : length run ≡ count
   run_length = ap length run_is
       ∙ length-take-le count (drop index whole)
-      (omega (
-        arith,
-        inside,
-        length-drop index whole,
-        length_part (bytes s (birth_at h part.address)) part.offset part.length within,
-      ))
+      (omega (arith, inside, length-drop index whole, length_part t offset long within))
 
 -- ---- the order
 

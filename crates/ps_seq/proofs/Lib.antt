@@ -1,5 +1,6 @@
 pub mod ArrayLemmas
 pub mod ByteLemmas
+pub mod JoinLemmas
 pub mod TextLemmas
 pub mod SpliceLemmas
 pub mod TextStores

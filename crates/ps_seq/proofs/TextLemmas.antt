@@ -1,5 +1,5 @@
 -- Strings of a memory as lists of bytes.
-use Rattle.std.proofs.Common.{◌≡◌, ℕ, ◌+◌, ◌-◌, ◌*◌, ◌/◌, ◌%◌, ◌<◌, ◌≤◌, List, ◌++◌, length, take, drop, get_or, Some, sym, ap, arith, ◌∙◌, subst}
+use Rattle.std.proofs.Common.{◌≡◌, ℕ, zero, suc, ◌+◌, ◌-◌, ◌*◌, ◌/◌, ◌%◌, ◌<◌, ◌≤◌, List, [], ◌∷◌, ◌++◌, length, take, drop, get_or, Some, refl, sym, ap, arith, ◌∙◌, subst}
 use Rattle.std.specs.Prelude.{slice_get, slice_range}
 use Rattle.std.specs.Int.{w64, to_le_bytes}
 use Rattle.std.proofs.lemmas.List.{get_or-drop, drop-drop, length-drop, append_assoc}
@@ -134,3 +134,15 @@ runs_joined t from place next low high =
     ∙ (take-add (place - from) (next - place) (drop from t)
     ∙ ap (λ ds. slice_range t from place ++ take (next - place) ds)
     (drop-drop (place - from) from t ∙ ap (λ m. drop m t) there)))
+
+-- a run within the first bytes
+pub run-take : (n : ℕ) (ys : List ℕ) (i c : ℕ) → i + c ≤ n
+    → take c (drop i (take n ys)) ≡ take c (drop i ys)
+run-take n ys zero zero fits = refl
+run-take zero ys zero (suc c) fits = absurd (omega arith)
+run-take (suc n) [] zero (suc c) fits = refl
+run-take (suc n) (y ∷ ys) zero (suc c) fits =
+    ap (λ zs. y ∷ zs) (run-take n ys zero c (omega arith))
+run-take zero ys (suc i) c fits = absurd (omega arith)
+run-take (suc n) [] (suc i) c fits = refl
+run-take (suc n) (y ∷ ys) (suc i) c fits = run-take n ys i c (omega arith)

@@ -4,8 +4,9 @@
 //! - A change of a string is one store. Its bytes may begin and end within words, so these are
 //!   read, changed in the caller's list and stored as one range. A change of one byte needs no
 //!   list.
-//! - Strings are compared where they lie, a run within one word at a time, since a comparison must
-//!   not want memory. Where both begin at the same place of a word, whole words are compared.
+//! - Strings are compared where they lie, since a comparison must not want memory: what one word of
+//!   the first has by as many bytes of the second, which are joined from two words where they lie
+//!   in two. Joined words are made by a shift of both, so no byte is taken alone.
 //! - `element_at` takes the sum of address and place; `read_part` reads whole words as such. Both
 //!   spare work for each element.
 //! - Bytes that begin and end where words do are copied as words, and never read.

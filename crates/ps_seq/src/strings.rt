@@ -387,45 +387,61 @@ pub fn copy_bytes<M: Memory>(
     copied
 }
 
-/// The word that has the byte at a place of a string: the one held, or a loaded one where none is
-/// held or the byte begins a word. The memory stays as it is.
+/// The eight bytes from one of a word's bytes on, those behind its last from the word behind it.
 #[inline]
-fn word_with<M: Memory>(memory: &mut M, address: u32, place: u32, held: Option<Word>) -> Word
-    requires reach { place / 8 < length (fields_at (M.heap memory.old) address) }
-    requires held { IfSome held (λ word. place % 8 ≢ 0 → slice_get (fields_at
-        (M.heap memory.old) address) (place / 8) ≡ Some word) }
-    ensures heap { M.heap memory.new ≡ M.heap memory.old }
-    ensures grants { M.grants memory.new ≡ M.grants memory.old }
-    ensures word { slice_get (fields_at (M.heap memory.old) address) (place / 8) ≡ Some result }
+fn joined(low: Word, high: Word, first: u32) -> Word
+    requires { first < 8 }
+    ensures { to_le_bytes w64 result.0 ≡ slice_range (to_le_bytes w64 low.0
+        ++ to_le_bytes w64 high.0) first (first + 8) }
 {
-    match held {
-        Some(word) if place % BYTES != 0 => word,
-        _ => memory.load(address, place / BYTES),
-    }
+    let both = u128::from(high.0) << 64 | u128::from(low.0);
+    Word(((both >> (BYTES * first)) % (1 << 64)) as u64)
 }
 
-/// How so many bytes of a word, from its byte `left_first` on, compare with as many of another.
-/// Where both are the same bytes of one word, none is looked at.
+/// A word that begins with so many bytes of a string, from a place on. No word behind those that
+/// have them is loaded. The memory stays as it is.
 #[inline]
-fn compare_runs(left: Word, left_first: u32, right: Word, right_first: u32, count: u32) -> Ordering
-    requires left { left_first + count ≤ 8 }
-    requires right { right_first + count ≤ 8 }
-    ensures { result ≡ slice_cmp nat_cmp (slice_range (to_le_bytes w64 left.0) left_first
-        (left_first + count)) (slice_range (to_le_bytes w64 right.0) right_first
-        (right_first + count)) }
+fn word_from<M: Memory>(memory: &mut M, address: u32, place: u32, count: u32) -> Word
+    requires known { StandsAs (M.heap memory.old) Kind.Text address (words_for (place + count)) }
+    requires place { place + count < 2 ^ 20 }
+    requires some { 1 ≤ count }
+    requires word { count ≤ 8 }
+    ensures heap { M.heap memory.new ≡ M.heap memory.old }
+    ensures grants { M.grants memory.new ≡ M.grants memory.old }
+    ensures value { (names : List (List ℕ)) (s : Store) → Shows (M.heap memory.old) names s
+        → place + count ≤ length (bytes s (birth_at (M.heap memory.old) address))
+        → take count (to_le_bytes w64 result.0) ≡ slice_range (bytes s (birth_at
+        (M.heap memory.old) address)) place (place + count) }
 {
-    if left.0 == right.0 && left_first == right_first {
+    let first = place % BYTES;
+    let low = memory.load(address, place / BYTES);
+    if first + count <= BYTES {
+        return joined(low, Word(0), first);
+    }
+    let high = memory.load(address, place / BYTES + 1);
+    joined(low, high, first)
+}
+
+/// How the first bytes of a word, so many, compare with as many of another. Where the words are the
+/// same, no byte is looked at.
+#[inline]
+fn compare_runs(left: Word, right: Word, count: u32) -> Ordering
+    requires { count ≤ 8 }
+    ensures { result ≡ slice_cmp nat_cmp (take count (to_le_bytes w64 left.0)) (take count
+        (to_le_bytes w64 right.0)) }
+{
+    if left.0 == right.0 {
         return Ordering::Equal;
     }
     let left_bytes = left.0.to_le_bytes();
     let right_bytes = right.0.to_le_bytes();
-    let left_run = &left_bytes[left_first as usize..(left_first + count) as usize];
-    let right_run = &right_bytes[right_first as usize..(right_first + count) as usize];
+    let left_run = &left_bytes[..count as usize];
+    let right_run = &right_bytes[..count as usize];
     left_run.cmp(&right_run)
 }
 
 /// Compares the bytes of two parts in order, as the language orders strings: a proper beginning is
-/// less. Each word that has bytes to be compared is loaded once at most. The memory stays as it is.
+/// less. A turn compares what one word of the first has. The memory stays as it is.
 pub fn compare_bytes<M: Memory>(memory: &mut M, left: Part, right: Part) -> Ordering
     requires sound { IsSound (M.heap memory.old) }
     requires left { StandsAs (M.heap memory.old) Kind.Text left.address (words_for
@@ -452,23 +468,17 @@ pub fn compare_bytes<M: Memory>(memory: &mut M, left: Part, right: Part) -> Orde
     }
     let shared = left.length.min(right.length) as u32;
     let mut index = 0;
-    let mut left_held = None;
-    let mut right_held = None;
     while index < shared {
         let left_place = left.offset as u32 + index;
         let right_place = right.offset as u32 + index;
-        let left_word = word_with(memory, left.address, left_place, left_held);
-        let right_word = word_with(memory, right.address, right_place, right_held);
-        let left_first = left_place % BYTES;
-        let right_first = right_place % BYTES;
-        let count = (BYTES - left_first.max(right_first)).min(shared - index);
-        let order = compare_runs(left_word, left_first, right_word, right_first, count);
+        let count = (BYTES - left_place % BYTES).min(shared - index);
+        let left_word = word_from(memory, left.address, left_place, count);
+        let right_word = word_from(memory, right.address, right_place, count);
+        let order = compare_runs(left_word, right_word, count);
         if order != Ordering::Equal {
             return order;
         }
         index += count;
-        left_held = Some(left_word);
-        right_held = Some(right_word);
     }
     left.length.cmp(&right.length)
 }

@@ -1,6 +1,6 @@
 //! Strings in parentheses, with escapes.
 
-ghost use Rattle.std.specs.Prelude.{◌≡◌, ◌<◌, ◌≤◌, ◌+◌, ◌++◌, ◌∷◌, [], ℕ, List, take, length, slice_range, IsTrue, OnOk, OnErr, vec_capacity};
+ghost use Rattle.std.specs.Prelude.{◌≡◌, ◌<◌, ◌≤◌, ◌+◌, ◌^◌, ◌++◌, ◌∷◌, [], ℕ, List, take, length, slice_range, IsTrue, OnOk, OnErr, vec_capacity};
 ghost use Rattle.std.specs.List.{flat_map};
 ghost use Rattle.ps_language.specs.Access.{bytes, part_bytes};
 ghost use Rattle.ps_language.specs.Texts as texts;
@@ -14,11 +14,13 @@ ghost use Rattle.ps_text.specs.Shown.{GoesOn};
 use crate::appends::{append_cut, is_readable};
 use ps_language::kinds::Kind;
 use ps_mem::Memory;
+use ps_seq::arrays::interval;
+use ps_seq::reads::read_part;
 use ps_word::values::Part;
 use std::alloc::AllocError;
 
-/// The bytes of a word.
-const BYTES: u32 = 8;
+/// The most bytes that are read at once.
+const BLOCK: usize = 64;
 
 /// A backslash and three octal digits.
 fn octal_escape(byte: u8) -> [u8; 4]
@@ -56,39 +58,81 @@ fn append_escape(byte: u8, end: usize, output: &mut Vec<u8>) -> Result<(), Alloc
     }
 }
 
-/// Whether a byte is shown as it is: a printable one that is no parenthesis and no backslash. Most
-/// are behind the parentheses.
+/// Whether a byte is shown as it is: a printable one that is no parenthesis and no backslash.
 #[inline(always)]
 fn is_plain(byte: u8) -> bool
     ensures { IsTrue result → texts.escaped byte ≡ byte ∷ [] }
 {
-    if byte == b'\\' {
-        false
-    } else if byte > b')' {
-        byte <= b'~'
-    } else if byte >= b'(' {
-        false
-    } else {
-        byte >= b' '
-    }
+    (byte >= b' ') & (byte <= b'~') & (byte != b'(') & (byte != b')') & (byte != b'\\')
 }
 
-/// Where the bytes of a word end that are shown as they are, from one of them on and before another.
-#[inline(always)]
-fn plain_end(bytes: [u8; 8], first: u32, last: u32) -> u32
-    requires eight { length bytes ≡ 8 }
-    requires from { first ≤ last }
-    requires within { last ≤ 8 }
-    ensures low { first ≤ result }
-    ensures high { result ≤ last }
-    ensures plain { let run = slice_range bytes first result in flat_map texts.escaped run ≡ run }
+/// Whether all bytes are shown as they are. No byte ends the loop, so many are tested at once.
+#[inline]
+fn are_plain(bytes: &[u8]) -> bool
+    ensures { IsTrue result → flat_map texts.escaped bytes.now ≡ bytes.now }
 {
-    for at in first..last {
-        if !is_plain(bytes[at as usize]) {
+    let mut plain = true;
+    for at in 0..bytes.len() {
+        plain = plain & is_plain(bytes[at]);
+    }
+    plain
+}
+
+/// Where the bytes end that are shown as they are, from one of them on.
+#[inline]
+fn plain_end(bytes: &[u8], first: usize) -> usize
+    requires from { first ≤ length bytes.now }
+    ensures low { first ≤ result }
+    ensures high { result ≤ length bytes.now }
+    ensures plain { let run = slice_range bytes.now first result in flat_map texts.escaped run
+        ≡ run }
+{
+    for at in first..bytes.len() {
+        if !is_plain(bytes[at]) {
             return at;
         }
     }
-    last
+    bytes.len()
+}
+
+/// Appends bytes of a string with their escapes, as far as they fit.
+fn append_mixed(bytes: &[u8], end: usize, output: &mut Vec<u8>) -> Result<(), AllocError>
+    requires { length output.old.items ≤ end }
+    ensures goes_on { GoesOn end output.old.items output.new.items }
+    ensures capacity { vec_capacity output.old ≤ vec_capacity output.new }
+    ensures ok { OnOk result (output.new.items ≡ take end (output.old.items ++ flat_map
+        texts.escaped bytes.now)) }
+    ensures full { OnErr result (vec_capacity output.old < length (take end (output.old.items
+        ++ flat_map texts.escaped bytes.now))) }
+{
+    let mut index = 0;
+    while index < bytes.len() {
+        let behind = plain_end(bytes, index);
+        if behind == index {
+            append_escape(bytes[index], end, output)?;
+            index += 1;
+        } else {
+            append_cut(&bytes[index..behind], end, output)?;
+            index = behind;
+        }
+    }
+    Ok(())
+}
+
+/// Appends bytes of a string with their escapes, as far as they fit; at once where none has one.
+fn append_block(bytes: &[u8], end: usize, output: &mut Vec<u8>) -> Result<(), AllocError>
+    requires { length output.old.items ≤ end }
+    ensures goes_on { GoesOn end output.old.items output.new.items }
+    ensures capacity { vec_capacity output.old ≤ vec_capacity output.new }
+    ensures ok { OnOk result (output.new.items ≡ take end (output.old.items ++ flat_map
+        texts.escaped bytes.now)) }
+    ensures full { OnErr result (vec_capacity output.old < length (take end (output.old.items
+        ++ flat_map texts.escaped bytes.now))) }
+{
+    if are_plain(bytes) {
+        return append_cut(bytes, end, output);
+    }
+    append_mixed(bytes, end, output)
 }
 
 /// Appends the bytes of a part of a string with their escapes, as far as they fit. Once the text is
@@ -102,6 +146,7 @@ fn append_escaped<M: Memory>(
     requires sound { IsSound (M.heap memory.old) }
     requires known { StandsAs (M.heap memory.old) Kind.Text part.address (words_for (part.offset +
         part.length)) }
+    requires end { part.offset + part.length < 2 ^ 16 }
     requires short { length output.old.items ≤ end }
     ensures heap { M.heap memory.new ≡ M.heap memory.old }
     ensures grants { M.grants memory.new ≡ M.grants memory.old }
@@ -116,24 +161,17 @@ fn append_escaped<M: Memory>(
         → OnErr result (vec_capacity output.old < length (take end (output.old.items ++ flat_map
         texts.escaped (part_bytes s (part_of (birth_at (M.heap memory.old)) part))))) }
 {
-    let length = part.length as u32;
-    let mut index: u32 = 0;
-    while index < length {
+    let mut block = [0; BLOCK];
+    let mut index: u16 = 0;
+    while index < part.length {
         if output.len() >= end {
             return Ok(());
         }
-        let at = part.offset as u32 + index;
-        let bytes = memory.load(part.address, at / BYTES).0.to_le_bytes();
-        let first = at % BYTES;
-        let last = BYTES.min(first + (length - index));
-        let behind = plain_end(bytes, first, last);
-        if behind == first {
-            append_escape(bytes[first as usize], end, output)?;
-            index += 1;
-        } else {
-            append_cut(&bytes[first as usize..behind as usize], end, output)?;
-            index += behind - first;
-        }
+        let count = (part.length - index).min(BLOCK as u16);
+        let bytes = &mut block[..count as usize];
+        read_part(memory, interval(part, index, count), bytes);
+        append_block(bytes, end, output)?;
+        index += count;
     }
     Ok(())
 }
@@ -148,6 +186,7 @@ pub fn append_string<M: Memory>(
     requires sound { IsSound (M.heap memory.old) }
     requires known { StandsAs (M.heap memory.old) Kind.Text part.address (words_for (part.offset +
         part.length)) }
+    requires end { part.offset + part.length < 2 ^ 16 }
     requires short { length output.old.items ≤ end }
     ensures heap { M.heap memory.new ≡ M.heap memory.old }
     ensures grants { M.grants memory.new ≡ M.grants memory.old }

@@ -5,6 +5,7 @@ ghost use Rattle.std.specs.List.{join_with_byte};
 ghost use Rattle.ps_language.specs.Access.{part_elements};
 ghost use Rattle.ps_language.specs.Texts.{full_text};
 ghost use Rattle.ps_language.specs.Value.{Store};
+ghost use Rattle.ps_word.specs.Format.{IsContent};
 ghost use Rattle.ps_mem.specs.Heap.{birth_at};
 ghost use Rattle.ps_mem.specs.References.{IsKnownContent, StandsAs};
 ghost use Rattle.ps_mem.specs.Meaning.{what_of, value_of, part_of};
@@ -55,6 +56,7 @@ fn append_simple<M: Memory>(
 ) -> Result<(), AllocError>
     requires sound { IsSound (M.heap memory.old) }
     requires known { IsKnownContent (M.heap memory.old) content }
+    requires format { IsContent content }
     requires short { length output.old.items ≤ end }
     ensures heap { M.heap memory.new ≡ M.heap memory.old }
     ensures grants { M.grants memory.new ≡ M.grants memory.old }

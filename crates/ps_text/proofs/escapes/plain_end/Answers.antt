@@ -8,14 +8,14 @@ use Rattle.ps_text.proofs.Rests.{slice_none, slice_next}
 use Rattle.ps_text.proofs.escapes.plain_end.Goals as goal
 
 pub loop-at-init : goal.loop-at-init
-loop-at-init c = ap (flat_map escaped) (slice_none c.args.bytes c.args.first) ∙ sym (slice_none c.args.bytes c.args.first)
+loop-at-init c = ap (flat_map escaped) (slice_none c.args.bytes.now c.args.first) ∙ sym (slice_none c.args.bytes.now c.args.first)
 
 pub loop-at-preserved : goal.loop-at-preserved
 loop-at-preserved c =
-    let xs = c.args.bytes in
+    let xs = c.args.bytes.now in
     let run = slice_range xs c.args.first c.loop-at.at in
     let b = get_or xs c.loop-at.at 0 in
-    let more = slice_next xs c.args.first c.loop-at.at c.loop-at.auto.at (let eight = c.requires.eight in let within = c.requires.within in omega (arith, eight, within, c.loop-at-test.true)) in
+    let more = slice_next xs c.args.first c.loop-at.at c.loop-at.auto.at (omega (arith, c.loop-at-test.true)) in
     let shown = c.is_plain.ensures c.if-not-is_plain.false in
     ap (flat_map escaped) more
     ∙ (flat_map-append escaped run (b ∷ [])

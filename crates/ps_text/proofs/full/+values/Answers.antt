@@ -3,7 +3,7 @@ use Rattle.std.specs.Prelude.{OnOk, OnErr, vec_capacity, slice_get}
 use Rattle.ps_language.specs.Access.{is_readable, elements, part_elements}
 use Rattle.ps_language.specs.Value.{Store}
 use Rattle.ps_word.specs.declared.values.Content.TheVariants.{Array}
-use Rattle.ps_word.specs.Format.{content_in, executable_in}
+use Rattle.ps_word.specs.Format.{content_in, executable_in, IsContent}
 use Rattle.ps_mem.specs.Heap.{Heap, birth_at}
 use Rattle.ps_mem.specs.Meaning.{what_of, value_of, part_of}
 use Rattle.ps_mem.specs.Shows.{IsWithin, Shows}
@@ -92,6 +92,7 @@ pub append_value-append_simple-requires : goal.append_value-append_simple-requir
 append_value-append_simple-requires g t c = record {
   sound = c.requires.sound;
   known = known_content c.args.word c.content-content.result c.content-content.ensures _ c.requires.held.known;
+  format = subst IsContent (sym c.content-content.ensures) c.requires.held.word.value.content;
   short = c.requires.short;
 }
 
