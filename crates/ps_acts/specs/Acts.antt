@@ -171,8 +171,9 @@ pub record IsAtLeast (few more : Rooms) : Type 0 where
   pub sought : few.sought ≤ more.sought
   pub words : few.words ≤ more.words
 
--- The program and the place of $error stay, names are only added, and no list shrinks: neither the
--- output's capacity, its bytes and its room, nor that of those that are read into
+-- The program, the place of $error and the bound of the output stay, names are only added, and no
+-- list shrinks: neither the output's capacity, its bytes and its room, nor that of those that are
+-- read into
 pub record Stays (old new : Lent) : Type 0 where
   pub program : new.program ≡ old.program
   pub most : new.most ≡ old.most

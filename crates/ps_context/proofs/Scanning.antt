@@ -5,7 +5,7 @@ use Rattle.std.proofs.lemmas.List.{drop-drop}
 use Rattle.std.proofs.Math.Seq.{take-add}
 use Rattle.ps_language.specs.Access.{bytes}
 use Rattle.ps_language.specs.Readers.{null}
-use Rattle.ps_language.specs.Scan.{shifted, scan}
+use Rattle.ps_language.specs.Scan.{further_on, scan}
 use Rattle.ps_language.specs.StepFrames.{frame_turn, fault_name}
 use Rattle.ps_language.specs.StepValues.{leads}
 use Rattle.ps_language.specs.Token as language
@@ -195,12 +195,12 @@ module _ (text slice : List ℕ) (is : slice ≡ text) (result : Result (Option 
 -- ---- what is scanned behind one front is scanned behind another
 
 module _ (front at : ℕ) (rest : Scan) where
-  pub token_further : (token : language.Token) (end : ℕ) → shifted front rest ≡ found token end
-      → shifted at rest ≡ found token (at + (end - front))
+  pub token_further : (token : language.Token) (end : ℕ) → further_on front rest ≡ found token end
+      → further_on at rest ≡ found token (at + (end - front))
   token_further token end is = by rest is
     where
-      by : (rest : Scan) → shifted front rest ≡ found token end
-          → shifted at rest ≡ found token (at + (end - front))
+      by : (rest : Scan) → further_on front rest ≡ found token end
+          → further_on at rest ≡ found token (at + (end - front))
       by (found other stop) same =
           let kind : other ≡ token = cc in
           let place : front + stop ≡ end = cc in
@@ -209,26 +209,26 @@ module _ (front at : ℕ) (rest : Scan) where
       by exhausted same = cc
       by (faulty fault) same = cc
 
-  pub nothing_further : shifted front rest ≡ exhausted → shifted at rest ≡ exhausted
+  pub nothing_further : further_on front rest ≡ exhausted → further_on at rest ≡ exhausted
   nothing_further is = by rest is
     where
-      by : (rest : Scan) → shifted front rest ≡ exhausted → shifted at rest ≡ exhausted
+      by : (rest : Scan) → further_on front rest ≡ exhausted → further_on at rest ≡ exhausted
       by (found other stop) same = cc
       by exhausted same = refl
       by (faulty fault) same = cc
 
-  fault_shifted : (fault : ScanFault) → shifted front rest ≡ faulty fault
-      → shifted at rest ≡ faulty fault
+  fault_shifted : (fault : ScanFault) → further_on front rest ≡ faulty fault
+      → further_on at rest ≡ faulty fault
   fault_shifted fault is = by rest is
     where
-      by : (rest : Scan) → shifted front rest ≡ faulty fault → shifted at rest ≡ faulty fault
+      by : (rest : Scan) → further_on front rest ≡ faulty fault → further_on at rest ≡ faulty fault
       by (found other stop) same = cc
       by exhausted same = cc
       by (faulty other) same = same
 
   pub fault_further : (text : List ℕ) (fault : Fault)
-      → IsScanned ⊤ text (Err fault) (shifted front rest)
-      → IsScanned ⊤ text (Err fault) (shifted at rest)
+      → IsScanned ⊤ text (Err fault) (further_on front rest)
+      → IsScanned ⊤ text (Err fault) (further_on at rest)
   fault_further text Syntax scanned = fault_shifted _ scanned
   fault_further text Limit scanned = fault_shifted _ scanned
   fault_further text MemoryFault scanned = tt
@@ -263,14 +263,14 @@ module _ (all : List ℕ) (offset count at : ℕ) (low : at ≤ count) where
     window_size = length_part all offset at (omega (arith, low, within))
 
     -- the scan of what is left is that of the whole, further on
-    pub rest_scanned : scan (slice_range all offset (offset + count)) at ≡ shifted at
+    pub rest_scanned : scan (slice_range all offset (offset + count)) at ≡ further_on at
         (scan (slice_range all (offset + at) ((offset + at) + (count - at))) 0)
     unfolding window rest
     rest_scanned =
         let size = window_size in
         let place : at ≡ length window + 0 = omega (arith, size) in
         ap (λ (t : List ℕ). scan t at) parted ∙ (ap (scan (window ++ rest)) place
-        ∙ (scan_shifted window rest 0 ∙ ap (λ (n : ℕ). shifted n (scan rest 0)) size))
+        ∙ (scan_shifted window rest 0 ∙ ap (λ (n : ℕ). further_on n (scan rest 0)) size))
 
     -- a token that ends in a window is that of the whole
     pub window_scanned : (from : ℕ) (token : language.Token) (end : ℕ)
@@ -286,11 +286,11 @@ module _ (all : List ℕ) (offset count at : ℕ) (low : at ≤ count) where
 module _ (all : List ℕ) (offset count at front : ℕ) (low : at ≤ count) (near : front ≤ offset + at)
     (within : offset + count ≤ length all) where
   pub fronted : scan (slice_range all ((offset + at) - front)
-      (((offset + at) - front) + ((count - at) + front))) front ≡ shifted front
+      (((offset + at) - front) + ((count - at) + front))) front ≡ further_on front
       (scan (slice_range all (offset + at) ((offset + at) + (count - at))) 0)
   fronted =
       let place : ((offset + at) - front) + front ≡ offset + at = omega (arith, near) in
       let size : ((count - at) + front) - front ≡ count - at = omega arith in
       rest_scanned all ((offset + at) - front) ((count - at) + front) front (omega arith)
       (omega (arith, near, low, within))
-      ∙ (λ j. shifted front (scan (slice_range all (place j) (place j + size j)) 0))
+      ∙ (λ j. further_on front (scan (slice_range all (place j) (place j + size j)) 0))

@@ -5,8 +5,8 @@ use Rattle.std.proofs.lemmas.Bool.{cases_Bool, cases_lt}
 use Rattle.std.proofs.lemmas.List.{length-append, drop-append-le, drop_all}
 use Rattle.ps_language.specs.Bytes.{is_white, is_comment_end, is_hex, is_hex_or_white, is_regular, is_octal, value_in}
 use Rattle.ps_language.specs.Limits.{name_limit, sequence_limit}
-use Rattle.ps_language.specs.Reading.{Reading, token_then, stuck, Ending, string_end, unfinished, with_front, string_reading, sized_string, pairs, Tail, procedure_end, procedure_fault, with_first, enclosed, count_of, named, Word, integer_word, radix_word, real_word, name_word, word_reading, fits_integer}
-use Rattle.ps_language.specs.Scan.{leading, beyond, behind_blank, after_return, octal_front, octal_rest, Escape, octal_escape, feed_escape, return_escape, byte_escape, escape_of, escape_front, escape_rest, Mark, opening, closing, escaping, returning, plain, mark_of, string_close, string_escape, string_step, string_body, hex_reading, Start, regular_start, string_start, hex_start, angle_start, bracket_start, slash_start, stray_start, start_of, after_hex_start, after_angle, after_slash, word_of, simple_by, then_elements, elements_step, elements, token_here, as_scan, text_scan, scan}
+use Rattle.ps_language.specs.Reading.{Reading, token_then, stuck, Ending, string_end, unfinished, with_front, string_reading, sized_string, pairs, Tail, procedure_end, procedure_fault, with_first, sized_procedure, token_count, sized_name, Word, integer_word, radix_word, real_word, name_word, word_reading, fits_integer}
+use Rattle.ps_language.specs.Scan.{leading, beyond, behind_blank, after_return, octal_front, octal_rest, Escape, octal_escape, feed_escape, return_escape, byte_escape, escape_of, escape_front, escape_rest, Mark, opening, closing, escaping, returning, plain, mark_of, string_close, string_escape, string_step, string_body, hex_reading, Start, regular_start, string_start, hex_start, angle_start, bracket_start, slash_start, stray_start, start_of, after_hex_start, after_angle, after_slash, word_of, simple_by, then_elements, elements_step, elements_by, token_here, as_scan, text_scan, scan}
 use Rattle.ps_language.specs.Token.{Token, executable_name_token, literal_name_token, immediate_name_token, Scan, found, exhausted, faulty, ScanFault, syntax_fault, no_tokens}
 
 -- ---- what stays: whatever leaves some of the text, leaves that and what is behind it
@@ -209,8 +209,8 @@ module _ (more : List ℕ) where
 
   name_stays : (name : List ℕ → Token) (front rest further left : List ℕ)
       → SpanStays front rest further left
-      → ReadingStays (named name front rest) (named name further left)
-  unfolding SpanStays named
+      → ReadingStays (sized_name name front rest) (sized_name name further left)
+  unfolding SpanStays sized_name
   name_stays name front [] further left h =
       limited_last (nat_le (length front) name_limit) (name front) _ _
   name_stays name front (b ∷ bs) further left h = rw (h.0, h.1)
@@ -244,7 +244,7 @@ module _ (more : List ℕ) where
 
   word_last : (run : List ℕ) (word : Word) (further : Reading)
       → ReadingStays (word_reading run [] word) further
-  unfolding ReadingStays word_reading named
+  unfolding ReadingStays word_reading sized_name
   word_last run (integer_word number) further = limited_last (fits_integer number) _ _ further
   word_last run (radix_word number) further = limited_last (nat_lt number (2 ^ 32)) _ _ further
   word_last run real_word further = tt
@@ -288,7 +288,7 @@ module _ (more : List ℕ) where
   ]
 
   slash_stays : (bs : List ℕ) → ReadingStays (after_slash bs) (after_slash (bs ++ more))
-  unfolding ReadingStays after_slash named
+  unfolding ReadingStays after_slash sized_name
   slash_stays [] = tt
   slash_stays (b ∷ bs) = elim (cases_Bool (b == 47)) [
     | inl e ↦ rw (e, after_slash)
@@ -326,13 +326,13 @@ module _ (more : List ℕ) where
   first_stays token (procedure_end items (b ∷ bs)) further h = ap (with_first token) h
 
   enclosed_stays : (tail further : Tail) → TailStays tail further
-      → ReadingStays (enclosed tail) (enclosed further)
-  unfolding TailStays ReadingStays enclosed
+      → ReadingStays (sized_procedure tail) (sized_procedure further)
+  unfolding TailStays ReadingStays sized_procedure
   enclosed_stays (procedure_fault fault) further h = tt
   enclosed_stays (procedure_end items []) further h =
-      limited_last (nat_le (count_of items) sequence_limit) _ _ _
+      limited_last (nat_le (token_count items) sequence_limit) _ _ _
   enclosed_stays (procedure_end items (b ∷ bs)) further h = rw h
-      (limited (nat_le (count_of items) sequence_limit) _ _ (b ∷ bs) (b ∷ (bs ++ more))
+      (limited (nat_le (token_count items) sequence_limit) _ _ (b ∷ bs) (b ∷ (bs ++ more))
       (rest_stays (b ∷ bs)))
 
   closed : (bs : List ℕ)
@@ -363,19 +363,19 @@ module _ (more : List ℕ) where
             (then_stays (element b bs) (element b (bs ++ more)) (stays b bs))
       ])
 
-    elements_end : (counter : ℕ) → elements element counter [] ≡ procedure_fault syntax_fault
-    unfolding elements elements_step behind_blank
+    elements_end : (counter : ℕ) → elements_by element counter [] ≡ procedure_fault syntax_fault
+    unfolding elements_by elements_step behind_blank
     elements_end zero = refl
     elements_end (suc counter) = refl
 
     -- by any greater counter
     elements_stay : (low high : ℕ) (text : List ℕ) → low ≤ high
-        → TailStays (elements element low text) (elements element high (text ++ more))
-    unfolding TailStays elements
+        → TailStays (elements_by element low text) (elements_by element high (text ++ more))
+    unfolding TailStays elements_by
     elements_stay zero high text below = tt
     elements_stay (suc low) zero text below = absurd (omega (arith, below))
     elements_stay (suc low) (suc high) text below =
-        step_stays (elements element low) (elements element high) (elements_end low)
+        step_stays (elements_by element low) (elements_by element high) (elements_end low)
         (λ t. elements_stay low high t (omega (arith, below))) (behind_blank false text)
         (behind_blank false (text ++ more)) (blank_stays false text)
 
@@ -388,8 +388,8 @@ module _ (more : List ℕ) where
   ]
   token_stays (suc room) b bs = elim (cases_Bool (b == 123)) [
     | inl e ↦ rw (e, token_here)
-        (enclosed_stays (elements (token_here room) (suc (length bs)) bs)
-        (elements (token_here room) (suc (length (bs ++ more))) (bs ++ more))
+        (enclosed_stays (elements_by (token_here room) (suc (length bs)) bs)
+        (elements_by (token_here room) (suc (length (bs ++ more))) (bs ++ more))
         (elements_stay (token_here room) (token_stays room) (suc (length bs))
         (suc (length (bs ++ more))) bs (omega (arith, length-append bs more))))
     | inr e ↦ rw (e, token_here) (simple_stays (start_of b) b bs)

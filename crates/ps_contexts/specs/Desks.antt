@@ -159,8 +159,8 @@ HasFrame course frames = Unit {0}
 abbrev pub AreFramed : List (Option Member) → Type 0
 AreFramed members = AllMembers (λ member. HasFrame member.course member.context.frames) members
 
--- What stood stands, names are only added and the program stays; the memory is sound, and so are
--- the names
+-- What stood stands, names are only added, and the program and the bound of the output stay; the
+-- memory is sound, and so are the names
 pub record GoesOn (old new : Desk) : Type 0 where
   pub keeps : Keeps old.heap new.heap
   pub formed : List (List ℕ)

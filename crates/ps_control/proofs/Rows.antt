@@ -7,7 +7,7 @@ use Rattle.ps_language.specs.Value.{Value, Store}
 use Rattle.ps_language.specs.Effect.{Scene}
 use Rattle.ps_language.specs.Outcome.{leaves, fails}
 use Rattle.ps_language.specs.Access.{is_executable, is_writable}
-use Rattle.ps_language.specs.Readers.{as_integer, count_of}
+use Rattle.ps_language.specs.Readers.{as_integer, as_count}
 use Rattle.ps_language.specs.Control.{as_procedure, as_boolean, with_operands, exec_row, if_row, ifelse_row, for_row, repeat_row, loop_row, stopped_row, bind_row}
 use Rattle.ps_stacks.specs.Tops.{first_of, first_two_of, first_three_of}
 use Rattle.ps_word.specs.declared.words.Word.{Word}
@@ -71,7 +71,7 @@ module _ (h : Heap) (operands : List Word) where
 
   pub repeat_begins : (p n : Word) (body : Part) (number : ℤ) (count : ℕ)
       → Some (p, n) ≡ first_two_of operands → IsProcedure p body → IsNumber n number
-      → is_executable body.access ≡ true → count_of number ≡ Some count
+      → is_executable body.access ≡ true → as_count number ≡ Some count
       → Begins repeat_row h operands 2 (Repeat count body)
   repeat_begins p n body number count two procedure integer executable counted =
       record {

@@ -6,7 +6,7 @@ use Rattle.ps_language.specs.declared.errors.ErrorName.TheVariants.{TypeCheck, R
 use Rattle.ps_language.specs.Access.{empty_dictionary}
 use Rattle.ps_language.specs.Objects.{making}
 use Rattle.ps_language.specs.Outcome.{given, given_that}
-use Rattle.ps_language.specs.Readers.{as_integer, count_of, literal}
+use Rattle.ps_language.specs.Readers.{as_integer, as_count, literal}
 use Rattle.ps_language.specs.RowsDictionaries.{dict_row}
 use Rattle.ps_language.specs.Value.{Value, Store, dictionary_value, dictionary_object}
 use Rattle.ps_stacks.specs.Tops.{first_of}
@@ -44,10 +44,10 @@ dict_made store (k ∷ rest) = number (as_integer k)
     count (Some n) = fits n (nat_le n 21845)
 
     number : (found : Option ℤ) → Leaving (IsMade store) (given found TypeCheck λ i.
-        given (count_of i) RangeCheck λ n. given_that (nat_le n 21845) LimitCheck
+        given (as_count i) RangeCheck λ n. given_that (nat_le n 21845) LimitCheck
         (making (dictionary_object (empty_dictionary n)) rest store))
     number None = record { such = tt }
-    number (Some i) = count (count_of i)
+    number (Some i) = count (as_count i)
 
 -- ---- of a number
 
@@ -55,7 +55,7 @@ module _ (h : Heap) (old : List Word) (top : Word) (number : ℤ) (n : ℕ)
     (first : Some top ≡ first_of old)
     (number_is : (births : ℕ → ℕ) (names : List (List ℕ))
     → as_integer (value_of births names top) ≡ Some number)
-    (count : Some n ≡ count_of number) (limit : n ≤ 21845) where
+    (count : Some n ≡ as_count number) (limit : n ≤ 21845) where
   row_is : (names : List (List ℕ)) (s : Store) → dict_row s (values_in h names old)
       ≡ making (dictionary_object (empty_dictionary n)) (values_in h names (drop 1 old)) s
   row_is names s =

@@ -1,10 +1,9 @@
 -- What a host asks for, and what it is handed of a run.
-use Rattle.std.specs.Prelude.{◌≡◌, ◌≤◌, ◌++◌, ◌<◌, ◌+◌, ◌^◌, ◌-◌, ◌⊎◌, ◌==◌, min, ℕ, ℤ, pos, Bool, true, false, not, List, Option, Some, None, Result, Ok, Err, take, drop, map, length, if◌then◌else◌}
+use Rattle.std.specs.Prelude.{◌≡◌, ◌≤◌, ◌++◌, ◌+◌, ◌^◌, ◌-◌, ◌⊎◌, ◌==◌, min, ℕ, ℤ, pos, Bool, true, false, not, List, Option, Some, None, Result, Ok, Err, take, drop, map, length, if◌then◌else◌}
 use Rattle.ps_language.specs.declared.schedules.Entry.{Entry}
 use Rattle.ps_language.specs.Effect.{Around, Scene}
 use Rattle.ps_language.specs.Schedules.{count_of, Begins}
 use Rattle.ps_language.specs.World.{Status}
-use Rattle.ps_language.specs.Worlds as worlds
 use Rattle.ps_acts.specs.Acts.{Asked}
 use Rattle.ps_mem.specs.Bounded.{bounded_space}
 use Rattle.ps_mem.specs.Heap.{Space}
@@ -13,7 +12,7 @@ use Rattle.ps_vault.specs.declared.reports.Config.{Config}
 use Rattle.ps_vault.specs.declared.reports.Outcome.{Outcome}
 use Rattle.ps_vault.specs.declared.reports.Outcome.TheVariants.{Finished, Faulted, AllWaiting, StepsOut, Memory}
 use Rattle.ps_vault.specs.declared.reports.Report.{Report}
-use Rattle.ps_vault.specs.Reports.{EndsAs, IsCutOf, IsRunIn, IsWithin, MayWantNext, is_memory}
+use Rattle.ps_vault.specs.Reports.{IsReplayOf, IsRunIn, IsWithin, is_memory}
 use Rattle.ps_hosting.specs.declared.hosting.Refusal.{Refusal}
 use Rattle.ps_hosting.specs.declared.hosting.Refusal.TheVariants.{OutOfRange, NoRoom, OtherSchedule}
 use Rattle.ps_hosting.specs.declared.numbers.Settings.{Settings}
@@ -147,28 +146,11 @@ IsGoneOn asks program settings given (Ok report) = IsWithin (config_in settings)
     × IsRunFor asks program settings (budget_behind given settings.steps) report
     × GoesOnFrom given report
 
--- a report of a schedule that was followed: it has the steps that were made, which are all of the
--- given ones but where memory was wanted, what the definitions print for them, which is no more than
--- it may be, and the outcome of their world
-pub record IsReplay (asks : Status → Around → Scene → Asked) (program : List ℕ) (output : ℕ)
-    (given : List Entry) (report : Report) : Type 0 where
-  pub prints : report.printed.items ≡ worlds.printed program report.schedule.items
-  pub bounded : length report.printed.items ≤ output
-  pub begins : Begins report.schedule.items given
-  pub cut : IsCutOf given report.schedule.items
-  pub whole : is_memory report.outcome ≡ false → report.schedule.items ≡ given
-  pub fewer : is_memory report.outcome ≡ true
-      → count_of report.schedule.items < count_of given
-  pub ends : EndsAs (worlds.world program report.schedule.items)
-      (not (is_memory report.outcome))
-      (MayWantNext asks program given report.schedule.items) report.outcome
-  pub flips : report.flips ≡ 0
-  pub taken : report.taken ≡ 0
-
--- what is made where a host asks for a schedule to be followed: a replay, or there is no room to
--- start with
+-- what is made where a host asks for a schedule to be followed: a replay, which prints no more than
+-- it may, or there is no room to start with
 abbrev pub IsFollowed : (asks : Status → Around → Scene → Asked) → (program : List ℕ) → Settings
     → (given : List Entry) → Result Report Refusal → Type 0
 IsFollowed asks program settings given (Err refusal) = refusal ≡ NoRoom
 IsFollowed asks program settings given (Ok report) =
-    IsReplay asks program (most_output settings.output) given report
+    IsReplayOf asks program given report
+    × (length report.printed.items ≤ most_output settings.output)

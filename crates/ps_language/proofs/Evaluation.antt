@@ -37,8 +37,8 @@ unfolding digits Access.elements Access.bytes Access.dictionary_at Access.with_e
     Equality.key_of Live.roots Live.words_reached Live.asked_words Live.asked_births Locks.retried
     Locks.is_ready Owners.as_lock Owners.as_condition Owners.owner_of Owners.with_owner
     Readers.as_integer Readers.as_array Readers.as_string Readers.as_dictionary Readers.is_mark
-    Readers.is_null Readers.is_full Reading.with_front Reading.with_first Reading.count_of
-    Reading.named Reading.sized_string Reading.string_reading Reading.enclosed Reading.fits_integer
+    Readers.is_null Readers.is_full Reading.with_front Reading.with_first Reading.token_count
+    Reading.sized_name Reading.sized_string Reading.string_reading Reading.sized_procedure Reading.fits_integer
     Reading.as_signed Reading.word_reading Reading.pairs RowsArithmetic.combination
     RowsArithmetic.negation RowsRelations.comparison RowsSequences.length_of
     RowsSequences.as_sequence RowsSequences.as_pair RowsSequences.with_contents Scan.leading
@@ -47,7 +47,7 @@ unfolding digits Access.elements Access.bytes Access.dictionary_at Access.with_e
     Scan.word_of Scan.after_return Scan.octal_front Scan.octal_rest Scan.escape_of Scan.escape_front
     Scan.escape_rest Scan.mark_of Scan.string_close Scan.string_escape Scan.string_step
     Scan.string_body Scan.hex_reading Scan.start_of Scan.after_hex_start Scan.after_angle
-    Scan.after_slash Scan.simple_by Scan.then_elements Scan.elements_step Scan.elements
+    Scan.after_slash Scan.simple_by Scan.then_elements Scan.elements_step Scan.elements_by
     Scan.token_here Scan.as_scan Scan.text_scan Scan.scan Machines.settled Machines.own_step
     Step.stepped Step.step StepBind.bind_step StepErrors.with_entry StepErrors.with_error
     StepErrors.has_new_error StepErrors.error_line StepFrames.frame_turn StepFrames.unwound_turn

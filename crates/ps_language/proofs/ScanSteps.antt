@@ -7,7 +7,7 @@ use Rattle.std.proofs.lemmas.List.{append_assoc, length-append, length-drop, dro
 use Rattle.ps_language.specs.Token.{Scan, found, exhausted, faulty}
 use Rattle.ps_language.specs.Reading.{Reading, token_then, stuck, Ending, string_end, unfinished, with_front, with_first}
 use Rattle.ps_language.specs.Syntax.{IsAtToken, IsToken, Reads, reads_nothing, reads_token, reads_fault}
-use Rattle.ps_language.specs.Scan.{after_return, escape_of, escape_front, escape_rest, Mark, opening, closing, escaping, returning, plain, mark_of, string_close, string_escape, string_step, string_body, string_from, behind_blank, then_elements, elements_step, elements, elements_from, token_here, as_scan, text_scan, shifted, scan}
+use Rattle.ps_language.specs.Scan.{after_return, escape_of, escape_front, escape_rest, Mark, opening, closing, escaping, returning, plain, mark_of, string_close, string_escape, string_step, string_body, string_from, behind_blank, then_elements, elements_step, elements_by, elements_from, token_here, as_scan, text_scan, further_on, scan}
 use mathlib.Core.Logic.{inl, inr}
 use Rattle.std.proofs.lemmas.Bool.{cases_Bool}
 use Rattle.ps_language.proofs.Blanks.{BehindBlank, behind_sound}
@@ -65,16 +65,16 @@ with_front_twice front more unfinished = refl
 
 -- ---- procedures
 
-pub elements_any : (room counter : ℕ) (text : List ℕ) → length text < counter → elements (token_here room) counter text ≡ elements_from (token_here room) text
+pub elements_any : (room counter : ℕ) (text : List ℕ) → length text < counter → elements_by (token_here room) counter text ≡ elements_from (token_here room) text
 elements_any room counter text below = elements_complete (IsToken room) (token_here room) (token_complete room) (token_shorter room) text (elements_from (token_here room) text)
     (elements_sound (IsToken room) (token_here room) (token_sound room) (token_shorter room) (suc (length text)) text (omega arith)) counter below
 
-then_same : (room limit : ℕ) (reading : Reading) → LeavesBelow limit reading → then_elements (elements (token_here room) limit) reading ≡ then_elements (elements_from (token_here room)) reading
+then_same : (room limit : ℕ) (reading : Reading) → LeavesBelow limit reading → then_elements (elements_by (token_here room) limit) reading ≡ then_elements (elements_from (token_here room)) reading
 unfolding then_elements
 then_same room limit (stuck fault) below = refl
 then_same room limit (token_then token rest) below = ap (with_first token) (elements_any room limit rest below)
 
-left_same : (room : ℕ) (text left : List ℕ) → BehindBlank text left → elements_step (token_here room) (elements (token_here room) (length text)) left ≡ elements_step (token_here room) (elements_from (token_here room)) left
+left_same : (room : ℕ) (text left : List ℕ) → BehindBlank text left → elements_step (token_here room) (elements_by (token_here room) (length text)) left ≡ elements_step (token_here room) (elements_from (token_here room)) left
 unfolding elements_step
 left_same room text [] h = refl
 left_same room text (b ∷ bs) h = elim (cases_Bool (b == 125)) [
@@ -90,7 +90,7 @@ left_same room text (b ∷ bs) h = elim (cases_Bool (b == 125)) [
     raise (token_then token rest) k = longer (length rest) k (ap length h.1.2 ∙ length-append h.1.0 (b ∷ bs))
 
 pub elements_from_step : (room : ℕ) (text : List ℕ) → elements_from (token_here room) text ≡ elements_step (token_here room) (elements_from (token_here room)) (behind_blank false text)
-unfolding elements
+unfolding elements_by
 elements_from_step room text = left_same room text (behind_blank false text) (behind_sound text)
 
 -- ---- the place behind a token
@@ -120,7 +120,7 @@ abbrev EndsBelow : ℕ → Reading → Type 0
 EndsBelow limit (token_then token rest) = length rest < limit
 EndsBelow limit (stuck fault) = ⊤
 
-as_scan_shifted : (by size : ℕ) (reading : Reading) → EndsBelow (suc size) reading → as_scan (by + size) reading ≡ shifted by (as_scan size reading)
+as_scan_shifted : (by size : ℕ) (reading : Reading) → EndsBelow (suc size) reading → as_scan (by + size) reading ≡ further_on by (as_scan size reading)
 unfolding as_scan
 as_scan_shifted by size (token_then token rest) below = ap (found token) (omega (arith, below))
 as_scan_shifted by size (stuck fault) below = refl
@@ -132,7 +132,7 @@ token_below size b bs at fits = lower (token_here 32 b bs) (token_shorter 32 (b 
     lower (token_then token rest) h = omega (arith, h, fits)
     lower (stuck fault) h = tt
 
-text_shifted : (by size : ℕ) (text left : List ℕ) → length text ≤ size → BehindBlank text left → text_scan (by + size) left ≡ shifted by (text_scan size left)
+text_shifted : (by size : ℕ) (text left : List ℕ) → length text ≤ size → BehindBlank text left → text_scan (by + size) left ≡ further_on by (text_scan size left)
 unfolding text_scan
 text_shifted by size text [] fits h = refl
 text_shifted by size text (b ∷ bs) fits h = as_scan_shifted by size (token_here 32 b bs) (token_below size b bs h.0 (shorter (ap length h.1.2 ∙ length-append h.1.0 (b ∷ bs))))
@@ -141,7 +141,7 @@ text_shifted by size text (b ∷ bs) fits h = as_scan_shifted by size (token_her
     shorter e = omega (arith, e, fits)
 
 -- what stands in front of a text changes nothing but the places
-pub scan_shifted : (front text : List ℕ) (at : ℕ) → scan (front ++ text) (length front + at) ≡ shifted (length front) (scan text at)
+pub scan_shifted : (front text : List ℕ) (at : ℕ) → scan (front ++ text) (length front + at) ≡ further_on (length front) (scan text at)
 unfolding scan
 scan_shifted front text at = ap (λ n. text_scan n (behind_blank false (drop (length front + at) (front ++ text)))) (length-append front text)
     ∙ ap (λ t. text_scan (length front + length text) (behind_blank false t)) (sym (drop-drop at (length front) (front ++ text)) ∙ ap (drop at) (drop_at front text (length front) refl))

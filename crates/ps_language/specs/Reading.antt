@@ -27,15 +27,15 @@ unfoldable pub with_first : Token → Tail → Tail
 with_first token (procedure_end elements rest) = procedure_end (more_tokens token elements) rest
 with_first token (procedure_fault fault) = procedure_fault fault
 
-unfoldable pub count_of : Tokens → ℕ
-count_of no_tokens = 0
-count_of (more_tokens token rest) = 1 + count_of rest
+unfoldable pub token_count : Tokens → ℕ
+token_count no_tokens = 0
+token_count (more_tokens token rest) = 1 + token_count rest
 
 -- ---- what is too long (appendix B)
 
 -- a name, a string and a procedure, unless it is past its limit
-unfoldable pub named : (List ℕ → Token) → (text rest : List ℕ) → Reading
-named name text rest =
+unfoldable pub sized_name : (List ℕ → Token) → (text rest : List ℕ) → Reading
+sized_name name text rest =
     if nat_le (length text) name_limit then token_then (name text) rest else stuck limit_fault
 
 unfoldable pub sized_string : (value rest : List ℕ) → Reading
@@ -48,11 +48,11 @@ unfoldable pub string_reading : Ending → Reading
 string_reading unfinished = stuck syntax_fault
 string_reading (string_end value rest) = sized_string value rest
 
-unfoldable pub enclosed : Tail → Reading
-enclosed (procedure_end elements rest) =
-    if nat_le (count_of elements) sequence_limit then token_then (procedure_token elements) rest
+unfoldable pub sized_procedure : Tail → Reading
+sized_procedure (procedure_end elements rest) =
+    if nat_le (token_count elements) sequence_limit then token_then (procedure_token elements) rest
     else stuck limit_fault
-enclosed (procedure_fault fault) = stuck fault
+sized_procedure (procedure_fault fault) = stuck fault
 
 -- ---- numbers
 
@@ -80,7 +80,7 @@ word_reading run rest (radix_word number) =
     if nat_lt number (2 ^ 32) then token_then (number_token (as_signed number)) rest
     else stuck limit_fault
 word_reading run rest real_word = stuck limit_fault
-word_reading run rest name_word = named executable_name_token run rest
+word_reading run rest name_word = sized_name executable_name_token run rest
 
 -- two hexadecimal digits a byte; behind an odd last one a 0 is understood
 unfoldable pub pairs : List ℕ → List ℕ

@@ -4,7 +4,7 @@ use Rattle.std.specs.Prelude.{ℕ, zero, suc, ◌+◌, ◌-◌, ◌%◌, ℤ, po
 use Rattle.std.specs.List.{list_all}
 use Rattle.ps_language.specs.Bytes.{is_white, is_comment_end, is_regular, is_digit_in, is_digit, is_hex, is_hex_or_white, is_octal, is_sign, is_exponent_mark, value_in}
 use Rattle.ps_language.specs.Limits.{nesting_limit}
-use Rattle.ps_language.specs.Reading.{Reading, token_then, stuck, Ending, string_end, unfinished, with_front, string_reading, Tail, procedure_end, procedure_fault, with_first, enclosed, named, sized_string, pairs, Word, integer_word, radix_word, real_word, name_word, word_reading}
+use Rattle.ps_language.specs.Reading.{Reading, token_then, stuck, Ending, string_end, unfinished, with_front, string_reading, Tail, procedure_end, procedure_fault, with_first, sized_procedure, sized_name, sized_string, pairs, Word, integer_word, radix_word, real_word, name_word, word_reading}
 use Rattle.ps_language.specs.Token.{literal_name_token, executable_name_token, immediate_name_token, no_tokens, syntax_fault, limit_fault, Scan, found, exhausted, faulty}
 
 -- the longest front whose bytes pass the test, and what is left behind it
@@ -237,12 +237,12 @@ after_angle (b ∷ bs) =
     if b == 62 then token_then (executable_name_token (62 ∷ 62 ∷ [])) bs else stuck syntax_fault
 
 unfoldable pub after_slash : List ℕ → Reading
-after_slash [] = named literal_name_token [] []
+after_slash [] = sized_name literal_name_token [] []
 after_slash (b ∷ bs) =
     elim (b == 47) [
-      | true ↦ named immediate_name_token (leading is_regular bs) (beyond is_regular bs)
+      | true ↦ sized_name immediate_name_token (leading is_regular bs) (beyond is_regular bs)
       | false ↦
-          named literal_name_token (leading is_regular (b ∷ bs)) (beyond is_regular (b ∷ bs))
+          sized_name literal_name_token (leading is_regular (b ∷ bs)) (beyond is_regular (b ∷ bs))
     ]
 
 -- the token that begins with this byte
@@ -273,21 +273,21 @@ elements_step element further (b ∷ bs) =
     [ true ↦ procedure_end no_tokens bs | false ↦ then_elements further (element b bs) ]
 
 -- the elements up to the closing brace, by a counter that is above the length of what is left
-unfoldable pub elements : (element : ℕ → List ℕ → Reading) (counter : ℕ) → List ℕ → Tail
-elements element zero text = procedure_fault syntax_fault
-elements element (suc counter) text =
-    elements_step element (elements element counter) (behind_blank false text)
+unfoldable pub elements_by : (element : ℕ → List ℕ → Reading) (counter : ℕ) → List ℕ → Tail
+elements_by element zero text = procedure_fault syntax_fault
+elements_by element (suc counter) text =
+    elements_step element (elements_by element counter) (behind_blank false text)
 
 -- the elements, with a counter that is high enough
 abbrev pub elements_from : (element : ℕ → List ℕ → Reading) → List ℕ → Tail
-elements_from element text = elements element (suc (length text)) text
+elements_from element text = elements_by element (suc (length text)) text
 
 -- the token that begins with this byte, where so many braces may still be opened
 unfoldable pub token_here : (room b : ℕ) (bs : List ℕ) → Reading
 token_here zero b bs = if b == 123 then stuck limit_fault else simple_by (start_of b) b bs
 token_here (suc room) b bs =
     elim (b == 123) [
-      | true ↦ enclosed (elements_from (token_here room) bs)
+      | true ↦ sized_procedure (elements_from (token_here room) bs)
       | false ↦ simple_by (start_of b) b bs
     ]
 
@@ -308,7 +308,7 @@ unfoldable pub scan : (bytes : List ℕ) (at : ℕ) → Scan
 scan bytes at = text_scan (length bytes) (behind_blank false (drop at bytes))
 
 -- the same outcome with its end so many bytes further on
-abbrev pub shifted : ℕ → Scan → Scan
-shifted by (found token end) = found token (by + end)
-shifted by exhausted = exhausted
-shifted by (faulty fault) = faulty fault
+abbrev pub further_on : ℕ → Scan → Scan
+further_on by (found token end) = found token (by + end)
+further_on by exhausted = exhausted
+further_on by (faulty fault) = faulty fault

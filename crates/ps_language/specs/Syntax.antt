@@ -4,7 +4,7 @@ use Rattle.std.specs.Prelude.{◌≡◌, ◌⊎◌, ℕ, zero, suc, ◌+◌, ◌
 use Rattle.std.specs.List.{list_all}
 use Rattle.ps_language.specs.Bytes.{is_white, is_comment_end, is_regular, is_digit_in, is_hex, is_hex_or_white, is_octal, is_sign, is_exponent_mark, value_in}
 use Rattle.ps_language.specs.Limits.{nesting_limit}
-use Rattle.ps_language.specs.Reading.{Reading, token_then, stuck, Ending, string_end, unfinished, with_front, string_reading, Tail, procedure_end, procedure_fault, with_first, enclosed, named, sized_string, pairs, Word, integer_word, radix_word, real_word, name_word, word_reading}
+use Rattle.ps_language.specs.Reading.{Reading, token_then, stuck, Ending, string_end, unfinished, with_front, string_reading, Tail, procedure_end, procedure_fault, with_first, sized_procedure, sized_name, sized_string, pairs, Word, integer_word, radix_word, real_word, name_word, word_reading}
 use Rattle.ps_language.specs.Token.{Token, executable_name_token, literal_name_token, immediate_name_token, no_tokens, ScanFault, syntax_fault, limit_fault, Scan, found, exhausted, faulty}
 
 -- each byte passes the test
@@ -171,9 +171,9 @@ pub data IsSimple : (text : List ℕ) (reading : Reading) → Type 0 where
       → IsWord run word → IsSimple (run ++ rest) (word_reading run rest word)
   literal_name : {run rest : List ℕ} → IsLongest is_regular run rest
       → StopsAt (nat_eq 47) (run ++ rest)
-      → IsSimple (47 ∷ run ++ rest) (named literal_name_token run rest)
+      → IsSimple (47 ∷ run ++ rest) (sized_name literal_name_token run rest)
   immediate_name : {run rest : List ℕ} → IsLongest is_regular run rest
-      → IsSimple (47 ∷ 47 ∷ run ++ rest) (named immediate_name_token run rest)
+      → IsSimple (47 ∷ 47 ∷ run ++ rest) (sized_name immediate_name_token run rest)
   bracket : {b : ℕ} {rest : List ℕ} → IsTrue ((b == 91) || (b == 93))
       → IsSimple (b ∷ rest) (token_then (executable_name_token (b ∷ [])) rest)
   opening_angles : {rest : List ℕ}
@@ -218,7 +218,7 @@ pub data AreElements (Element : List ℕ → Reading → Type 0) : (text : List 
 pub data IsProcedure (Element : List ℕ → Reading → Type 0) : (text : List ℕ) (reading : Reading)
     → Type 0 where
   procedure : {text : List ℕ} {tail : Tail} → AreElements Element text tail
-      → IsProcedure Element (123 ∷ text) (enclosed tail)
+      → IsProcedure Element (123 ∷ text) (sized_procedure tail)
 
 -- a brace that is one too many
 pub data IsTooDeep : (text : List ℕ) (reading : Reading) → Type 0 where

@@ -9,7 +9,7 @@ use Rattle.ps_language.specs.declared.errors.ErrorName.{ErrorName}
 use Rattle.ps_language.specs.declared.errors.ErrorName.TheVariants.{TypeCheck, RangeCheck, StackUnderflow, StackOverflow}
 use Rattle.ps_language.specs.Value.{Value}
 use Rattle.ps_language.specs.Outcome.{leaves, fails, given}
-use Rattle.ps_language.specs.Readers.{as_integer, count_of, room_for, is_full, push, natural}
+use Rattle.ps_language.specs.Readers.{as_integer, as_count, room_for, is_full, push, natural}
 use Rattle.ps_language.specs.RowsStack.{copy_count, dup_row, count_row, index_row, rotated, roll_row}
 use Rattle.ps_stacks.specs.Tops as tops
 use Rattle.ps_word.specs.declared.words.Word.{Word}
@@ -41,7 +41,7 @@ module _ (births : ℕ → ℕ) (names : List (List ℕ)) where
   map_takes n below = ap (λ front. front ++ meanings below) (take-map meaning n below) ∙ sym (map-append meaning (take n below) below)
 
   -- there are as many, and there is room
-  copy_fits : (below : List Word) (i : ℤ) (n : ℕ) → Some n ≡ count_of i → n ≤ length below → n + length below ≤ 500
+  copy_fits : (below : List Word) (i : ℤ) (n : ℕ) → Some n ≡ as_count i → n ≤ length below → n + length below ≤ 500
       → copy_count i (meanings below) ≡ leaves (meanings (take n below ++ below))
   copy_fits below i n count few room =
       let same = length-map below meaning in
@@ -52,14 +52,14 @@ module _ (births : ℕ → ℕ) (names : List (List ℕ)) where
       rw (sym count, enough, roomy) (ap leaves (map_takes n below))
 
   -- there are fewer
-  copy_lacks : (below : List Word) (i : ℤ) (n : ℕ) → Some n ≡ count_of i → length below < n → copy_count i (meanings below) ≡ fails StackUnderflow
+  copy_lacks : (below : List Word) (i : ℤ) (n : ℕ) → Some n ≡ as_count i → length below < n → copy_count i (meanings below) ≡ fails StackUnderflow
   copy_lacks below i n count few =
       let same = length-map below meaning in
       let lacking : nat_le n (length (meanings below)) ≡ false = grind (arith, nat_tests) in
       rw (sym count, lacking) refl
 
   -- there is no room
-  copy_overflows : (below : List Word) (i : ℤ) (n : ℕ) → Some n ≡ count_of i → n ≤ length below → 500 < n + length below → copy_count i (meanings below) ≡ fails StackOverflow
+  copy_overflows : (below : List Word) (i : ℤ) (n : ℕ) → Some n ≡ as_count i → n ≤ length below → 500 < n + length below → copy_count i (meanings below) ≡ fails StackOverflow
   copy_overflows below i n count few room =
       let same = length-map below meaning in
       let all : length (take n (meanings below) ++ meanings below) ≡ n + length below =
@@ -72,7 +72,7 @@ module _ (births : ℕ → ℕ) (names : List (List ℕ)) where
 
   -- the operand that a number says
   index_found : (operands : List Word) (top found : Word) (i : ℤ) (n : ℕ)
-      → Some top ≡ tops.first_of operands → Some i ≡ as_integer (meaning top) → Some n ≡ count_of i → Some found ≡ slice_get operands (n + 1)
+      → Some top ≡ tops.first_of operands → Some i ≡ as_integer (meaning top) → Some n ≡ as_count i → Some found ≡ slice_get operands (n + 1)
       → index_row (meanings operands) ≡ leaves (meanings (found ∷ drop 1 operands))
   index_found [] top found i n first number count at = cc
   index_found (x ∷ below) top found i n first number count at =
@@ -82,7 +82,7 @@ module _ (births : ℕ → ℕ) (names : List (List ℕ)) where
 
   -- there are fewer
   index_lacks : (operands : List Word) (top : Word) (i : ℤ) (n : ℕ)
-      → Some top ≡ tops.first_of operands → Some i ≡ as_integer (meaning top) → Some n ≡ count_of i → None ≡ slice_get operands (n + 1)
+      → Some top ≡ tops.first_of operands → Some i ≡ as_integer (meaning top) → Some n ≡ as_count i → None ≡ slice_get operands (n + 1)
       → index_row (meanings operands) ≡ fails StackUnderflow
   index_lacks [] top i n first number count at = cc
   index_lacks (x ∷ below) top i n first number count at =
@@ -102,7 +102,7 @@ module _ (births : ℕ → ℕ) (names : List (List ℕ)) where
 
   -- as many operands as there are
   roll_fits : (operands : List Word) (right left : Word) (j i : ℤ) (n : ℕ)
-      → Some (right, left) ≡ tops.first_two_of operands → Some j ≡ as_integer (meaning right) → Some i ≡ as_integer (meaning left) → Some n ≡ count_of i → n + 2 ≤ length operands
+      → Some (right, left) ≡ tops.first_two_of operands → Some j ≡ as_integer (meaning right) → Some i ≡ as_integer (meaning left) → Some n ≡ as_count i → n + 2 ≤ length operands
       → roll_row (meanings operands) ≡ leaves (meanings (tops.rotated (unsigned_abs (int_rem_euclid j (pos n))) (take n (drop 2 operands)) ++ drop n (drop 2 operands)))
   roll_fits [] right left j i n two rightmost leftmost count few = cc
   roll_fits (x ∷ []) right left j i n two rightmost leftmost count few = cc
@@ -133,12 +133,12 @@ module _ (old : List Word) (top : Word) (first : Some top ≡ tops.first_of old)
       (λ births names. copy_number births names old top first ∙ ap (λ (n : Option ℤ). given n TypeCheck (λ i. copy_count i (values_of births names (drop 1 old)))) (sym (meant births names None top number))) refl
 
   module _ (i : ℤ) (number : IsNumber (Some i) top) where
-    pub copy_rangecheck : None ≡ count_of i → Does copy_number_row (Err RangeCheck) old old
+    pub copy_rangecheck : None ≡ as_count i → Does copy_number_row (Err RangeCheck) old old
     copy_rangecheck count =
         does_fails copy_number_row RangeCheck old old
         (λ births names. copy_number births names old top first ∙ rw (sym (meant births names (Some i) top number), sym count) refl) refl
 
-    module _ (n : ℕ) (count : Some n ≡ count_of i) where
+    module _ (n : ℕ) (count : Some n ≡ as_count i) where
       pub copy_underflow : length old - 1 < n → Does copy_number_row (Err StackUnderflow) old old
       copy_underflow few =
           does_fails copy_number_row StackUnderflow old old
@@ -165,14 +165,14 @@ module _ (old : List Word) (top : Word) (first : Some top ≡ tops.first_of old)
       index_underflow at = does_fails index_row StackUnderflow old old (λ births names. index_lacks births names old top i n first (meant births names (Some i) top number) count at) refl
 
 pub roll_done : (old new : List Word) (right left : Word) (j i : ℤ) (n places : ℕ)
-    → Some (right, left) ≡ tops.first_two_of old → IsNumber (Some j) right → IsNumber (Some i) left → Some n ≡ count_of i → n + 2 ≤ length old
+    → Some (right, left) ≡ tops.first_two_of old → IsNumber (Some j) right → IsNumber (Some i) left → Some n ≡ as_count i → n + 2 ≤ length old
     → places ≡ unsigned_abs (int_rem_euclid j (pos n)) → new ≡ tops.rotated places (take n (drop 2 old)) ++ drop n (drop 2 old) → Does roll_row (Ok tt) old new
 roll_done old new right left j i n places two rightmost leftmost count few by is =
     does_leaves roll_row old new
     (λ births names. rw (is, by) (roll_fits births names old right left j i n two (meant births names (Some j) right rightmost) (meant births names (Some i) left leftmost) count few))
 
 roll_underflow_of : (births : ℕ → ℕ) (names : List (List ℕ)) (old : List Word) (right left : Word) (j i : ℤ) (n : ℕ)
-    → Some (right, left) ≡ tops.first_two_of old → Some j ≡ as_integer (value_of births names right) → Some i ≡ as_integer (value_of births names left) → Some n ≡ count_of i → length old - 2 < n
+    → Some (right, left) ≡ tops.first_two_of old → Some j ≡ as_integer (value_of births names right) → Some i ≡ as_integer (value_of births names left) → Some n ≡ as_count i → length old - 2 < n
     → roll_row (values_of births names old) ≡ fails StackUnderflow
 roll_underflow_of births names [] right left j i n two rightmost leftmost count few = cc
 roll_underflow_of births names (x ∷ []) right left j i n two rightmost leftmost count few = cc
@@ -185,7 +185,7 @@ roll_underflow_of births names (x ∷ y ∷ below) right left j i n two rightmos
     rw (← first, ← second, sym rightmost, sym leftmost, sym count, lacking) refl
 
 pub roll_underflow : (old : List Word) (right left : Word) (j i : ℤ) (n : ℕ)
-    → Some (right, left) ≡ tops.first_two_of old → IsNumber (Some j) right → IsNumber (Some i) left → Some n ≡ count_of i → length old - 2 < n → Does roll_row (Err StackUnderflow) old old
+    → Some (right, left) ≡ tops.first_two_of old → IsNumber (Some j) right → IsNumber (Some i) left → Some n ≡ as_count i → length old - 2 < n → Does roll_row (Err StackUnderflow) old old
 roll_underflow old right left j i n two rightmost leftmost count few =
     does_fails roll_row StackUnderflow old old
     (λ births names. roll_underflow_of births names old right left j i n two (meant births names (Some j) right rightmost) (meant births names (Some i) left leftmost) count few) refl
@@ -201,9 +201,9 @@ two_at_least (x ∷ y ∷ below) right left two = omega arith
 
 -- no operand is moved
 pub roll_none : (old new : List Word) (right left : Word) (j i : ℤ) (n : ℕ)
-    → Some (right, left) ≡ tops.first_two_of old → IsNumber (Some j) right → IsNumber (Some i) left → Some n ≡ count_of i → n ≡ 0 → new ≡ drop 2 old → Does roll_row (Ok tt) old new
+    → Some (right, left) ≡ tops.first_two_of old → IsNumber (Some j) right → IsNumber (Some i) left → Some n ≡ as_count i → n ≡ 0 → new ≡ drop 2 old → Does roll_row (Ok tt) old new
 roll_none old new right left j i n two rightmost leftmost count none is =
-    let some : Some 0 ≡ count_of i = subst (λ m. Some m ≡ count_of i) none count in
+    let some : Some 0 ≡ as_count i = subst (λ m. Some m ≡ as_count i) none count in
     roll_done old new right left j i 0 (unsigned_abs (int_rem_euclid j (pos 0))) two rightmost leftmost some (two_at_least old right left two) refl
     (is ∙ ap (λ front. front ++ drop 2 old) (sym (rotated_none (unsigned_abs (int_rem_euclid j (pos 0))))))
 

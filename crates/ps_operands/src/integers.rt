@@ -7,7 +7,7 @@ ghost use Rattle.ps_language.specs.Readers as readers;
 /// A number as a count, if it isn't negative.
 #[inline]
 pub fn count_of(number: i32) -> Option<usize>
-    ensures count { result ≡ readers.count_of number }
+    ensures count { result ≡ readers.as_count number }
     ensures bound { IfSome result (λ count. count < 2 ^ 31) }
 {
     usize::try_from(number).ok()

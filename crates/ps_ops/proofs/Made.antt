@@ -7,7 +7,7 @@ use Rattle.ps_language.specs.declared.kinds.Kind.TheVariants.{Array as ArrayKind
 use Rattle.ps_language.specs.Value.{Value, Store, array_value, array_object}
 use Rattle.ps_language.specs.Outcome.{Outcome, Change}
 use Rattle.ps_language.specs.Objects.{making}
-use Rattle.ps_language.specs.Readers.{literal, whole, null, as_integer, count_of}
+use Rattle.ps_language.specs.Readers.{literal, whole, null, as_integer, as_count}
 use Rattle.ps_language.specs.RowsSequences.{array_row, end_array_row}
 use Rattle.ps_language.specs.RowsStack.{split_at_mark}
 use Rattle.ps_stacks.specs.Tops.{first_of}
@@ -77,14 +77,14 @@ module _ (h now : Heap) (old rest : List Word) (w : Word) (part : Part) (count :
 -- ---- array
 
 array_row-is : (s : Store) (k : Value) (rest : List Value) (i : ℤ) (n : ℕ) → as_integer k ≡ Some i
-    → count_of i ≡ Some n → nat_le n 65535 ≡ true
+    → as_count i ≡ Some n → nat_le n 65535 ≡ true
     → array_row s (k ∷ rest) ≡ making (array_object (replicate n null)) rest s
 array_row-is s k rest i n number count limit = rw (number, count, limit) refl
 
 pub array_makes : (h : Heap) (old : List Word) (top : Word) (number : ℤ) (n : ℕ)
     → Some top ≡ first_of old
     → ((births : ℕ → ℕ) (names : List (List ℕ))
-    → as_integer (value_of births names top) ≡ Some number) → Some n ≡ count_of number
+    → as_integer (value_of births names top) ≡ Some number) → Some n ≡ as_count number
     → n ≤ 65535 → (names : List (List ℕ)) (s : Store)
     → MakesElements array_row h n old (drop 1 old) (replicate n null) names s
 array_makes h old top number n first number_is count limit names s =

@@ -5,7 +5,7 @@ use Rattle.std.specs.Prelude.{ℕ, List, ◌∷◌, ◌&&◌, nat_le, Option, So
 use Rattle.ps_language.specs.declared.errors.ErrorName.TheVariants.{InvalidAccess, RangeCheck, StackUnderflow, TypeCheck}
 use Rattle.ps_language.specs.Value.{Part, Value, Store}
 use Rattle.ps_language.specs.Outcome.{Outcome, leaves, fails, given, given_that, Change}
-use Rattle.ps_language.specs.Readers.{natural, as_integer, as_array, count_of, part_at, with_part}
+use Rattle.ps_language.specs.Readers.{natural, as_integer, as_array, as_count, part_at, with_part}
 use Rattle.ps_language.specs.Access.{is_readable, is_writable, part_elements, with_part_elements}
 use Rattle.ps_language.specs.Objects.{changing}
 use Rattle.ps_language.specs.RowsSequences.{get_element, put_element, interval_within}
@@ -37,7 +37,7 @@ array_getinterval_row (y ∷ k ∷ x ∷ rest) =
     given (as_integer k) TypeCheck λ i.
     given (as_array x) TypeCheck λ part.
     given_that (is_readable part.access) InvalidAccess
-    (given (count_of j) RangeCheck λ n.
+    (given (as_count j) RangeCheck λ n.
     given (interval_within i n part.count) RangeCheck λ place.
     leaves (with_part x (part_at part place n) ∷ rest))
 array_getinterval_row _ = fails StackUnderflow

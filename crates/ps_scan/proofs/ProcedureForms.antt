@@ -3,7 +3,7 @@ use Rattle.std.proofs.Common.{◌≡◌, refl, sym, ap, ◌∙◌, ℕ, zero, su
 use Rattle.std.proofs.lemmas.Bool.{ne_eqb, eq-eqb, le-leb, lt-leb, lt-ltb, cond-true, cond-false, true≢false}
 use Rattle.std.proofs.lemmas.List.{at_drop_more, at_drop_all, length-map, map-append}
 use Rattle.ps_language.specs.Token.{Token, no_tokens, procedure_token, ScanFault, syntax_fault, limit_fault}
-use Rattle.ps_language.specs.Reading.{token_then, stuck, Tail, procedure_end, procedure_fault, with_first, enclosed, count_of}
+use Rattle.ps_language.specs.Reading.{token_then, stuck, Tail, procedure_end, procedure_fault, with_first, sized_procedure, token_count}
 use Rattle.ps_language.specs.Scan.{behind_blank, then_elements, elements_step, elements_from, token_here}
 use Rattle.ps_language.proofs.Places.{byte_at, blank_end}
 use Rattle.ps_language.proofs.ScanSteps.{elements_from_step}
@@ -32,8 +32,8 @@ unfolding with_first
 all_fault [] fault = refl
 all_fault (first ∷ front) fault = ap (with_first first) (all_fault front fault)
 
-pub count-elements : (front : List Token) → count_of (elements_in front) ≡ length front
-unfolding count_of
+pub count-elements : (front : List Token) → token_count (elements_in front) ≡ length front
+unfolding token_count
 count-elements [] = refl
 count-elements (first ∷ front) = omega (arith, count-elements front)
 
@@ -70,21 +70,21 @@ faulty_element room xs place here fault e below n f = at_element room xs place h
 
 -- ---- the whole procedure
 
-pub enclosed_fault : (whole : Tail) (front : List Token) (rest : Tail) (fault : ScanFault) → with_all front rest ≡ whole → rest ≡ procedure_fault fault → enclosed whole ≡ stuck fault
-unfolding enclosed
-enclosed_fault whole front rest fault e f = ap enclosed (sym e ∙ ap (with_all front) f ∙ all_fault front fault)
+pub enclosed_fault : (whole : Tail) (front : List Token) (rest : Tail) (fault : ScanFault) → with_all front rest ≡ whole → rest ≡ procedure_fault fault → sized_procedure whole ≡ stuck fault
+unfolding sized_procedure
+enclosed_fault whole front rest fault e f = ap sized_procedure (sym e ∙ ap (with_all front) f ∙ all_fault front fault)
 
-pub enclosed_short : (whole : Tail) (front : List Token) (tail : Tail) (rest : List ℕ) → with_all front tail ≡ whole → tail ≡ procedure_end no_tokens rest → length front ≤ 65535 → enclosed whole ≡ token_then (procedure_token (elements_in front)) rest
-unfolding enclosed
-enclosed_short whole front tail rest e f h = ap enclosed (sym e ∙ ap (with_all front) f ∙ all_end front rest) ∙ cond-true _ _ _ (le-leb (count_of (elements_in front)) 65535 (omega (arith, count-elements front, h)))
+pub enclosed_short : (whole : Tail) (front : List Token) (tail : Tail) (rest : List ℕ) → with_all front tail ≡ whole → tail ≡ procedure_end no_tokens rest → length front ≤ 65535 → sized_procedure whole ≡ token_then (procedure_token (elements_in front)) rest
+unfolding sized_procedure
+enclosed_short whole front tail rest e f h = ap sized_procedure (sym e ∙ ap (with_all front) f ∙ all_end front rest) ∙ cond-true _ _ _ (le-leb (token_count (elements_in front)) 65535 (omega (arith, count-elements front, h)))
 
-pub enclosed_long : (whole : Tail) (front : List Token) (tail : Tail) (rest : List ℕ) → with_all front tail ≡ whole → tail ≡ procedure_end no_tokens rest → 65535 < length front → enclosed whole ≡ stuck limit_fault
-unfolding enclosed
-enclosed_long whole front tail rest e f h = ap enclosed (sym e ∙ ap (with_all front) f ∙ all_end front rest) ∙ cond-false _ _ _ (lt-leb (count_of (elements_in front)) 65535 (omega (arith, count-elements front, h)))
+pub enclosed_long : (whole : Tail) (front : List Token) (tail : Tail) (rest : List ℕ) → with_all front tail ≡ whole → tail ≡ procedure_end no_tokens rest → 65535 < length front → sized_procedure whole ≡ stuck limit_fault
+unfolding sized_procedure
+enclosed_long whole front tail rest e f h = ap sized_procedure (sym e ∙ ap (with_all front) f ∙ all_end front rest) ∙ cond-false _ _ _ (lt-leb (token_count (elements_in front)) 65535 (omega (arith, count-elements front, h)))
 
 -- a faulty element in a procedure
 pub faulty_answer : (room : ℕ) (xs : List ℕ) (place here : ℕ) (known other : Type 0) (front : List Token) (whole : Tail) (fault : declared.ScanFault) → (known → other) → drop here xs ≡ behind_blank false (drop place xs) → here < length xs → (byte_at xs here ≡ 125 → ⊥)
-    → with_all front (elements_at room xs place) ≡ whole → IsStuckBy known (token_at room xs here) fault → IsStuckBy other (enclosed whole) fault
+    → with_all front (elements_at room xs place) ≡ whole → IsStuckBy known (token_at room xs here) fault → IsStuckBy other (sized_procedure whole) fault
 faulty_answer room xs place here known other front whole Syntax more e below n w h = enclosed_fault whole front (elements_at room xs place) syntax_fault w (faulty_element room xs place here syntax_fault e below n h)
 faulty_answer room xs place here known other front whole Limit more e below n w h = enclosed_fault whole front (elements_at room xs place) limit_fault w (faulty_element room xs place here limit_fault e below n h)
 faulty_answer room xs place here known other front whole Memory more e below n w h = more h
@@ -96,10 +96,10 @@ nothing_left room xs place above = elements_from_step room (drop place xs) ∙ a
 
 -- ---- a token by its first byte
 
-pub brace_at : (room : ℕ) (xs : List ℕ) (at : ℕ) → (room ≡ 0 → ⊥) → byte_at xs at ≡ 123 → token_at room xs at ≡ enclosed (elements_at (room - 1) xs (at + 1))
+pub brace_at : (room : ℕ) (xs : List ℕ) (at : ℕ) → (room ≡ 0 → ⊥) → byte_at xs at ≡ 123 → token_at room xs at ≡ sized_procedure (elements_at (room - 1) xs (at + 1))
 unfolding token_here
 brace_at zero xs at n e = absurd (n refl)
-brace_at (suc room) xs at n e = ap (λ b. token_here (suc room) b (drop (at + 1) xs)) e ∙ ap (λ r. enclosed (elements_at r xs (at + 1))) same
+brace_at (suc room) xs at n e = ap (λ b. token_here (suc room) b (drop (at + 1) xs)) e ∙ ap (λ r. sized_procedure (elements_at r xs (at + 1))) same
   where
     same : room ≡ suc room - 1
     same = omega arith

@@ -6,7 +6,7 @@ use Rattle.std.specs.List.{slice_range}
 use Rattle.std.specs.Prelude.{◌==◌}
 use Rattle.ps_language.specs.Bytes.{is_regular}
 use Rattle.ps_language.specs.Token.{Token, number_token, executable_name_token, literal_name_token, immediate_name_token, syntax_fault, limit_fault}
-use Rattle.ps_language.specs.Reading.{Reading, token_then, stuck, named, string_reading, word_reading, Word, integer_word, radix_word, real_word, name_word, fits_integer, as_signed}
+use Rattle.ps_language.specs.Reading.{Reading, token_then, stuck, sized_name, string_reading, word_reading, Word, integer_word, radix_word, real_word, name_word, fits_integer, as_signed}
 use Rattle.ps_language.specs.Scan.{leading, beyond, word_of, start_of, simple_by, regular_start, string_start, hex_start, angle_start, bracket_start, slash_start, stray_start, after_slash, after_angle, after_hex_start, string_from}
 use Rattle.ps_language.proofs.Places.{byte_at, leading_slice, beyond_on}
 use Rattle.ps_scan.specs.Numbers.{number_in}
@@ -21,32 +21,32 @@ length_slice xs start end h = omega (arith, length-take (end - start) (drop star
 
 -- ---- names
 
-pub named_short : (name : List ℕ → Token) (run rest : List ℕ) → length run ≤ 127 → named name run rest ≡ token_then (name run) rest
-unfolding named
+pub named_short : (name : List ℕ → Token) (run rest : List ℕ) → length run ≤ 127 → sized_name name run rest ≡ token_then (name run) rest
+unfolding sized_name
 named_short name run rest h = cond-true _ _ _ (le-leb (length run) 127 h)
 
-pub named_long : (name : List ℕ → Token) (run rest : List ℕ) → 127 < length run → named name run rest ≡ stuck limit_fault
-unfolding named
+pub named_long : (name : List ℕ → Token) (run rest : List ℕ) → 127 < length run → sized_name name run rest ≡ stuck limit_fault
+unfolding sized_name
 named_long name run rest h = cond-false _ _ _ (lt-leb (length run) 127 h)
 
 -- the longest run from a place on as a name
 pub named_run : (name : List ℕ → Token) (xs : List ℕ) (start end : ℕ) → drop end xs ≡ beyond is_regular (drop start xs) → start ≤ end → end ≤ length xs
-    → named name (leading is_regular (drop start xs)) (beyond is_regular (drop start xs)) ≡ named name (slice_range xs start end) (drop end xs)
-named_run name xs start end e low high = ap (λ r. named name r (beyond is_regular (drop start xs))) (leading_slice is_regular xs start end (sym e) low high) ∙ ap (named name (slice_range xs start end)) (sym e)
+    → sized_name name (leading is_regular (drop start xs)) (beyond is_regular (drop start xs)) ≡ sized_name name (slice_range xs start end) (drop end xs)
+named_run name xs start end e low high = ap (λ r. sized_name name r (beyond is_regular (drop start xs))) (leading_slice is_regular xs start end (sym e) low high) ∙ ap (sized_name name (slice_range xs start end)) (sym e)
 
-pub slash_end : (xs : List ℕ) (i : ℕ) → length xs ≤ i → after_slash (drop i xs) ≡ named literal_name_token (leading is_regular (drop i xs)) (beyond is_regular (drop i xs))
+pub slash_end : (xs : List ℕ) (i : ℕ) → length xs ≤ i → after_slash (drop i xs) ≡ sized_name literal_name_token (leading is_regular (drop i xs)) (beyond is_regular (drop i xs))
 unfolding after_slash leading beyond
-slash_end xs i h = at_drop_all after_slash xs i h ∙ sym (at_drop_all (λ t. named literal_name_token (leading is_regular t) (beyond is_regular t)) xs i h)
+slash_end xs i h = at_drop_all after_slash xs i h ∙ sym (at_drop_all (λ t. sized_name literal_name_token (leading is_regular t) (beyond is_regular t)) xs i h)
 
-pub slash_slash : (xs : List ℕ) (i : ℕ) → i < length xs → byte_at xs i ≡ 47 → after_slash (drop i xs) ≡ named immediate_name_token (leading is_regular (drop (i + 1) xs)) (beyond is_regular (drop (i + 1) xs))
+pub slash_slash : (xs : List ℕ) (i : ℕ) → i < length xs → byte_at xs i ≡ 47 → after_slash (drop i xs) ≡ sized_name immediate_name_token (leading is_regular (drop (i + 1) xs)) (beyond is_regular (drop (i + 1) xs))
 unfolding after_slash
 slash_slash xs i h e = at_drop_more after_slash xs i 0 h ∙ ap (λ b. after_slash (b ∷ drop (i + 1) xs)) e
 
-pub slash_other : (xs : List ℕ) (i : ℕ) → i < length xs → (byte_at xs i ≡ 47 → ⊥) → after_slash (drop i xs) ≡ named literal_name_token (leading is_regular (drop i xs)) (beyond is_regular (drop i xs))
+pub slash_other : (xs : List ℕ) (i : ℕ) → i < length xs → (byte_at xs i ≡ 47 → ⊥) → after_slash (drop i xs) ≡ sized_name literal_name_token (leading is_regular (drop i xs)) (beyond is_regular (drop i xs))
 unfolding after_slash
-slash_other xs i h n = at_drop_more after_slash xs i 0 h ∙ other (byte_at xs i) (drop (i + 1) xs) (ne_eqb (byte_at xs i) 47 n) ∙ sym (at_drop_more (λ t. named literal_name_token (leading is_regular t) (beyond is_regular t)) xs i 0 h)
+slash_other xs i h n = at_drop_more after_slash xs i 0 h ∙ other (byte_at xs i) (drop (i + 1) xs) (ne_eqb (byte_at xs i) 47 n) ∙ sym (at_drop_more (λ t. sized_name literal_name_token (leading is_regular t) (beyond is_regular t)) xs i 0 h)
   where
-    other : (b : ℕ) (bs : List ℕ) → (b == 47) ≡ false → after_slash (b ∷ bs) ≡ named literal_name_token (leading is_regular (b ∷ bs)) (beyond is_regular (b ∷ bs))
+    other : (b : ℕ) (bs : List ℕ) → (b == 47) ≡ false → after_slash (b ∷ bs) ≡ sized_name literal_name_token (leading is_regular (b ∷ bs)) (beyond is_regular (b ∷ bs))
     other b bs e = rw (e, after_slash) refl
 
 -- ---- runs of regular bytes
@@ -87,7 +87,7 @@ read_past run rest (radix_word n) e = elim (cases_Bool (nat_lt n (2 ^ 32))) [
 read_past run rest real_word e = refl
 read_past run rest name_word e = cc
 
-pub read_name : (run rest : List ℕ) (word : Word) → NoNumber ≡ number_in word → word_reading run rest word ≡ named executable_name_token run rest
+pub read_name : (run rest : List ℕ) (word : Word) → NoNumber ≡ number_in word → word_reading run rest word ≡ sized_name executable_name_token run rest
 unfolding word_reading
 read_name run rest (integer_word n) e = elim (cases_Bool (fits_integer n)) [
   | inl f ↦ let no : NoNumber ≡ Integer n = e ∙ cond-true _ _ _ f in cc

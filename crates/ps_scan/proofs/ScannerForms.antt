@@ -5,7 +5,7 @@ use Rattle.std.proofs.lemmas.Bool.{cases_Bool}
 use Rattle.std.proofs.lemmas.List.{at_drop_more, at_drop_all, drop_more, length-drop}
 use Rattle.ps_language.specs.Token.{Token, Scan, string_token, found, exhausted, faulty, syntax_fault, limit_fault}
 use Rattle.ps_language.specs.Token as language
-use Rattle.ps_language.specs.Reading.{Reading, token_then, stuck, Tail, procedure_end, procedure_fault, enclosed, count_of}
+use Rattle.ps_language.specs.Reading.{Reading, token_then, stuck, Tail, procedure_end, procedure_fault, sized_procedure, token_count}
 use Rattle.ps_language.specs.Scan.{behind_blank, as_scan, text_scan, scan}
 use Rattle.ps_language.proofs.Places.{byte_at}
 use Rattle.ps_scan.specs.Shown.{IsStuckBy, IsSomeString, MayStarve, TakesMemory, BeginsComposite, IsFaultBy, token_at}
@@ -36,10 +36,10 @@ scan_fault xs at here fault e below f = scan_reading xs at here e below ∙ ap (
 
 -- ---- what takes memory
 
-procedure_takes : (size : ℕ) (tail : Tail) → TakesMemory (as_scan size (enclosed tail))
-unfolding as_scan enclosed
+procedure_takes : (size : ℕ) (tail : Tail) → TakesMemory (as_scan size (sized_procedure tail))
+unfolding as_scan sized_procedure
 procedure_takes size (procedure_fault fault) = tt
-procedure_takes size (procedure_end elements rest) = elim (cases_Bool (nat_le (count_of elements) 65535)) [ inl e ↦ rw e tt | inr e ↦ rw e tt ]
+procedure_takes size (procedure_end elements rest) = elim (cases_Bool (nat_le (token_count elements) 65535)) [ inl e ↦ rw e tt | inr e ↦ rw e tt ]
 
 string_takes : (size : ℕ) (reading : Reading) → IsSomeString reading → TakesMemory (as_scan size reading)
 unfolding as_scan

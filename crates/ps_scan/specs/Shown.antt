@@ -3,7 +3,7 @@ use Rattle.std.specs.Prelude.{◌≡◌, ◌⊎◌, false, ℕ, ◌+◌, ◌<◌
 use Rattle.ps_language.specs.Token.{Tokens, number_token, literal_name_token, executable_name_token, immediate_name_token, string_token, procedure_token, no_tokens, more_tokens, Scan, found, exhausted, faulty, syntax_fault, limit_fault}
 use Rattle.ps_language.specs.Token as language
 use Rattle.ps_language.specs.Bytes.{is_regular}
-use Rattle.ps_language.specs.Reading.{Reading, token_then, stuck, named}
+use Rattle.ps_language.specs.Reading.{Reading, token_then, stuck, sized_name}
 use Rattle.ps_language.specs.Scan.{leading, beyond, start_of, simple_by, token_here, behind_blank, scan}
 use Rattle.ps_scan.specs.declared.tokens.Span.{Span}
 use Rattle.ps_scan.specs.declared.tokens.Token.{Token}
@@ -43,7 +43,7 @@ name_reading name text (Some span) = token_then (name (part_of text span)) (drop
 -- the run of regular bytes from a place on makes a name of any kind so
 abbrev pub ReadsName : (text : List ℕ) (start : ℕ) → Option Span → Type 0
 ReadsName text start span = (name : List ℕ → language.Token)
-    → named name (leading is_regular (drop start text)) (beyond is_regular (drop start text))
+    → sized_name name (leading is_regular (drop start text)) (beyond is_regular (drop start text))
     ≡ name_reading name text span
 
 -- what a token or the end of the text shows

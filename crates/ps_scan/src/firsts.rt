@@ -2,7 +2,7 @@
 //! (PLRM2, 3.2, 8 'cvi').
 
 ghost use Rattle.std.specs.Prelude.{◌≡◌, ◌+◌, ◌<◌, ◌≤◌, ℕ, List, length, drop, slice_index};
-ghost use Rattle.ps_language.specs.Reading.{Reading, enclosed};
+ghost use Rattle.ps_language.specs.Reading.{Reading, sized_procedure};
 ghost use Rattle.ps_language.specs.RowsTypes.{number_in};
 ghost use Rattle.ps_language.specs.Scan.{after_hex_start, elements_from, scan, token_here};
 ghost use Rattle.ps_scan.specs.Passed.{IsPassed, number_of};
@@ -124,7 +124,7 @@ fn pass_token(bytes: &[u8], at: usize, room: u8) -> Result<Passed, ScanFault>
 fn pass_procedure(bytes: &[u8], at: usize, room: u8) -> Result<Passed, ScanFault>
     requires { at < length bytes.now }
     ensures { IsPassed bytes.now at result
-        (enclosed (elements_from (token_here room) (drop (at + 1) bytes.now))) }
+        (sized_procedure (elements_from (token_here room) (drop (at + 1) bytes.now))) }
 {
     let mut count: usize = 0;
     let mut place = at + 1;

@@ -1,7 +1,7 @@
 //! The law that the scan is the grammar, as a public contract.
 
 ghost use Rattle.std.specs.Prelude.{ℕ, List, ◌↔◌, ◌≡◌, ◌+◌, ◌++◌, length};
-ghost use Rattle.ps_language.specs.Scan.{scan, shifted};
+ghost use Rattle.ps_language.specs.Scan.{scan, further_on};
 ghost use Rattle.ps_language.specs.Syntax.{Reads, LiesAt};
 ghost use Rattle.ps_language.specs.Token.{Scan, Token, found};
 
@@ -15,7 +15,7 @@ pub fn scanner_is_grammar()
     // what stands in front of a text changes nothing but the places: from a token's end the scan
     // goes on as over the whole text
     ensures onward { (front text : List ℕ) (at : ℕ) → scan (front ++ text) (length front + at)
-        ≡ shifted (length front) (scan text at) }
+        ≡ further_on (length front) (scan text at) }
     // a token lies where it says
     ensures place { (bytes : List ℕ) (at : ℕ) (token : Token) (end : ℕ)
         → Reads bytes at (found token end) → LiesAt bytes at token end }

@@ -1,7 +1,7 @@
 //! Procedures in braces, and the token that begins at a place (PLRM2, 3.2.2).
 
 ghost use Rattle.std.specs.Prelude.{◌≡◌, nat_lt, if◌then◌else◌, OnOk, [], ◌∷◌, ◌++◌, ◌+◌, ◌<◌, ◌≤◌, length, drop, slice_index, ⊤};
-ghost use Rattle.ps_language.specs.Reading.{enclosed};
+ghost use Rattle.ps_language.specs.Reading.{sized_procedure};
 ghost use Rattle.ps_language.specs.Scan.{token_here, elements_from};
 ghost use Rattle.ps_scan.specs.Shown.{IsAnswer, MayStarve, token_at};
 
@@ -69,7 +69,7 @@ fn keep_element(elements: &mut Vec<TokenKind>, token: Token) -> Result<(), Alloc
 fn procedure_token(alloc: Global, bytes: &[u8], at: usize, room: u8) -> Result<Token, ScanFault>
     requires { at < length bytes.now }
     ensures { IsAnswer ⊤ bytes.now at result
-        (enclosed (elements_from (token_here room) (drop (at + 1) bytes.now))) }
+        (sized_procedure (elements_from (token_here room) (drop (at + 1) bytes.now))) }
 {
     let mut elements = Vec::new(alloc);
     let mut count: usize = 0;

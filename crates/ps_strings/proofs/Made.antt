@@ -6,7 +6,7 @@ use Rattle.std.proofs.lemmas.List.{length-replicate}
 use Rattle.ps_language.specs.declared.kinds.Kind.TheVariants.{Text as TextKind}
 use Rattle.ps_language.specs.Value.{Value, Store, string_value, string_object}
 use Rattle.ps_language.specs.Objects.{making}
-use Rattle.ps_language.specs.Readers.{literal, whole, as_integer, count_of}
+use Rattle.ps_language.specs.Readers.{literal, whole, as_integer, as_count}
 use Rattle.ps_language.specs.Access.{bytes, bytes_in}
 use Rattle.ps_language.specs.RowsSequences.{string_row}
 use Rattle.ps_stacks.specs.Tops.{first_of}
@@ -36,7 +36,7 @@ unfolding bytes
 newest_bytes s text = ap bytes_in (slice_get-append_end s [] (string_object text))
 
 string_row-is : (s : Store) (k : Value) (rest : List Value) (i : ℤ) (n : ℕ)
-    → as_integer k ≡ Some i → count_of i ≡ Some n → nat_le n 65535 ≡ true
+    → as_integer k ≡ Some i → as_count i ≡ Some n → nat_le n 65535 ≡ true
     → string_row s (k ∷ rest) ≡ making (string_object (replicate n 0)) rest s
 string_row-is s k rest i n number count limit = rw (number, count, limit) refl
 
@@ -44,7 +44,7 @@ string_row-is s k rest i n number count limit = rw (number, count, limit) refl
 module _ (h : Heap) (old : List Word) (top : Word) (number : ℤ) (n : ℕ)
     (first : Some top ≡ first_of old)
     (number_is : (births : ℕ → ℕ) (names : List (List ℕ))
-    → as_integer (value_of births names top) ≡ Some number) (count : Some n ≡ count_of number)
+    → as_integer (value_of births names top) ≡ Some number) (count : Some n ≡ as_count number)
     (limit : n ≤ 65535) where
   row_is : (names : List (List ℕ)) (s : Store) → string_row s (values_in h names old)
       ≡ making (string_object (replicate n 0)) (values_in h names (drop 1 old)) s

@@ -3,7 +3,7 @@ use Rattle.std.proofs.Common.{◌≡◌, ◌∙◌, sym, ap, ℕ, suc, ◌+◌, 
 use Rattle.std.proofs.Math.Seq.{drop-cons}
 use Rattle.std.proofs.lemmas.List.{drop_all, length-map}
 use Rattle.ps_language.specs.Token.{procedure_token, no_tokens, more_tokens}
-use Rattle.ps_language.specs.Reading.{count_of}
+use Rattle.ps_language.specs.Reading.{token_count}
 use Rattle.ps_scan.specs.declared.tokens.TokenKind.{TokenKind}
 use Rattle.ps_scan.specs.declared.tokens.TokenKind.TheViews.{Procedure}
 use Rattle.ps_scan.specs.Shown.{token_of}
@@ -24,7 +24,7 @@ module _ (text : List ℕ) (kinds : List TokenKind) where
   pub tokens-end : (i : ℕ) → length kinds ≤ i → tokens_in text (drop i kinds) ≡ no_tokens
   tokens-end i all = ap (tokens_in text) (drop_all i kinds all)
 
-  pub tokens-count : count_of (tokens_in text kinds) ≡ length kinds
+  pub tokens-count : token_count (tokens_in text kinds) ≡ length kinds
   tokens-count = count-elements (map (token_of text) kinds) ∙ length-map kinds (token_of text)
 
 -- a procedure

@@ -7,8 +7,8 @@ use mathlib.Core.Logic.{inl, inr}
 use Rattle.ps_language.specs.Bytes.{is_hex, is_hex_or_white, is_regular}
 use Rattle.ps_language.specs.Limits.{name_limit, sequence_limit}
 use Rattle.ps_language.specs.Token.{Token, executable_name_token, literal_name_token, immediate_name_token, Tokens, ScanFault, Scan, found, exhausted, faulty}
-use Rattle.ps_language.specs.Reading.{Reading, token_then, stuck, Ending, string_end, unfinished, string_reading, sized_string, pairs, Tail, procedure_end, procedure_fault, with_first, enclosed, count_of, named, Word, integer_word, radix_word, real_word, name_word, word_reading, fits_integer}
-use Rattle.ps_language.specs.Scan.{leading, beyond, Start, regular_start, string_start, hex_start, angle_start, bracket_start, slash_start, stray_start, start_of, string_from, word_of, hex_reading, after_hex_start, after_angle, after_slash, simple_by, behind_blank, then_elements, elements_step, elements, token_here, as_scan, text_scan, scan}
+use Rattle.ps_language.specs.Reading.{Reading, token_then, stuck, Ending, string_end, unfinished, string_reading, sized_string, pairs, Tail, procedure_end, procedure_fault, with_first, sized_procedure, token_count, sized_name, Word, integer_word, radix_word, real_word, name_word, word_reading, fits_integer}
+use Rattle.ps_language.specs.Scan.{leading, beyond, Start, regular_start, string_start, hex_start, angle_start, bracket_start, slash_start, stray_start, start_of, string_from, word_of, hex_reading, after_hex_start, after_angle, after_slash, simple_by, behind_blank, then_elements, elements_step, elements_by, token_here, as_scan, text_scan, scan}
 use Rattle.ps_tokens.specs.Short.{IsShort, AreShort}
 
 few : (n : ℕ) → nat_le n sequence_limit ≡ true → n ≤ sequence_limit
@@ -32,8 +32,8 @@ IsShortScan (faulty fault) = Unit {0}
 
 -- ---- tokens but for procedures
 
-short_named : (name : List ℕ → Token) → ((text : List ℕ) → length text ≤ name_limit → IsShort (name text)) → (text rest : List ℕ) → IsShortReading (named name text rest)
-unfolding named IsShortReading
+short_named : (name : List ℕ → Token) → ((text : List ℕ) → length text ≤ name_limit → IsShort (name text)) → (text rest : List ℕ) → IsShortReading (sized_name name text rest)
+unfolding sized_name IsShortReading
 short_named name short text rest = elim (cases_Bool (nat_le (length text) name_limit)) [ inl e ↦ rw e (short text (brief (length text) e)) | inr e ↦ rw e tt ]
 
 short_string : (value rest : List ℕ) → IsShortReading (sized_string value rest)
@@ -103,23 +103,23 @@ module _ (element : ℕ → List ℕ → Reading) (short : (b : ℕ) (bs : List 
   short_step further more [] = tt
   short_step further more (b ∷ bs) = elim (cases_Bool (b == 125)) [ inl e ↦ rw (e, IsShortTail, elements_step) tt | inr e ↦ rw (e, IsShortTail, elements_step) (short_then further more (element b bs) (short b bs)) ]
 
-  short_elements : (counter : ℕ) (text : List ℕ) → IsShortTail (elements element counter text)
-  unfolding elements IsShortTail
+  short_elements : (counter : ℕ) (text : List ℕ) → IsShortTail (elements_by element counter text)
+  unfolding elements_by IsShortTail
   short_elements zero text = tt
-  short_elements (suc counter) text = short_step (elements element counter) (short_elements counter) (behind_blank false text)
+  short_elements (suc counter) text = short_step (elements_by element counter) (short_elements counter) (behind_blank false text)
 
-enclosed_by : (items : Tokens) (rest : List ℕ) → AreShort items → IsShortReading (enclosed (procedure_end items rest))
-unfolding enclosed IsShortReading
-enclosed_by items rest short = elim (cases_Bool (nat_le (count_of items) sequence_limit)) [
-  | inl e ↦ rw e (few (count_of items) e, short)
+enclosed_by : (items : Tokens) (rest : List ℕ) → AreShort items → IsShortReading (sized_procedure (procedure_end items rest))
+unfolding sized_procedure IsShortReading
+enclosed_by items rest short = elim (cases_Bool (nat_le (token_count items) sequence_limit)) [
+  | inl e ↦ rw e (few (token_count items) e, short)
   | inr e ↦ rw e tt
 ]
 
-fault_short : (fault : ScanFault) → IsShortReading (enclosed (procedure_fault fault))
-unfolding enclosed IsShortReading
+fault_short : (fault : ScanFault) → IsShortReading (sized_procedure (procedure_fault fault))
+unfolding sized_procedure IsShortReading
 fault_short fault = tt
 
-short_enclosed : (tail : Tail) → IsShortTail tail → IsShortReading (enclosed tail)
+short_enclosed : (tail : Tail) → IsShortTail tail → IsShortReading (sized_procedure tail)
 unfolding IsShortTail
 short_enclosed (procedure_end items rest) short = enclosed_by items rest short
 short_enclosed (procedure_fault fault) short = fault_short fault
@@ -128,7 +128,7 @@ short_token : (room b : ℕ) (bs : List ℕ) → IsShortReading (token_here room
 unfolding token_here IsShortReading
 short_token zero b bs = elim (cases_Bool (b == 123)) [ inl e ↦ rw e tt | inr e ↦ rw e (short_simple (start_of b) b bs) ]
 short_token (suc room) b bs = elim (cases_Bool (b == 123)) [
-  | inl e ↦ rw (e, IsShortReading, token_here) (short_enclosed (elements (token_here room) (suc (length bs)) bs) (short_elements (token_here room) (short_token room) (suc (length bs)) bs))
+  | inl e ↦ rw (e, IsShortReading, token_here) (short_enclosed (elements_by (token_here room) (suc (length bs)) bs) (short_elements (token_here room) (short_token room) (suc (length bs)) bs))
   | inr e ↦ rw (e, IsShortReading, token_here) (short_simple (start_of b) b bs)
 ]
 

@@ -1,7 +1,7 @@
 -- Tokens within the limits of their names, strings and procedures (PLRM2, appendix B).
 use Rattle.std.specs.Prelude.{◌≤◌, length}
 use Rattle.ps_language.specs.Limits.{name_limit, sequence_limit}
-use Rattle.ps_language.specs.Reading.{count_of}
+use Rattle.ps_language.specs.Reading.{token_count}
 use Rattle.ps_language.specs.Token.{Token, Tokens, number_token, literal_name_token, executable_name_token, immediate_name_token, string_token, procedure_token, no_tokens, more_tokens}
 
 abbrev mutual
@@ -12,7 +12,7 @@ abbrev mutual
   IsShort (executable_name_token text) = length text ≤ name_limit
   IsShort (immediate_name_token text) = length text ≤ name_limit
   IsShort (string_token bytes) = length bytes ≤ sequence_limit
-  IsShort (procedure_token elements) = (count_of elements ≤ sequence_limit) × AreShort elements
+  IsShort (procedure_token elements) = (token_count elements ≤ sequence_limit) × AreShort elements
 
   -- each element
   pub AreShort : Tokens → Type 0

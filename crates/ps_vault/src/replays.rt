@@ -135,10 +135,9 @@ fn follow_entry<S: Interpret + Drop, D: Deeds + Drop>(
 /// ready changes nothing.
 ///
 /// The report has the given schedule; where a growth was refused, or more than it may print was to
-/// be printed, the outcome is `Memory` and the
-/// report has the steps that were made, fewer than the given ones: the next of those may want a
-/// growth. The fault is `Memory` where the room that the run starts with can't be had; there is no
-/// other.
+/// be printed, the outcome is `Memory` and the report has the steps that were made, fewer than the
+/// given ones: the next of those may want a growth. The fault is `Memory` where the room that the run
+/// starts with can't be had; there is no other.
 pub fn replay<S: Interpret + Drop, D: Deeds + Drop>(
     alloc: Global,
     interpret: S,

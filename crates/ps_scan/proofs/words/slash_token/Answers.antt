@@ -2,7 +2,7 @@
 use Rattle.std.proofs.Common.{◌≡◌, ◌∙◌, ap, sym, ◌+◌, drop, arith}
 use Rattle.ps_language.specs.Token.{literal_name_token, immediate_name_token}
 use Rattle.ps_language.specs.Reading.{token_then}
-use Rattle.ps_language.specs.Reading.{named}
+use Rattle.ps_language.specs.Reading.{sized_name}
 use Rattle.ps_language.specs.Bytes.{is_regular}
 use Rattle.ps_language.specs.Scan.{leading, beyond, after_slash}
 use Rattle.ps_scan.proofs.TokenForms.{literal_name_is, immediate_name_is}
@@ -24,7 +24,7 @@ returns-in-None c = slash_slash c.args.bytes.now (c.args.at + 1) c.if-start-byte
 pub returns-in-Some-name_from : goal.returns-in-Some-name_from
 returns-in-Some-name_from c =
     let xs = c.args.bytes.now in
-    let name : after_slash (drop (c.args.at + 1) xs) ≡ named literal_name_token (leading is_regular (drop (c.args.at + 1) xs)) (beyond is_regular (drop (c.args.at + 1) xs)) = elim c.if-start-bytes.branch [
+    let name : after_slash (drop (c.args.at + 1) xs) ≡ sized_name literal_name_token (leading is_regular (drop (c.args.at + 1) xs)) (beyond is_regular (drop (c.args.at + 1) xs)) = elim c.if-start-bytes.branch [
       | then-start-bytes+else-bytes-start-eq47 w ↦ slash_other xs (c.args.at + 1) w.if-start-bytes.true w.if-bytes-start-eq47.false
       | else-start-bytes w ↦ slash_end xs (c.args.at + 1) w.if-start-bytes.false
     ] in (
@@ -36,7 +36,7 @@ returns-in-Some-name_from c =
 pub returns-in-None-name_from : goal.returns-in-None-name_from
 returns-in-None-name_from c =
     let xs = c.args.bytes.now in
-    let name : after_slash (drop (c.args.at + 1) xs) ≡ named literal_name_token (leading is_regular (drop (c.args.at + 1) xs)) (beyond is_regular (drop (c.args.at + 1) xs)) = elim c.if-start-bytes.branch [
+    let name : after_slash (drop (c.args.at + 1) xs) ≡ sized_name literal_name_token (leading is_regular (drop (c.args.at + 1) xs)) (beyond is_regular (drop (c.args.at + 1) xs)) = elim c.if-start-bytes.branch [
       | then-start-bytes+else-bytes-start-eq47 w ↦ slash_other xs (c.args.at + 1) w.if-start-bytes.true w.if-bytes-start-eq47.false
       | else-start-bytes w ↦ slash_end xs (c.args.at + 1) w.if-start-bytes.false
     ] in
