@@ -156,7 +156,8 @@ fn find_by_windows<M: Memory>(
 }
 
 /// The first place of a part of a string that has the bytes of another, if one has. No more of the
-/// part is read than must be, but for some windows. The memory stays as it is; the lists are empty before and after, and their room is kept for the next call.
+/// part is read than must be, but for some windows. The memory stays as it is; the lists are empty
+/// before and after, and their room is kept for the next call.
 ///
 /// `AllocError`: `text` lacks room for the bytes of the first part or `sought` for those of the
 /// second, and a growth was refused.
