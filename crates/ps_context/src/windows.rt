@@ -86,8 +86,8 @@ fn scan_part<M: Memory>(
 }
 
 /// The token of a part of a string from a place on. The part is read into the list by windows, each
-/// twice as long as the one before, until a token ends before its window does or the window is the
-/// whole part. The memory stays as it is.
+/// sixteen times as long as the one before, so that little is scanned again, until a token ends
+/// before its window does or the window is the whole part. The memory stays as it is.
 ///
 /// Faults as the scanner's. `ScanFault::Memory`: also a growth of the list was refused.
 #[inline(always)]
@@ -122,7 +122,7 @@ fn scan_by_windows<M: Memory>(
         match scan_part(memory, window, at, list, alloc) {
             Ok(Some(token)) if token.end < size as usize => return Ok(Some(token)),
             Err(ScanFault::Memory) => return Err(ScanFault::Memory),
-            _ => size = size.saturating_mul(2).min(part.length),
+            _ => size = size.saturating_mul(16).min(part.length),
         }
     }
     scan_part(memory, part, at, list, alloc)
