@@ -24,22 +24,9 @@ pub room_kept : (frames : List Frame) → 2 + length frames ≤ 250
     → 2 + suc (length (drop 1 frames)) ≤ 250
 room_kept frames room = omega (arith, length-drop 1 frames, room)
 
--- where a procedure is entered
-room_by : (body : Part) (frames : List Frame) → (1 ≤ body.length → 2 + length frames ≤ 250)
-    → (empty : Bool) → (body.length == 0) ≡ empty
-    → HasRoom 2 (if empty then Goes else Enters body) frames
-room_by body frames room true none = tt
-room_by body frames room false some = room (grind (arith, nat_tests, some))
-
-pub room_ahead : (body : Part) (frames : List Frame) → (1 ≤ body.length → 2 + length frames ≤ 250)
-    → (came : Ahead) → came ≡ entered_ahead body → HasRoom 2 came frames
-room_ahead body frames room came is =
-    subst (λ c. HasRoom 2 c frames) (sym is) (room_by body frames room (body.length == 0) refl)
-
 -- one has room where two have
-pub one_fits : (elements : Type 0) (frames : List Frame) → (elements → 2 + length frames ≤ 250)
-    → elements → length frames < 250
-one_fits elements frames room some = let two = room some in omega (arith, two)
+pub one_fits : (frames : List Frame) → 2 + length frames ≤ 250 → length frames < 250
+one_fits frames room = omega (arith, room)
 
 -- what has a topmost frame has one
 pub some_frame : (frames : List Frame) (top : Frame) → Some top ≡ first_of frames

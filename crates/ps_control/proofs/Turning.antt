@@ -1,6 +1,5 @@
 -- Turns of loops over operands and frames.
-use Rattle.std.proofs.Common.{◌≡◌, ℕ, ◌+◌, ◌<◌, ◌≤◌, ◌==◌, Bool, true, false, sym, subst, List, [], ◌∷◌, ◌++◌, drop, length, Ok, Err, refl, arith}
-use Rattle.std.specs.Prelude.{if◌then◌else◌}
+use Rattle.std.proofs.Common.{◌≡◌, ℕ, ◌+◌, ◌<◌, ◌≤◌, ◌==◌, true, false, List, [], ◌∷◌, ◌++◌, drop, length, Ok, Err, refl, arith}
 use Rattle.std.proofs.lemmas.Bool.Decides.{nat_tests}
 use Rattle.std.proofs.lemmas.List.{length-map, length-append, map-append}
 use Rattle.ps_language.specs.declared.errors.ErrorName.TheVariants.{StackOverflow, ExecStackOverflow}
@@ -18,9 +17,6 @@ use Rattle.ps_mem.specs.Meaning.{value_of}
 use Rattle.ps_mem.specs.Shows.{IsValue, IsWithin, Shows}
 use Rattle.ps_ops.specs.Does.{values_in}
 use Rattle.ps_ops.proofs.Held.{all_append, rest_held}
-use Rattle.ps_control.specs.declared.ahead.Ahead.{Ahead}
-use Rattle.ps_control.specs.declared.ahead.Ahead.TheVariants.{Enters, Goes}
-use Rattle.ps_control.specs.Ahead.{entered_ahead, TurnsAhead}
 use Rattle.ps_control.specs.declared.frames.Frame.{Frame}
 use Rattle.ps_control.specs.declared.frames.Frame.TheVariants.{Procedure}
 use Rattle.ps_control.specs.Frames.{frame_of, frames_in, IsFrame, IsFrameWithin}
@@ -137,24 +133,6 @@ module _ (operator : Operator) (h : Heap) (size : ℕ) (operands : List Word) (f
     where
       positive : (body.length == 0) ≡ false
       positive = grind (arith, nat_tests)
-
-  -- either, up to the frame of the procedure
-  pub turns_ahead : length words + length operands ≤ 500 → (1 ≤ body.length → length frames < 250)
-      → (came : Ahead) → came ≡ entered_ahead body
-      → TurnsAhead operator came h size (stacks operands frames)
-      (stacks (words ++ operands) (left ∷ drop 1 frames))
-  turns_ahead few space came is = subst Comes (sym is) (comes_by (body.length == 0) refl)
-    where
-      Comes : Ahead → Type 0
-      Comes ahead = TurnsAhead operator ahead h size (stacks operands frames)
-          (stacks (words ++ operands) (left ∷ drop 1 frames))
-
-      comes_by : (empty : Bool) → (body.length == 0) ≡ empty
-          → Comes (if empty then Goes else Enters body)
-      comes_by true none = turns_empty few (grind (arith, nat_tests, none))
-      comes_by false some =
-          let elements : 1 ≤ body.length = grind (arith, nat_tests, some) in
-          turns_entered few elements (space elements)
 
   pub turns_full : length words + length operands ≤ 500 → 1 ≤ body.length → 250 ≤ length frames
       → Turns operator (Err ExecStackOverflow) h size (stacks operands frames)

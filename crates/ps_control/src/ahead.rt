@@ -45,15 +45,16 @@ impl Ahead {
 
 // ---- loops
 
-/// Whether a turn that pushes so many operands can be done ahead: they have room, and where the
-/// procedure isn't empty the frames have room for one above its own too.
+/// Whether a turn that pushes so many operands can enter a procedure: it isn't empty, and both
+/// stacks have room, that of the frames for one above the procedure's too.
 #[inline(always)]
-fn may_turn(operands: &Operands, frames: &Frames, count: usize, body: Part) -> bool
+fn may_enter(operands: &Operands, frames: &Frames, count: usize, body: Part) -> bool
     requires few { count ≤ 2 }
     ensures operands { IsTrue result → count + length operands.now ≤ 500 }
-    ensures frames { IsTrue result → 1 ≤ body.length → 2 + length frames.now ≤ 250 }
+    ensures body { IsTrue result → 1 ≤ body.length }
+    ensures frames { IsTrue result → 2 + length frames.now ≤ 250 }
 {
-    if body.length != 0 && frames.len() >= FRAME_LIMIT - 1 {
+    if body.length == 0 || frames.len() >= FRAME_LIMIT - 1 {
         return false;
     }
     count + operands.len() <= OPERAND_LIMIT
@@ -68,10 +69,10 @@ pub fn loop_ahead(operands: &Operands, frames: &Frames, body: Part) -> Ahead
         (stacks operands.now frames.now) }
     ensures room { HasRoom 2 result frames.now }
 {
-    if !may_turn(operands, frames, 0, body) {
+    if !may_enter(operands, frames, 0, body) {
         return Ahead::Left;
     }
-    enter_ahead(body)
+    Ahead::Enters(body)
 }
 
 /// Writes the turns that are left into the topmost frame, in place.
@@ -99,11 +100,11 @@ pub fn repeat_ahead(operands: &Operands, frames: &mut Frames, count: usize, body
         leave(frames);
         return Ahead::Goes;
     }
-    if !may_turn(operands, frames, 0, body) {
+    if !may_enter(operands, frames, 0, body) {
         return Ahead::Left;
     }
     set_count(frames, count, body, count - 1);
-    enter_ahead(body)
+    Ahead::Enters(body)
 }
 
 /// Writes the control value of the next turn into the topmost frame, in place, and pushes that of this
@@ -153,7 +154,7 @@ pub fn for_ahead(
         leave(frames);
         return Ahead::Goes;
     }
-    if !may_turn(operands, frames, 1, body) {
+    if !may_enter(operands, frames, 1, body) {
         return Ahead::Left;
     }
     let next = control + increment as i64;
@@ -161,7 +162,7 @@ pub fn for_ahead(
     push_control(
         operands, frames, control, increment, limit, body, next, word,
     );
-    enter_ahead(body)
+    Ahead::Enters(body)
 }
 
 /// Writes the place of the next element into the topmost frame, in place.
@@ -195,12 +196,12 @@ pub fn forall_ahead(
     ensures operands { OnLeft result (operands.new ≡ operands.old) }
     ensures frames { OnLeft result (frames.new ≡ frames.old) }
 {
-    if !may_turn(operands, frames, pushed.count(), body) {
+    if !may_enter(operands, frames, pushed.count(), body) {
         return Ahead::Left;
     }
     set_place(frames, over, at, body, at + 1);
     pushed.push(operands);
-    enter_ahead(body)
+    Ahead::Enters(body)
 }
 
 // ---- operators

@@ -15,8 +15,8 @@ use ps_control::frames::Frame;
 use ps_mem::Memory;
 
 /// A turn of the loop that is the topmost frame, up to the frame of the procedure that it enters, or
-/// its end. An empty procedure needs no frame. Where an error is to be raised, and by every other
-/// frame, nothing changes. The memory stays as it is.
+/// its end. Where an error is to be raised, or the procedure is empty, and by every other frame,
+/// nothing changes. The memory stays as it is.
 #[inline(always)]
 pub fn turn_ahead<M: Memory>(
     top: Frame,

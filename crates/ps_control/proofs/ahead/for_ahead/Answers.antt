@@ -7,9 +7,9 @@ use Rattle.ps_mem.specs.Heap.{birth_at}
 use Rattle.ps_ops.proofs.Ready.{plain_value, plain_within}
 use Rattle.ps_control.specs.declared.frames.Frame.TheVariants.{For}
 use Rattle.ps_control.proofs.Courses.{course_goes}
-use Rattle.ps_control.proofs.Entering.{some_frame, one_fits, room_ahead, room_kept}
+use Rattle.ps_control.proofs.Entering.{some_frame, one_fits, room_kept}
 use Rattle.ps_control.proofs.Loops.{for_is, for_held, for_ends}
-use Rattle.ps_control.proofs.Turning.{turns_ahead}
+use Rattle.ps_control.proofs.Turning.{turns_entered}
 use Rattle.ps_control.proofs.ahead.for_ahead.Goals as goal
 
 pub returns-then-is_past-clause-turns : goal.returns-then-is_past-clause-turns
@@ -43,7 +43,7 @@ returns-clause-turns c =
     let word = c.control_word-word.result in
     λ h size ready.
     rw (c.push_control.ensures.operands, written)
-    (turns_ahead ForOperator h size operands frames ready
+    (turns_entered ForOperator h size operands frames ready
     (some_frame frames (For control increment limit body) top) (word ∷ [])
     (For (control +ℤ increment) increment limit body) body
     (for_held h size operands frames ready control increment limit body top word
@@ -52,11 +52,11 @@ returns-clause-turns c =
     (course_goes control increment limit c.requires.course increment_fits limit_fits going))
     (for_is h size operands frames ready control increment limit body top word
     (λ births names. simp to_z-of_z at c.control_word-word.ensures.value births names) going)
-    (c.may_turn.ensures.operands c.if-not-may_turn.false)
-    (one_fits _ frames (c.may_turn.ensures.frames c.if-not-may_turn.false)) _ c.enter_ahead.ensures)
+    (c.may_enter.ensures.operands c.if-not-may_enter.false)
+    (c.may_enter.ensures.body c.if-not-may_enter.false)
+    (one_fits frames (c.may_enter.ensures.frames c.if-not-may_enter.false)))
 
 pub returns-clause-room : goal.returns-clause-room
 returns-clause-room c =
     rw (c.push_control.ensures.frames)
-    (room_ahead c.args.body _ (λ some. room_kept c.args.frames.now
-    (c.may_turn.ensures.frames c.if-not-may_turn.false some)) _ c.enter_ahead.ensures)
+    (room_kept c.args.frames.now (c.may_enter.ensures.frames c.if-not-may_enter.false))

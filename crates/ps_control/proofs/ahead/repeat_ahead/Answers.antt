@@ -3,9 +3,9 @@ use Rattle.std.proofs.Common.{◌-◌, [], arith, sym}
 use Rattle.std.proofs.lemmas.Bool.Decides.{nat_tests}
 use Rattle.ps_language.specs.declared.operators.Operator.TheVariants.{Repeat as RepeatOperator}
 use Rattle.ps_control.specs.declared.frames.Frame.TheVariants.{Repeat}
-use Rattle.ps_control.proofs.Entering.{some_frame, one_fits, room_ahead, room_kept}
+use Rattle.ps_control.proofs.Entering.{some_frame, one_fits, room_kept}
 use Rattle.ps_control.proofs.Loops.{repeat_is, repeat_held, repeat_ends}
-use Rattle.ps_control.proofs.Turning.{turns_ahead}
+use Rattle.ps_control.proofs.Turning.{turns_entered}
 use Rattle.ps_control.proofs.ahead.repeat_ahead.Goals as goal
 
 pub returns-then-count-eq0-clause-turns : goal.returns-then-count-eq0-clause-turns
@@ -23,16 +23,16 @@ returns-clause-turns c =
     let top = sym c.requires.top in
     λ h size ready.
     rw (c.set_count.ensures)
-    (turns_ahead RepeatOperator h size operands frames ready
+    (turns_entered RepeatOperator h size operands frames ready
     (some_frame frames (Repeat count body) top) [] (Repeat (count - 1) body) body
     (repeat_held h size operands frames ready body count (count - 1) top)
     (repeat_is h size operands frames ready body count
     (omega (arith, nat_tests, c.if-count-eq0.false)) top)
-    (c.may_turn.ensures.operands c.if-not-may_turn.false)
-    (one_fits _ frames (c.may_turn.ensures.frames c.if-not-may_turn.false)) _ c.enter_ahead.ensures)
+    (c.may_enter.ensures.operands c.if-not-may_enter.false)
+    (c.may_enter.ensures.body c.if-not-may_enter.false)
+    (one_fits frames (c.may_enter.ensures.frames c.if-not-may_enter.false)))
 
 pub returns-clause-room : goal.returns-clause-room
 returns-clause-room c =
     rw (c.set_count.ensures)
-    (room_ahead c.args.body _ (λ some. room_kept c.args.frames.now
-    (c.may_turn.ensures.frames c.if-not-may_turn.false some)) _ c.enter_ahead.ensures)
+    (room_kept c.args.frames.now (c.may_enter.ensures.frames c.if-not-may_enter.false))
