@@ -1,5 +1,5 @@
 -- What is read of a file part by part is its beginning.
-use Rattle.std.proofs.Common.{◌≡◌, ◌+◌, ◌⊎◌, inl, inr, ℕ, Option, Some, None, List, [], ◌∷◌, ◌++◌, length, arith, refl, sym, ap, subst, ◌∙◌, IfSome, length-append, append_assoc, append-nil}
+use Rattle.std.proofs.Common.{◌≡◌, ◌⊎◌, inl, inr, ℕ, Option, Some, None, List, [], ◌∷◌, ◌++◌, length, arith, refl, sym, ap, subst, ◌∙◌, IfSome, length-append, append_assoc, append-nil}
 use Rattle.ps_run.specs.Driving as driving
 use Rattle.ps_run.specs.Parts.{ReadsNext}
 use Rattle.ps_run.specs.declared.files.ReadFault.{ReadFault}
