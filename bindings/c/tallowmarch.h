@@ -6,8 +6,8 @@
  * State.    A call keeps nothing: there is nothing to open, to free or to close, and calls don't see one another. It reads no file, no
  *           clock and no variable of the environment, and prints nothing.
  * Threads.  Any number of threads may call at once, each with rooms of its own. A call starts no thread, takes no lock and never waits.
- * Time.     A call makes at most `steps` steps of the program, and returns then. It can't be interrupted: a host that looks at a clock makes
- *           a run of a small budget, and goes on from it (`tallowmarch_go_on`).
+ * Time.     A call makes at most `steps` steps of the program, and those that it is given, and returns then. It can't be interrupted: a host
+ *           that looks at a clock makes a run of a small budget, and goes on from it (`tallowmarch_go_on`).
  * Memory.   All that a call takes from malloc it gives back before it returns. Where memory is refused to it, it says so by its code,
  *           and loses nothing. A host may give the memory itself: see the end of this file.
  * Stack.    A call takes less than 256 KiB of its thread's stack.
