@@ -20,6 +20,8 @@ pub mod LowestStacks
 pub mod LowestSteps
 pub mod OperandsKept
 pub mod Places
+pub mod PrintedDeeds
+pub mod PrintedSteps
 pub mod Procedures
 pub mod ProgramExamples
 pub mod Recorded

@@ -1,4 +1,4 @@
--- An operator keeps the two lowest dictionaries.
+-- An operator keeps the two lowest dictionaries, and one that is left to the world prints nothing.
 use Rattle.std.specs.Prelude.{Bool, true, false, None, List, ⊤, if◌then◌else◌}
 use Rattle.ps_language.specs.declared.errors.ErrorName.TheVariants.{InvalidExit}
 use Rattle.ps_language.specs.declared.operators.Operator.{Operator}
@@ -14,20 +14,22 @@ use Rattle.ps_language.specs.Control.{scene_effect, exec_row, if_row, ifelse_row
 use Rattle.ps_language.proofs.Leaving.{Leaves, left_with, each-leaves}
 use Rattle.ps_language.proofs.ControlStack.{RowKeepsStack, exec_row-stack, if_row-stack, ifelse_row-stack, for_row-stack, repeat_row-stack, loop_row-stack, forall_row-stack, stopped_row-stack, bind_row-stack}
 use Rattle.ps_language.proofs.LowestStacks.{KeepsLowest, StacksKeepLowest, begin_row-lowest, end_row-lowest, cleardictstack_row-lowest, currentdict_row-lowest, countdictstack_row-lowest}
+use Rattle.ps_language.proofs.PrintedDeeds.{PrintsNothing, vmstatus_row-printed, vmreclaim_row-printed, currentcontext_row-printed, yield_row-printed, new_row-printed, fork_row-printed, join_row-printed, detach_row-printed, monitor_row-printed, wait_row-printed, notify_row-printed}
 use Rattle.ps_language.proofs.LowestDeeds.{DeedKeepsLowest, vmstatus_row-lowest, vmreclaim_row-lowest, currentcontext_row-lowest, yield_row-lowest, new_row-lowest, fork_row-lowest, join_row-lowest, detach_row-lowest, monitor_row-lowest, wait_row-lowest, notify_row-lowest}
 
--- of what an operator does where this is the dictionary stack
+-- of what an operator does where this is the dictionary stack; what is left to the world prints
+-- nothing besides
 abbrev pub EffectKeepsLowest : (old : List Value) → Effect → Type 0
 EffectKeepsLowest old (makes scene output) = KeepsLowest old scene.dictionaries
 EffectKeepsLowest old (unwinds cause scene) = KeepsLowest old scene.dictionaries
 EffectKeepsLowest old (raises error) = ⊤
-EffectKeepsLowest old (calls deed) = DeedKeepsLowest deed
+EffectKeepsLowest old (calls deed) = DeedKeepsLowest deed × PrintsNothing deed
 
 abbrev RowKeepsLowest : Row → Type 0
 RowKeepsLowest (stacking_row row) = (store : Store) (dictionaries operands : List Value)
     → StacksKeepLowest dictionaries (row store dictionaries operands)
 RowKeepsLowest (scene_row row) = (scene : Scene) → EffectKeepsLowest scene.dictionaries (row scene)
-RowKeepsLowest (world_row row) = DeedKeepsLowest row
+RowKeepsLowest (world_row row) = DeedKeepsLowest row × PrintsNothing row
 RowKeepsLowest _ = ⊤
 
 by-lowest : {A : Type 0} (old : List Value) (left : A → Effect) (outcome : Outcome A)
@@ -70,18 +72,18 @@ row-lowest Stop = λ scene first. first
 row-lowest Stopped = scene-lowest stopped_row stopped_row-stack
 row-lowest Quit = λ scene first. first
 row-lowest Bind = scene-lowest bind_row bind_row-stack
-row-lowest CurrentContext = currentcontext_row-lowest
-row-lowest Fork = fork_row-lowest
-row-lowest Join = join_row-lowest
-row-lowest Detach = detach_row-lowest
-row-lowest Lock = new_row-lowest (lock_object None)
-row-lowest Monitor = monitor_row-lowest
-row-lowest Condition = new_row-lowest condition_object
-row-lowest Wait = wait_row-lowest
-row-lowest Notify = notify_row-lowest
-row-lowest Yield = yield_row-lowest
-row-lowest VmStatus = vmstatus_row-lowest
-row-lowest VmReclaim = vmreclaim_row-lowest
+row-lowest CurrentContext = (currentcontext_row-lowest, currentcontext_row-printed)
+row-lowest Fork = (fork_row-lowest, fork_row-printed)
+row-lowest Join = (join_row-lowest, join_row-printed)
+row-lowest Detach = (detach_row-lowest, detach_row-printed)
+row-lowest Lock = (new_row-lowest (lock_object None), new_row-printed (lock_object None))
+row-lowest Monitor = (monitor_row-lowest, monitor_row-printed)
+row-lowest Condition = (new_row-lowest condition_object, new_row-printed condition_object)
+row-lowest Wait = (wait_row-lowest, wait_row-printed)
+row-lowest Notify = (notify_row-lowest, notify_row-printed)
+row-lowest Yield = (yield_row-lowest, yield_row-printed)
+row-lowest VmStatus = (vmstatus_row-lowest, vmstatus_row-printed)
+row-lowest VmReclaim = (vmreclaim_row-lowest, vmreclaim_row-printed)
 row-lowest _ = tt
 
 -- an effect that leaves the dictionary stack alone

@@ -132,7 +132,7 @@ module _ (now : World) (identifier : ℕ) (refused : Bool) (shown : Option (ℤ 
           reached (failed error command (with_scene kept running machine)) (kept_has kept keeps.0)
       by (asks calling kept) keeps =
           called-lowest calling (with_machine identifier now (with_scene kept running machine))
-          (with_scene kept running machine).context keeps.1
+          (with_scene kept running machine).context keeps.1.0
           (with_machine-lowest identifier now (with_scene kept running machine) have
           (kept_has kept keeps.0.0)) (kept_has kept keeps.0.0)
       by (tries command kept scene output) keeps = room (lacks_room refused kept.store scene.store)

@@ -1,5 +1,5 @@
 -- What a turn keeps, and what an operator that is left to the world sees: words for the laws.
-use Rattle.std.specs.Prelude.{◌≡◌, ℕ, ℤ, List, Option, None, ⊤}
+use Rattle.std.specs.Prelude.{◌≡◌, ℕ, ℤ, List, ◌++◌, Option, None, ⊤}
 use Rattle.ps_language.specs.Value.{Value, Store}
 use Rattle.ps_language.specs.World.{Context, World}
 use Rattle.ps_language.specs.Effect.{Scene, Call, shows_memory, Deed, does}
@@ -40,3 +40,7 @@ Keeps before (tries command kept scene output) = stays kept ≡ before
 Keeps before (breaks cause scene) = ⊤
 Keeps before (errs error command kept) = stays kept ≡ before
 Keeps before (asks calling kept) = (stays kept ≡ before) × IsBlind calling.deed
+
+-- what was printed before, and perhaps more
+abbrev pub PrintsOn : (before after : List ℕ) → Type 0
+PrintsOn before after = (more : List ℕ) × (before ++ more ≡ after)

@@ -3,7 +3,7 @@
 ghost use Rattle.std.specs.Prelude.{◌≡◌, ℕ, ℤ, ◌<◌, ◌≤◌, ◌++◌, Some, true, false, List, [], ◌∷◌, Option, replicate};
 ghost use Rattle.ps_language.specs.Contexts.{context_at};
 ghost use Rattle.ps_language.specs.Effect.{Around, Calling, Scene};
-ghost use Rattle.ps_language.specs.Keeping.{Keeps, stays};
+ghost use Rattle.ps_language.specs.Keeping.{Keeps, PrintsOn, stays};
 ghost use Rattle.ps_language.specs.Live.{Live};
 ghost use Rattle.ps_language.specs.Locks.{is_ready};
 ghost use Rattle.ps_language.specs.Lowest.{HaveFirstDictionaries};
@@ -14,7 +14,7 @@ ghost use Rattle.ps_language.specs.Step.{machine_of, stepped, with_machine};
 ghost use Rattle.ps_language.specs.StepValues.{tries};
 ghost use Rattle.ps_language.specs.Value.{Value};
 ghost use Rattle.ps_language.specs.World.{Context, Machine, Status, World};
-ghost use Rattle.ps_language.specs.Worlds.{starting_world, after_move, after_moves, recorded, world};
+ghost use Rattle.ps_language.specs.Worlds.{starting_world, after_move, after_moves, printed, recorded, world};
 ghost use Rattle.ps_language.specs.declared.errors.ErrorName.TheVariants.{VmError};
 ghost use Rattle.ps_language.specs.declared.schedules.Entry.{Entry};
 
@@ -51,6 +51,9 @@ pub fn language_laws()
     ensures begins { (before after : List Entry) (entry : Entry) (few : ℕ) (part : List Entry)
         → moves part ≡ replicate few (plain_move entry.context) → few < entry.steps
         → Begins (before ++ part) (before ++ entry ∷ after) }
+    // A schedule prints what its beginning prints, and then perhaps more.
+    ensures prints { (program : List ℕ) (part whole : List Entry) → Begins part whole
+        → PrintsOn (printed program part) (printed program whole) }
     // What a world needs is one number, which there is, and at the start it is 528 words.
     ensures live { (now : World) (m n : ℕ) → Live now m → Live now n → m ≡ n }
     ensures start { (program : List ℕ) → Live (starting_world program) 528 }

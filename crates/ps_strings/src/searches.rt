@@ -37,7 +37,7 @@ use std::alloc::AllocError;
 use std::cmp::Ordering;
 
 /// Bytes of a string that are read before the first look for others, beside as many as are sought.
-const FIRST_WINDOW: usize = 128;
+const FIRST_WINDOW: usize = 32;
 
 /// Whether a part of a string begins with the bytes of another. The memory stays as it is.
 fn begins_with<M: Memory>(memory: &mut M, part: Part, wanted: Part) -> bool

@@ -4,6 +4,7 @@ use Rattle.ps_language.proofs.Refusals.{refused-unasked, refused-asked}
 use Rattle.ps_language.proofs.Recorded.{recorded-same}
 use Rattle.ps_language.proofs.WorldLaws.{step-unready, world-append}
 use Rattle.ps_language.proofs.ScheduleLaws.{moves-added, longest-added, begins-part}
+use Rattle.ps_language.proofs.PrintedSteps.{printed-begins}
 use Rattle.ps_language.proofs.LiveLaws.{Live-unique, starting-live}
 use Rattle.ps_language.proofs.Exists.{exists}
 use Rattle.ps_language.proofs.Taken.{taken-less}
@@ -37,6 +38,9 @@ returns-clause-longest c = longest-added
 
 pub returns-clause-begins : goal.returns-clause-begins
 returns-clause-begins c = begins-part
+
+pub returns-clause-prints : goal.returns-clause-prints
+returns-clause-prints c = printed-begins
 
 pub returns-clause-live : goal.returns-clause-live
 returns-clause-live c = Live-unique
