@@ -1,8 +1,8 @@
 # Parts of the scripts that run what was built. They want $top, the repository's folder.
 
-# Whether a program was built of the sources as they stand: a mark beside it is as old as the beginning of its build.
+# Whether a program or an archive was built of the sources as they stand: a mark beside it is as old as the beginning of its build.
 is_current() {
-    [ -x "$1" ] && [ -e "$1.built" ] &&
+    [ -e "$1" ] && [ -e "$1.built" ] &&
         [ -z "$(find "$top/crates.txt" "$top"/crates/*/src "$top"/crates/*/specs "$top"/crates/*/proofs -newer "$1.built" 2>/dev/null | head -n 1)" ]
 }
 
