@@ -10,7 +10,7 @@
  *           that looks at a clock makes a run of a small budget, and goes on from it (`tallowmarch_go_on`).
  * Memory.   All that a call takes from malloc it gives back before it returns. Where memory is refused to it, it says so by its code,
  *           and loses nothing. A host may give the memory itself: see the end of this file.
- * Stack.    A call takes less than 256 KiB of its thread's stack.
+ * Stack.    Allow a call 256 KiB of its thread's stack: the deepest that was measured touched 149. No proof speaks of it.
  *
  * Pointers. Each is read or written during the call alone. None may be NULL, also not where the number of its items is 0: point to
  *           anything then. Rooms that are written (`printed`, `schedule`, `counts`) overlap neither each other nor what is read. No

@@ -10,7 +10,7 @@
 //! ```
 //!
 //! A run is a value: nothing is shared between calls, so any number of threads may run programs at the same time. A call blocks its thread
-//! until the program ended or its budget of steps is used up; it takes less than 256 KiB of stack.
+//! until the program ended or its budget of steps is used up; allow it 256 KiB of stack, of which the deepest measured touched 149.
 //!
 //! A [`Schedule`] tells which context made each step. With it a run can be made again, step by step:
 //!
