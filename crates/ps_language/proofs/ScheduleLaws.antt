@@ -1,5 +1,6 @@
 -- Laws of schedules: a step more, and beginnings.
 use Rattle.std.proofs.Common.{◌≡◌, ℕ, ℤ, zero, suc, ◌+◌, ◌<◌, ◌≤◌, Bool, true, false, not, ◌&&◌, Option, Some, None, List, [], ◌∷◌, ◌++◌, refl, sym, ◌∙◌, ap, arith, add-one, length-append, append_assoc, append-nil}
+use mathlib.Core.List.{IsPrefix}
 use Rattle.std.specs.Prelude.{replicate, nat_lt, is_none, if◌then◌else◌}
 use Rattle.std.proofs.lemmas.Bool.Decides.{nat_tests}
 use Rattle.std.proofs.lemmas.List.{replicate_more}
@@ -102,34 +103,35 @@ added-last (first ∷ second ∷ schedule) entry move = ap (λ (rest : List Entr
 pub plain_entry : (context steps : ℕ) → moves_of (record { context = context; steps = steps; refused = false; shown = None }) steps ≡ replicate steps (plain_move context)
 plain_entry context steps = plain_steps (record { context = context; steps = steps; refused = false; shown = None }) steps refl
 
--- more ordinary steps
-replicate_further : (few many : ℕ) (move : Move) (rest : List Move) → few ≤ many → (further : List Move) × (replicate few move ++ further ≡ replicate many move ++ rest)
-replicate_further zero many move rest h = (replicate many move ++ rest, refl)
-replicate_further (suc few) zero move rest h = absurd (omega arith)
-replicate_further (suc few) (suc many) move rest h =
-    let p : (further : List Move) × (replicate few move ++ further ≡ replicate many move ++ rest) = replicate_further few many move rest (omega arith) in
+-- as many equal steps begin more of them
+fewer_equal : (few many : ℕ) (move : Move) (rest : List Move) → few ≤ many
+    → IsPrefix (replicate few move) (replicate many move ++ rest)
+fewer_equal zero many move rest h = (replicate many move ++ rest, refl)
+fewer_equal (suc few) zero move rest h = absurd (omega arith)
+fewer_equal (suc few) (suc many) move rest h =
+    let p = fewer_equal few many move rest (omega arith) in
     (p.0, ap (λ (steps : List Move). move ∷ steps) p.1)
 
--- fewer steps than an entry has, as ordinary ones
-entry_further : (entry : Entry) (few many : ℕ) (rest : List Move) → few < many → (further : List Move) × (replicate few (plain_move entry.context) ++ further ≡ moves_of entry many ++ rest)
-entry_further entry few zero rest h = absurd (omega arith)
-entry_further entry few (suc before) rest h =
-    let p : (further : List Move) × (replicate few (plain_move entry.context) ++ further ≡ replicate before (plain_move entry.context) ++ (last_move entry ∷ rest)) =
-    replicate_further few before (plain_move entry.context) (last_move entry ∷ rest) (omega arith) in
-    (p.0, p.1 ∙ sym (append_assoc (replicate before (plain_move entry.context)) (last_move entry ∷ []) rest))
+-- fewer steps than an entry has, as ordinary ones, begin its steps
+fewer_plain : (entry : Entry) (few many : ℕ) (rest : List Move) → few < many
+    → IsPrefix (replicate few (plain_move entry.context)) (moves_of entry many ++ rest)
+fewer_plain entry few zero rest h = absurd (omega arith)
+fewer_plain entry few (suc before) rest h =
+    let plain : Move = plain_move entry.context in
+    let last : List Move = last_move entry ∷ [] in
+    let p = fewer_equal few before plain (last ++ rest) (omega arith) in
+    (p.0, p.1 ∙ sym (append_assoc (replicate before plain) last rest))
 
 -- entries, and then fewer ordinary steps than the next entry has, are a beginning
-pub begins-part : (before after : List Entry) (entry : Entry) (few : ℕ) (part : List Entry) → moves part ≡ replicate few (plain_move entry.context) → few < entry.steps
+pub begins-part : (before after : List Entry) (entry : Entry) (few : ℕ) (part : List Entry)
+    → moves part ≡ replicate few (plain_move entry.context) → few < entry.steps
     → Begins (before ++ part) (before ++ entry ∷ after)
 begins-part before after entry few part steps h =
-    let p : (further : List Move) × (replicate few (plain_move entry.context) ++ further ≡ moves_of entry entry.steps ++ moves after) = entry_further entry few entry.steps (moves after) h in (
+    let behind : List Move → List Move = λ rest. moves before ++ rest in
+    let p = fewer_plain entry few entry.steps (moves after) h in (
       p.0,
       rw (moves-append before part, steps)
           (append_assoc (moves before) (replicate few (plain_move entry.context)) p.0
-          ∙ (ap {B = List Move} (λ rest. moves before ++ rest) p.1
-          ∙ sym (moves-append before (entry ∷ after) ∙ ap {B = List Move} (λ rest. moves before ++ rest) (moves_head entry after)))),
+          ∙ (ap behind p.1
+          ∙ sym (moves-append before (entry ∷ after) ∙ ap behind (moves_head entry after)))),
     )
-
--- all of a schedule is a beginning of it
-pub begins-whole : (schedule : List Entry) → Begins schedule schedule
-begins-whole schedule = ([], append-nil (moves schedule))

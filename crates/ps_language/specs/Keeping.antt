@@ -1,5 +1,6 @@
 -- What a turn keeps, and what an operator that is left to the world sees: words for the laws.
-use Rattle.std.specs.Prelude.{◌≡◌, ℕ, ℤ, List, ◌++◌, Option, None, ⊤}
+use Rattle.std.specs.Prelude.{◌≡◌, ℕ, ℤ, List, Option, None, ⊤}
+use mathlib.Core.List.{IsPrefix}
 use Rattle.ps_language.specs.Value.{Value, Store}
 use Rattle.ps_language.specs.World.{Context, World}
 use Rattle.ps_language.specs.Effect.{Scene, Call, shows_memory, Deed, does}
@@ -43,4 +44,4 @@ Keeps before (asks calling kept) = (stays kept ≡ before) × IsBlind calling.de
 
 -- what was printed before, and perhaps more
 abbrev pub PrintsOn : (before after : List ℕ) → Type 0
-PrintsOn before after = (more : List ℕ) × (before ++ more ≡ after)
+PrintsOn before after = IsPrefix before after

@@ -1,6 +1,7 @@
 -- Schedules: which context makes each step of a run (the form is this profile's own; PLRM2, 7.1,
 -- leaves the order of contexts open).
-use Rattle.std.specs.Prelude.{◌≡◌, ℕ, zero, suc, ℤ, ◌+◌, ◌&&◌, ◌==◌, Bool, true, false, not, Option, None, is_none, List, [], ◌∷◌, ◌++◌, length, replicate, nat_lt, if◌then◌else◌}
+use Rattle.std.specs.Prelude.{ℕ, zero, suc, ℤ, ◌+◌, ◌&&◌, ◌==◌, Bool, true, false, not, Option, None, is_none, List, [], ◌∷◌, ◌++◌, length, replicate, nat_lt, if◌then◌else◌}
+use mathlib.Core.List.{IsPrefix}
 use Rattle.ps_language.specs.declared.schedules.Entry.{Entry}
 
 -- one step: a context, whether the step is refused a new object, and what a vmstatus in it shows
@@ -74,6 +75,6 @@ is_longest (entry ∷ next ∷ entries) = nat_lt 0 entry.steps
 
 -- ---- beginnings
 
--- the steps of a schedule are the first steps of another
+-- the steps of a schedule are the first steps of another, however they lie in entries
 abbrev pub Begins : (part whole : List Entry) → Type 0
-Begins part whole = (rest : List Move) × (moves part ++ rest ≡ moves whole)
+Begins part whole = IsPrefix (moves part) (moves whole)

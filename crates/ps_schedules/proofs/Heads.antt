@@ -1,12 +1,13 @@
 -- Schedules that begin others, of which an entry each is cut.
-use Rattle.std.proofs.Common.{◌≡◌, ◌≢◌, ◌↔◌, ℕ, suc, ◌+◌, ◌-◌, ◌<◌, ◌≤◌, Bool, true, false, Option, List, [], ◌∷◌, ◌++◌, take, length, refl, sym, subst, ◌∙◌, ap, arith, length-append, append_assoc, append-nil}
+use Rattle.std.proofs.Common.{rules, ◌≡◌, ◌≢◌, ◌↔◌, IsTrue, ℕ, suc, ◌+◌, ◌-◌, ◌<◌, ◌≤◌, Bool, true, false, Option, List, [], ◌∷◌, ◌++◌, take, length, refl, sym, subst, ◌∙◌, ap, arith, length-append, append_assoc, append-nil}
+use mathlib.Core.List.{IsPrefix}
 use Rattle.std.specs.Prelude.{ℤ, replicate, nat_lt}
 use Rattle.std.proofs.lemmas.Bool.Decides.{nat_tests}
-use Rattle.std.proofs.lemmas.List.{append_cancel_left, same_from_push, take_at, replicate-append-replicate}
+use Rattle.std.proofs.lemmas.List.{append_cancel_left, same_from_push, take_at, take_all, length-take-le, length-replicate, replicate-append-replicate}
+use Rattle.ps_language.specs.contracts.schedules.EntryPartialEq as derived
 use Rattle.ps_language.specs.declared.schedules.Entry.{Entry}
 use Rattle.ps_language.specs.Schedules.{Move, plain_move, last_move, moves_of, moves}
-use Rattle.ps_language.proofs.ScheduleLaws.{plain_entry}
-use Rattle.ps_schedules.specs.Fronts.{AreFirst, front, behind}
+use Rattle.ps_schedules.specs.Fronts.{front, behind}
 use Rattle.ps_schedules.proofs.Counting.{length_moves_of}
 
 -- the first entry's steps come first
@@ -38,40 +39,65 @@ cut_at entry few more =
     (sym (replicate-append-replicate few more plain))
     ∙ append_assoc (replicate few plain) (replicate more plain) (last_move entry ∷ []))
 
--- with as many steps more behind it
-fewer : (entry : Entry) (few rest : ℕ) → entry.steps ≡ few + suc rest
-    → moves_of entry entry.steps
-    ≡ moves_of (front entry few) few ++ moves_of (behind entry few) (entry.steps - few)
-fewer entry few rest long =
-    let lt : nat_lt few entry.steps ≡ true = grind (arith, nat_tests, long) in
-    let left : entry.steps - few ≡ suc rest = omega (arith, long) in
-    rw (lt, left, plain_entry entry.context few) (rw long (cut_at entry few rest))
+-- the first steps of an entry that has more are ordinary ones
+pub plain_front : (entry : Entry) (few : ℕ) → few < entry.steps
+    → front entry few ≡ replicate few (plain_move entry.context)
+plain_front entry few less =
+    let plain : List Move = replicate few (plain_move entry.context) in
+    let more : ℕ = entry.steps - few - 1 in
+    let long : few + suc more ≡ entry.steps = omega (arith, less) in
+    subst (λ n. take few (moves_of entry n) ≡ plain) long
+    (ap (take few) (cut_at entry few more)
+    ∙ take_at plain (moves_of entry (suc more)) few (length-replicate few (plain_move entry.context)))
 
--- the first steps of an entry are as many
-front_steps : (entry : Entry) (few : ℕ) (test : Bool) → nat_lt few entry.steps ≡ test
-    → few ≤ entry.steps → (front entry few).steps ≡ few
-front_steps entry few true is le = rw is refl
-front_steps entry few false is le = rw is (let e : entry.steps ≡ few = grind (arith, nat_tests) in e)
+-- where it has no more, they are all
+whole_front : (entry : Entry) (steps : ℕ) → entry.steps ≤ steps
+    → front entry steps ≡ moves_of entry entry.steps
+whole_front entry steps le =
+    take_all steps (moves_of entry entry.steps) (omega (arith, length_moves_of entry entry.steps, le))
+
+-- as many as were asked for
+length_front : (entry : Entry) (steps : ℕ) → steps ≤ entry.steps
+    → length (front entry steps) ≡ steps
+length_front entry steps le =
+    length-take-le steps (moves_of entry entry.steps)
+    (omega (arith, length_moves_of entry entry.steps, le))
+
+-- an entry of these steps has as many
+steps_of_front : (entry cut : Entry) (steps : ℕ) → steps ≤ entry.steps
+    → moves_of cut cut.steps ≡ front entry steps → cut.steps ≡ steps
+steps_of_front entry cut steps le same =
+    sym (length_moves_of cut cut.steps) ∙ (ap (λ (moves : List Move). length moves) same
+    ∙ length_front entry steps le)
 
 cut_by : (entry : Entry) (few : ℕ) (test : Bool) → nat_lt few entry.steps ≡ test
     → few ≤ entry.steps → moves_of entry entry.steps
-    ≡ moves_of (front entry few) few ++ moves_of (behind entry few) (entry.steps - few)
+    ≡ front entry few ++ moves_of (behind entry few) (entry.steps - few)
 cut_by entry few true is le =
-    fewer entry few (entry.steps - few - 1) (let lt : few < entry.steps = grind (arith, nat_tests) in omega (arith, lt))
+    let less : few < entry.steps = grind (arith, nat_tests) in
+    let more : ℕ = entry.steps - few - 1 in
+    let long : entry.steps ≡ few + suc more = omega (arith, less) in
+    let left : entry.steps - few ≡ suc more = omega (arith, less) in
+    let plain : List Move = replicate few (plain_move entry.context) in
+    ap (moves_of entry) long
+    ∙ (cut_at entry few more
+    ∙ (ap (λ n. plain ++ moves_of (behind entry few) n) (sym left)
+    ∙ ap {B = List Move} (λ steps. steps ++ moves_of (behind entry few) (entry.steps - few))
+    (sym (plain_front entry few less))))
 cut_by entry few false is le =
-    let all : few ≡ entry.steps = grind (arith, nat_tests) in
+    let all : entry.steps ≤ few = grind (arith, nat_tests) in
     let none : entry.steps - few ≡ 0 = omega (arith, all) in
-    rw (is, none, all) (sym (append-nil (moves_of entry entry.steps)))
+    rw (none, whole_front entry few all) (sym (append-nil (moves_of entry entry.steps)))
 
 -- the steps of a schedule, behind so many of its first entry
 parted : (entry : Entry) (after : List Entry) (few : ℕ) → few ≤ entry.steps
-    → moves (entry ∷ after) ≡ moves_of (front entry few) few ++ moves (behind entry few ∷ after)
+    → moves (entry ∷ after) ≡ front entry few ++ moves (behind entry few ∷ after)
 parted entry after few le =
     head_steps entry after
     ∙ (ap {B = List Move} (λ steps. steps ++ moves after)
     (cut_by entry few (nat_lt few entry.steps) refl le)
-    ∙ (append_assoc (moves_of (front entry few) few) (moves_of (behind entry few) (entry.steps - few)) (moves after)
-    ∙ ap {B = List Move} (λ steps. moves_of (front entry few) few ++ steps)
+    ∙ (append_assoc (front entry few) (moves_of (behind entry few) (entry.steps - few)) (moves after)
+    ∙ ap {B = List Move} (λ steps. front entry few ++ steps)
     (sym (head_steps (behind entry few) after))))
 
 -- ---- two entries that are cut
@@ -96,19 +122,47 @@ same_entry first second n few many same =
     (ap (λ (m : Move). m.context) last) (few ∙ sym many) (ap (λ (m : Move). m.refused) last)
     (ap (λ (m : Move). m.shown) last)
 
+known_by_steps : (first second : Entry) → 1 ≤ first.steps
+    → moves_of first first.steps ≡ moves_of second second.steps → first ≡ second
+known_by_steps first second some same =
+    let long : first.steps ≡ second.steps =
+    sym (length_moves_of first first.steps) ∙ (ap (λ (steps : List Move). length steps) same
+    ∙ length_moves_of second second.steps) in
+    let n : ℕ = first.steps - 1 in
+    let few : first.steps ≡ suc n = omega (arith, some) in
+    let many : second.steps ≡ suc n = sym long ∙ few in
+    same_entry first second n few many
+    (sym (ap (moves_of first) few) ∙ (same ∙ ap (moves_of second) many))
+
+equal_entries : (test : Bool) (a b : Entry) → test ≡ derived.TheImpl.ghosts.eq a b
+    → IsTrue test ↔ a ≡ b
+equal_entries test a b is = search rules
+
+-- so two entries of the first steps of others are equal exactly if those steps are the same
+pub equal_fronts : (first second one two : Entry) (steps : ℕ) (test : Bool) → 1 ≤ steps
+    → steps ≤ first.steps → moves_of one one.steps ≡ front first steps
+    → moves_of two two.steps ≡ front second steps → test ≡ derived.TheImpl.ghosts.eq one two
+    → IsTrue test ↔ front first steps ≡ front second steps
+equal_fronts first second one two steps test some le a b is =
+    let equal = equal_entries test one two is in
+    let long = steps_of_front first one steps le a in (
+      λ h. sym a ∙ (ap (λ (entry : Entry). moves_of entry entry.steps) (equal.0 h) ∙ b),
+      λ same. equal.1 (known_by_steps one two (omega (arith, long, some)) (a ∙ (same ∙ sym b))),
+    )
+
 -- where both begin with the same steps, what is left of the one begins what is left of the other
 -- exactly if all does
 pub same_front : (first second : Entry) (part whole : List Entry) (n : ℕ)
     → n ≤ first.steps → n ≤ second.steps → front first n ≡ front second n
-    → AreFirst (moves (behind first n ∷ part)) (moves (behind second n ∷ whole))
-    ↔ AreFirst (moves (first ∷ part)) (moves (second ∷ whole))
+    → IsPrefix (moves (behind first n ∷ part)) (moves (behind second n ∷ whole))
+    ↔ IsPrefix (moves (first ∷ part)) (moves (second ∷ whole))
 same_front first second part whole n few many same =
-    let head : List Move = moves_of (front first n) n in
+    let head : List Move = front first n in
     let left : List Move = moves (behind first n ∷ part) in
     let right : List Move = moves (behind second n ∷ whole) in
     let one : moves (first ∷ part) ≡ head ++ left = parted first part n few in
     let two : moves (second ∷ whole) ≡ head ++ right =
-    parted second whole n many ∙ ap (λ (e : Entry). moves_of e n ++ right) (sym same) in (
+    parted second whole n many ∙ ap (λ (steps : List Move). steps ++ right) (sym same) in (
       λ h. (
         h.0,
         ap (λ (steps : List Move). steps ++ h.0) one
@@ -123,32 +177,26 @@ same_front first second part whole n few many same =
     )
 
 -- where they don't, none begins the other
-pub other_front : (first second : Entry) (part whole : List Entry) (n : ℕ) → 1 ≤ n
+pub other_front : (first second : Entry) (part whole : List Entry) (n : ℕ)
     → n ≤ first.steps → n ≤ second.steps → front first n ≢ front second n
-    → ¬ AreFirst (moves (first ∷ part)) (moves (second ∷ whole))
-other_front first second part whole n some few many other = λ h.
-    let one : List Move = moves_of (front first n) n in
-    let two : List Move = moves_of (front second n) n in
+    → ¬ IsPrefix (moves (first ∷ part)) (moves (second ∷ whole))
+other_front first second part whole n few many other = λ h.
+    let one : List Move = front first n in
+    let two : List Move = front second n in
     let left : List Move = moves (behind first n ∷ part) ++ h.0 in
     let right : List Move = moves (behind second n ∷ whole) in
     let whole_is : one ++ left ≡ two ++ right =
     sym (append_assoc one (moves (behind first n ∷ part)) h.0)
     ∙ (ap (λ (steps : List Move). steps ++ h.0) (sym (parted first part n few))
     ∙ (h.1 ∙ parted second whole n many)) in
-    let same : one ≡ two =
-    sym (take_at one left n (length_moves_of (front first n) n))
-    ∙ (ap (take n) whole_is ∙ take_at two right n (length_moves_of (front second n) n)) in
-    let more : n ≡ suc (n - 1) = omega (arith, some) in
-    other (same_entry (front first n) (front second n) (n - 1)
-    (front_steps first n (nat_lt n first.steps) refl few ∙ more)
-    (front_steps second n (nat_lt n second.steps) refl many ∙ more)
-    (subst (λ k. moves_of (front first n) k ≡ moves_of (front second n) k) more same))
+    other (sym (take_at one left n (length_front first n few))
+    ∙ (ap (take n) whole_is ∙ take_at two right n (length_front second n many)))
 
 -- ---- schedules of which nothing is left
 
 -- nothing begins all
 pub none_first : (entry : Entry) (after : List Entry) (whole : List Move) → entry.steps ≡ 0
-    → length after ≡ 0 → AreFirst (moves (entry ∷ after)) whole
+    → length after ≡ 0 → IsPrefix (moves (entry ∷ after)) whole
 none_first entry [] whole none end = (
   whole,
   ap (λ (steps : List Move). steps ++ whole) (no_head entry [] none ∙ no_moves),
@@ -157,7 +205,7 @@ none_first entry (next ∷ after) whole none end = absurd (omega (arith, end))
 
 -- a step begins no schedule without steps
 pub some_first : (entry second : Entry) (after whole : List Entry) → 1 ≤ entry.steps
-    → second.steps ≡ 0 → length whole ≡ 0 → ¬ AreFirst (moves (entry ∷ after)) (moves (second ∷ whole))
+    → second.steps ≡ 0 → length whole ≡ 0 → ¬ IsPrefix (moves (entry ∷ after)) (moves (second ∷ whole))
 some_first entry second after [] some none end = λ h.
     let is : (moves_of entry entry.steps ++ moves after) ++ h.0 ≡ [] =
     ap (λ (steps : List Move). steps ++ h.0) (sym (head_steps entry after))
@@ -173,7 +221,7 @@ some_first entry second after (next ∷ whole) some none end = absurd (omega (ar
 -- ---- the same of the same steps
 
 pub still_first : (part others whole further : List Move) (A : Type 0) → part ≡ others
-    → whole ≡ further → (AreFirst part whole ↔ A) → AreFirst others further ↔ A
+    → whole ≡ further → (IsPrefix part whole ↔ A) → IsPrefix others further ↔ A
 still_first part others whole further A one two h =
-    subst (λ (steps : List Move). AreFirst steps further ↔ A) one
-    (subst (λ (steps : List Move). AreFirst part steps ↔ A) two h)
+    subst (λ (steps : List Move). IsPrefix steps further ↔ A) one
+    (subst (λ (steps : List Move). IsPrefix part steps ↔ A) two h)

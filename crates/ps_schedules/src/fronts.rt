@@ -1,14 +1,16 @@
 //! Whether one schedule begins another: by their single steps, however they lie in entries.
 
 ghost use Rattle.std.specs.Prelude.{◌≡◌, ◌↔◌, ◌≤◌, ◌<◌, IsTrue};
-ghost use Rattle.ps_language.specs.Schedules.{Begins};
+ghost use Rattle.ps_language.specs.Schedules.{moves_of, Begins};
 ghost use Rattle.ps_schedules.specs.Fronts as fronts;
 
 use ps_language::schedules::Entry;
 
-/// The first steps of an entry, so many of those that it has.
+/// An entry of the first steps of another. A step or more, so there is one such entry.
 fn front(entry: &Entry, steps: u32) -> Entry
-    ensures { result ≡ fronts.front entry.now steps }
+    requires some { 1 ≤ steps }
+    requires within { steps ≤ entry.now.steps }
+    ensures { moves_of result result.steps ≡ fronts.front entry.now steps }
 {
     if steps < entry.steps {
         Entry {
@@ -24,6 +26,8 @@ fn front(entry: &Entry, steps: u32) -> Entry
 
 /// Whether so many first steps of two entries are the same.
 fn has_same_front(first: &Entry, second: &Entry, steps: u32) -> bool
+    requires some { 1 ≤ steps }
+    requires within { (steps ≤ first.now.steps) × (steps ≤ second.now.steps) }
     ensures { IsTrue result ↔ fronts.front first.now steps ≡ fronts.front second.now steps }
 {
     front(first, steps) == front(second, steps)

@@ -42,7 +42,6 @@ returns-then-not-has_same_front c = (
   λ no. absurd (true≢false (sym no)),
   λ all. absurd (other_front c.loop-first.first c.loop-first.second c.loop-first.part_left.now
       c.loop-first.whole_left.now c.min-both.result
-      (omega (arith, c.min-both.ensures, c.if-first-eq0.false, c.if-second-eq0.false))
       (omega (arith, c.min-both.ensures)) (omega (arith, c.min-both.ensures))
       (λ same. true≢false (sym (c.has_same_front.ensures.1 same) ∙ c.if-not-has_same_front.true))
       (c.loop-first.invariant.1 all)),

@@ -1,12 +1,12 @@
 use Rattle.std.proofs.Common.{◌↔◌, ◌+◌, ◌*◌, ◌∷◌, length}
 use Rattle.std.specs.Prelude.{min}
+use mathlib.Core.List.{IsPrefix}
 use Rattle.ps_language.specs.Schedules.{Begins, moves}
-use Rattle.ps_schedules.specs.Fronts.{AreFirst}
 use Rattle.ps_schedules.proofs.fronts.begins.Given as goal
 
 -- what is left of the one begins what is left of the other, exactly if all does
 abbrev pub invariant-loop-first : goal.invariant-loop-first
-invariant-loop-first l = AreFirst (moves (l.first ∷ l.part_left)) (moves (l.second ∷ l.whole_left))
+invariant-loop-first l = IsPrefix (moves (l.first ∷ l.part_left)) (moves (l.second ∷ l.whole_left))
     ↔ Begins l.part l.whole
 
 -- entries, and those of which steps are left
