@@ -59,13 +59,15 @@ own_join = refl
 
 -- notify wakes those that wait for this condition
 other_condition : IsAllWaiting
-    (world (codes "/l lock def /d condition def mark {l {l condition wait} monitor} fork l {d notify} monitor") (turns 1 9 ∷ turns 2 6 ∷ turns 1 7 ∷ turns 2 3 ∷ []))
+    (world (codes "/l lock def /d condition def mark {l {l condition wait} monitor} fork l {d notify} monitor")
+    (turns 1 9 ∷ turns 2 6 ∷ turns 1 7 ∷ turns 2 3 ∷ []))
 unfolding evaluation
 other_condition = refl
 
 -- a lock is taken again once it is free
 retaken_lock : printed (codes
-    "/l lock def /c condition def mark {l {l c wait (on) =} monitor} fork l {c notify (in) =} monitor") (turns 1 9 ∷ turns 2 6 ∷ turns 1 5 ∷ turns 2 4 ∷ turns 1 3 ∷ turns 2 4 ∷ []) ≡ codes "in\non\n"
+    "/l lock def /c condition def mark {l {l c wait (on) =} monitor} fork l {c notify (in) =} monitor")
+    (turns 1 9 ∷ turns 2 6 ∷ turns 1 5 ∷ turns 2 4 ∷ turns 1 3 ∷ turns 2 4 ∷ []) ≡ codes "in\non\n"
 unfolding evaluation
 retaken_lock = refl
 

@@ -4,7 +4,8 @@ use Rattle.ps_language.specs.Value.{Part, Value}
 use Rattle.ps_language.specs.World.{Frame}
 use Rattle.ps_language.specs.Effect.{Scene}
 use Rattle.ps_language.specs.Outcome.{Outcome}
-use Rattle.ps_language.specs.Control.{with_operand, with_frame, entered, exec_row, if_row, ifelse_row, for_row, repeat_row, loop_row, forall_row, stopped_row, bind_row}
+use Rattle.ps_language.specs.Control.{with_operand, with_frame, entered, exec_row, if_row, ifelse_row, for_row}
+use Rattle.ps_language.specs.Control.{repeat_row, loop_row, forall_row, stopped_row, bind_row}
 use Rattle.ps_language.specs.StepBind.{Bound, at_end, at_inner, no_access, bound_scene, bind_step}
 use Rattle.ps_language.specs.StepFrames.{with_turn_operands}
 use Rattle.ps_language.proofs.Leaving.{Leaves, left_with, left_none, leaving}

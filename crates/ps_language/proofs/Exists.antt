@@ -1,10 +1,12 @@
 -- Each world has a number of words that live there: what is reachable is found by going round until
 -- nothing is added.
-use Rattle.std.proofs.Common.{◌≡◌, ℕ, zero, suc, ◌+◌, ◌<◌, ◌≤◌, Bool, true, false, List, [], ◌∷◌, length, refl, sym, ap, ◌∙◌, subst, inl, inr, ◌⊎◌, arith}
+use Rattle.std.proofs.Common.{◌≡◌, ℕ, zero, suc, ◌+◌, ◌<◌, ◌≤◌, Bool, true, false, List, [], ◌∷◌, length, refl, sym, ap}
+use Rattle.std.proofs.Common.{◌∙◌, subst, inl, inr, ◌⊎◌, arith}
 use Rattle.std.specs.Prelude.{◌==◌, ◌&&◌, ◌||◌}
 use Rattle.std.specs.List.{Contains}
 use Rattle.std.proofs.lemmas.Bool.Decides.{eqb_tells}
-use Rattle.ps_language.specs.Live.{references_of_object, references_at, roots, IsReachable, is_root, is_named, words_reached, Live}
+use Rattle.ps_language.specs.Live.{references_of_object, references_at, roots, IsReachable, is_root, is_named}
+use Rattle.ps_language.specs.Live.{words_reached, Live}
 use Rattle.ps_language.specs.Value.{Store}
 use Rattle.ps_language.specs.World.{World}
 

@@ -6,7 +6,9 @@ use Rattle.ps_language.specs.Value.{What, integer_value, Value, Object}
 use Rattle.ps_language.specs.World.{Context, World}
 use Rattle.ps_language.specs.Effect.{Call, Note, nothing, Deed, does, waits}
 use Rattle.ps_language.specs.Outcome.{Outcome}
-use Rattle.ps_language.specs.Contexts.{context_at, with_context, with_operands_of, doing_operands, vmstatus_row, vmreclaim_row, currentcontext_row, yield_row, new_row, fork_row, join_row, with_detached, detach_row}
+use Rattle.ps_language.specs.Contexts.{context_at, with_context, with_operands_of, doing_operands, vmstatus_row}
+use Rattle.ps_language.specs.Contexts.{vmreclaim_row, currentcontext_row, yield_row, new_row, fork_row, join_row}
+use Rattle.ps_language.specs.Contexts.{with_detached, detach_row}
 use Rattle.ps_language.specs.Locks.{retried_by, retried, monitor_row, wait_row, notify_row}
 use Rattle.ps_language.specs.Lowest.{HasFirstDictionaries, HaveFirstDictionaries}
 use Rattle.ps_language.proofs.Leaving.{Leaves, left_with, left_none, and_then-leaves, each-leaves, leaving}

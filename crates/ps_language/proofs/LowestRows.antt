@@ -2,20 +2,37 @@
 use Rattle.std.specs.Prelude.{Bool, true, false, None, List, ⊤, if◌then◌else◌}
 use Rattle.ps_language.specs.declared.errors.ErrorName.TheVariants.{InvalidExit}
 use Rattle.ps_language.specs.declared.operators.Operator.{Operator}
-use Rattle.ps_language.specs.declared.operators.Operator.TheVariants.{Forall, Begin, End, CurrentDict, CountDictStack, ClearDictStack, Exec, If, IfElse, For, Repeat, Loop, Exit, Stop, Stopped, Quit, Bind, CurrentContext, Fork, Join, Detach, Lock, Monitor, Condition, Wait, Notify, Yield, VmStatus, VmReclaim}
+use Rattle.ps_language.specs.declared.operators.Operator.TheVariants.{Forall, Begin, End, CurrentDict, CountDictStack}
+use Rattle.ps_language.specs.declared.operators.Operator.TheVariants.{ClearDictStack, Exec, If, IfElse, For, Repeat}
+use Rattle.ps_language.specs.declared.operators.Operator.TheVariants.{Loop, Exit, Stop, Stopped, Quit, Bind}
+use Rattle.ps_language.specs.declared.operators.Operator.TheVariants.{CurrentContext, Fork, Join, Detach, Lock, Monitor}
+use Rattle.ps_language.specs.declared.operators.Operator.TheVariants.{Condition, Wait, Notify, Yield, VmStatus}
+use Rattle.ps_language.specs.declared.operators.Operator.TheVariants.{VmReclaim}
 use Rattle.ps_language.specs.Value.{Value, lock_object, condition_object, Store}
 use Rattle.ps_language.specs.World.{for_exit}
 use Rattle.ps_language.specs.Effect.{Around, Scene, Effect, Call, Deed, makes, unwinds, raises, calls, effect_by}
 use Rattle.ps_language.specs.Outcome.{Outcome, leaves, fails}
 use Rattle.ps_language.specs.Scan.{scan}
-use Rattle.ps_language.specs.Rows.{Row, operand_row, reading_row, changing_row, naming_row, looking_row, stacking_row, printing_row, around_row, scene_row, world_row, row_of}
+use Rattle.ps_language.specs.Rows.{Row, operand_row, reading_row, changing_row, naming_row, looking_row, stacking_row}
+use Rattle.ps_language.specs.Rows.{printing_row, around_row, scene_row, world_row, row_of}
 use Rattle.ps_language.specs.Acts.{acts, effect_of}
-use Rattle.ps_language.specs.Control.{scene_effect, exec_row, if_row, ifelse_row, for_row, repeat_row, loop_row, forall_row, stopped_row, bind_row, is_in_loop, exit_effect}
+use Rattle.ps_language.specs.Control.{scene_effect, exec_row, if_row, ifelse_row, for_row, repeat_row, loop_row}
+use Rattle.ps_language.specs.Control.{forall_row, stopped_row, bind_row, is_in_loop, exit_effect}
 use Rattle.ps_language.proofs.Leaving.{Leaves, left_with, each-leaves}
-use Rattle.ps_language.proofs.ControlStack.{RowKeepsStack, exec_row-stack, if_row-stack, ifelse_row-stack, for_row-stack, repeat_row-stack, loop_row-stack, forall_row-stack, stopped_row-stack, bind_row-stack}
-use Rattle.ps_language.proofs.LowestStacks.{KeepsLowest, StacksKeepLowest, begin_row-lowest, end_row-lowest, cleardictstack_row-lowest, currentdict_row-lowest, countdictstack_row-lowest}
-use Rattle.ps_language.proofs.PrintedDeeds.{PrintsNothing, vmstatus_row-printed, vmreclaim_row-printed, currentcontext_row-printed, yield_row-printed, new_row-printed, fork_row-printed, join_row-printed, detach_row-printed, monitor_row-printed, wait_row-printed, notify_row-printed}
-use Rattle.ps_language.proofs.LowestDeeds.{DeedKeepsLowest, vmstatus_row-lowest, vmreclaim_row-lowest, currentcontext_row-lowest, yield_row-lowest, new_row-lowest, fork_row-lowest, join_row-lowest, detach_row-lowest, monitor_row-lowest, wait_row-lowest, notify_row-lowest}
+use Rattle.ps_language.proofs.ControlStack.{RowKeepsStack, exec_row-stack, if_row-stack, ifelse_row-stack}
+use Rattle.ps_language.proofs.ControlStack.{for_row-stack, repeat_row-stack, loop_row-stack, forall_row-stack}
+use Rattle.ps_language.proofs.ControlStack.{stopped_row-stack, bind_row-stack}
+use Rattle.ps_language.proofs.LowestStacks.{KeepsLowest, StacksKeepLowest, begin_row-lowest, end_row-lowest}
+use Rattle.ps_language.proofs.LowestStacks.{cleardictstack_row-lowest, currentdict_row-lowest}
+use Rattle.ps_language.proofs.LowestStacks.{countdictstack_row-lowest}
+use Rattle.ps_language.proofs.PrintedDeeds.{PrintsNothing, vmstatus_row-printed, vmreclaim_row-printed}
+use Rattle.ps_language.proofs.PrintedDeeds.{currentcontext_row-printed, yield_row-printed, new_row-printed}
+use Rattle.ps_language.proofs.PrintedDeeds.{fork_row-printed, join_row-printed, detach_row-printed, monitor_row-printed}
+use Rattle.ps_language.proofs.PrintedDeeds.{wait_row-printed, notify_row-printed}
+use Rattle.ps_language.proofs.LowestDeeds.{DeedKeepsLowest, vmstatus_row-lowest, vmreclaim_row-lowest}
+use Rattle.ps_language.proofs.LowestDeeds.{currentcontext_row-lowest, yield_row-lowest, new_row-lowest, fork_row-lowest}
+use Rattle.ps_language.proofs.LowestDeeds.{join_row-lowest, detach_row-lowest, monitor_row-lowest, wait_row-lowest}
+use Rattle.ps_language.proofs.LowestDeeds.{notify_row-lowest}
 
 -- what is left to the world keeps the two lowest dictionaries and what was printed
 abbrev pub DeedKeepsLowestAndPrinted : (List Value → Call → Outcome Deed) → Type 0

@@ -5,7 +5,8 @@ use Rattle.std.proofs.lemmas.Bool.Decides.{nat_tests}
 use Rattle.ps_language.specs.Value.{Value, Store}
 use Rattle.ps_language.specs.Outcome.{Outcome, leaves, fails, Stacks}
 use Rattle.ps_language.specs.Readers.{natural, push}
-use Rattle.ps_language.specs.RowsDictionaries.{begin_row, end_row, cleardictstack_row, same_stack, currentdict_row, countdictstack_row}
+use Rattle.ps_language.specs.RowsDictionaries.{begin_row, end_row, cleardictstack_row, same_stack, currentdict_row}
+use Rattle.ps_language.specs.RowsDictionaries.{countdictstack_row}
 use Rattle.ps_language.specs.Lowest.{lowest, HasFirstDictionaries}
 use Rattle.ps_language.proofs.Leaving.{Leaves, left_with, left_none, given_that-when, leaving}
 

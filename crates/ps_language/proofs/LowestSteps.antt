@@ -1,27 +1,32 @@
 -- A step keeps the two lowest dictionaries of each context, and at the start there are the first.
-use Rattle.std.proofs.Common.{◌≡◌, ℕ, ◌&&◌, Bool, true, false, Option, Some, None, List, [], ◌∷◌, ◌++◌, refl, sym, ap, subst}
+use Rattle.std.proofs.Common.{◌≡◌, ℕ, ◌&&◌, Bool, true, false, Option, Some, None, List, [], ◌∷◌, ◌++◌, refl, sym, ap}
+use Rattle.std.proofs.Common.{subst}
 use Rattle.std.specs.Prelude.{ℤ, if◌then◌else◌}
 use Rattle.std.specs.Option.{option_map_or}
 use Rattle.ps_language.specs.declared.errors.ErrorName.TheVariants.{VmError}
 use Rattle.ps_language.specs.Value.{Dictionary}
-use Rattle.ps_language.specs.World.{for_stop, Status, running, unwinding, again, retaking, finished, Context, Machine, World}
+use Rattle.ps_language.specs.World.{for_stop, Status, running, unwinding, again, retaking, finished, Context, Machine}
+use Rattle.ps_language.specs.World.{World}
 use Rattle.ps_language.specs.Effect.{Scene, Deed, does, waits, Calling}
 use Rattle.ps_language.specs.Outcome.{Outcome, leaves, fails}
 use Rattle.ps_language.specs.Access.{dictionary_at}
 use Rattle.ps_language.specs.Objects.{lacks_room}
 use Rattle.ps_language.specs.StepErrors.{has_new_error}
 use Rattle.ps_language.specs.StepValues.{Turn, goes, tries, breaks, errs, asks, command_of}
-use Rattle.ps_language.specs.Machines.{around_of, scene_of, with_scene, with_status, failed, with_line, told_by, may_end, is_empty, settled, went, erred, after_turn, own_step}
+use Rattle.ps_language.specs.Machines.{around_of, scene_of, with_scene, with_status, failed, with_line, told_by}
+use Rattle.ps_language.specs.Machines.{may_end, is_empty, settled, went, erred, after_turn, own_step}
 use Rattle.ps_language.specs.Contexts.{context_at}
 use Rattle.ps_language.specs.Locks.{retried, is_ready}
 use Rattle.ps_language.specs.Schedules.{Move}
-use Rattle.ps_language.specs.Step.{machine_of, with_machine, lifted, plainly, deed_given_room, after_deed, called, after_own, retaken, moved_as, stepped, step}
+use Rattle.ps_language.specs.Step.{machine_of, with_machine, lifted, plainly, deed_given_room, after_deed, called}
+use Rattle.ps_language.specs.Step.{after_own, retaken, moved_as, stepped, step}
 use Rattle.ps_language.specs.Worlds.{starting_world, after_move, after_moves}
 use Rattle.ps_language.specs.Keeping.{Stays, stays}
 use Rattle.ps_language.specs.Lowest.{HasFirstDictionaries, HaveFirstDictionaries}
 use Rattle.ps_language.proofs.Leaving.{Leaves, left_with, given_that-leaves}
 use Rattle.ps_language.proofs.LeftContexts.{context_at-left}
-use Rattle.ps_language.proofs.LowestDeeds.{HasLowest, DeedHasLowest, DeedKeepsLowest, with_context-lowest, retried-lowest}
+use Rattle.ps_language.proofs.LowestDeeds.{HasLowest, DeedHasLowest, DeedKeepsLowest, with_context-lowest}
+use Rattle.ps_language.proofs.LowestDeeds.{retried-lowest}
 use Rattle.ps_language.proofs.OperandsKept.{KeepsAll, turn_as-keeps}
 
 -- ---- one context

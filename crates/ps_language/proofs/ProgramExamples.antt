@@ -3,7 +3,8 @@ use Rattle.std.specs.Prelude.{◌≡◌, ℕ, true, false, None, Some, pos, [], 
 use mathlib.Core.Path.{refl}
 use Rattle.ps_language.specs.declared.schedules.Entry.{Entry}
 use Rattle.ps_language.specs.Objects.{size_of}
-use Rattle.ps_language.specs.Worlds.{system_pairs, first_names, first_store, world, printed, IsProper, IsFinished, IsAllWaiting}
+use Rattle.ps_language.specs.Worlds.{system_pairs, first_names, first_store, world, printed, IsProper, IsFinished}
+use Rattle.ps_language.specs.Worlds.{IsAllWaiting}
 use Rattle.ps_language.proofs.Evaluation.{evaluation}
 
 -- so many ordinary steps of a context

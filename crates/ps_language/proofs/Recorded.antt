@@ -12,7 +12,8 @@ use Rattle.ps_language.specs.StepValues.{Turn, goes, tries, breaks, errs, asks}
 use Rattle.ps_language.specs.Machines.{around_of, scene_of, with_scene, with_status, erred, went, after_turn, own_step}
 use Rattle.ps_language.specs.Contexts.{context_at}
 use Rattle.ps_language.specs.Locks.{retried, retried_by, is_ready}
-use Rattle.ps_language.specs.Step.{machine_of, with_machine, Stepped, plainly, deed_given_room, after_deed, called, after_own, moved_as, stepped, step}
+use Rattle.ps_language.specs.Step.{machine_of, with_machine, Stepped, plainly, deed_given_room, after_deed, called}
+use Rattle.ps_language.specs.Step.{after_own, moved_as, stepped, step}
 use Rattle.ps_language.specs.Schedules.{Move}
 use Rattle.ps_language.specs.Worlds.{kept_pair, recorded, after_move}
 use Rattle.ps_language.proofs.Shown.{join-blind, monitor-blind}

@@ -3,17 +3,24 @@ use Rattle.std.proofs.Common.{Bool, true, false, Some, None, List, [], ◌∷◌
 use Rattle.std.specs.Prelude.{◌++◌, ⊤, if◌then◌else◌}
 use Rattle.ps_language.specs.declared.errors.ErrorName.TheVariants.{StackOverflow, InvalidExit}
 use Rattle.ps_language.specs.declared.operators.Operator.{Operator}
-use Rattle.ps_language.specs.declared.operators.Operator.TheVariants.{Forall, Exec, If, IfElse, For, Repeat, Loop, Exit, Stop, Stopped, Quit, Bind, CurrentContext, Fork, Join, Detach, Lock, Monitor, Condition, Wait, Notify, Yield, VmStatus, VmReclaim}
+use Rattle.ps_language.specs.declared.operators.Operator.TheVariants.{Forall, Exec, If, IfElse, For, Repeat, Loop, Exit}
+use Rattle.ps_language.specs.declared.operators.Operator.TheVariants.{Stop, Stopped, Quit, Bind, CurrentContext, Fork}
+use Rattle.ps_language.specs.declared.operators.Operator.TheVariants.{Join, Detach, Lock, Monitor, Condition, Wait}
+use Rattle.ps_language.specs.declared.operators.Operator.TheVariants.{Notify, Yield, VmStatus, VmReclaim}
 use Rattle.ps_language.specs.Value.{Value}
 use Rattle.ps_language.specs.World.{for_exit}
-use Rattle.ps_language.specs.Effect.{Around, Scene, shows_memory, Effect, makes, unwinds, raises, calls, quiet, effect_by}
+use Rattle.ps_language.specs.Effect.{Around, Scene, shows_memory, Effect, makes, unwinds, raises, calls, quiet}
+use Rattle.ps_language.specs.Effect.{effect_by}
 use Rattle.ps_language.specs.Outcome.{Outcome, leaves, fails, given_that}
 use Rattle.ps_language.specs.Readers.{room_for}
 use Rattle.ps_language.specs.Scan.{scan}
-use Rattle.ps_language.specs.Rows.{Row, operand_row, reading_row, changing_row, naming_row, looking_row, stacking_row, printing_row, around_row, scene_row, world_row, row_of}
+use Rattle.ps_language.specs.Rows.{Row, operand_row, reading_row, changing_row, naming_row, looking_row, stacking_row}
+use Rattle.ps_language.specs.Rows.{printing_row, around_row, scene_row, world_row, row_of}
 use Rattle.ps_language.specs.Acts.{acts, effect_of}
-use Rattle.ps_language.specs.Control.{exec_row, if_row, ifelse_row, for_row, repeat_row, loop_row, forall_row, stopped_row, bind_row, is_in_loop, exit_effect}
-use Rattle.ps_language.specs.Contexts.{with_context, doing_operands, memory_shown, fork_row, join_row, detach_row, vmstatus_row, vmreclaim_row}
+use Rattle.ps_language.specs.Control.{exec_row, if_row, ifelse_row, for_row, repeat_row, loop_row, forall_row}
+use Rattle.ps_language.specs.Control.{stopped_row, bind_row, is_in_loop, exit_effect}
+use Rattle.ps_language.specs.Contexts.{with_context, doing_operands, memory_shown, fork_row, join_row, detach_row}
+use Rattle.ps_language.specs.Contexts.{vmstatus_row, vmreclaim_row}
 use Rattle.ps_language.specs.Keeping.{IsAlike, the_same, both_show, IsBlind}
 use Rattle.ps_language.specs.Locks.{monitor_row, wait_row, notify_row}
 

@@ -1,5 +1,6 @@
 -- What is reachable once the element of a call is taken was reachable before.
-use Rattle.std.proofs.Common.{◌≡◌, ℕ, zero, suc, ◌+◌, ◌-◌, ◌≤◌, Bool, true, false, IsTrue, List, [], ◌∷◌, ◌++◌, Some, None, Option, slice_get, slice_set, refl, sym, ap, ◌∙◌, subst, inl, inr, arith}
+use Rattle.std.proofs.Common.{◌≡◌, ℕ, zero, suc, ◌+◌, ◌-◌, ◌≤◌, Bool, true, false, IsTrue, List, [], ◌∷◌, ◌++◌, Some}
+use Rattle.std.proofs.Common.{None, Option, slice_get, slice_set, refl, sym, ap, ◌∙◌, subst, inl, inr, arith}
 use Rattle.std.specs.Prelude.{◌+ℤ◌, not, nat_lt, if◌then◌else◌}
 use Rattle.std.specs.List.{Contains}
 use Rattle.std.specs.Option.{option_map_or}
@@ -7,9 +8,13 @@ use Rattle.std.proofs.lemmas.List.Elements.{Contains-append_left, Contains-appen
 use Rattle.ps_language.specs.declared.operators.Operator.{Operator}
 use Rattle.ps_language.specs.declared.operators.Operator.TheVariants.{Forall, For, Repeat, Loop, Stopped, Bind}
 use Rattle.ps_language.specs.declared.errors.ErrorName.TheVariants.{LimitCheck, StackOverflow}
-use Rattle.ps_language.specs.Value.{Part, What, null_value, name_value, operator_value, array_value, string_value, Value, Store}
-use Rattle.ps_language.specs.World.{Status, running, unwinding, Source, Cause, for_stop, for_exit, Frame, text_frame, procedure_frame, pending_frame, repeat_frame, loop_frame, for_frame, forall_frame, stopped_frame, monitor_frame, bind_frame, Context, Machine, World}
-use Rattle.ps_language.specs.Token.{Token, Tokens, number_token, literal_name_token, executable_name_token, immediate_name_token, string_token, procedure_token, Scan, found, exhausted, faulty}
+use Rattle.ps_language.specs.Value.{Part, What, null_value, name_value, operator_value, array_value, string_value}
+use Rattle.ps_language.specs.Value.{Value, Store}
+use Rattle.ps_language.specs.World.{Status, running, unwinding, Source, Cause, for_stop, for_exit, Frame, text_frame}
+use Rattle.ps_language.specs.World.{procedure_frame, pending_frame, repeat_frame, loop_frame, for_frame, forall_frame}
+use Rattle.ps_language.specs.World.{stopped_frame, monitor_frame, bind_frame, Context, Machine, World}
+use Rattle.ps_language.specs.Token.{Token, Tokens, number_token, literal_name_token, executable_name_token}
+use Rattle.ps_language.specs.Token.{immediate_name_token, string_token, procedure_token, Scan, found, exhausted, faulty}
 use Rattle.ps_language.specs.Effect.{Around, Scene, Effect, makes, unwinds, raises, calls, Calling}
 use Rattle.ps_language.specs.Outcome.{Outcome, leaves, fails, given, given_that}
 use Rattle.ps_language.specs.Readers.{null, integer, literal_name, executable_name, is_full}
@@ -17,13 +22,20 @@ use Rattle.ps_language.specs.Dictionaries.{form}
 use Rattle.ps_language.specs.Scan.{scan}
 use Rattle.ps_language.specs.Acts.{acts}
 use Rattle.ps_language.specs.Control.{with_frames, with_operand}
-use Rattle.ps_language.specs.StepValues.{Turn, command_of, goes, tries, breaks, errs, asks, after, leads, turned, effect_turn, operated, LookedUp, known, unknown, unreadable, after_look_up, looked_up, pushed, executed_what, treated, executed, done, is_executable_name, is_procedure}
-use Rattle.ps_language.specs.StepTokens.{Missing, token_done, procedure_turn, missing_in, look_in, made_turn, names_in, procedure_made, elements_made, string_made}
-use Rattle.ps_language.specs.StepFrames.{source_bytes, element_at, rest_frames, frame_turn, unwound_turn, text_turn, forall_turn, forall_operands, loop_turn, is_past}
+use Rattle.ps_language.specs.StepValues.{Turn, command_of, goes, tries, breaks, errs, asks, after, leads, turned}
+use Rattle.ps_language.specs.StepValues.{effect_turn, operated, LookedUp, known, unknown, unreadable, after_look_up}
+use Rattle.ps_language.specs.StepValues.{looked_up, pushed, executed_what, treated, executed, done, is_executable_name}
+use Rattle.ps_language.specs.StepValues.{is_procedure}
+use Rattle.ps_language.specs.StepTokens.{Missing, token_done, procedure_turn, missing_in, look_in, made_turn, names_in}
+use Rattle.ps_language.specs.StepTokens.{procedure_made, elements_made, string_made}
+use Rattle.ps_language.specs.StepFrames.{source_bytes, element_at, rest_frames, frame_turn, unwound_turn, text_turn}
+use Rattle.ps_language.specs.StepFrames.{forall_turn, forall_operands, loop_turn, is_past}
 use Rattle.ps_language.specs.Machines.{with_scene, scene_of, around_of, turn_as, own_step, leaves_to_world}
 use Rattle.ps_language.specs.Contexts.{context_at, context_in, contexts_with, left_of, with_context}
 use Rattle.ps_language.specs.Keeping.{Stays, stays, Keeps}
-use Rattle.ps_language.specs.Live.{references_of, references_of_frame, references_of_frames, references_of_status, references_of_context, references_of_contexts, references_at, roots, IsReachable, is_root, is_named, words_reached, Live}
+use Rattle.ps_language.specs.Live.{references_of, references_of_frame, references_of_frames, references_of_status}
+use Rattle.ps_language.specs.Live.{references_of_context, references_of_contexts, references_at, roots, IsReachable}
+use Rattle.ps_language.specs.Live.{is_root, is_named, words_reached, Live}
 use Rattle.ps_language.specs.Objects.{size_of}
 use Rattle.ps_language.specs.Step.{machine_of, with_machine}
 use Rattle.ps_language.proofs.OperandsKept.{turn_as-keeps}

@@ -1,9 +1,12 @@
 -- What stands in front of a text: a token with what is left behind it, or a fault (PLRM2, 3.2,
 -- appendix B).
-use Rattle.std.specs.Prelude.{ℕ, ◌+◌, ◌-◌, ◌*◌, ◌^◌, ℤ, pos, negsuc, Bool, List, [], ◌∷◌, ◌++◌, length, nat_lt, nat_le, if◌then◌else◌, neg_ℤ}
+use Rattle.std.specs.Prelude.{ℕ, ◌+◌, ◌-◌, ◌*◌, ◌^◌, ℤ, pos, negsuc, Bool, List, [], ◌∷◌, ◌++◌}
+use Rattle.std.specs.Prelude.{length, nat_lt, nat_le, if◌then◌else◌, neg_ℤ}
 use Rattle.ps_language.specs.Bytes.{digit_of}
 use Rattle.ps_language.specs.Limits.{name_limit, sequence_limit}
-use Rattle.ps_language.specs.Token.{Token, Tokens, number_token, executable_name_token, string_token, procedure_token, no_tokens, more_tokens, ScanFault, syntax_fault, limit_fault}
+use Rattle.ps_language.specs.Token.{Token, Tokens, number_token, executable_name_token}
+use Rattle.ps_language.specs.Token.{string_token, procedure_token, no_tokens, more_tokens}
+use Rattle.ps_language.specs.Token.{ScanFault, syntax_fault, limit_fault}
 
 pub data Reading : Type 0 where
   token_then : (token : Token) (rest : List ℕ) → Reading

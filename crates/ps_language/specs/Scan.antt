@@ -1,11 +1,21 @@
 -- The scanner as a function: the first token of a text from a place on, with its end, or a fault
 -- (PLRM2, 3.2). Each function takes what is left of the text.
-use Rattle.std.specs.Prelude.{ℕ, zero, suc, ◌+◌, ◌-◌, ◌%◌, ℤ, pos, neg_ℤ, Bool, true, false, not, ◌&&◌, ◌||◌, List, [], ◌∷◌, length, drop, filter, ◌==◌, nat_le, if◌then◌else◌}
+use Rattle.std.specs.Prelude.{ℕ, zero, suc, ◌+◌, ◌-◌, ◌%◌, ℤ, pos, neg_ℤ, Bool, true, false, not}
+use Rattle.std.specs.Prelude.{◌&&◌, ◌||◌, List, [], ◌∷◌, length, drop, filter, ◌==◌, nat_le}
+use Rattle.std.specs.Prelude.{if◌then◌else◌}
 use Rattle.std.specs.List.{list_all}
-use Rattle.ps_language.specs.Bytes.{is_white, is_comment_end, is_regular, is_digit_in, is_digit, is_hex, is_hex_or_white, is_octal, is_sign, is_exponent_mark, value_in}
+use Rattle.ps_language.specs.Bytes.{is_white, is_comment_end, is_regular, is_digit_in, is_digit}
+use Rattle.ps_language.specs.Bytes.{is_hex, is_hex_or_white, is_octal, is_sign, is_exponent_mark}
+use Rattle.ps_language.specs.Bytes.{value_in}
 use Rattle.ps_language.specs.Limits.{nesting_limit}
-use Rattle.ps_language.specs.Reading.{Reading, token_then, stuck, Ending, string_end, unfinished, with_front, string_reading, Tail, procedure_end, procedure_fault, with_first, sized_procedure, sized_name, sized_string, pairs, Word, integer_word, radix_word, real_word, name_word, word_reading}
-use Rattle.ps_language.specs.Token.{literal_name_token, executable_name_token, immediate_name_token, no_tokens, syntax_fault, limit_fault, Scan, found, exhausted, faulty}
+use Rattle.ps_language.specs.Reading.{Reading, token_then, stuck, Ending, string_end, unfinished}
+use Rattle.ps_language.specs.Reading.{with_front, string_reading, Tail, procedure_end}
+use Rattle.ps_language.specs.Reading.{procedure_fault, with_first, sized_procedure, sized_name}
+use Rattle.ps_language.specs.Reading.{sized_string, pairs, Word, integer_word, radix_word}
+use Rattle.ps_language.specs.Reading.{real_word, name_word, word_reading}
+use Rattle.ps_language.specs.Token.{literal_name_token, executable_name_token, immediate_name_token}
+use Rattle.ps_language.specs.Token.{no_tokens, syntax_fault, limit_fault, Scan, found, exhausted}
+use Rattle.ps_language.specs.Token.{faulty}
 
 -- the longest front whose bytes pass the test, and what is left behind it
 unfoldable pub leading : (ℕ → Bool) → List ℕ → List ℕ

@@ -1,6 +1,8 @@
 -- Schedules: which context makes each step of a run (the form is this profile's own; PLRM2, 7.1,
 -- leaves the order of contexts open).
-use Rattle.std.specs.Prelude.{ℕ, zero, suc, ℤ, ◌+◌, ◌&&◌, ◌==◌, Bool, true, false, not, Option, None, is_none, List, [], ◌∷◌, ◌++◌, length, replicate, nat_lt, if◌then◌else◌}
+use Rattle.std.specs.Prelude.{ℕ, zero, suc, ℤ, ◌+◌, ◌&&◌, ◌==◌, Bool, true, false, not, Option}
+use Rattle.std.specs.Prelude.{None, is_none, List, [], ◌∷◌, ◌++◌, length, replicate, nat_lt}
+use Rattle.std.specs.Prelude.{if◌then◌else◌}
 use mathlib.Core.List.{IsPrefix}
 use Rattle.ps_language.specs.declared.schedules.Entry.{Entry}
 

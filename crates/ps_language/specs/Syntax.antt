@@ -1,11 +1,20 @@
 -- The grammar: which bytes are white space, which are a token, and which texts are a fault (PLRM2,
 -- 3.2). The function that finds them is in Scan.
-use Rattle.std.specs.Prelude.{◌≡◌, ◌⊎◌, ℕ, zero, suc, ◌+◌, ◌-◌, ◌%◌, ◌≤◌, ℤ, pos, neg_ℤ, Bool, not, ◌||◌, List, [], ◌∷◌, ◌++◌, length, drop, filter, ◌==◌, nat_eq, IsTrue, IsFalse, ⊤}
+use Rattle.std.specs.Prelude.{◌≡◌, ◌⊎◌, ℕ, zero, suc, ◌+◌, ◌-◌, ◌%◌, ◌≤◌, ℤ, pos, neg_ℤ, Bool, not}
+use Rattle.std.specs.Prelude.{◌||◌, List, [], ◌∷◌, ◌++◌, length, drop, filter, ◌==◌, nat_eq, IsTrue}
+use Rattle.std.specs.Prelude.{IsFalse, ⊤}
 use Rattle.std.specs.List.{list_all}
-use Rattle.ps_language.specs.Bytes.{is_white, is_comment_end, is_regular, is_digit_in, is_hex, is_hex_or_white, is_octal, is_sign, is_exponent_mark, value_in}
+use Rattle.ps_language.specs.Bytes.{is_white, is_comment_end, is_regular, is_digit_in, is_hex}
+use Rattle.ps_language.specs.Bytes.{is_hex_or_white, is_octal, is_sign, is_exponent_mark, value_in}
 use Rattle.ps_language.specs.Limits.{nesting_limit}
-use Rattle.ps_language.specs.Reading.{Reading, token_then, stuck, Ending, string_end, unfinished, with_front, string_reading, Tail, procedure_end, procedure_fault, with_first, sized_procedure, sized_name, sized_string, pairs, Word, integer_word, radix_word, real_word, name_word, word_reading}
-use Rattle.ps_language.specs.Token.{Token, executable_name_token, literal_name_token, immediate_name_token, no_tokens, ScanFault, syntax_fault, limit_fault, Scan, found, exhausted, faulty}
+use Rattle.ps_language.specs.Reading.{Reading, token_then, stuck, Ending, string_end, unfinished}
+use Rattle.ps_language.specs.Reading.{with_front, string_reading, Tail, procedure_end}
+use Rattle.ps_language.specs.Reading.{procedure_fault, with_first, sized_procedure, sized_name}
+use Rattle.ps_language.specs.Reading.{sized_string, pairs, Word, integer_word, radix_word}
+use Rattle.ps_language.specs.Reading.{real_word, name_word, word_reading}
+use Rattle.ps_language.specs.Token.{Token, executable_name_token, literal_name_token}
+use Rattle.ps_language.specs.Token.{immediate_name_token, no_tokens, ScanFault, syntax_fault}
+use Rattle.ps_language.specs.Token.{limit_fault, Scan, found, exhausted, faulty}
 
 -- each byte passes the test
 abbrev pub EachIs : (ℕ → Bool) → List ℕ → Type 0

@@ -1,12 +1,23 @@
 -- The world at the start of a program, and the world after a schedule (PLRM2, 3.7, 7.1).
-use Rattle.std.specs.Prelude.{ℕ, suc, ℤ, Bool, true, false, not, Option, Some, None, ◌&&◌, ◌||◌, List, [], ◌∷◌, ◌++◌, map, nat_eq, IsTrue, codes}
+use Rattle.std.specs.Prelude.{ℕ, suc, ℤ, Bool, true, false, not, Option, Some, None, ◌&&◌, ◌||◌}
+use Rattle.std.specs.Prelude.{List, [], ◌∷◌, ◌++◌, map, nat_eq, IsTrue, codes}
 use Rattle.std.specs.List.{list_all}
 use Rattle.std.specs.Option.{option_map_or}
 use Rattle.ps_language.specs.declared.access.Access.TheVariants.{Unlimited, ReadOnly}
 use Rattle.ps_language.specs.declared.operators.Operator.{Operator}
 use Rattle.ps_language.specs.declared.errors.ErrorName.{ErrorName}
-use Rattle.ps_language.specs.declared.errors.ErrorName.TheVariants.{DictStackOverflow, DictStackUnderflow, ExecStackOverflow, InvalidAccess, InvalidContext, InvalidExit, LimitCheck, RangeCheck, StackOverflow, StackUnderflow, SyntaxError, TypeCheck, Undefined, UndefinedResult, UnmatchedMark, VmError}
-use Rattle.ps_language.specs.Value.{What, name_value, operator_value, dictionary_value, Value, Dictionary, Object, dictionary_object}
+use Rattle.ps_language.specs.declared.errors.ErrorName.TheVariants.{DictStackOverflow}
+use Rattle.ps_language.specs.declared.errors.ErrorName.TheVariants.{DictStackUnderflow}
+use Rattle.ps_language.specs.declared.errors.ErrorName.TheVariants.{ExecStackOverflow}
+use Rattle.ps_language.specs.declared.errors.ErrorName.TheVariants.{InvalidAccess, InvalidContext}
+use Rattle.ps_language.specs.declared.errors.ErrorName.TheVariants.{InvalidExit, LimitCheck}
+use Rattle.ps_language.specs.declared.errors.ErrorName.TheVariants.{RangeCheck, StackOverflow}
+use Rattle.ps_language.specs.declared.errors.ErrorName.TheVariants.{StackUnderflow, SyntaxError}
+use Rattle.ps_language.specs.declared.errors.ErrorName.TheVariants.{TypeCheck, Undefined}
+use Rattle.ps_language.specs.declared.errors.ErrorName.TheVariants.{UndefinedResult, UnmatchedMark}
+use Rattle.ps_language.specs.declared.errors.ErrorName.TheVariants.{VmError}
+use Rattle.ps_language.specs.Value.{What, name_value, operator_value, dictionary_value, Value}
+use Rattle.ps_language.specs.Value.{Dictionary, Object, dictionary_object}
 use Rattle.ps_language.specs.World.{from_program, text_frame, running, Context, World}
 use Rattle.ps_language.specs.declared.schedules.Entry.{Entry}
 use Rattle.ps_language.specs.Schedules.{Move, moves}

@@ -1,6 +1,7 @@
 //! What holds of every step and of every schedule.
 
-ghost use Rattle.std.specs.Prelude.{◌≡◌, ℕ, ℤ, ◌<◌, ◌≤◌, ◌++◌, Some, true, false, List, [], ◌∷◌, Option, replicate};
+ghost use Rattle.std.specs.Prelude.{◌≡◌, ℕ, ℤ, ◌<◌, ◌≤◌, ◌++◌, Some, true, false, List, [], ◌∷◌};
+ghost use Rattle.std.specs.Prelude.{Option, replicate};
 ghost use Rattle.ps_language.specs.Contexts.{context_at};
 ghost use Rattle.ps_language.specs.Effect.{Around, Calling, Scene};
 ghost use Rattle.ps_language.specs.Keeping.{Keeps, PrintsOn, stays};
@@ -14,7 +15,8 @@ ghost use Rattle.ps_language.specs.Step.{machine_of, stepped, with_machine};
 ghost use Rattle.ps_language.specs.StepValues.{tries};
 ghost use Rattle.ps_language.specs.Value.{Value};
 ghost use Rattle.ps_language.specs.World.{Context, Machine, Status, World};
-ghost use Rattle.ps_language.specs.Worlds.{starting_world, after_move, after_moves, printed, recorded, world};
+ghost use Rattle.ps_language.specs.Worlds.{starting_world, after_move, after_moves, printed};
+ghost use Rattle.ps_language.specs.Worlds.{recorded, world};
 ghost use Rattle.ps_language.specs.declared.errors.ErrorName.TheVariants.{VmError};
 ghost use Rattle.ps_language.specs.declared.schedules.Entry.{Entry};
 
