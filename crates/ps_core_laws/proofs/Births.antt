@@ -1,8 +1,13 @@
 -- Birth numbers are given out once, and a body has its dictionary's.
-use Rattle.std.proofs.Common.{◌≡◌, ◌≢◌, ℕ, ◌<◌, ◌≤◌, ◌&&◌, true, false, nat_eq, List, [], ◌∷◌, Some, None, refl, sym, ap, ◌∙◌, inl, inr, subst, arith}
+use Rattle.std.proofs.Common.{◌≡◌, ◌≢◌, ℕ, ◌<◌, ◌≤◌, ◌&&◌, true, false, nat_eq, List, [], ◌∷◌, Some, None, refl, sym}
+use Rattle.std.proofs.Common.{ap, ◌∙◌, inl, inr, subst, arith}
 use Rattle.ps_word.specs.Headers.{kind_in, birth_in}
 use Rattle.ps_core_parts.specs.declared.events.Event.{Event}
-use Rattle.ps_core_parts.specs.declared.events.Event.TheVariants.{VmLoad, GcLoad, TakeLoad, CopyLoad, HandOver, ClearLoad, ClearStore, HeaderStore, FieldStore, RecordStore, EpochStore, ReplicaHeaderStore, ReplicaFieldStore, ForwardStore, HeadStore, CycleStore}
+use Rattle.ps_core_parts.specs.declared.events.Event.TheVariants.{VmLoad, GcLoad, TakeLoad, CopyLoad, HandOver}
+use Rattle.ps_core_parts.specs.declared.events.Event.TheVariants.{ClearLoad, ClearStore, HeaderStore, FieldStore}
+use Rattle.ps_core_parts.specs.declared.events.Event.TheVariants.{RecordStore, EpochStore, ReplicaHeaderStore}
+use Rattle.ps_core_parts.specs.declared.events.Event.TheVariants.{ReplicaFieldStore, ForwardStore, HeadStore}
+use Rattle.ps_core_parts.specs.declared.events.Event.TheVariants.{CycleStore}
 use Rattle.ps_core_parts.specs.declared.events.Object.{Object}
 use Rattle.ps_core_parts.specs.declared.events.Pair.{Pair}
 use Rattle.ps_core_parts.specs.declared.events.Vm.{Vm}
@@ -12,7 +17,8 @@ use Rattle.ps_core_parts.specs.Conditions.{Permitted, IsBirth, dictionary_stands
 use Rattle.ps_core_laws.specs.Kept.{HasDictionary, IsNumbered}
 use Rattle.ps_core_laws.specs.Places.{AreDistinct}
 use Rattle.ps_core_laws.specs.Runs.{run, IsRun, IsSpace}
-use Rattle.ps_core_laws.proofs.HeapTests.{bool_cases, and_parts, at_number, eq_true, number_is, number_not, same_number, clash}
+use Rattle.ps_core_laws.proofs.HeapTests.{bool_cases, and_parts, at_number, eq_true, number_is, number_not, same_number}
+use Rattle.ps_core_laws.proofs.HeapTests.{clash}
 use Rattle.ps_core_laws.proofs.Bases.{some_match}
 use Rattle.ps_core_laws.proofs.Lookups.{object_at-with_field, object_at-replicas, pair_of-to, pair_to-replica}
 use Rattle.ps_core_laws.proofs.Shown.{some_map}

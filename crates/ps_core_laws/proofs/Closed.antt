@@ -1,9 +1,14 @@
 -- From a close to the flip of its cycle a log gets nothing.
-use Rattle.std.proofs.Common.{◌≡◌, ◌≢◌, ℕ, ◌+◌, ◌≤◌, true, List, [], ◌∷◌, ◌++◌, refl, sym, ap, ◌∙◌, inl, inr, subst, arith, Some}
+use Rattle.std.proofs.Common.{◌≡◌, ◌≢◌, ℕ, ◌+◌, ◌≤◌, true, List, [], ◌∷◌, ◌++◌, refl, sym, ap, ◌∙◌, inl, inr, subst}
+use Rattle.std.proofs.Common.{arith, Some}
 use Rattle.std.specs.Prelude.{if◌then◌else◌}
 use native.Mathlib.Decide.{ℕ_discrete}
 use Rattle.ps_core_parts.specs.declared.events.Event.{Event}
-use Rattle.ps_core_parts.specs.declared.events.Event.TheVariants.{VmLoad, GcLoad, TakeLoad, CopyLoad, HandOver, ClearLoad, ClearStore, HeaderStore, FieldStore, RecordStore, EpochStore, ReplicaHeaderStore, ReplicaFieldStore, ForwardStore, HeadStore, CycleStore}
+use Rattle.ps_core_parts.specs.declared.events.Event.TheVariants.{VmLoad, GcLoad, TakeLoad, CopyLoad, HandOver}
+use Rattle.ps_core_parts.specs.declared.events.Event.TheVariants.{ClearLoad, ClearStore, HeaderStore, FieldStore}
+use Rattle.ps_core_parts.specs.declared.events.Event.TheVariants.{RecordStore, EpochStore, ReplicaHeaderStore}
+use Rattle.ps_core_parts.specs.declared.events.Event.TheVariants.{ReplicaFieldStore, ForwardStore, HeadStore}
+use Rattle.ps_core_parts.specs.declared.events.Event.TheVariants.{CycleStore}
 use Rattle.ps_core_parts.specs.declared.events.Vm.{Vm}
 use Rattle.ps_core_parts.specs.Objects.{among, log_of, closes, with_field, widened}
 use Rattle.ps_core_parts.specs.Steps.{State, happens, is_open, field_stored}
@@ -19,7 +24,8 @@ pub record Still (slot : ℕ) (old new : Vm) : Type 0 where
   pub log : new.cycle ≡ old.cycle → log_of new.logs slot ≡ log_of old.logs slot
   pub epoch : new.cycle ≡ old.cycle → new.epoch ≡ old.epoch
 
-still_on : (slot : ℕ) (old : State) (now : State) (e : Event) → IsClosed old slot → Still slot old.vm now.vm → Permitted now e → Still slot old.vm (happens now e).vm
+still_on : (slot : ℕ) (old : State) (now : State) (e : Event) → IsClosed old slot → Still slot old.vm now.vm
+    → Permitted now e → Still slot old.vm (happens now e).vm
 still_on slot old now (VmLoad place word) c h p = record { grows = h.grows; log = h.log; epoch = h.epoch }
 still_on slot old now (GcLoad place word) c h p = h
 still_on slot old now (TakeLoad s word) c h p = h
@@ -30,10 +36,17 @@ still_on slot old now ClearStore c h p = record { grows = h.grows; log = h.log; 
 still_on slot old now (HeaderStore header) c h p = record { grows = h.grows; log = h.log; epoch = h.epoch }
 still_on slot old now (FieldStore a i w) c h p = elim (bool_cases (among now.vm.fresh a)) [
   | inl t ↦
-      let is : field_stored now.vm a i w ≡ record now.vm { objects = with_field now.vm.objects a i w; stored = true } = rw t refl in
+      let is : field_stored now.vm a i w ≡ record now.vm { objects = with_field now.vm.objects a i w; stored = true } =
+      rw t refl in
       subst (Still slot old.vm) (sym is) (record { grows = h.grows; log = h.log; epoch = h.epoch })
   | inr f ↦
-      let is : field_stored now.vm a i w ≡ record now.vm { objects = with_field now.vm.objects a i w; stored = true; fresh = []; written = if is_open now.vm then Some (widened now.vm.written a i) else now.vm.written } = rw f refl in
+      let is : field_stored now.vm a i w
+      ≡ record now.vm {
+        objects = with_field now.vm.objects a i w;
+        stored = true;
+        fresh = [];
+        written = if is_open now.vm then Some (widened now.vm.written a i) else now.vm.written;
+      } = rw f refl in
       subst (Still slot old.vm) (sym is) (record { grows = h.grows; log = h.log; epoch = h.epoch })
 ]
 still_on slot old now (RecordStore s r) c h p = record {
@@ -59,6 +72,8 @@ still_on slot old now (CycleStore roots) c h p =
     let g = h.grows in
     record { grows = omega arith; log = λ e. absurd (omega arith); epoch = λ e. absurd (omega arith) }
 
-pub still : (space slot : ℕ) (newer older : List Event) → IsRun space (newer ++ older) → IsClosed (run space older) slot → Still slot (run space older).vm (run space (newer ++ older)).vm
+pub still : (space slot : ℕ) (newer older : List Event) → IsRun space (newer ++ older) → IsClosed (run space older) slot
+    → Still slot (run space older).vm (run space (newer ++ older)).vm
 still space slot [] older h c = record { grows = omega arith; log = λ e. refl; epoch = λ e. refl }
-still space slot (e ∷ es) older h c = still_on slot (run space older) (run space (es ++ older)) e c (still space slot es older h.0 c) h.1
+still space slot (e ∷ es) older h c =
+    still_on slot (run space older) (run space (es ++ older)) e c (still space slot es older h.0 c) h.1

@@ -1,6 +1,8 @@
 -- The words of the other space show the replicas, over every store; and after a flip they are the
 -- standing objects.
-use Rattle.std.proofs.Common.{◌≡◌, ◌≢◌, ◌⊎◌, ℕ, zero, suc, ◌+◌, ◌<◌, ◌≤◌, Bool, true, false, nat_eq, List, [], ◌∷◌, length, Some, None, Option, refl, sym, ap, ◌∙◌, inl, inr, subst, arith, length-set, slice_index_or}
+use Rattle.std.proofs.Common.{◌≡◌, ◌≢◌, ◌⊎◌, ℕ, zero, suc, ◌+◌, ◌<◌, ◌≤◌, Bool, true, false, nat_eq, List, [], ◌∷◌}
+use Rattle.std.proofs.Common.{length, Some, None, Option, refl, sym, ap, ◌∙◌, inl, inr, subst, arith, length-set}
+use Rattle.std.proofs.Common.{slice_index_or}
 use Rattle.std.specs.Prelude.{if◌then◌else◌, slice_set, slice_index, replicate}
 use Rattle.std.proofs.lemmas.List.{get_or-set_same, get_or-set_other, get_or-replicate, length-replicate}
 use native.Mathlib.Decide.{ℕ_discrete}
@@ -8,11 +10,14 @@ use Rattle.ps_word.specs.Headers.{fields_in}
 use Rattle.ps_core_parts.specs.declared.events.Object.{Object}
 use Rattle.ps_core_parts.specs.declared.events.Pair.{Pair}
 use Rattle.ps_core_parts.specs.declared.events.Seen.{Seen}
-use Rattle.ps_core_parts.specs.Objects.{object_at, pair_of, pair_to, seen_at, with_copy, end_of, is_in_replica, end_of_replicas, replicas, all_filled, copied_to, as_object}
+use Rattle.ps_core_parts.specs.Objects.{object_at, pair_of, pair_to, seen_at, with_copy, end_of, is_in_replica}
+use Rattle.ps_core_parts.specs.Objects.{end_of_replicas, replicas, all_filled, copied_to, as_object}
 use Rattle.ps_core_laws.specs.Laws.{AreSingle}
 use Rattle.ps_core_parts.specs.Steps.{new_pair}
 use Rattle.ps_core_laws.proofs.HeapTests.{bool_cases, clash, number_not, at_number, eq_true}
-use Rattle.ps_core_laws.proofs.Lookups.{pair_of-original, pair_to-replica, pair_of-to, pair_to-of, pair_to-with_copy, off_replica, not_in_replica, end_of_replicas-above, end_of_replicas-high, object_at-replicas, all_filled_at}
+use Rattle.ps_core_laws.proofs.Lookups.{pair_of-original, pair_to-replica, pair_of-to, pair_to-of, pair_to-with_copy}
+use Rattle.ps_core_laws.proofs.Lookups.{off_replica, not_in_replica, end_of_replicas-above, end_of_replicas-high}
+use Rattle.ps_core_laws.proofs.Lookups.{object_at-replicas, all_filled_at}
 use Rattle.ps_core_parts.proofs.Ends.{end_of_replicas-low}
 use Rattle.ps_core_laws.proofs.Shown.{some_map, ShowsIt, SpaceIs, Off, end_of_object}
 

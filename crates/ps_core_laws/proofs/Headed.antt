@@ -1,7 +1,12 @@
 -- Each standing object has a kind, and fewer than 2^16 fields.
-use Rattle.std.proofs.Common.{◌≡◌, ◌≢◌, ◌⊎◌, ◌^◌, ℕ, ◌+◌, ◌<◌, ◌≤◌, List, [], ◌∷◌, Some, None, Option, refl, sym, ap, ◌∙◌, inl, inr, subst, arith, replicate}
+use Rattle.std.proofs.Common.{◌≡◌, ◌≢◌, ◌⊎◌, ◌^◌, ℕ, ◌+◌, ◌<◌, ◌≤◌, List, [], ◌∷◌, Some, None, Option, refl, sym, ap}
+use Rattle.std.proofs.Common.{◌∙◌, inl, inr, subst, arith, replicate}
 use Rattle.ps_core_parts.specs.declared.events.Event.{Event}
-use Rattle.ps_core_parts.specs.declared.events.Event.TheVariants.{VmLoad, GcLoad, TakeLoad, CopyLoad, HandOver, ClearLoad, ClearStore, HeaderStore, FieldStore, RecordStore, EpochStore, ReplicaHeaderStore, ReplicaFieldStore, ForwardStore, HeadStore, CycleStore}
+use Rattle.ps_core_parts.specs.declared.events.Event.TheVariants.{VmLoad, GcLoad, TakeLoad, CopyLoad, HandOver}
+use Rattle.ps_core_parts.specs.declared.events.Event.TheVariants.{ClearLoad, ClearStore, HeaderStore, FieldStore}
+use Rattle.ps_core_parts.specs.declared.events.Event.TheVariants.{RecordStore, EpochStore, ReplicaHeaderStore}
+use Rattle.ps_core_parts.specs.declared.events.Event.TheVariants.{ReplicaFieldStore, ForwardStore, HeadStore}
+use Rattle.ps_core_parts.specs.declared.events.Event.TheVariants.{CycleStore}
 use Rattle.ps_core_parts.specs.declared.events.Object.{Object}
 use Rattle.ps_core_parts.specs.declared.events.Pair.{Pair}
 use Rattle.ps_core_parts.specs.declared.events.Vm.{Vm}

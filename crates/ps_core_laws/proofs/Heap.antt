@@ -1,6 +1,7 @@
 -- Objects and replicas by functions of addresses and fields, as a machine of its own: what the
 -- agreement of replicas rests on, with no word of the table in it.
-use Rattle.std.proofs.Common.{◌≡◌, ◌≢◌, ◌⊎◌, ℕ, ◌<◌, Bool, true, false, nat_eq, ◌&&◌, ◌||◌, not, List, [], ◌∷◌, ◌++◌, Option, Some, None}
+use Rattle.std.proofs.Common.{◌≡◌, ◌≢◌, ◌⊎◌, ℕ, ◌<◌, Bool, true, false, nat_eq, ◌&&◌, ◌||◌, not, List, [], ◌∷◌, ◌++◌}
+use Rattle.std.proofs.Common.{Option, Some, None}
 use Rattle.std.specs.Prelude.{if◌then◌else◌}
 use Rattle.ps_record.specs.declared.Record.{Record}
 use Rattle.ps_core_parts.specs.declared.events.Half.{Half}
@@ -129,19 +130,46 @@ or_zero None = 0
 or_zero (Some a) = a
 
 abbrev pub acted : Heap → Act → Heap
-acted s (Make a n) = record s { stands = put s.stands a true; size = put s.size a n; field = λ b i. if nat_eq b a then Plain 0 else s.field b i; fresh = put s.fresh a true }
+acted s (Make a n) =
+    record s {
+      stands = put s.stands a true;
+      size = put s.size a n;
+      field = λ b i. if nat_eq b a then Plain 0 else s.field b i;
+      fresh = put s.fresh a true;
+    }
 acted s (Store a i w) = record s {
   field = put2 s.field a i w;
   fresh = if s.fresh a then s.fresh else nowhere;
   unlogged = if not (s.fresh a) && s.opened then put2 s.unlogged a i true else s.unlogged;
 }
-acted s (Log slot r) = record s { fresh = nowhere; unlogged = λ b j. s.unlogged b j && not (names r b j); ahead = put s.ahead slot (s.ahead slot ++ r ∷ []) }
+acted s (Log slot r) =
+    record s {
+      fresh = nowhere;
+      unlogged = λ b j. s.unlogged b j && not (names r b j);
+      ahead = put s.ahead slot (s.ahead slot ++ r ∷ []);
+    }
 acted s Open = record s { opened = true; fresh = nowhere }
 acted s (Hand roots) = record s { fresh = nowhere; known = λ b. (s.opened && named_among roots b) || s.known b }
-acted s (Take slot) = record s { ahead = put s.ahead slot (rest (s.ahead slot)); taking = first_half slot (s.ahead slot) }
-acted s (Copy a i) = record s { taking = with_load s.taking a i; copying = Some record { a = a; i = i; w = s.field a i }; known = λ b. named_by (s.field a i) b || s.known b }
-acted s (Fill scans) = record s { copy = filled_copy s.replica s.copy s.copying; filled = filled_with scans s.filled s.copying; copying = None }
-acted s (Join a c) = record s { replica = put s.replica a (Some c); origin = put s.origin c (Some a); copy = λ b i. if nat_eq b a then Plain 0 else s.copy b i }
+acted s (Take slot) =
+    record s { ahead = put s.ahead slot (rest (s.ahead slot)); taking = first_half slot (s.ahead slot) }
+acted s (Copy a i) =
+    record s {
+      taking = with_load s.taking a i;
+      copying = Some record { a = a; i = i; w = s.field a i };
+      known = λ b. named_by (s.field a i) b || s.known b;
+    }
+acted s (Fill scans) =
+    record s {
+      copy = filled_copy s.replica s.copy s.copying;
+      filled = filled_with scans s.filled s.copying;
+      copying = None;
+    }
+acted s (Join a c) =
+    record s {
+      replica = put s.replica a (Some c);
+      origin = put s.origin c (Some a);
+      copy = λ b i. if nat_eq b a then Plain 0 else s.copy b i;
+    }
 acted s Head = record s { taking = None }
 acted s (Flip roots) = record s {
   opened = false;
@@ -157,7 +185,8 @@ acted s (Flip roots) = record s {
 }
 
 abbrev pub IsDue : Heap → ℕ → ℕ → Type 0
-IsDue s a i = (s.unlogged a i ≡ true) ⊎ ((is_left s.taking a i ≡ true) ⊎ ((slot : ℕ) × (named_in (s.ahead slot) a i ≡ true)))
+IsDue s a i = (s.unlogged a i ≡ true)
+    ⊎ ((is_left s.taking a i ≡ true) ⊎ ((slot : ℕ) × (named_in (s.ahead slot) a i ≡ true)))
 
 abbrev pub IsCopying : Option Load → ℕ → ℕ → Type 0
 IsCopying None a i = ⊥

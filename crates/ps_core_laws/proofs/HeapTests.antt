@@ -1,5 +1,6 @@
 -- Tests on numbers, what records name, and functions that are changed at one place.
-use Rattle.std.proofs.Common.{◌≡◌, ◌≢◌, ◌⊎◌, ℕ, Bool, true, false, true≢false, nat_eq, ◌&&◌, ◌||◌, List, [], ◌∷◌, ◌++◌, Some, None, Option, refl, sym, ap, ◌∙◌, inl, inr, arith}
+use Rattle.std.proofs.Common.{◌≡◌, ◌≢◌, ◌⊎◌, ℕ, Bool, true, false, true≢false, nat_eq, ◌&&◌, ◌||◌, List, [], ◌∷◌, ◌++◌}
+use Rattle.std.proofs.Common.{Some, None, Option, refl, sym, ap, ◌∙◌, inl, inr, arith}
 use Rattle.std.proofs.lemmas.Bool.Decides.{nat_tests}
 use native.Mathlib.Decide.{ℕ_discrete}
 use Rattle.std.proofs.Common.{◌+◌, ◌-◌, ◌<◌, ◌≤◌, nat_le, nat_lt}
@@ -39,7 +40,10 @@ pub same_number : (a : ℕ) → nat_eq a a ≡ true
 same_number a = grind (arith, nat_tests)
 
 pub number_is : (a b : ℕ) → nat_eq a b ≡ true → a ≡ b
-number_is a b h = elim (ℕ_discrete a b) [ yes e ↦ e | no ne ↦ let f : nat_eq a b ≡ false = grind (arith, nat_tests) in clash (nat_eq a b) h f ]
+number_is a b h = elim (ℕ_discrete a b) [
+  | yes e ↦ e
+  | no ne ↦ let f : nat_eq a b ≡ false = grind (arith, nat_tests) in clash (nat_eq a b) h f
+]
 
 pub number_not : (a b : ℕ) → a ≢ b → nat_eq a b ≡ false
 number_not a b ne = grind (arith, nat_tests)
@@ -64,7 +68,8 @@ put_other f a b x h = rw h refl
 pub put2_same : {X : Type 0} (f : ℕ → ℕ → X) (a i : ℕ) (x : X) → put2 f a i x a i ≡ x
 put2_same f a i x = rw (same_number a, same_number i) refl
 
-pub put2_other : {X : Type 0} (f : ℕ → ℕ → X) (a i b j : ℕ) (x : X) → (nat_eq b a && nat_eq j i) ≡ false → put2 f a i x b j ≡ f b j
+pub put2_other : {X : Type 0} (f : ℕ → ℕ → X) (a i b j : ℕ) (x : X) → (nat_eq b a && nat_eq j i) ≡ false
+    → put2 f a i x b j ≡ f b j
 put2_other f a i b j x h = rw h refl
 
 pub le_true : (a b : ℕ) → a ≤ b → nat_le a b ≡ true
@@ -89,18 +94,21 @@ pub eq_true : (a b : ℕ) → a ≡ b → nat_eq a b ≡ true
 eq_true a b h = grind (arith, nat_tests)
 
 -- what a place record names
-pub names_is : (a first count b j : ℕ) → names (Place a first count) b j ≡ true → (b ≡ a) × (first ≤ j) × (j < first + count)
+pub names_is : (a first count b j : ℕ) → names (Place a first count) b j ≡ true
+    → (b ≡ a) × (first ≤ j) × (j < first + count)
 names_is a first count b j h =
     let p = and_parts (nat_eq b a) (nat_le first j && nat_lt j (first + count)) h in
     let q = and_parts (nat_le first j) (nat_lt j (first + count)) p.1 in
     (number_is b a p.0, le_is first j q.0, lt_is j (first + count) q.1)
 
-pub names_true : (a first count b j : ℕ) → b ≡ a → first ≤ j → j < first + count → names (Place a first count) b j ≡ true
+pub names_true : (a first count b j : ℕ) → b ≡ a → first ≤ j → j < first + count
+    → names (Place a first count) b j ≡ true
 names_true a first count b j e lo hi = rw (eq_true b a e, le_true first j lo, lt_true j (first + count) hi) refl
 
 -- nothing was loaded yet
 pub left_of-zero : (r : Record) → left_of r 0 ≡ r
-left_of-zero (Place a first count) = let f : first + 0 ≡ first = omega arith in let n : count - 0 ≡ count = omega arith in rw (f, n) refl
+left_of-zero (Place a first count) = let f : first + 0 ≡ first = omega arith in
+    let n : count - 0 ≡ count = omega arith in rw (f, n) refl
 left_of-zero Close = refl
 
 pub left_named : (r : Record) (loaded b j : ℕ) → names (left_of r loaded) b j ≡ true → names r b j ≡ true
@@ -117,7 +125,8 @@ loaded_named (Place a first count) loaded b j all h =
 loaded_named Close loaded b j all h = true≢false (sym h)
 
 -- a load of another place leaves what is left
-next_left : (r : Record) (loaded a i b j : ℕ) → (nat_eq b a && nat_eq j i) ≡ false → is_next r loaded a i ≡ true → names (left_of r loaded) b j ≡ true → names (left_of r (loaded + 1)) b j ≡ true
+next_left : (r : Record) (loaded a i b j : ℕ) → (nat_eq b a && nat_eq j i) ≡ false → is_next r loaded a i ≡ true
+    → names (left_of r loaded) b j ≡ true → names (left_of r (loaded + 1)) b j ≡ true
 next_left (Place c first count) loaded a i b j ne nx h =
     let n = names_is c (first + loaded) (count - loaded) b j h in
     let p = and_parts (nat_eq a c) (nat_eq i (first + loaded) && nat_lt loaded count) nx in
@@ -125,11 +134,13 @@ next_left (Place c first count) loaded a i b j ne nx h =
     let ac = number_is a c p.0 in
     let ii = number_is i (first + loaded) q.0 in
     let bc = n.0 in let lo = n.1 in let hi = n.2 in
-    let other : j ≢ i = λ same. clash (nat_eq b a && nat_eq j i) (and_both (nat_eq b a) (nat_eq j i) (eq_true b a (bc ∙ sym ac)) (eq_true j i same)) ne in
+    let other : j ≢ i = λ same. clash (nat_eq b a && nat_eq j i)
+    (and_both (nat_eq b a) (nat_eq j i) (eq_true b a (bc ∙ sym ac)) (eq_true j i same)) ne in
     names_true c (first + (loaded + 1)) (count - (loaded + 1)) b j n.0 (omega arith) (omega arith)
 next_left Close loaded a i b j ne nx h = h
 
-pub with_load_left : (t : Option Half) (a i b j : ℕ) → (nat_eq b a && nat_eq j i) ≡ false → is_left t b j ≡ true → is_left (with_load t a i) b j ≡ true
+pub with_load_left : (t : Option Half) (a i b j : ℕ) → (nat_eq b a && nat_eq j i) ≡ false → is_left t b j ≡ true
+    → is_left (with_load t a i) b j ≡ true
 with_load_left None a i b j ne h = clash false h refl
 with_load_left (Some h) a i b j ne due = elim (bool_cases (is_next h.what h.loaded a i)) [
   | inl t ↦ rw t (next_left h.what h.loaded a i b j ne t due)
@@ -148,9 +159,11 @@ named_last [] r a i h = or_left (names r a i) false h
 named_last (q ∷ rs) r a i h = or_right (names q a i) (named_in (rs ++ r ∷ []) a i) (named_last rs r a i h)
 
 -- a word whose reference has a replica is renamed so after more pairs too
-pub renamed_more : (replica : ℕ → Option ℕ) (a c : ℕ) (w : Word) → replica a ≡ None → IsCovered replica w → (IsCovered (put replica a (Some c)) w) × (renamed (put replica a (Some c)) w ≡ renamed replica w)
+pub renamed_more : (replica : ℕ → Option ℕ) (a c : ℕ) (w : Word) → replica a ≡ None → IsCovered replica w
+    → (IsCovered (put replica a (Some c)) w) × (renamed (put replica a (Some c)) w ≡ renamed replica w)
 renamed_more replica a c (Plain n) none h = (tt, refl)
 renamed_more replica a c (Ref b x) none h = elim (at_number a b) [
   | inl e ↦ let bad : replica a ≡ Some h.0 = ap replica (sym e) ∙ h.1 in absurd (cc)
-  | inr ne ↦ let same = put_other replica a b (Some c) ne in ((h.0, same ∙ h.1), ap (λ (o : Option ℕ). redirected o b x) same)
+  | inr ne ↦ let same = put_other replica a b (Some c) ne in
+      ((h.0, same ∙ h.1), ap (λ (o : Option ℕ). redirected o b x) same)
 ]

@@ -1,16 +1,22 @@
 -- What every run keeps: the flip, and all events.
-use Rattle.std.proofs.Common.{◌≡◌, ◌⊎◌, ℕ, ◌+◌, ◌<◌, ◌≤◌, true, List, [], ◌∷◌, length, Some, None, Option, refl, sym, ap, ◌∙◌, inl, subst, arith, length-set, is_some}
+use Rattle.std.proofs.Common.{◌≡◌, ◌⊎◌, ℕ, ◌+◌, ◌<◌, ◌≤◌, true, List, [], ◌∷◌, length, Some, None, Option, refl, sym}
+use Rattle.std.proofs.Common.{ap, ◌∙◌, inl, subst, arith, length-set, is_some}
 use Rattle.std.specs.Prelude.{slice_set, MatchOption}
 use Rattle.std.specs.Option.{option_map}
 use Rattle.std.proofs.lemmas.List.{get_or-set_same, get_or-set_other}
 use Rattle.ps_record.specs.declared.Record.{Record}
 use Rattle.ps_core_parts.specs.declared.events.Event.{Event}
-use Rattle.ps_core_parts.specs.declared.events.Event.TheVariants.{VmLoad, GcLoad, TakeLoad, CopyLoad, HandOver, ClearLoad, ClearStore, HeaderStore, FieldStore, RecordStore, EpochStore, ReplicaHeaderStore, ReplicaFieldStore, ForwardStore, HeadStore, CycleStore}
+use Rattle.ps_core_parts.specs.declared.events.Event.TheVariants.{VmLoad, GcLoad, TakeLoad, CopyLoad, HandOver}
+use Rattle.ps_core_parts.specs.declared.events.Event.TheVariants.{ClearLoad, ClearStore, HeaderStore, FieldStore}
+use Rattle.ps_core_parts.specs.declared.events.Event.TheVariants.{RecordStore, EpochStore, ReplicaHeaderStore}
+use Rattle.ps_core_parts.specs.declared.events.Event.TheVariants.{ReplicaFieldStore, ForwardStore, HeadStore}
+use Rattle.ps_core_parts.specs.declared.events.Event.TheVariants.{CycleStore}
 use Rattle.ps_core_parts.specs.declared.events.Object.{Object}
 use Rattle.ps_core_parts.specs.declared.events.Pair.{Pair}
 use Rattle.ps_core_parts.specs.declared.events.Written.{Written}
 use Rattle.ps_core_parts.specs.declared.events.Half.{Half}
-use Rattle.ps_core_parts.specs.Objects.{object_at, pair_of, pair_to, log_of, is_written, half_of, replicas, stored, as_object}
+use Rattle.ps_core_parts.specs.Objects.{object_at, pair_of, pair_to, log_of, is_written, half_of, replicas, stored}
+use Rattle.ps_core_parts.specs.Objects.{as_object}
 use Rattle.ps_core_parts.specs.Steps.{State, happens, table_size, space_base, other_base}
 use Rattle.ps_core_parts.specs.Conditions.{Permitted}
 use Rattle.ps_core_laws.specs.Runs.{run, IsRun, IsSpace}
@@ -23,7 +29,8 @@ use Rattle.ps_core_laws.proofs.Rings.{rings_near}
 use Rattle.ps_core_laws.proofs.Shown.{SpaceIs}
 use Rattle.ps_core_laws.proofs.Copies.{copies_start, copies_off, space_flipped}
 use Rattle.ps_core_laws.proofs.Lookups.{pair_to-of, pair_of-to, object_at-replicas, all_filled_at}
-use Rattle.ps_core_laws.proofs.Views.{size_in, word_in, replica_in, original_in, copy_in, filled_in, load_of, stands_in, view, heap_ext}
+use Rattle.ps_core_laws.proofs.Views.{size_in, word_in, replica_in, original_in, copy_in, filled_in, load_of, stands_in}
+use Rattle.ps_core_laws.proofs.Views.{view, heap_ext}
 use Rattle.ps_core_laws.proofs.Keeping as first
 use Rattle.ps_core_laws.proofs.Keeping.{Good, IsMatch, begins}
 use Rattle.ps_core_laws.proofs.Storing as second

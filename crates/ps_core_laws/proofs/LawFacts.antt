@@ -1,5 +1,6 @@
 -- The laws, from what every run keeps.
-use Rattle.std.proofs.Common.{◌≢◌, ◌≡◌, ◌⊎◌, ℕ, ◌<◌, Bool, true, false, List, [], Some, None, Option, refl, sym, ap, ◌∙◌, inl, inr, subst, is_some}
+use Rattle.std.proofs.Common.{◌≢◌, ◌≡◌, ◌⊎◌, ℕ, ◌<◌, Bool, true, false, List, [], Some, None, Option, refl, sym, ap}
+use Rattle.std.proofs.Common.{◌∙◌, inl, inr, subst, is_some}
 use Rattle.std.specs.Prelude.{slice_index, MatchOption, if◌then◌else◌}
 use Rattle.ps_word.specs.Format.{address_in}
 use Rattle.ps_record.specs.declared.Record.{Record}
@@ -18,7 +19,8 @@ use Rattle.ps_core_laws.proofs.HeapKept.{flips_to}
 use Rattle.ps_core_laws.proofs.HeapTests.{same_number}
 use Rattle.ps_core_laws.proofs.Bases.{match_some}
 use Rattle.ps_core_laws.proofs.Lookups.{pair_to-of, object_at-replicas}
-use Rattle.ps_core_laws.proofs.Views.{value_of, word_of, size_in, word_in, replica_in, copy_in, filled_in, load_of, replica_by, view, word_of-renamed, word_of-same, value_of-reference}
+use Rattle.ps_core_laws.proofs.Views.{value_of, word_of, size_in, word_in, replica_in, copy_in, filled_in, load_of}
+use Rattle.ps_core_laws.proofs.Views.{replica_by, view, word_of-renamed, word_of-same, value_of-reference}
 use Rattle.ps_core_laws.proofs.Keeping.{Good, IsMatch, original}
 use Rattle.ps_core_laws.proofs.Replicating.{replicas_low}
 use Rattle.ps_core_laws.proofs.Kept.{can_flip}

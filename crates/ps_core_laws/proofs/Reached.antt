@@ -1,22 +1,29 @@
 -- What is copied in a cycle without stores is what is reachable from the roots handed over.
-use Rattle.std.proofs.Common.{◌≡◌, ◌≢◌, ℕ, ◌+◌, ◌<◌, Bool, true, false, nat_eq, ◌||◌, List, [], ◌∷◌, ◌++◌, length, Some, None, Option, refl, sym, ap, ◌∙◌, inl, inr, subst, arith, is_some}
+use Rattle.std.proofs.Common.{◌≡◌, ◌≢◌, ℕ, ◌+◌, ◌<◌, Bool, true, false, nat_eq, ◌||◌, List, [], ◌∷◌, ◌++◌, length, Some}
+use Rattle.std.proofs.Common.{None, Option, refl, sym, ap, ◌∙◌, inl, inr, subst, arith, is_some}
 use Rattle.std.specs.Prelude.{if◌then◌else◌, slice_index}
 use Rattle.ps_word.specs.Format.{address_in}
 use Rattle.ps_word.specs.Readers.{is_reference}
 use Rattle.ps_core_parts.specs.declared.events.Event.{Event}
-use Rattle.ps_core_parts.specs.declared.events.Event.TheVariants.{VmLoad, GcLoad, TakeLoad, CopyLoad, HandOver, ClearLoad, ClearStore, HeaderStore, FieldStore, RecordStore, EpochStore, ReplicaHeaderStore, ReplicaFieldStore, ForwardStore, HeadStore, CycleStore}
+use Rattle.ps_core_parts.specs.declared.events.Event.TheVariants.{VmLoad, GcLoad, TakeLoad, CopyLoad, HandOver}
+use Rattle.ps_core_parts.specs.declared.events.Event.TheVariants.{ClearLoad, ClearStore, HeaderStore, FieldStore}
+use Rattle.ps_core_parts.specs.declared.events.Event.TheVariants.{RecordStore, EpochStore, ReplicaHeaderStore}
+use Rattle.ps_core_parts.specs.declared.events.Event.TheVariants.{ReplicaFieldStore, ForwardStore, HeadStore}
+use Rattle.ps_core_parts.specs.declared.events.Event.TheVariants.{CycleStore}
 use Rattle.ps_core_parts.specs.declared.events.Object.{Object}
 use Rattle.ps_core_parts.specs.declared.events.Pair.{Pair}
 use Rattle.ps_core_parts.specs.declared.events.Carried.{Carried}
 use Rattle.ps_core_parts.specs.declared.events.Vm.{Vm}
 use Rattle.ps_core_parts.specs.declared.events.Gc.{Gc}
-use Rattle.ps_core_parts.specs.Objects.{among, pair_of, holds_values, address_named, addresses_named, values_have_replicas, value_has_replica, copied_to}
+use Rattle.ps_core_parts.specs.Objects.{among, pair_of, holds_values, address_named, addresses_named}
+use Rattle.ps_core_parts.specs.Objects.{values_have_replicas, value_has_replica, copied_to}
 use Rattle.ps_core_parts.specs.Steps.{State, happens, is_open, header_of, field_stored, copied, word_stored}
 use Rattle.ps_core_parts.specs.Conditions.{Permitted}
 use Rattle.ps_core_laws.specs.Reach.{Reach, Notes, AreNoted, CopiesReachable, NameTheSame}
 use Rattle.ps_core_laws.specs.Reach.Reach.{root, through}
 use Rattle.ps_core_laws.specs.Runs.{run, IsRun, IsSpace}
-use Rattle.ps_core_laws.proofs.HeapTests.{bool_cases, and_parts, or_parts, or_left, or_right, clash, number_is, number_not, at_number}
+use Rattle.ps_core_laws.proofs.HeapTests.{bool_cases, and_parts, or_parts, or_left, or_right, clash, number_is}
+use Rattle.ps_core_laws.proofs.HeapTests.{number_not, at_number}
 use Rattle.ps_core_laws.proofs.Bases.{some_match}
 use Rattle.ps_core_laws.proofs.Lookups.{object_at-address, among-append, pair_of-with_copy}
 use Rattle.ps_core_laws.proofs.Shown.{some_map}

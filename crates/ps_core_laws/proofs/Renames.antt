@@ -1,11 +1,13 @@
 -- What renaming does to the words of the format.
-use Rattle.std.proofs.Common.{◌≡◌, ℕ, ◌+◌, ◌*◌, ◌^◌, ◌<◌, ◌&&◌, Bool, true, false, nat_eq, nat_le, List, Some, Option, refl, ap, ◌∙◌, arith, is_some}
+use Rattle.std.proofs.Common.{◌≡◌, ℕ, ◌+◌, ◌*◌, ◌^◌, ◌<◌, ◌&&◌, Bool, true, false, nat_eq, nat_le, List, Some, Option}
+use Rattle.std.proofs.Common.{refl, ap, ◌∙◌, arith, is_some}
 use Rattle.std.specs.Prelude.{if◌then◌else◌}
 use Rattle.ps_language.specs.declared.kinds.Kind.{Kind}
 use Rattle.ps_language.specs.declared.kinds.Kind.TheVariants as kinds
 use Rattle.ps_word.specs.declared.headers.Header.{Header}
 use Rattle.ps_word.specs.declared.values.Content.{Content}
-use Rattle.ps_word.specs.declared.values.Content.TheVariants.{Null, Integer, Boolean, Mark, Name, Operator, Array, Text, Dictionary, Lock, Condition, Body}
+use Rattle.ps_word.specs.declared.values.Content.TheVariants.{Null, Integer, Boolean, Mark, Name, Operator, Array, Text}
+use Rattle.ps_word.specs.declared.values.Content.TheVariants.{Dictionary, Lock, Condition, Body}
 use Rattle.ps_word.specs.declared.values.Value.{Value}
 use Rattle.ps_word.specs.Format.{packed, IsInFormat, IsContent, type_number, content_bits, bit_of, address_in}
 use Rattle.ps_word.specs.Headers.{header_packed, IsHeader, kind_number}

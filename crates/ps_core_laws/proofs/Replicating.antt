@@ -1,5 +1,7 @@
 -- What every run keeps: the stores of the collector but for the flip.
-use Rattle.std.proofs.Common.{◌≡◌, ◌⊎◌, ℕ, ◌+◌, ◌<◌, ◌≤◌, Bool, true, false, not, nat_eq, ◌&&◌, List, [], ◌∷◌, ◌++◌, length, Some, None, Option, refl, sym, ap, ◌∙◌, inl, inr, subst, arith, drop, length-append, length-set, is_some}
+use Rattle.std.proofs.Common.{◌≡◌, ◌⊎◌, ℕ, ◌+◌, ◌<◌, ◌≤◌, Bool, true, false, not, nat_eq, ◌&&◌, List, [], ◌∷◌, ◌++◌}
+use Rattle.std.proofs.Common.{length, Some, None, Option, refl, sym, ap, ◌∙◌, inl, inr, subst, arith, drop}
+use Rattle.std.proofs.Common.{length-append, length-set, is_some}
 use Rattle.std.specs.Prelude.{if◌then◌else◌, slice_set, MatchOption, unwrap_or}
 use Rattle.std.proofs.lemmas.List.{length-replicate}
 use Rattle.ps_word.specs.Headers.{fields_in}
@@ -10,8 +12,11 @@ use Rattle.ps_core_parts.specs.declared.events.Object.{Object}
 use Rattle.ps_core_parts.specs.declared.events.Pair.{Pair}
 use Rattle.ps_core_parts.specs.declared.events.Half.{Half}
 use Rattle.ps_core_parts.specs.declared.events.Carried.{Carried}
-use Rattle.ps_core_parts.specs.Objects.{among, object_at, pair_of, pair_to, seen_at, log_of, holds_values, with_copy, names, is_loaded, is_copied_from, lacks_replica, is_done, half_of, end_of_replicas, copied_to}
-use Rattle.ps_core_parts.specs.Steps.{State, happens, space_base, other_base, is_open, header_of, replica_of, word_stored, new_pair, forwarding, copied, copy_stored, head_stored, taken_after}
+use Rattle.ps_core_parts.specs.Objects.{among, object_at, pair_of, pair_to, seen_at, log_of, holds_values, with_copy}
+use Rattle.ps_core_parts.specs.Objects.{names, is_loaded, is_copied_from, lacks_replica, is_done, half_of}
+use Rattle.ps_core_parts.specs.Objects.{end_of_replicas, copied_to}
+use Rattle.ps_core_parts.specs.Steps.{State, happens, space_base, other_base, is_open, header_of, replica_of}
+use Rattle.ps_core_parts.specs.Steps.{word_stored, new_pair, forwarding, copied, copy_stored, head_stored, taken_after}
 use Rattle.ps_core_parts.specs.Bounds.{AllLow}
 use Rattle.ps_core_parts.specs.Conditions.{Permitted, IsReady}
 use Rattle.ps_core_laws.specs.Runs.{IsSpace}
@@ -25,8 +30,11 @@ use Rattle.ps_core_laws.proofs.Rings.{LogsAre, log_of-same, log_of-other, contro
 use Rattle.ps_core_laws.proofs.Taken.{control_taken, logs_taken}
 use Rattle.ps_core_laws.proofs.Shown.{space_off, space_second, some_map}
 use Rattle.ps_core_laws.proofs.Copies.{copies_off, copies_placed, copies_stored, copies_paired}
-use Rattle.ps_core_laws.proofs.Lookups.{object_at-address, pair_to-replica, pair_to-of, pair_of-with_copy, single-with_copy, end_of_replicas-above}
-use Rattle.ps_core_laws.proofs.Views.{word_of, size_in, replica_in, original_in, copy_in, filled_in, load_of, replica_by, view, heap_ext, word_of-renamed, word_covered, replica-with_copy, origin-with_copy, copy-with_copy, filled-with_copy}
+use Rattle.ps_core_laws.proofs.Lookups.{object_at-address, pair_to-replica, pair_to-of, pair_of-with_copy}
+use Rattle.ps_core_laws.proofs.Lookups.{single-with_copy, end_of_replicas-above}
+use Rattle.ps_core_laws.proofs.Views.{word_of, size_in, replica_in, original_in, copy_in, filled_in, load_of}
+use Rattle.ps_core_laws.proofs.Views.{replica_by, view, heap_ext, word_of-renamed, word_covered, replica-with_copy}
+use Rattle.ps_core_laws.proofs.Views.{origin-with_copy, copy-with_copy, filled-with_copy}
 use Rattle.ps_core_laws.proofs.Keeping as first
 use Rattle.ps_core_laws.proofs.Keeping.{Good, IsMatch, HasHeader}
 

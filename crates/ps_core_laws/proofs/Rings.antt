@@ -1,12 +1,14 @@
 -- Control words, rings and logs: what is kept of them, the start, stores elsewhere, a record more.
-use Rattle.std.proofs.Common.{◌≡◌, ◌≢◌, ℕ, ◌+◌, ◌<◌, ◌≤◌, List, [], ◌∷◌, ◌++◌, length, Some, None, Option, refl, sym, ap, ◌∙◌, inl, inr, subst, arith, length-set, length-append, append_assoc}
+use Rattle.std.proofs.Common.{◌≡◌, ◌≢◌, ℕ, ◌+◌, ◌<◌, ◌≤◌, List, [], ◌∷◌, ◌++◌, length, Some, None, Option, refl, sym}
+use Rattle.std.proofs.Common.{ap, ◌∙◌, inl, inr, subst, arith, length-set, length-append, append_assoc}
 use Rattle.std.proofs.lemmas.List.{get_or-set_same, get_or-set_other, get_or-replicate, length-replicate}
 use Rattle.std.proofs.lemmas.Option.{slice_get_within}
 use Rattle.std.specs.Prelude.{slice_get, slice_index, slice_set, replicate}
 use native.Mathlib.Decide.{ℕ_discrete}
 use Rattle.ps_record.specs.declared.Record.{Record}
 use Rattle.ps_record.specs.declared.Record.TheVariants.{Place, Close}
-use Rattle.ps_record.specs.Format.{ring_place, lap_of, lap_in, packed, record_in, close_in, address_in, first_in, count_in, IsRecord}
+use Rattle.ps_record.specs.Format.{ring_place, lap_of, lap_in, packed, record_in, close_in, address_in, first_in}
+use Rattle.ps_record.specs.Format.{count_in, IsRecord}
 use Rattle.ps_core_parts.specs.declared.events.Half.{Half}
 use Rattle.ps_core_parts.specs.Objects.{log_of}
 use Rattle.ps_core_laws.specs.Laws.{IsBeginningOf}

@@ -1,26 +1,35 @@
 -- The second headers: they lead from originals to replicas and back, and nowhere else in an open
 -- cycle.
-use Rattle.std.proofs.Common.{◌≡◌, ◌≢◌, ℕ, ◌+◌, ◌^◌, ◌<◌, ◌≤◌, Bool, true, nat_eq, List, [], ◌∷◌, length, Some, None, Option, refl, sym, ap, ◌∙◌, inl, inr, subst, arith}
+use Rattle.std.proofs.Common.{◌≡◌, ◌≢◌, ℕ, ◌+◌, ◌^◌, ◌<◌, ◌≤◌, Bool, true, nat_eq, List, [], ◌∷◌, length, Some, None}
+use Rattle.std.proofs.Common.{Option, refl, sym, ap, ◌∙◌, inl, inr, subst, arith}
 use Rattle.std.specs.Prelude.{if◌then◌else◌, slice_set, slice_index, unwrap_or, MatchOption}
 use Rattle.std.specs.Option.{option_map}
 use Rattle.std.proofs.lemmas.List.{get_or-set_same, get_or-set_other}
 use native.Mathlib.Decide.{ℕ_discrete}
 use Rattle.ps_word.specs.Headers.{cycle_in, fields_in, forward_packed}
 use Rattle.ps_core_parts.specs.declared.events.Event.{Event}
-use Rattle.ps_core_parts.specs.declared.events.Event.TheVariants.{VmLoad, GcLoad, TakeLoad, CopyLoad, HandOver, ClearLoad, ClearStore, HeaderStore, FieldStore, RecordStore, EpochStore, ReplicaHeaderStore, ReplicaFieldStore, ForwardStore, HeadStore, CycleStore}
+use Rattle.ps_core_parts.specs.declared.events.Event.TheVariants.{VmLoad, GcLoad, TakeLoad, CopyLoad, HandOver}
+use Rattle.ps_core_parts.specs.declared.events.Event.TheVariants.{ClearLoad, ClearStore, HeaderStore, FieldStore}
+use Rattle.ps_core_parts.specs.declared.events.Event.TheVariants.{RecordStore, EpochStore, ReplicaHeaderStore}
+use Rattle.ps_core_parts.specs.declared.events.Event.TheVariants.{ReplicaFieldStore, ForwardStore, HeadStore}
+use Rattle.ps_core_parts.specs.declared.events.Event.TheVariants.{CycleStore}
 use Rattle.ps_core_parts.specs.declared.events.Object.{Object}
 use Rattle.ps_core_parts.specs.declared.events.Pair.{Pair}
 use Rattle.ps_core_parts.specs.declared.events.Half.{Half}
 use Rattle.ps_core_parts.specs.declared.events.Carried.{Carried}
 use Rattle.ps_core_parts.specs.declared.events.Vm.{Vm}
-use Rattle.ps_core_parts.specs.Objects.{among, object_at, pair_of, pair_to, seen_at, log_of, stored, with_field, copied_to, with_copy, as_object, widened}
-use Rattle.ps_core_parts.specs.Steps.{State, start, happens, is_open, space_base, other_base, field_stored, forwarding, replica_of, word_stored, copied, copy_stored, head_stored, new_pair}
+use Rattle.ps_core_parts.specs.Objects.{among, object_at, pair_of, pair_to, seen_at, log_of, stored, with_field}
+use Rattle.ps_core_parts.specs.Objects.{copied_to, with_copy, as_object, widened}
+use Rattle.ps_core_parts.specs.Steps.{State, start, happens, is_open, space_base, other_base, field_stored, forwarding}
+use Rattle.ps_core_parts.specs.Steps.{replica_of, word_stored, copied, copy_stored, head_stored, new_pair}
 use Rattle.ps_core_parts.specs.Conditions.{Permitted, HasField, IsReady}
 use Rattle.ps_core_laws.specs.Laws.{IsForwarded}
 use Rattle.ps_core_laws.specs.Runs.{run, IsRun, IsSpace}
 use Rattle.ps_core_laws.proofs.HeapTests.{bool_cases, clash, number_is, at_number, eq_true}
 use Rattle.ps_core_laws.proofs.Bases.{in_current, in_other, spaces_wide, spaces_far, some_match}
-use Rattle.ps_core_laws.proofs.Lookups.{object_at-address, pair_to-replica, pair_of-to, pair_to-of, object_at-with_field, pair_of-with_copy, pair_to-with_copy, off_replica, object_at-replicas, not_in_replica}
+use Rattle.ps_core_laws.proofs.Lookups.{object_at-address, pair_to-replica, pair_of-to, pair_to-of}
+use Rattle.ps_core_laws.proofs.Lookups.{object_at-with_field, pair_of-with_copy, pair_to-with_copy, off_replica}
+use Rattle.ps_core_laws.proofs.Lookups.{object_at-replicas, not_in_replica}
 use Rattle.ps_core_laws.proofs.Rings.{ring_in}
 use Rattle.ps_core_laws.proofs.Shown.{some_map, none_at_end}
 use Rattle.ps_core_laws.proofs.Keeping.{Good, IsMatch, original, HasHeader}

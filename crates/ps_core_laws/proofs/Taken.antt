@@ -1,5 +1,6 @@
 -- Control words and logs while records are taken: a head is loaded, a record taken up, and taken.
-use Rattle.std.proofs.Common.{◌≡◌, ◌≢◌, ℕ, ◌+◌, ◌-◌, ◌<◌, ◌≤◌, List, [], ◌∷◌, ◌++◌, length, Some, None, Option, refl, sym, ap, ◌∙◌, inl, inr, subst, arith, length-set, length-append, true, false, nat_eq}
+use Rattle.std.proofs.Common.{◌≡◌, ◌≢◌, ℕ, ◌+◌, ◌-◌, ◌<◌, ◌≤◌, List, [], ◌∷◌, ◌++◌, length, Some, None, Option, refl}
+use Rattle.std.proofs.Common.{sym, ap, ◌∙◌, inl, inr, subst, arith, length-set, length-append, true, false, nat_eq}
 use Rattle.std.proofs.lemmas.List.{get_or-set_same, get_or-set_other}
 use Rattle.std.proofs.lemmas.Bool.Decides.{nat_tests}
 use Rattle.std.proofs.lemmas.Option.{slice_get_past}
@@ -13,7 +14,8 @@ use Rattle.ps_core_laws.specs.Laws.{IsBeginningOf}
 use Rattle.ps_core_parts.specs.Steps.{heads_after, taken_up}
 use Rattle.ps_core_laws.proofs.Lists.{next, get_some}
 use Rattle.ps_core_laws.proofs.HeapTests.{bool_cases, and_parts, le_is, lt_is}
-use Rattle.ps_core_laws.proofs.Rings.{ControlIs, IsTaking, LogsAre, RingsAre, lap_of-packed, log_of-other, log_of-same, off_word, record_in-packed}
+use Rattle.ps_core_laws.proofs.Rings.{ControlIs, IsTaking, LogsAre, RingsAre, lap_of-packed, log_of-other, log_of-same}
+use Rattle.ps_core_laws.proofs.Rings.{off_word, record_in-packed}
 
 -- ---- a head is loaded
 

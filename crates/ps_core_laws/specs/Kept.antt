@@ -1,8 +1,10 @@
 -- What each seat knows of its own part, whatever the other did meanwhile, and what ties the parts.
-use Rattle.std.specs.Prelude.{◌≡◌, ◌≢◌, ℕ, ◌+◌, ◌<◌, ◌≤◌, ◌==◌, Bool, true, false, List, [], ◌∷◌, length, Some, None, MatchBool, MatchOption, slice_get, slice_index}
+use Rattle.std.specs.Prelude.{◌≡◌, ◌≢◌, ℕ, ◌+◌, ◌<◌, ◌≤◌, ◌==◌, Bool, true, false, List, [], ◌∷◌}
+use Rattle.std.specs.Prelude.{length, Some, None, MatchBool, MatchOption, slice_get, slice_index}
 use Rattle.ps_word.specs.Headers.{kind_in, birth_in, birth_limit, cycle_limit}
 use Rattle.ps_record.specs.declared.Record.{Record}
-use Rattle.ps_record.specs.Format.{slots, ring_length, ring_place, lap_in, lap_of, IsRecord, log_limit}
+use Rattle.ps_record.specs.Format.{slots, ring_length, ring_place, lap_in, lap_of, IsRecord}
+use Rattle.ps_record.specs.Format.{log_limit}
 use Rattle.ps_core_parts.specs.declared.events.Object.{Object}
 use Rattle.ps_core_parts.specs.declared.events.Carried.{Carried}
 use Rattle.ps_core_parts.specs.declared.events.Half.{Half}
@@ -12,7 +14,8 @@ use Rattle.ps_core_parts.specs.Objects.{among, object_at, seen_at, log_of, close
 use Rattle.ps_core_parts.specs.Steps.{State, is_open, space_base}
 use Rattle.ps_core_parts.specs.Conditions.{IsPairField}
 use Rattle.ps_core_laws.specs.Runs.{IsSpace}
-use Rattle.ps_core_laws.specs.Places.{IsHeaded, ObjectsLie, ObjectsApart, AreDistinct, IsTight, ReplicasLie, ReplicasApart, AreTight, LeadBack}
+use Rattle.ps_core_laws.specs.Places.{IsHeaded, ObjectsLie, ObjectsApart, AreDistinct, IsTight}
+use Rattle.ps_core_laws.specs.Places.{ReplicasLie, ReplicasApart, AreTight, LeadBack}
 
 -- ---- the mutator's part
 

@@ -1,5 +1,6 @@
 -- Where objects and replicas lie in the table, and how much of it they use.
-use Rattle.std.specs.Prelude.{◌≡◌, ◌≢◌, ◌⊎◌, ℕ, ◌+◌, ◌^◌, ◌<◌, ◌≤◌, List, [], ◌∷◌, length, Some, None, slice_index}
+use Rattle.std.specs.Prelude.{◌≡◌, ◌≢◌, ◌⊎◌, ℕ, ◌+◌, ◌^◌, ◌<◌, ◌≤◌, List, [], ◌∷◌, length, Some}
+use Rattle.std.specs.Prelude.{None, slice_index}
 use Rattle.std.specs.List.{sum_by}
 use Rattle.ps_word.specs.Headers.{fields_in, kind_in}
 use Rattle.ps_core_parts.specs.declared.events.Object.{Object}

@@ -1,7 +1,8 @@
 -- What renaming does to the words of the format: to values of each type, in objects of each kind.
 use Rattle.std.specs.Prelude.{◌≡◌, ℕ, List, Some, None}
 use Rattle.ps_language.specs.declared.kinds.Kind.{Kind}
-use Rattle.ps_language.specs.declared.kinds.Kind.TheVariants.{Array, Text, Dictionary, Lock, Condition, Body}
+use Rattle.ps_language.specs.declared.kinds.Kind.TheVariants.{Array, Text, Dictionary, Lock}
+use Rattle.ps_language.specs.declared.kinds.Kind.TheVariants.{Condition, Body}
 use Rattle.ps_word.specs.declared.headers.Header.{Header}
 use Rattle.ps_word.specs.declared.values.Value.{Value}
 use Rattle.ps_word.specs.Format.{packed, IsInFormat}

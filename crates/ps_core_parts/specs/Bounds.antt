@@ -4,7 +4,9 @@ use Rattle.std.specs.Prelude.{Bool, List, length, ◌≡◌}
 use Rattle.ps_record.specs.Format.{slots}
 use Rattle.ps_core_parts.specs.declared.events.Pair.{Pair}
 use Rattle.ps_core_parts.specs.declared.events.Event.{Event}
-use Rattle.ps_core_parts.specs.declared.events.Event.TheVariants.{FieldStore, RecordStore, ForwardStore, HeadStore, CycleStore}
+use Rattle.ps_core_parts.specs.declared.events.Event.TheVariants.{FieldStore, RecordStore}
+use Rattle.ps_core_parts.specs.declared.events.Event.TheVariants.{ForwardStore, HeadStore}
+use Rattle.ps_core_parts.specs.declared.events.Event.TheVariants.{CycleStore}
 use Rattle.ps_core_parts.specs.declared.events.Written.{Written}
 use Rattle.ps_core_parts.specs.declared.events.Vm.{Vm}
 use Rattle.ps_core_parts.specs.declared.events.Gc.{Gc}

@@ -1,21 +1,32 @@
 -- When an event may happen. All but the word that a load finds is a fact of the part of the seat
 -- that makes it, so that a seat can know it whatever the other one did meanwhile; an event of both
 -- seats joined reads both parts.
-use Rattle.std.specs.Prelude.{◌≡◌, ◌≢◌, ℕ, ◌+◌, ◌^◌, ◌<◌, ◌≤◌, ◌==◌, ◌&&◌, Bool, true, false, List, length, Option, Some, None, MatchOption, slice_index, MatchBool}
+use Rattle.std.specs.Prelude.{◌≡◌, ◌≢◌, ℕ, ◌+◌, ◌^◌, ◌<◌, ◌≤◌, ◌==◌, ◌&&◌, Bool, true, false, List}
+use Rattle.std.specs.Prelude.{length, Option, Some, None, MatchOption, slice_index, MatchBool}
 use Rattle.std.specs.List.{list_any}
 use Rattle.ps_word.specs.Headers.{kind_in, fields_in, birth_in, cycle_limit}
 use Rattle.ps_record.specs.declared.Record.{Record}
 use Rattle.ps_record.specs.declared.Record.TheVariants.{Place, Close}
 use Rattle.ps_record.specs.Format.{slots, ring_length, ring_place, IsRecord, log_limit}
 use Rattle.ps_core_parts.specs.declared.events.Event.{Event}
-use Rattle.ps_core_parts.specs.declared.events.Event.TheVariants.{VmLoad, GcLoad, TakeLoad, CopyLoad, HandOver, ClearLoad, ClearStore, HeaderStore, FieldStore, RecordStore, EpochStore, ReplicaHeaderStore, ReplicaFieldStore, ForwardStore, HeadStore, CycleStore}
+use Rattle.ps_core_parts.specs.declared.events.Event.TheVariants.{VmLoad, GcLoad, TakeLoad}
+use Rattle.ps_core_parts.specs.declared.events.Event.TheVariants.{CopyLoad, HandOver, ClearLoad}
+use Rattle.ps_core_parts.specs.declared.events.Event.TheVariants.{ClearStore, HeaderStore}
+use Rattle.ps_core_parts.specs.declared.events.Event.TheVariants.{FieldStore, RecordStore}
+use Rattle.ps_core_parts.specs.declared.events.Event.TheVariants.{EpochStore, ReplicaHeaderStore}
+use Rattle.ps_core_parts.specs.declared.events.Event.TheVariants.{ReplicaFieldStore, ForwardStore}
+use Rattle.ps_core_parts.specs.declared.events.Event.TheVariants.{HeadStore, CycleStore}
 use Rattle.ps_core_parts.specs.declared.events.Object.{Object}
 use Rattle.ps_core_parts.specs.declared.events.Carried.{Carried}
 use Rattle.ps_core_parts.specs.declared.events.Written.{Written}
 use Rattle.ps_core_parts.specs.declared.events.Vm.{Vm}
 use Rattle.ps_core_parts.specs.declared.events.Gc.{Gc}
-use Rattle.ps_core_parts.specs.Objects.{among, object_at, pair_of, seen_at, log_of, word_has_replica, values_have_replicas, word_stands, values_stand, closes, adjoins, is_done, is_in_replica, end_of_replicas, all_filled}
-use Rattle.ps_core_parts.specs.Steps.{State, table_size, space_base, other_base, is_open, knows_open, next_word, header_of, forwarding}
+use Rattle.ps_core_parts.specs.Objects.{among, object_at, pair_of, seen_at, log_of}
+use Rattle.ps_core_parts.specs.Objects.{word_has_replica, values_have_replicas, word_stands}
+use Rattle.ps_core_parts.specs.Objects.{values_stand, closes, adjoins, is_done, is_in_replica}
+use Rattle.ps_core_parts.specs.Objects.{end_of_replicas, all_filled}
+use Rattle.ps_core_parts.specs.Steps.{State, table_size, space_base, other_base, is_open}
+use Rattle.ps_core_parts.specs.Steps.{knows_open, next_word, header_of, forwarding}
 
 -- a dictionary with this birth stands
 abbrev pub dictionary_stands : List Object → ℕ → Bool

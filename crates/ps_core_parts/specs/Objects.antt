@@ -1,5 +1,7 @@
 -- Objects, their replicas, and what is still to be copied (Nettles and O'Toole, PLDI 1993, 2).
-use Rattle.std.specs.Prelude.{ℕ, ◌+◌, ◌-◌, ◌==◌, ◌&&◌, ◌||◌, Bool, true, false, not, nat_le, nat_lt, nat_eq, List, [], ◌∷◌, length, Option, Some, None, max, min, is_some, slice_index_or, slice_set, if◌then◌else◌, find, count_by, map, filter}
+use Rattle.std.specs.Prelude.{ℕ, ◌+◌, ◌-◌, ◌==◌, ◌&&◌, ◌||◌, Bool, true, false, not, nat_le, nat_lt}
+use Rattle.std.specs.Prelude.{nat_eq, List, [], ◌∷◌, length, Option, Some, None, max, min, is_some}
+use Rattle.std.specs.Prelude.{slice_index_or, slice_set, if◌then◌else◌, find, count_by, map, filter}
 use Rattle.std.specs.List.{list_any, list_all}
 use Rattle.std.specs.Option.{option_map}
 use Rattle.ps_word.specs.Format.{address_in}

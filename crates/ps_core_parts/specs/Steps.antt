@@ -1,12 +1,21 @@
 -- What each event makes of the two parts and of the words (Nettles and O'Toole, PLDI 1993, 2 and
 -- 3). A state is the words and a part for each seat.
-use Rattle.std.specs.Prelude.{ℕ, ◌+◌, ◌-◌, ◌*◌, ◌%◌, ◌==◌, ◌&&◌, Bool, true, false, nat_le, nat_lt, List, [], ◌∷◌, ◌++◌, length, map, replicate, Option, Some, None, slice_set, if◌then◌else◌, unwrap_or}
+use Rattle.std.specs.Prelude.{ℕ, ◌+◌, ◌-◌, ◌*◌, ◌%◌, ◌==◌, ◌&&◌, Bool, true, false, nat_le, nat_lt}
+use Rattle.std.specs.Prelude.{List, [], ◌∷◌, ◌++◌, length, map, replicate, Option, Some, None}
+use Rattle.std.specs.Prelude.{slice_set, if◌then◌else◌, unwrap_or}
 use Rattle.ps_word.specs.Headers.{kind_in, fields_in, forward_packed}
 use Rattle.ps_record.specs.declared.Record.{Record}
 use Rattle.ps_record.specs.declared.Record.TheVariants.{Place, Close}
-use Rattle.ps_record.specs.Format.{slots, spaces_start, ring_place, packed, read_record, heads_start, head_place}
+use Rattle.ps_record.specs.Format.{slots, spaces_start, ring_place, packed, read_record}
+use Rattle.ps_record.specs.Format.{heads_start, head_place}
 use Rattle.ps_core_parts.specs.declared.events.Event.{Event}
-use Rattle.ps_core_parts.specs.declared.events.Event.TheVariants.{VmLoad, GcLoad, TakeLoad, CopyLoad, HandOver, ClearLoad, ClearStore, HeaderStore, FieldStore, RecordStore, EpochStore, ReplicaHeaderStore, ReplicaFieldStore, ForwardStore, HeadStore, CycleStore}
+use Rattle.ps_core_parts.specs.declared.events.Event.TheVariants.{VmLoad, GcLoad, TakeLoad}
+use Rattle.ps_core_parts.specs.declared.events.Event.TheVariants.{CopyLoad, HandOver, ClearLoad}
+use Rattle.ps_core_parts.specs.declared.events.Event.TheVariants.{ClearStore, HeaderStore}
+use Rattle.ps_core_parts.specs.declared.events.Event.TheVariants.{FieldStore, RecordStore}
+use Rattle.ps_core_parts.specs.declared.events.Event.TheVariants.{EpochStore, ReplicaHeaderStore}
+use Rattle.ps_core_parts.specs.declared.events.Event.TheVariants.{ReplicaFieldStore, ForwardStore}
+use Rattle.ps_core_parts.specs.declared.events.Event.TheVariants.{HeadStore, CycleStore}
 use Rattle.ps_core_parts.specs.declared.events.Object.{Object}
 use Rattle.ps_core_parts.specs.declared.events.Pair.{Pair}
 use Rattle.ps_core_parts.specs.declared.events.Seen.{Seen}
@@ -15,7 +24,9 @@ use Rattle.ps_core_parts.specs.declared.events.Carried.{Carried}
 use Rattle.ps_core_parts.specs.declared.events.Written.{Written}
 use Rattle.ps_core_parts.specs.declared.events.Vm.{Vm}
 use Rattle.ps_core_parts.specs.declared.events.Gc.{Gc}
-use Rattle.ps_core_parts.specs.Objects.{among, pair_of, seen_at, log_of, holds_values, with_field, with_copy, address_named, addresses_named, renamed_value, renamed, widened, with_load, end_of_replicas, replicas}
+use Rattle.ps_core_parts.specs.Objects.{among, pair_of, seen_at, log_of, holds_values, with_field}
+use Rattle.ps_core_parts.specs.Objects.{with_copy, address_named, addresses_named, renamed_value}
+use Rattle.ps_core_parts.specs.Objects.{renamed, widened, with_load, end_of_replicas, replicas}
 
 pub record State : Type 0 where
   pub words : List ℕ

@@ -4,7 +4,8 @@
 //! They keep no invariant: where two of a list have the same address, the first is found.
 #![tactic(auto)]
 
-ghost use Rattle.std.specs.Prelude.{◌≡◌, ◌+◌, ◌<◌, ◌^◌, ◌++◌, replicate, slice_set, IfOk, [], slice_index, option_copied, MatchBool};
+ghost use Rattle.std.specs.Prelude.{◌≡◌, ◌+◌, ◌<◌, ◌^◌, ◌++◌, replicate, slice_set, IfOk, []};
+ghost use Rattle.std.specs.Prelude.{slice_index, option_copied, MatchBool};
 ghost use Rattle.std.specs.Option.{SomeIff};
 ghost use Rattle.ps_record.specs.Format.{slots};
 ghost use Rattle.ps_core_parts.specs.Conditions as conditions;

@@ -1,7 +1,8 @@
 //! Objects, replicas and logs as the machine holds them.
 #![tactic(auto)]
 
-ghost use Rattle.std.specs.Prelude.{◌≡◌, ◌<◌, ◌^◌, ◌++◌, ◌∷◌, true, nat_lt, replicate, slice_set, if◌then◌else◌, IfOk, OnOk, [], length, MatchBool};
+ghost use Rattle.std.specs.Prelude.{◌≡◌, ◌<◌, ◌^◌, ◌++◌, ◌∷◌, true, nat_lt, replicate, slice_set};
+ghost use Rattle.std.specs.Prelude.{if◌then◌else◌, IfOk, OnOk, [], length, MatchBool};
 ghost use Rattle.ps_core_parts.specs.Objects as objects;
 ghost use Rattle.ps_core_parts.specs.Steps.{new_pair};
 ghost use Rattle.ps_word.specs.Headers as headers;

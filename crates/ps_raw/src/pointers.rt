@@ -1,7 +1,8 @@
 //! Raw pointers that stay inside one small function each: signatures and clauses name slices and
 //! numbers alone.
 
-ghost use Rattle.std.specs.Prelude.{◌≡◌, ◌+◌, ◌<◌, ◌≤◌, ◌++◌, length, slice_index, slice_set, slice_range, take, drop};
+ghost use Rattle.std.specs.Prelude.{◌≡◌, ◌+◌, ◌<◌, ◌≤◌, ◌++◌, length, slice_index, slice_set};
+ghost use Rattle.std.specs.Prelude.{slice_range, take, drop};
 
 /// The word at an index.
 #[inline]

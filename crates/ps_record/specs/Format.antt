@@ -1,6 +1,7 @@
 -- The layout of this run time's log: where a record stands, and as which number. Bits that no case
 -- sets are zero.
-use Rattle.std.specs.Prelude.{ℕ, ◌+◌, ◌*◌, ◌/◌, ◌%◌, ◌^◌, ◌<◌, ◌==◌, Option, Some, None, if◌then◌else◌}
+use Rattle.std.specs.Prelude.{ℕ, ◌+◌, ◌*◌, ◌/◌, ◌%◌, ◌^◌, ◌<◌, ◌==◌, Option, Some, None}
+use Rattle.std.specs.Prelude.{if◌then◌else◌}
 use Rattle.ps_record.specs.declared.Record.{Record}
 use Rattle.ps_record.specs.declared.Record.TheVariants.{Place, Close}
 

@@ -1,13 +1,18 @@
 -- Words with another attribute, another access or another address.
-use Rattle.std.proofs.Common.{◌≡◌, ℕ, ◌+◌, ◌*◌, ◌/◌, ◌%◌, ◌^◌, ◌<◌, ◌&&◌, Bool, true, false, refl, sym, ap, ◌∙◌, arith, is_some, IsSome}
+use Rattle.std.proofs.Common.{◌≡◌, ℕ, ◌+◌, ◌*◌, ◌/◌, ◌%◌, ◌^◌, ◌<◌, ◌&&◌, Bool, true, false, refl, sym, ap, ◌∙◌, arith}
+use Rattle.std.proofs.Common.{is_some, IsSome}
 use Rattle.ps_language.specs.declared.access.Access.{Access}
 use Rattle.ps_word.specs.declared.values.Content.{Content}
-use Rattle.ps_word.specs.declared.values.Content.TheVariants.{Null, Integer, Boolean, Mark, Name, Operator, Array, Text, Dictionary, Lock, Condition, Body}
+use Rattle.ps_word.specs.declared.values.Content.TheVariants.{Null, Integer, Boolean, Mark, Name, Operator, Array, Text}
+use Rattle.ps_word.specs.declared.values.Content.TheVariants.{Dictionary, Lock, Condition, Body}
 use Rattle.ps_word.specs.declared.values.Value.{Value}
-use Rattle.ps_word.specs.Format.{type_number, access_number, bit_of, content_bits, packed, IsContent, IsInFormat, is_body, address_in, content_of, content_in, executable_in, value_in, IsWord}
+use Rattle.ps_word.specs.Format.{type_number, access_number, bit_of, content_bits, packed, IsContent, IsInFormat}
+use Rattle.ps_word.specs.Format.{is_body, address_in, content_of, content_in, executable_in, value_in, IsWord}
 use Rattle.ps_word.specs.Readers.{as_part, address_of, with_access, with_address, is_reference, readdressed}
-use Rattle.ps_word.proofs.Packing.{access_number-below, type-of_sum, executable_in-of_sum, low-of_sum, content_of-low, value_in-is, IsWord-is}
-use Rattle.ps_word.proofs.Places.{sum-of_word, IsContent-of_word, literal_body-of_word, type-of_word, low-of_word, is_reference-at}
+use Rattle.ps_word.proofs.Packing.{access_number-below, type-of_sum, executable_in-of_sum, low-of_sum, content_of-low}
+use Rattle.ps_word.proofs.Packing.{value_in-is, IsWord-is}
+use Rattle.ps_word.proofs.Places.{sum-of_word, IsContent-of_word, literal_body-of_word, type-of_word, low-of_word}
+use Rattle.ps_word.proofs.Places.{is_reference-at}
 
 bit_of-below : (e : Bool) → bit_of e < 2
 bit_of-below true = omega arith
@@ -33,16 +38,20 @@ module _ (w : ℕ) (e : Bool) where
   unfolding changed
   executable_in-changed = executable_in-of_sum (w / 2 ^ 60) (w % 2 ^ 59) below e
 
-  pub value_in-with_executable : value_in ((w / 2 ^ 60) * 2 ^ 60 + bit_of e * 2 ^ 59 + w % 2 ^ 59) ≡ record (value_in w) { executable = e }
+  pub value_in-with_executable : value_in ((w / 2 ^ 60) * 2 ^ 60 + bit_of e * 2 ^ 59 + w % 2 ^ 59)
+      ≡ record (value_in w) { executable = e }
   unfolding changed
   value_in-with_executable =
-      ap (λ (c : Content). record { content = c; executable = executable_in changed }) content_in-changed ∙ ap (λ (b : Bool). record { content = content_in w; executable = b }) executable_in-changed
+      ap (λ (c : Content). record { content = c; executable = executable_in changed }) content_in-changed
+      ∙ ap (λ (b : Bool). record { content = content_in w; executable = b }) executable_in-changed
 
-  pub IsWord-with_executable : IsWord w → is_body (content_in w) && e ≡ false → IsWord ((w / 2 ^ 60) * 2 ^ 60 + bit_of e * 2 ^ 59 + w % 2 ^ 59)
+  pub IsWord-with_executable : IsWord w → is_body (content_in w) && e ≡ false
+      → IsWord ((w / 2 ^ 60) * 2 ^ 60 + bit_of e * 2 ^ 59 + w % 2 ^ 59)
   unfolding packed
   IsWord-with_executable word literal =
       let v : Value = record { content = content_in w; executable = e } in
-      let number : packed v ≡ (w / 2 ^ 60) * 2 ^ 60 + bit_of e * 2 ^ 59 + w % 2 ^ 59 = rw (type-of_word w word, low-of_word w word) refl in
+      let number : packed v ≡ (w / 2 ^ 60) * 2 ^ 60 + bit_of e * 2 ^ 59 + w % 2 ^ 59 =
+      rw (type-of_word w word, low-of_word w word) refl in
       IsWord-is _ v (record { content = IsContent-of_word w word; literal_body = literal }) number
 
 -- ---- another access
@@ -50,10 +59,13 @@ module _ (w : ℕ) (e : Bool) where
 module _ (a : Access) (e : Bool) where
   -- in each part of an array or of a string
   pub accessed-sum : (c : Content) → IsContent c → IsSome (as_part c)
-      → ((type_number c * 2 ^ 60 + bit_of e * 2 ^ 59 + content_bits c) / 2 ^ 59) * 2 ^ 59 + access_number a * 2 ^ 57 + (type_number c * 2 ^ 60 + bit_of e * 2 ^ 59 + content_bits c) % 2 ^ 57
+      → ((type_number c * 2 ^ 60 + bit_of e * 2 ^ 59 + content_bits c) / 2 ^ 59) * 2 ^ 59 + access_number a * 2 ^ 57
+      + (type_number c * 2 ^ 60 + bit_of e * 2 ^ 59 + content_bits c) % 2 ^ 57
       ≡ type_number (with_access c a) * 2 ^ 60 + bit_of e * 2 ^ 59 + content_bits (with_access c a)
-  accessed-sum (Array p) h is = let x = h.address in let y = h.within in let z = access_number-below p.access in let u = access_number-below a in let b = bit_of-below e in omega arith
-  accessed-sum (Text p) h is = let x = h.address in let y = h.within in let z = access_number-below p.access in let u = access_number-below a in let b = bit_of-below e in omega arith
+  accessed-sum (Array p) h is = let x = h.address in let y = h.within in let z = access_number-below p.access in
+      let u = access_number-below a in let b = bit_of-below e in omega arith
+  accessed-sum (Text p) h is = let x = h.address in let y = h.within in let z = access_number-below p.access in
+      let u = access_number-below a in let b = bit_of-below e in omega arith
   accessed-sum Null h is = cc
   accessed-sum (Integer _) h is = cc
   accessed-sum (Boolean _) h is = cc
@@ -90,9 +102,11 @@ module _ (w : ℕ) (word : IsWord w) (a : Access) (is : IsSome (as_part (content
   accessed_number : packed accessed_value ≡ (w / 2 ^ 59) * 2 ^ 59 + access_number a * 2 ^ 57 + w % 2 ^ 57
   unfolding accessed_value packed
   accessed_number =
-      sym (ap (λ m. (m / 2 ^ 59) * 2 ^ 59 + access_number a * 2 ^ 57 + m % 2 ^ 57) (sym (sum-of_word w word)) ∙ accessed-sum a (executable_in w) (content_in w) (IsContent-of_word w word) is)
+      sym (ap (λ m. (m / 2 ^ 59) * 2 ^ 59 + access_number a * 2 ^ 57 + m % 2 ^ 57) (sym (sum-of_word w word))
+      ∙ accessed-sum a (executable_in w) (content_in w) (IsContent-of_word w word) is)
 
-  pub value_in-with_access : value_in ((w / 2 ^ 59) * 2 ^ 59 + access_number a * 2 ^ 57 + w % 2 ^ 57) ≡ record (value_in w) { content = with_access (content_in w) a }
+  pub value_in-with_access : value_in ((w / 2 ^ 59) * 2 ^ 59 + access_number a * 2 ^ 57 + w % 2 ^ 57)
+      ≡ record (value_in w) { content = with_access (content_in w) a }
   unfolding accessed_value
   value_in-with_access = value_in-is _ accessed_value accessed_good accessed_number
 
@@ -103,10 +117,13 @@ module _ (w : ℕ) (word : IsWord w) (a : Access) (is : IsSome (as_part (content
 
 module _ (a : ℕ) (fits : a < 2 ^ 24) (e : Bool) where
   pub readdressed-sum : (c : Content) → IsContent c → is_some (address_of c) ≡ true
-      → readdressed (type_number c * 2 ^ 60 + bit_of e * 2 ^ 59 + content_bits c) a ≡ type_number (with_address c a) * 2 ^ 60 + bit_of e * 2 ^ 59 + content_bits (with_address c a)
+      → readdressed (type_number c * 2 ^ 60 + bit_of e * 2 ^ 59 + content_bits c) a
+      ≡ type_number (with_address c a) * 2 ^ 60 + bit_of e * 2 ^ 59 + content_bits (with_address c a)
   unfolding readdressed
-  readdressed-sum (Array p) h is = let x = h.address in let y = h.within in let z = access_number-below p.access in let b = bit_of-below e in omega arith
-  readdressed-sum (Text p) h is = let x = h.address in let y = h.within in let z = access_number-below p.access in let b = bit_of-below e in omega arith
+  readdressed-sum (Array p) h is = let x = h.address in let y = h.within in let z = access_number-below p.access in
+      let b = bit_of-below e in omega arith
+  readdressed-sum (Text p) h is = let x = h.address in let y = h.within in let z = access_number-below p.access in
+      let b = bit_of-below e in omega arith
   readdressed-sum (Dictionary _) h is = let b = bit_of-below e in omega arith
   readdressed-sum (Lock _) h is = let b = bit_of-below e in omega arith
   readdressed-sum (Condition _) h is = let b = bit_of-below e in omega arith
@@ -147,9 +164,12 @@ module _ (w : ℕ) (word : IsWord w) (a : ℕ) (fits : a < 2 ^ 24) (is : is_refe
   readdressed_number : packed readdressed_value ≡ readdressed w a
   unfolding readdressed_value packed
   readdressed_number =
-      sym (ap (λ m. readdressed m a) (sym (sum-of_word w word)) ∙ readdressed-sum a fits (executable_in w) (content_in w) (IsContent-of_word w word) (sym (is_reference-at w) ∙ is))
+      sym (ap (λ m. readdressed m a) (sym (sum-of_word w word))
+      ∙ readdressed-sum a fits (executable_in w) (content_in w) (IsContent-of_word w word) (sym (is_reference-at w)
+      ∙ is))
 
-  pub value_in-readdressed : value_in (readdressed w a) ≡ record (value_in w) { content = with_address (content_in w) a }
+  pub value_in-readdressed : value_in (readdressed w a)
+      ≡ record (value_in w) { content = with_address (content_in w) a }
   unfolding readdressed_value
   value_in-readdressed = value_in-is _ readdressed_value readdressed_good readdressed_number
 

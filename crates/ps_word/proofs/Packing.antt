@@ -1,5 +1,6 @@
 -- The number of a value in the format says that value.
-use Rattle.std.proofs.Common.{◌≡◌, ℕ, ◌+◌, ◌*◌, ◌/◌, ◌%◌, ◌^◌, ◌<◌, ◌≤◌, Bool, true, false, refl, sym, ap, ◌∙◌, subst, arith, rules, Some, None, slice_index_or, w32}
+use Rattle.std.proofs.Common.{◌≡◌, ℕ, ◌+◌, ◌*◌, ◌/◌, ◌%◌, ◌^◌, ◌<◌, ◌≤◌, Bool, true, false, refl, sym, ap, ◌∙◌, subst}
+use Rattle.std.proofs.Common.{arith, rules, Some, None, slice_index_or, w32}
 use Rattle.std.specs.Prelude.{ℤ, ◌↔◌}
 use Rattle.std.specs.Int.{cast_signed, cast_unsigned}
 use Rattle.std.proofs.lemmas.Int.{to_z-of_z}
@@ -14,9 +15,12 @@ use Rattle.ps_language.specs.OperatorList.{every_operator}
 use Rattle.ps_word.specs.OperatorNumbers.{operator_number}
 use Rattle.ps_word.specs.declared.values.Part.{Part}
 use Rattle.ps_word.specs.declared.values.Content.{Content}
-use Rattle.ps_word.specs.declared.values.Content.TheVariants.{Null, Integer, Boolean, Mark, Name, Operator, Array, Text, Dictionary, Lock, Condition, Body}
+use Rattle.ps_word.specs.declared.values.Content.TheVariants.{Null, Integer, Boolean, Mark, Name, Operator, Array, Text}
+use Rattle.ps_word.specs.declared.values.Content.TheVariants.{Dictionary, Lock, Condition, Body}
 use Rattle.ps_word.specs.declared.values.Value.{Value}
-use Rattle.ps_word.specs.Format.{type_number, access_number, bit_of, part_bits, content_bits, packed, IsPart, IsContent, IsInFormat, access_of, address_in, part_in, content_of, content_in, executable_in, value_in, IsWord}
+use Rattle.ps_word.specs.Format.{type_number, access_number, bit_of, part_bits, content_bits, packed, IsPart, IsContent}
+use Rattle.ps_word.specs.Format.{IsInFormat, access_of, address_in, part_in, content_of, content_in, executable_in}
+use Rattle.ps_word.specs.Format.{value_in, IsWord}
 
 -- ---- operators
 
@@ -153,17 +157,24 @@ value_in-packed v h =
     let below = content_bits-below v.content h.content in
     let w : ℕ = t * 2 ^ 60 + bit_of v.executable * 2 ^ 59 + b in
     let content : content_of (w / 2 ^ 60) w ≡ v.content =
-    ap (λ n. content_of n w) (type-of_sum t b below v.executable) ∙ (sym (content_of-low t w) ∙ (ap (content_of t) (low-of_sum t b below v.executable) ∙ content_of-bits v.content h.content)) in
+    ap (λ n. content_of n w) (type-of_sum t b below v.executable)
+    ∙ (sym (content_of-low t w) ∙ (ap (content_of t) (low-of_sum t b below v.executable)
+    ∙ content_of-bits v.content h.content)) in
     let executable : executable_in w ≡ v.executable = executable_in-of_sum t b below v.executable in
-    ap (λ (c : Content). record { content = c; executable = executable_in w }) content ∙ ap (λ (e : Bool). record { content = v.content; executable = e }) executable
+    ap (λ (c : Content). record { content = c; executable = executable_in w }) content
+    ∙ ap (λ (e : Bool). record { content = v.content; executable = e }) executable
 
 -- the number as the code adds it up
-pub packed-parts : (v : Value) (t b : ℕ) → t ≡ type_number v.content → b ≡ content_bits v.content → t * 2 ^ 60 + bool_byte v.executable * 2 ^ 59 + b ≡ packed v
+pub packed-parts : (v : Value) (t b : ℕ) → t ≡ type_number v.content → b ≡ content_bits v.content
+    → t * 2 ^ 60 + bool_byte v.executable * 2 ^ 59 + b ≡ packed v
 unfolding packed
 packed-parts v t b types bits = rw (types, bits, bool_byte-bit v.executable) refl
 
 pub IsWord-packed : (v : Value) → IsInFormat v → IsWord (packed v)
-IsWord-packed v h = record { value = subst IsInFormat (sym (value_in-packed v h)) h; exact = ap packed (value_in-packed v h) }
+IsWord-packed v h = record {
+  value = subst IsInFormat (sym (value_in-packed v h)) h;
+  exact = ap packed (value_in-packed v h);
+}
 
 -- a number that stands for a value is that value's
 pub value_in-is : (w : ℕ) (v : Value) → IsInFormat v → packed v ≡ w → value_in w ≡ v
@@ -176,7 +187,14 @@ IsWord-is w v h e = subst IsWord e (IsWord-packed v h)
 
 module _ (w : ℕ) (v : Value) (is : v ≡ value_in w) where
   pub unpacks : IsInFormat v → packed v ≡ w → (u : Value) → (Some v ≡ Some u) ↔ (IsInFormat u × (packed u ≡ w))
-  unpacks h e u = ((λ s. let same : v ≡ u = cc in (subst IsInFormat same h, ap packed (sym same) ∙ e)), (λ f. ap Some (is ∙ value_in-is w u f.0 f.1)))
+  unpacks h e u = (
+    (λ s. let same : v ≡ u = cc in (subst IsInFormat same h, ap packed (sym same) ∙ e)),
+    (λ f. ap Some (is ∙ value_in-is w u f.0 f.1)),
+  )
 
   pub unpacks_none : (IsInFormat v → packed v ≡ w → ⊥) → (u : Value) → (None ≡ Some u) ↔ (IsInFormat u × (packed u ≡ w))
-  unpacks_none isnt u = ((λ s. cc), (λ f. let same : v ≡ u = is ∙ value_in-is w u f.0 f.1 in absurd (isnt (subst IsInFormat (sym same) f.0) (ap packed same ∙ f.1))))
+  unpacks_none isnt u = (
+    (λ s. cc),
+    (λ f. let same : v ≡ u = is ∙ value_in-is w u f.0 f.1 in
+        absurd (isnt (subst IsInFormat (sym same) f.0) (ap packed same ∙ f.1))),
+  )

@@ -1,15 +1,19 @@
 -- The layout of this run time's words: which number stands for a value. Bit 0 is the lowest; bits
 -- that no case sets are zero.
-use Rattle.std.specs.Prelude.{◌≡◌, ℕ, ℤ, ◌+◌, ◌*◌, ◌/◌, ◌%◌, ◌^◌, ◌<◌, ◌==◌, ◌&&◌, Bool, true, false, if◌then◌else◌, FitsSigned, slice_index_or}
+use Rattle.std.specs.Prelude.{◌≡◌, ℕ, ℤ, ◌+◌, ◌*◌, ◌/◌, ◌%◌, ◌^◌, ◌<◌, ◌==◌, ◌&&◌, Bool, true}
+use Rattle.std.specs.Prelude.{false, if◌then◌else◌, FitsSigned, slice_index_or}
 use Rattle.std.specs.Int.{w32, cast_signed, cast_unsigned}
 use Rattle.ps_language.specs.declared.access.Access.{Access}
-use Rattle.ps_language.specs.declared.access.Access.TheVariants.{Unlimited, ReadOnly, ExecuteOnly, NoAccess}
+use Rattle.ps_language.specs.declared.access.Access.TheVariants.{Unlimited, ReadOnly, ExecuteOnly}
+use Rattle.ps_language.specs.declared.access.Access.TheVariants.{NoAccess}
 use Rattle.ps_language.specs.declared.operators.Operator.TheVariants.{Pop}
 use Rattle.ps_language.specs.OperatorList.{every_operator}
 use Rattle.ps_word.specs.OperatorNumbers.{operator_number}
 use Rattle.ps_word.specs.declared.values.Part.{Part}
 use Rattle.ps_word.specs.declared.values.Content.{Content}
-use Rattle.ps_word.specs.declared.values.Content.TheVariants.{Null, Integer, Boolean, Mark, Name, Operator, Array, Text, Dictionary, Lock, Condition, Body}
+use Rattle.ps_word.specs.declared.values.Content.TheVariants.{Null, Integer, Boolean, Mark, Name}
+use Rattle.ps_word.specs.declared.values.Content.TheVariants.{Operator, Array, Text, Dictionary}
+use Rattle.ps_word.specs.declared.values.Content.TheVariants.{Lock, Condition, Body}
 use Rattle.ps_word.specs.declared.values.Value.{Value}
 
 -- ---- from a value to its number

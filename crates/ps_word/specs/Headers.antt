@@ -2,7 +2,8 @@
 -- names are zero.
 use Rattle.std.specs.Prelude.{ℕ, ◌+◌, ◌*◌, ◌/◌, ◌%◌, ◌^◌, ◌<◌}
 use Rattle.ps_language.specs.declared.kinds.Kind.{Kind}
-use Rattle.ps_language.specs.declared.kinds.Kind.TheVariants.{Array, Text, Dictionary, Lock, Condition, Body}
+use Rattle.ps_language.specs.declared.kinds.Kind.TheVariants.{Array, Text, Dictionary, Lock}
+use Rattle.ps_language.specs.declared.kinds.Kind.TheVariants.{Condition, Body}
 use Rattle.ps_word.specs.declared.headers.Header.{Header}
 use Rattle.ps_word.specs.declared.headers.Forward.{Forward}
 

@@ -1,7 +1,33 @@
 -- The operators' numbers: their places in the order of systemdict.
 use Rattle.std.specs.Prelude.{ℕ}
 use Rattle.ps_language.specs.declared.operators.Operator.{Operator}
-use Rattle.ps_language.specs.declared.operators.Operator.TheVariants.{Pop, Exch, Dup, Copy, Index, Roll, Clear, Count, Mark, ClearToMark, CountToMark, Add, Sub, Mul, Idiv, Mod, Neg, Abs, Eq, Ne, Gt, Ge, Lt, Le, And, Or, Xor, Not, Bitshift, Array, BeginArray, EndArray, MakeString, Length, Get, Put, GetInterval, PutInterval, Aload, Astore, Forall, Search, AnchorSearch, Dict, BeginDict, EndDict, MaxLength, Begin, End, Def, Load, Store, Undef, Known, Where, CurrentDict, CountDictStack, ClearDictStack, ErrorDict, Exec, If, IfElse, For, Repeat, Loop, Exit, Stop, Stopped, Quit, Bind, TypeOf, Cvlit, Cvx, Xcheck, ExecuteOnly, NoAccess, ReadOnly, Rcheck, Wcheck, Cvi, Cvn, Cvs, Equals, EqualsEquals, Stack, Pstack, Print, CurrentContext, Fork, Join, Detach, Lock, Monitor, Condition, Wait, Notify, Yield, VmStatus, VmReclaim}
+use Rattle.ps_language.specs.declared.operators.Operator.TheVariants.{Pop, Exch, Dup, Copy, Index}
+use Rattle.ps_language.specs.declared.operators.Operator.TheVariants.{Roll, Clear, Count, Mark}
+use Rattle.ps_language.specs.declared.operators.Operator.TheVariants.{ClearToMark, CountToMark, Add}
+use Rattle.ps_language.specs.declared.operators.Operator.TheVariants.{Sub, Mul, Idiv, Mod, Neg, Abs}
+use Rattle.ps_language.specs.declared.operators.Operator.TheVariants.{Eq, Ne, Gt, Ge, Lt, Le, And}
+use Rattle.ps_language.specs.declared.operators.Operator.TheVariants.{Or, Xor, Not, Bitshift, Array}
+use Rattle.ps_language.specs.declared.operators.Operator.TheVariants.{BeginArray, EndArray}
+use Rattle.ps_language.specs.declared.operators.Operator.TheVariants.{MakeString, Length, Get, Put}
+use Rattle.ps_language.specs.declared.operators.Operator.TheVariants.{GetInterval, PutInterval}
+use Rattle.ps_language.specs.declared.operators.Operator.TheVariants.{Aload, Astore, Forall, Search}
+use Rattle.ps_language.specs.declared.operators.Operator.TheVariants.{AnchorSearch, Dict, BeginDict}
+use Rattle.ps_language.specs.declared.operators.Operator.TheVariants.{EndDict, MaxLength, Begin}
+use Rattle.ps_language.specs.declared.operators.Operator.TheVariants.{End, Def, Load, Store, Undef}
+use Rattle.ps_language.specs.declared.operators.Operator.TheVariants.{Known, Where, CurrentDict}
+use Rattle.ps_language.specs.declared.operators.Operator.TheVariants.{CountDictStack}
+use Rattle.ps_language.specs.declared.operators.Operator.TheVariants.{ClearDictStack, ErrorDict}
+use Rattle.ps_language.specs.declared.operators.Operator.TheVariants.{Exec, If, IfElse, For, Repeat}
+use Rattle.ps_language.specs.declared.operators.Operator.TheVariants.{Loop, Exit, Stop, Stopped}
+use Rattle.ps_language.specs.declared.operators.Operator.TheVariants.{Quit, Bind, TypeOf, Cvlit}
+use Rattle.ps_language.specs.declared.operators.Operator.TheVariants.{Cvx, Xcheck, ExecuteOnly}
+use Rattle.ps_language.specs.declared.operators.Operator.TheVariants.{NoAccess, ReadOnly, Rcheck}
+use Rattle.ps_language.specs.declared.operators.Operator.TheVariants.{Wcheck, Cvi, Cvn, Cvs, Equals}
+use Rattle.ps_language.specs.declared.operators.Operator.TheVariants.{EqualsEquals, Stack, Pstack}
+use Rattle.ps_language.specs.declared.operators.Operator.TheVariants.{Print, CurrentContext, Fork}
+use Rattle.ps_language.specs.declared.operators.Operator.TheVariants.{Join, Detach, Lock, Monitor}
+use Rattle.ps_language.specs.declared.operators.Operator.TheVariants.{Condition, Wait, Notify}
+use Rattle.ps_language.specs.declared.operators.Operator.TheVariants.{Yield, VmStatus, VmReclaim}
 
 -- from 0 to 98
 abbrev pub operator_number : Operator → ℕ

@@ -1,13 +1,20 @@
 -- What a value is, one reader for each type; and the places that the collector changes.
-use Rattle.std.specs.Prelude.{ℕ, ℤ, ◌+◌, ◌*◌, ◌/◌, ◌%◌, ◌^◌, ◌&&◌, Bool, true, false, Option, Some, None, nat_le, if◌then◌else◌}
+use Rattle.std.specs.Prelude.{ℕ, ℤ, ◌+◌, ◌*◌, ◌/◌, ◌%◌, ◌^◌, ◌&&◌, Bool, true, false, Option, Some}
+use Rattle.std.specs.Prelude.{None, nat_le, if◌then◌else◌}
 use Rattle.ps_language.specs.Access.{is_executable}
 use Rattle.ps_language.specs.declared.access.Access.{Access}
 use Rattle.ps_language.specs.declared.operators.Operator.{Operator as OperatorName}
 use Rattle.ps_language.specs.declared.kinds.Kind.{Kind}
-use Rattle.ps_language.specs.declared.kinds.Kind.TheVariants.{Array as ArrayKind, Text as TextKind, Dictionary as DictionaryKind, Lock as LockKind, Condition as ConditionKind, Body as BodyKind}
+use Rattle.ps_language.specs.declared.kinds.Kind.TheVariants.{Array as ArrayKind, Text as TextKind}
+use Rattle.ps_language.specs.declared.kinds.Kind.TheVariants.{Dictionary as DictionaryKind}
+use Rattle.ps_language.specs.declared.kinds.Kind.TheVariants.{Lock as LockKind}
+use Rattle.ps_language.specs.declared.kinds.Kind.TheVariants.{Condition as ConditionKind}
+use Rattle.ps_language.specs.declared.kinds.Kind.TheVariants.{Body as BodyKind}
 use Rattle.ps_word.specs.declared.values.Part.{Part}
 use Rattle.ps_word.specs.declared.values.Content.{Content}
-use Rattle.ps_word.specs.declared.values.Content.TheVariants.{Null, Integer, Boolean, Mark, Name, Operator, Array, Text, Dictionary, Lock, Condition, Body}
+use Rattle.ps_word.specs.declared.values.Content.TheVariants.{Null, Integer, Boolean, Mark, Name}
+use Rattle.ps_word.specs.declared.values.Content.TheVariants.{Operator, Array, Text, Dictionary}
+use Rattle.ps_word.specs.declared.values.Content.TheVariants.{Lock, Condition, Body}
 
 abbrev pub is_null : Content → Bool
 is_null Null = true

@@ -1,7 +1,8 @@
 //! Packed words: made of values, read back, and read and changed in place.
 #![tactic(auto)]
 
-ghost use Rattle.std.specs.Prelude.{◌≡◌, ◌↔◌, ◌<◌, ◌%◌, ◌^◌, ◌&&◌, true, false, None, IsSome, IsTrue, IfSome, is_some};
+ghost use Rattle.std.specs.Prelude.{◌≡◌, ◌↔◌, ◌<◌, ◌%◌, ◌^◌, ◌&&◌, true, false, None, IsSome};
+ghost use Rattle.std.specs.Prelude.{IsTrue, IfSome, is_some};
 ghost use Rattle.ps_word.specs.Format as layout;
 ghost use Rattle.ps_word.specs.Format.{value_in, content_in, IsWord, IsInFormat, IsContent};
 ghost use Rattle.ps_word.specs.Readers as readers;
@@ -160,8 +161,8 @@ impl Word {
         }
     }
 
-    /// The operator of a word of the layout, where it is one and executable: by one test of the type,
-    /// the attribute and the number, behind which the number needs no test.
+    /// The operator of a word of the layout, where it is one and executable: by one test of the
+    /// type, the attribute and the number, behind which the number needs no test.
     #[inline(always)]
     pub fn executable_operator(self) -> Option<Operator>
         requires word { IsWord self.0 }

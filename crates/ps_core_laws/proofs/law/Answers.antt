@@ -2,7 +2,8 @@ use Rattle.ps_core_laws.specs.Runs.{run}
 use Rattle.ps_core_laws.proofs.Closed.{still}
 use Rattle.ps_core_laws.proofs.Kept.{good}
 use Rattle.ps_core_laws.proofs.Replicating.{replicas_low}
-use Rattle.ps_core_laws.proofs.LawFacts.{pairs_hold, replicas_agree, copy_agrees, names_standing, words_follow, ready, flips_so, forwards_old, carries_so}
+use Rattle.ps_core_laws.proofs.LawFacts.{pairs_hold, replicas_agree, copy_agrees, names_standing, words_follow, ready}
+use Rattle.ps_core_laws.proofs.LawFacts.{flips_so, forwards_old, carries_so}
 use Rattle.ps_core_laws.proofs.Seconds.{seconds}
 use Rattle.ps_core_laws.proofs.Reached.{exact, noted}
 use Rattle.ps_core_laws.proofs.Births.{numbered}

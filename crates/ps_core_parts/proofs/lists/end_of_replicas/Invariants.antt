@@ -3,4 +3,7 @@ use Rattle.ps_core_parts.specs.Objects.{end_of_replicas}
 use Rattle.ps_core_parts.proofs.lists.end_of_replicas.Given as goal
 
 abbrev pub invariant-loop-p : goal.invariant-loop-p
-invariant-loop-p l = record { low : l.low ≤ l.end; whole : max l.end (end_of_replicas l.low (drop l.p-index l.list)) ≡ end_of_replicas l.low l.list }
+invariant-loop-p l = record {
+  low : l.low ≤ l.end;
+  whole : max l.end (end_of_replicas l.low (drop l.p-index l.list)) ≡ end_of_replicas l.low l.list;
+}

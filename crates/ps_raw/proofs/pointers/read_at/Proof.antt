@@ -14,7 +14,8 @@ use types.Logic.{Logic}
 use contract.Monad.{Fun}
 use contract.Running.{tables, tables_of}
 use sound.WpLaws.{WpFn-mono}
-use types.Kit.{‵, ◌⊛◌, ⋆, at_ret, ◌$◌, ◌∵◌, !, qed, by, move, keep, drop, split, join, fsplit, fjoin, feq_i, flt_i, rewrite, suffices, frame, done}
+use types.Kit.{‵, ◌⊛◌, ⋆, at_ret, ◌$◌, ◌∵◌, !, qed, by, move, keep, drop, split, join, fsplit, fjoin, feq_i, flt_i}
+use types.Kit.{rewrite, suffices, frame, done}
 use types.Part.{whole, sub}
 use types.Run.{look, stop, fld, load, addr, hop, from, lit, of_opd, bin, first, blocks, exec, returns, enter}
 use types.ByLocal.{alloc_all, pass_all, free_all, look_at, look_in_at, get, through, sets, sets_last, env}
@@ -70,30 +71,39 @@ module _ {M : Type 1} {𝓤 : Ura M} (𝓛 : Logic 𝓤) (at_mem : Memory → SP
     exits : word < 2 ^ 64 → ent 𝓤 (⋆ 𝓛 (‵ (flft κ q) ∷ [])) (Post (vint w64 word))
     exits fits =
         qed 𝓛 (‵ (flft κ q) ∷ []) ∵
-        suffices ! _ (ends_at 𝓛 read_at.ended stayed clauses bound (vint w64 word) word (tt, (tt, tt)) (tt, (tt, tt))) $ says ! refl $
+        suffices ! _ (ends_at 𝓛 read_at.ended stayed clauses bound (vint w64 word) word (tt, (tt, tt)) (tt, (tt, tt))) $
+        says ! refl $
         nothing ! $ move ! (1 ∷ 0 ∷ []) $ join ! $ frame ! $
         nothing ! $ nothing ! $ fjoin ! $ nothing ! $ fjoin ! $
-        flt_i ! word (2 ^ 64) fits $ feq_i ! (List Val) (vint w64 word ∷ []) (vint w64 word ∷ []) refl $ fjoin ! $ move ! (1 ∷ 0 ∷ []) $ done !
+        flt_i ! word (2 ^ 64) fits $ feq_i ! (List Val) (vint w64 word ∷ [])
+        (vint w64 word ∷ []) refl $ fjoin ! $ move ! (1 ∷ 0 ∷ []) $ done !
 
     module _ (C : Calls 𝓤 H) (Λ : Loops 𝓤 H) where
       walk : Room u64 (length xs) → i < length xs
-          → ent 𝓤 (on_entry 𝓛 read_at.signature (κ, tt) (q, tt) (words_at, (i, tt)) passed) (WpFn 𝓤 H C Λ code.function (slice_val (b, o) (length xs) ∷ vint w64 i ∷ []) Post)
+          → ent 𝓤 (on_entry 𝓛 read_at.signature (κ, tt) (q, tt) (words_at, (i, tt)) passed)
+          (WpFn 𝓤 H C Λ code.function (slice_val (b, o) (length xs) ∷ vint w64 i ∷ []) Post)
       walk room inside =
           let count : length xs < 2 ^ 64 = room.0 in
           let bytes : length xs * 8 < 2 ^ 63 = room.1 in
           let fi : i < 2 ^ 64 = omega arith in
           let offset : i * 8 < 2 ^ 64 = omega arith in
-          qed 𝓛 ((‵ (flft κ q) ⊛ ‵ ftrue) ∷ ‵ (owns (ShrSlice (named 0) κ u64 ∷ usize ∷ []) (words_at, (i, tt)) passed) ∷ []) ∵
+          qed 𝓛 ((‵ (flft κ q) ⊛ ‵ ftrue) ∷ ‵ (owns (ShrSlice (named 0) κ u64 ∷ usize ∷ []) (words_at, (i, tt)) passed)
+          ∷ []) ∵
           enter ! C Λ code.function (slice_val (b, o) (length xs) ∷ vint w64 i ∷ []) _ $
-          alloc_all ! (λ l. pass_all ! refl ((tt, (tt, (record { fits = count }, tt))), ((tt, record { fits = fi }), tt)) $
+          alloc_all ! (λ l. pass_all ! refl (
+            (tt, (tt, (record { fits = count }, tt))),
+            ((tt, record { fits = fi }), tt),
+          ) $
           let En : Env 𝓤 H = env (code.function).locals l in
           move ! (1 ∷ []) $ fsplit ! $ fsplit ! $ drop ! $ move ! (2 ∷ []) $ split ! $ move ! (2 ∷ 0 ∷ []) $
           -- [the elements, shared; the token of κ; ..]
-          looks_slice ! tt u64 (uint_Copied 𝓛 w64) xs b o (λ q'. elem_out ! u64 (Is u64) (shows 𝓛 u64) (uint_vals w64) (uint_Tells w64) q' xs i 0 b o inside (λ g.
+          looks_slice ! tt u64 (uint_Copied 𝓛 w64) xs b o
+          (λ q'. elem_out ! u64 (Is u64) (shows 𝓛 u64) (uint_vals w64) (uint_Tells w64) q' xs i 0 b o inside (λ g.
           rewrite ! 0 (λ (k : ℕ). ‵ (fat q' (ty_int w64) b k (vint w64 word))) (place_is 8 o i) refl $
           -- [the cell; ..]. From here, one step for each statement of the MIR.
           -- let start = words.as_ptr();
-          sets ! (addr ! (from ! (fld ! refl (hop ! (look_in_at ! 1 (sub ! 0 refl (whole !))) (stop !))))) refl (tt, tt) $
+          sets ! (addr ! (from ! (fld ! refl (hop ! (look_in_at ! 1 (sub ! 0 refl (whole !))) (stop !))))) refl
+          (tt, tt) $
           first ! $ blocks ! $
           -- *start.add(index)
           sets ! (bin ! (get ! refl) (lit ! tt) (record { fits = offset })) refl (tt, record { fits = offset }) $
@@ -107,8 +117,10 @@ module _ {M : Type 1} {𝓤 : Ura M} (𝓛 : Logic 𝓤) (at_mem : Memory → SP
 
   meets : (𝓣 : Tables 𝓤 H) → Meets 𝓛 read_at.signature (WpFn 𝓤 H 𝓣.C 𝓣.Λ code.function) (read_at.spec 𝓛 at_mem run)
   meets 𝓣 =
-      walk_Meets 𝓛 read_at.ended stayed
-      (Goes-dropped 𝓛 1 (shr_slice_of (0 ∷ []) tt (plain (λ _. u64))) yes (λ κs x f. refl), (Goes-dropped 𝓛 1 (plain (λ _. usize)) yes (λ κs x f. refl), tt))
+      walk_Meets 𝓛 read_at.ended stayed (
+        Goes-dropped 𝓛 1 (shr_slice_of (0 ∷ []) tt (plain (λ _. u64))) yes (λ κs x f. refl),
+        (Goes-dropped 𝓛 1 (plain (λ _. usize)) yes (λ κs x f. refl), tt),
+      )
       clauses (WpFn 𝓤 H 𝓣.C 𝓣.Λ code.function) (WpFn-mono 𝓤 H 𝓛.laws 𝓣 code.function)
       (walked 𝓛 read_at.ended stayed clauses (WpFn 𝓤 H 𝓣.C 𝓣.Λ code.function)
       (λ κs. (shr_slice_vals, (uint_vals w64, tt))) (λ κs. (shr_slice_Tells (named 0) κs.0 u64, (uint_Tells w64, tt)))

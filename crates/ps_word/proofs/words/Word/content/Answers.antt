@@ -2,12 +2,15 @@ use Rattle.std.proofs.Common.{rules, w32}
 use Rattle.std.specs.Prelude.{FitsSigned}
 use Rattle.std.proofs.lemmas.Int.{to_z-of_z}
 use Rattle.std.proofs.Common.{ap, sym, ◌∙◌, arith}
-use Rattle.ps_word.specs.declared.values.Content.TheVariants.{Integer, Operator, Array, Text, Dictionary, Lock, Condition, Body}
+use Rattle.ps_word.specs.declared.values.Content.TheVariants.{Integer, Operator, Array, Text, Dictionary, Lock}
+use Rattle.ps_word.specs.declared.values.Content.TheVariants.{Condition, Body}
 use Rattle.ps_word.proofs.Places.{content_in-at, null-at}
 use Rattle.ps_word.proofs.words.Word.content.Goals as goal
 
 pub returns-in-1 : goal.returns-in-1
-returns-in-1 c = let fits : FitsSigned w32 c.low_integer.result = search rules in ap Integer (to_z-of_z w32 c.low_integer.result fits) ∙ (ap Integer c.low_integer.ensures ∙ sym (content_in-at c.args.self.0 1 c.in-1.is))
+returns-in-1 c = let fits : FitsSigned w32 c.low_integer.result = search rules in
+    ap Integer (to_z-of_z w32 c.low_integer.result fits)
+    ∙ (ap Integer c.low_integer.ensures ∙ sym (content_in-at c.args.self.0 1 c.in-1.is))
 
 pub returns-in-2 : goal.returns-in-2
 returns-in-2 c = sym (content_in-at c.args.self.0 2 c.in-2.is)
