@@ -44,7 +44,8 @@ if_some : (found : Option Standing) (P : Standing → Type 0) (o : Standing) →
 if_some None P o e p = cc
 if_some (Some x) P o e p = let same : x ≡ o = cc in subst P (sym same) p
 
-module _ (words : List ℕ) (used next : ℕ) (within : used ≤ length words) (whole : wanting (take used words) 0 ≡ 0) (headers : all_headers (take used words) 0 ≡ true)
+module _ (words : List ℕ) (used next : ℕ) (within : used ≤ length words) (whole : wanting (take used words) 0
+    ≡ 0) (headers : all_headers (take used words) 0 ≡ true)
     (a : ℕ) (stands : (space : Space) → IsSome (object_at (heap_in words used next space) a)) where
   pub header_place : a < length words
   header_place =
@@ -65,17 +66,29 @@ module _ (words : List ℕ) (used next : ℕ) (within : used ≤ length words) (
     packed : header_packed found ≡ x
     packed =
         let (o, at) = standing_some (object_at (heap_in words used next some_space) a) (stands some_space) in
-        header_packed-parts x (kind_of_number (kind_in x)) (kind_number-kind_of_number (kind_in x) (header_kind words used next some_space within whole a o x at there headers))
+        header_packed-parts x (kind_of_number (kind_in x))
+        (kind_number-kind_of_number (kind_in x)
+        (header_kind words used next some_space within whole a o x at there headers))
 
-    module _ (result : Option Header) (unpacked : (h : Header) → (result ≡ Some h) ↔ (IsHeader h × (header_packed h ≡ x))) where
+    module _ (result : Option Header)
+        (unpacked : (h : Header) → (result ≡ Some h) ↔ (IsHeader h × (header_packed h ≡ x))) where
       pub header_some : result ≡ Some found
       header_some = (unpacked found).1 (fits, packed)
 
-      pub header_is : (h : Header) → result ≡ Some h → (space : Space) → IfSome (object_at (heap_in words used next space) a) (λ o. h ≡ record { kind = o.kind; fields = length o.fields; birth = o.birth })
+      pub header_is : (h : Header) → result ≡ Some h → (space : Space)
+          → IfSome (object_at (heap_in words used next space) a) (λ o. h ≡ record {
+            kind = o.kind;
+            fields = length o.fields;
+            birth = o.birth;
+          })
       header_is h e space =
           let (o, at) = standing_some (object_at (heap_in words used next space) a) (stands space) in
           let (kind, birth, fields) = header-read words used next space within whole a o x at there in
           let one : Some h ≡ Some found = sym e ∙ header_some in
           let is : h ≡ found = cc in
-          if_some (object_at (heap_in words used next space) a) (λ p. h ≡ record { kind = p.kind; fields = length p.fields; birth = p.birth }) o at
+          if_some (object_at (heap_in words used next space) a) (λ p. h ≡ record {
+            kind = p.kind;
+            fields = length p.fields;
+            birth = p.birth;
+          }) o at
           (is ∙ (λ i. record { kind = sym kind i; fields = sym fields i; birth = sym birth i }))

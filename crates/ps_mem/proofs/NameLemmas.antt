@@ -15,7 +15,8 @@ use Rattle.ps_mem.specs.Shows.{IsWithin, IsWithinContent, AreWithin, pair_of, wo
 use Rattle.ps_mem.proofs.NewShows.{slice_get-append_left}
 
 module _ (names more : List (List ℕ)) (births : ℕ → ℕ) (s : Store) where
-  what_of-named : (content : Content) → IsWithinContent births names s content → what_of births (names ++ more) content ≡ what_of births names content
+  what_of-named : (content : Content) → IsWithinContent births names s content
+      → what_of births (names ++ more) content ≡ what_of births names content
   what_of-named Null w = refl
   what_of-named (Integer _) w = refl
   what_of-named (Boolean _) w = refl
@@ -29,15 +30,19 @@ module _ (names more : List (List ℕ)) (births : ℕ → ℕ) (s : Store) where
   what_of-named (Condition a) w = refl
   what_of-named (Body a) w = refl
 
-  pub value_of-named : (w : Word) → IsWithin births names s w → value_of births (names ++ more) w ≡ value_of births names w
+  pub value_of-named : (w : Word) → IsWithin births names s w
+      → value_of births (names ++ more) w ≡ value_of births names w
   unfolding value_of IsWithin
-  value_of-named w inside = ap (λ what. record { what = what; executable = executable_in w.0 }) (what_of-named (content_in w.0) inside)
+  value_of-named w inside =
+      ap (λ what. record { what = what; executable = executable_in w.0 }) (what_of-named (content_in w.0) inside)
 
-  pub values_of-named : (ws : List Word) → AllByRecursion (IsWithin births names s) ws → map (value_of births (names ++ more)) ws ≡ map (value_of births names) ws
+  pub values_of-named : (ws : List Word) → AllByRecursion (IsWithin births names s) ws
+      → map (value_of births (names ++ more)) ws ≡ map (value_of births names) ws
   values_of-named [] inside = refl
   values_of-named (w ∷ ws) inside = λ i. value_of-named w inside.0 i ∷ values_of-named ws inside.1 i
 
-  within_content-named : (content : Content) → IsWithinContent births names s content → IsWithinContent births (names ++ more) s content
+  within_content-named : (content : Content) → IsWithinContent births names s content
+      → IsWithinContent births (names ++ more) s content
   within_content-named Null w = tt
   within_content-named (Integer _) w = tt
   within_content-named (Boolean _) w = tt
@@ -55,19 +60,26 @@ module _ (names more : List (List ℕ)) (births : ℕ → ℕ) (s : Store) where
   unfolding IsWithin
   IsWithin-named w inside = within_content-named (content_in w.0) inside
 
-  pub AreWithin-named : (ws : List Word) → AllByRecursion (IsWithin births names s) ws → AllByRecursion (IsWithin births (names ++ more) s) ws
+  pub AreWithin-named : (ws : List Word) → AllByRecursion (IsWithin births names s) ws
+      → AllByRecursion (IsWithin births (names ++ more) s) ws
   AreWithin-named [] inside = tt
   AreWithin-named (w ∷ ws) inside = (IsWithin-named w inside.0, AreWithin-named ws inside.1)
 
 module _ (h : Heap) (names more : List (List ℕ)) (s : Store) (shows : Shows h names s) where
-  within_pairs : (pairs : List (Word × Word)) (rest : List Word) → AreWithin h names s (words_of_pairs pairs ++ rest) → map (pair_of (birth_at h) (names ++ more)) pairs ≡ map (pair_of (birth_at h) names) pairs
+  within_pairs : (pairs : List (Word × Word)) (rest : List Word) → AreWithin h names s (words_of_pairs pairs ++ rest)
+      → map (pair_of (birth_at h) (names ++ more)) pairs ≡ map (pair_of (birth_at h) names) pairs
   within_pairs [] rest inside = refl
   within_pairs (pair ∷ pairs) rest inside =
-      λ i. (value_of-named names more (birth_at h) s pair.0 inside.0 i, value_of-named names more (birth_at h) s pair.1 inside.1.0 i) ∷ within_pairs pairs rest inside.1.1 i
+      λ i. (
+        value_of-named names more (birth_at h) s pair.0 inside.0 i,
+        value_of-named names more (birth_at h) s pair.1 inside.1.0 i,
+      ) ∷ within_pairs pairs rest inside.1.1 i
 
-  shown_dictionary-named : (birth : ℕ) (fields : List Word) (d : DictionaryValue) → ShowsDictionary h names birth fields d → ShowsDictionary h (names ++ more) birth fields d
+  shown_dictionary-named : (birth : ℕ) (fields : List Word) (d : DictionaryValue)
+      → ShowsDictionary h names birth fields d → ShowsDictionary h (names ++ more) birth fields d
   shown_dictionary-named birth fields d x =
-      let inside : AreWithin h names s x.shape.body_fields = shows.within x.shape.body _ x.shape.stands (λ (e : BodyKind ≡ TextKind). cc) in
+      let inside : AreWithin h names s x.shape.body_fields =
+      shows.within x.shape.body _ x.shape.stands (λ (e : BodyKind ≡ TextKind). cc) in
       record {
         shape = x.shape;
         count = x.count;
@@ -79,16 +91,26 @@ module _ (h : Heap) (names more : List (List ℕ)) (s : Store) (shows : Shows h 
         are = x.are ∙ sym (within_pairs x.pairs _ (subst (AreWithin h names s) x.holds inside));
       }
 
-  shown-named : {kind : Kind} {birth : ℕ} {fields : List Word} {object : Object} → (kind ≢ TextKind → AreWithin h names s fields) → IsShown h names kind birth fields object → IsShown h (names ++ more) kind birth fields object
-  shown-named inside (shown_array {fields = fields} e) = shown_array (e ∙ sym (values_of-named names more (birth_at h) s fields (inside (λ (k : ArrayKind ≡ TextKind). cc))))
+  shown-named : {kind : Kind} {birth : ℕ} {fields : List Word} {object : Object}
+      → (kind ≢ TextKind → AreWithin h names s fields) → IsShown h names kind birth fields object
+      → IsShown h (names ++ more) kind birth fields object
+  shown-named inside (shown_array {fields = fields} e) =
+      shown_array (e
+      ∙ sym (values_of-named names more (birth_at h) s fields (inside (λ (k : ArrayKind ≡ TextKind). cc))))
   shown-named inside (shown_text are e) = shown_text are e
-  shown-named inside (shown_dictionary {birth = birth} {fields = fields} {d = d} x) = shown_dictionary (shown_dictionary-named birth fields d x)
+  shown-named inside (shown_dictionary {birth = birth} {fields = fields} {d = d} x) =
+      shown_dictionary (shown_dictionary-named birth fields d x)
   shown-named inside (shown_lock o) = shown_lock o
   shown-named inside shown_condition = shown_condition
 
   pub Shows-named : Shows h (names ++ more) s
   Shows-named = record {
     next = shows.next;
-    objects = λ a o at body. let old = shows.objects a o at body in record { object = old.object; there = old.there; shown = shown-named (λ text. shows.within a o at text) old.shown };
+    objects = λ a o at body. let old = shows.objects a o at body in
+        record {
+          object = old.object;
+          there = old.there;
+          shown = shown-named (λ text. shows.within a o at text) old.shown;
+        };
     within = λ a o at text. AreWithin-named names more (birth_at h) s o.fields (shows.within a o at text);
   }

@@ -33,13 +33,16 @@ slice_get-index [] i h = absurd (omega arith)
 slice_get-index (x ∷ xs) zero h = refl
 slice_get-index (x ∷ xs) (suc i) h = slice_get-index xs i (omega arith)
 
-module _ (words : List ℕ) (used next : ℕ) (within : used ≤ length words) (whole : wanting (take used words) 0 ≡ 0) (blank : drop used words ≡ replicate (length words - used) 0)
-    (h : Header) (fits : IsHeader h) (number : ℕ) (packed : number ≡ header_packed h) (n : ℕ) (count : h.fields ≡ n) (room : used + (2 + n) ≤ length words) where
+module _ (words : List ℕ) (used next : ℕ) (within : used ≤ length words) (whole : wanting (take used words) 0
+    ≡ 0) (blank : drop used words ≡ replicate (length words - used) 0)
+    (h : Header) (fits : IsHeader h) (number : ℕ) (packed : number ≡ header_packed h) (n : ℕ) (count : h.fields
+    ≡ n) (room : used + (2 + n) ≤ length words) where
   fields : fields_in number ≡ n
   fields = ap fields_in packed ∙ (fields_in-packed h fits ∙ count)
 
   kind_is : kind_of_number (kind_in number) ≡ h.kind
-  kind_is = ap (λ k. kind_of_number (kind_in k)) packed ∙ (ap kind_of_number (kind_in-packed h fits) ∙ kind_of_number-kind_number h.kind)
+  kind_is = ap (λ k. kind_of_number (kind_in k)) packed
+      ∙ (ap kind_of_number (kind_in-packed h fits) ∙ kind_of_number-kind_number h.kind)
 
   birth_is : birth_in number ≡ h.birth
   birth_is = ap birth_in packed ∙ birth_in-packed h fits
@@ -50,27 +53,37 @@ module _ (words : List ℕ) (used next : ℕ) (within : used ≤ length words) (
   pub nothing_there : (space : Space) → object_at (heap_in words used next space) used ≡ None
   nothing_there space = free words used next space within whole blank number n fields room
 
-  pub heap_with_new : h.birth ≡ next → (space : Space) → heap_in (slice_set words used number) (used + 2 + n) (next + 1) space ≡ made (heap_in words used next space) used h.kind n
+  pub heap_with_new : h.birth ≡ next → (space : Space)
+      → heap_in (slice_set words used number) (used + 2 + n) (next + 1) space
+      ≡ made (heap_in words used next space) used h.kind n
   heap_with_new birth space =
       ap (λ k. heap_in (slice_set words used number) k (next + 1) space) end
       ∙ heap-new words used next space within whole blank number n fields room h.kind kind_is (birth_is ∙ birth)
 
-  pub heap_with_body : h.kind ≡ Body → (space : Space) → heap_in (slice_set words used number) (used + 2 + n) next space ≡ made_body (heap_in words used next space) used h.birth n
+  pub heap_with_body : h.kind ≡ Body → (space : Space)
+      → heap_in (slice_set words used number) (used + 2 + n) next space
+      ≡ made_body (heap_in words used next space) used h.birth n
   heap_with_body kind space =
       ap (λ k. heap_in (slice_set words used number) k next space) end
       ∙ heap-new_body words used next space within whole blank number n fields room h.birth (kind_is ∙ kind) birth_is
 
   pub whole_with_new : wanting (take (used + 2 + n) (slice_set words used number)) 0 ≡ 0
-  whole_with_new = ap (λ k. wanting (take k (slice_set words used number)) 0) end ∙ wanting-new words used next some_space within whole blank number n fields room
+  whole_with_new = ap (λ k. wanting (take k (slice_set words used number)) 0) end
+      ∙ wanting-new words used next some_space within whole blank number n fields room
 
-  pub headers_with_new : all_headers (take used words) 0 ≡ true → all_headers (take (used + 2 + n) (slice_set words used number)) 0 ≡ true
+  pub headers_with_new : all_headers (take used words) 0 ≡ true
+      → all_headers (take (used + 2 + n) (slice_set words used number)) 0 ≡ true
   headers_with_new old =
       ap (λ k. all_headers (take k (slice_set words used number)) 0) end
-      ∙ headers-new words used next some_space within whole blank number n fields room (ap (λ k. is_kind_number (kind_in k)) packed ∙ (ap is_kind_number (kind_in-packed h fits) ∙ is_kind_number-kind_number h.kind)) old
+      ∙ headers-new words used next some_space within whole blank number n fields room
+      (ap (λ k. is_kind_number (kind_in k)) packed
+      ∙ (ap is_kind_number (kind_in-packed h fits) ∙ is_kind_number-kind_number h.kind)) old
 
-  pub blank_with_new : drop (used + 2 + n) (slice_set words used number) ≡ replicate (length (slice_set words used number) - (used + 2 + n)) 0
+  pub blank_with_new : drop (used + 2 + n) (slice_set words used number)
+      ≡ replicate (length (slice_set words used number) - (used + 2 + n)) 0
   blank_with_new =
-      subst (λ k. drop k (slice_set words used number) ≡ replicate (length (slice_set words used number) - k) 0) (sym end)
+      subst (λ k. drop k (slice_set words used number) ≡ replicate (length (slice_set words used number) - k) 0)
+      (sym end)
       (blank-new words used next some_space within whole blank number n fields room)
 
   pub length_with_new : length (slice_set words used number) ≡ length words

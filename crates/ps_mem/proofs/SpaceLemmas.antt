@@ -13,15 +13,18 @@ use Rattle.ps_mem.specs.Bounded.{bounded_space}
 use Rattle.ps_mem.specs.Plain.{plain_space}
 
 module _ (words : List ℕ) (used next : ℕ) (s : Space) (a : ℕ) where
-  pub below_any : (p : ℕ) → p < length (fields_at (heap_in words used next s) a) → (t : Space) → p < length (fields_at (heap_in words used next t) a)
+  pub below_any : (p : ℕ) → p < length (fields_at (heap_in words used next s) a) → (t : Space)
+      → p < length (fields_at (heap_in words used next t) a)
   unfolding fields_at object_at heap_in
   below_any p h t = h
 
-  pub reaches_any : (n : ℕ) → n ≤ length (fields_at (heap_in words used next s) a) → (t : Space) → n ≤ length (fields_at (heap_in words used next t) a)
+  pub reaches_any : (n : ℕ) → n ≤ length (fields_at (heap_in words used next s) a) → (t : Space)
+      → n ≤ length (fields_at (heap_in words used next t) a)
   unfolding fields_at object_at heap_in
   reaches_any n h t = h
 
-  pub stands_any : IsSome (object_at (heap_in words used next s) a) → (t : Space) → IsSome (object_at (heap_in words used next t) a)
+  pub stands_any : IsSome (object_at (heap_in words used next s) a) → (t : Space)
+      → IsSome (object_at (heap_in words used next t) a)
   unfolding object_at heap_in
   stands_any h t = h
 
@@ -42,15 +45,21 @@ kind_stands : (kind : Kind) (found : Option Standing) → IsKind kind found → 
 kind_stands kind None h = absurd h
 kind_stands kind (Some o) h = refl
 
-module _ (words : List ℕ) (used next : ℕ) (s : Space) (a : ℕ) (stands : IsKind Dictionary (object_at (heap_in words used next s) a)) where
+module _ (words : List ℕ) (used next : ℕ) (s : Space) (a : ℕ)
+    (stands : IsKind Dictionary (object_at (heap_in words used next s) a)) where
   pub dictionary_stands : (t : Space) → IsSome (object_at (heap_in words used next t) a)
-  dictionary_stands = stands_any words used next s a (kind_stands Dictionary (object_at (heap_in words used next s) a) stands)
+  dictionary_stands = stands_any words used next s a
+      (kind_stands Dictionary (object_at (heap_in words used next s) a) stands)
 
-header_birth : (found : Option Standing) (kind : Kind) (h : Header) → IsKind kind found → IfSome found (λ o. h ≡ record { kind = o.kind; fields = length o.fields; birth = o.birth }) → h.birth ≡ birth_of found
+header_birth : (found : Option Standing) (kind : Kind) (h : Header) → IsKind kind found
+    → IfSome found (λ o. h ≡ record { kind = o.kind; fields = length o.fields; birth = o.birth })
+    → h.birth ≡ birth_of found
 header_birth None kind h k e = absurd k
 header_birth (Some o) kind h k e = ap (λ (x : Header). x.birth) e
 
-pub birth-header : (g : Heap) (a : ℕ) (h : Header) → IsKind Dictionary (object_at g a) → IfSome (object_at g a) (λ o. h ≡ record { kind = o.kind; fields = length o.fields; birth = o.birth }) → h.birth ≡ birth_at g a
+pub birth-header : (g : Heap) (a : ℕ) (h : Header) → IsKind Dictionary (object_at g a)
+    → IfSome (object_at g a) (λ o. h ≡ record { kind = o.kind; fields = length o.fields; birth = o.birth })
+    → h.birth ≡ birth_at g a
 unfolding birth_at
 birth-header g a h k e = header_birth (object_at g a) Dictionary h k e
 
@@ -60,7 +69,8 @@ module _ (words : List ℕ) (used next size n b : ℕ) where
   abbrev bounded : Heap
   bounded = heap_in words used next (bounded_space size)
 
-  pub has_room-words : used ≤ size → next ≤ 2 ^ 40 → n ≤ size - used → nat_le b (1099511627776 - next) ≡ has_room bounded n b
+  pub has_room-words : used ≤ size → next ≤ 2 ^ 40 → n ≤ size - used
+      → nat_le b (1099511627776 - next) ≡ has_room bounded n b
   unfolding has_room heap_in
   has_room-words within small fits = grind (arith, nat_tests, within, small, fits)
 

@@ -34,7 +34,8 @@ plain_visible (plain_integer _) = refl
 plain_visible (plain_boolean _) = refl
 plain_visible (plain_operator _) = refl
 
-plain_within : (births : ℕ → ℕ) (names : List (List ℕ)) (s : Store) {content : Content} → IsPlain content → IsWithinContent births names s content
+plain_within : (births : ℕ → ℕ) (names : List (List ℕ)) (s : Store) {content : Content} → IsPlain content
+    → IsWithinContent births names s content
 plain_within births names s plain_null = tt
 plain_within births names s plain_mark = tt
 plain_within births names s (plain_integer _) = tt
@@ -51,5 +52,7 @@ module _ (w : Word) (plain : IsPlain (content_in w.0)) where
   IsWithin-plain births names s = plain_within births names s plain
 
 -- a literal integer is a value
-pub IsValue-integer : (h : Heap) (w : Word) (number : ℤ) → value_in w.0 ≡ record { content = Integer number; executable = false } → IsWord w.0 → IsValue h w
-IsValue-integer h w number is word = IsValue-plain w (subst IsPlain (sym (ap (λ (v : Value). v.content) is)) (plain_integer number)) h word
+pub IsValue-integer : (h : Heap) (w : Word) (number : ℤ)
+    → value_in w.0 ≡ record { content = Integer number; executable = false } → IsWord w.0 → IsValue h w
+IsValue-integer h w number is word =
+    IsValue-plain w (subst IsPlain (sym (ap (λ (v : Value). v.content) is)) (plain_integer number)) h word

@@ -14,7 +14,8 @@ pub value_of-zero : (births : ℕ → ℕ) (names : List (List ℕ)) → value_o
 unfolding value_of content_in executable_in
 value_of-zero births names = refl
 
-pub values_of-zeros : (births : ℕ → ℕ) (names : List (List ℕ)) (n : ℕ) → map (value_of births names) (replicate n zero_word) ≡ replicate n null
+pub values_of-zeros : (births : ℕ → ℕ) (names : List (List ℕ)) (n : ℕ)
+    → map (value_of births names) (replicate n zero_word) ≡ replicate n null
 values_of-zeros births names zero = refl
 values_of-zeros births names (suc n) = λ i. value_of-zero births names i ∷ values_of-zeros births names n i
 
@@ -41,7 +42,8 @@ zero_is_within : (births : ℕ → ℕ) (names : List (List ℕ)) (s : Store) �
 unfolding IsWithin content_in
 zero_is_within births names s = tt
 
-pub AreWithin-zeros : (h : Heap) (names : List (List ℕ)) (s : Store) (n : ℕ) → AreWithin h names s (replicate n zero_word)
+pub AreWithin-zeros : (h : Heap) (names : List (List ℕ)) (s : Store) (n : ℕ)
+    → AreWithin h names s (replicate n zero_word)
 AreWithin-zeros h names s zero = tt
 AreWithin-zeros h names s (suc n) = (zero_is_within (birth_at h) names s, AreWithin-zeros h names s n)
 
@@ -72,8 +74,10 @@ words_from-zeros zero n = refl
 words_from-zeros (suc count) n =
     let (k, front) = take-zeros 8 n in
     let (j, rest) = drop-zeros 8 n in
-    λ i. record { 0 = (ap number_of_bytes front ∙ number_of_zeros k) i } ∷ (ap (words_from count) rest ∙ words_from-zeros count j) i
+    λ i. record { 0 = (ap number_of_bytes front ∙ number_of_zeros k) i } ∷ (ap (words_from count) rest
+    ∙ words_from-zeros count j) i
 
 -- the words of a new string
 pub words_of-zeros : (n : ℕ) → words_of (replicate n 0) ≡ replicate (words_for n) zero_word
-words_of-zeros n = words_from-zeros (words_for (length (replicate {A = ℕ} n 0))) n ∙ ap (λ k. replicate (words_for k) zero_word) (length-replicate {A = ℕ} n 0)
+words_of-zeros n = words_from-zeros (words_for (length (replicate {A = ℕ} n 0))) n
+    ∙ ap (λ k. replicate (words_for k) zero_word) (length-replicate {A = ℕ} n 0)

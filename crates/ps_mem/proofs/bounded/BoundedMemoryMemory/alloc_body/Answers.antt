@@ -6,7 +6,8 @@ use Rattle.ps_mem.proofs.SpaceLemmas.{dictionary_stands, birth-header}
 use Rattle.ps_mem.proofs.bounded.BoundedMemoryMemory.alloc_body.Goals as goal
 
 pub header-birth-requires : goal.header-birth-requires
-header-birth-requires c = let r = c.args.self.now.region in dictionary_stands r.words r.used r.next (bounded_space c.args.self.now.size) c.args.dictionary c.requires.stands
+header-birth-requires c = let r = c.args.self.now.region in
+    dictionary_stands r.words r.used r.next (bounded_space c.args.self.now.size) c.args.dictionary c.requires.stands
 
 pub returns-clause-heap : goal.returns-clause-heap
 returns-clause-heap c =
@@ -14,4 +15,5 @@ returns-clause-heap c =
     let space = bounded_space c.args.self.now.size in
     let h = heap_in r.words r.used r.next space in
     c.alloc_body.ensures.heap space
-    ∙ ap (λ b. made_body h c.alloc_body.result b c.args.fields) (birth-header h c.args.dictionary c.header-birth.result c.requires.stands (c.header-birth.ensures.answer space))
+    ∙ ap (λ b. made_body h c.alloc_body.result b c.args.fields)
+    (birth-header h c.args.dictionary c.header-birth.result c.requires.stands (c.header-birth.ensures.answer space))

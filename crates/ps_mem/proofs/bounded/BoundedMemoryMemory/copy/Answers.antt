@@ -9,11 +9,17 @@ use Rattle.ps_mem.proofs.bounded.BoundedMemoryMemory.copy.Goals as goal
 pub copy-requires-clause-source : goal.copy-requires-clause-source
 copy-requires-clause-source c =
     let r = c.args.self.now.region in
-    subst (λ (s : Region). (space : Space) → c.args.from_place + c.args.count ≤ length (fields_at (heap_in s.words s.used s.next space) c.args.from)) (sym c.log.ensures.region)
-    (reaches_any r.words r.used r.next (bounded_space c.args.self.now.size) c.args.from (c.args.from_place + c.args.count) c.requires.source)
+    subst (λ (s : Region). (space : Space)
+    → c.args.from_place + c.args.count ≤ length (fields_at (heap_in s.words s.used s.next space) c.args.from))
+    (sym c.log.ensures.region)
+    (reaches_any r.words r.used r.next (bounded_space c.args.self.now.size) c.args.from
+    (c.args.from_place + c.args.count) c.requires.source)
 
 pub copy-requires-clause-target : goal.copy-requires-clause-target
 copy-requires-clause-target c =
     let r = c.args.self.now.region in
-    subst (λ (s : Region). (space : Space) → c.args.to_place + c.args.count ≤ length (fields_at (heap_in s.words s.used s.next space) c.args.to)) (sym c.log.ensures.region)
-    (reaches_any r.words r.used r.next (bounded_space c.args.self.now.size) c.args.to (c.args.to_place + c.args.count) c.requires.target)
+    subst (λ (s : Region). (space : Space)
+    → c.args.to_place + c.args.count ≤ length (fields_at (heap_in s.words s.used s.next space) c.args.to))
+    (sym c.log.ensures.region)
+    (reaches_any r.words r.used r.next (bounded_space c.args.self.now.size) c.args.to
+    (c.args.to_place + c.args.count) c.requires.target)

@@ -3,4 +3,5 @@ use Rattle.ps_mem.proofs.SpaceLemmas.{below_any}
 use Rattle.ps_mem.proofs.bounded.BoundedMemoryMemory.load.Goals as goal
 
 pub load-requires : goal.load-requires
-load-requires c = let r = c.args.self.now.region in below_any r.words r.used r.next (bounded_space c.args.self.now.size) c.args.address c.args.place c.requires.place
+load-requires c = let r = c.args.self.now.region in
+    below_any r.words r.used r.next (bounded_space c.args.self.now.size) c.args.address c.args.place c.requires.place

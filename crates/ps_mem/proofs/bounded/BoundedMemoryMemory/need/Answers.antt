@@ -9,14 +9,16 @@ pub returns-then-fits-clause-granted : goal.returns-then-fits-clause-granted
 returns-then-fits-clause-granted c =
     let m = c.args.self.now in
     let r = m.region in
-    let (words, births) = left r.words r.used r.next m.size c.args.words c.args.births (sym c.fits.ensures ∙ c.if-fits.true) in
+    let (words, births) = left r.words r.used r.next m.size c.args.words c.args.births (sym c.fits.ensures
+    ∙ c.if-fits.true) in
     (omega (arith, words), omega (arith, births))
 
 pub returns-then-fits-clause-limit : goal.returns-then-fits-clause-limit
 returns-then-fits-clause-limit c = λ past.
     let m = c.args.self.now in
     let r = m.region in
-    let (words, births) = left r.words r.used r.next m.size c.args.words c.args.births (sym c.fits.ensures ∙ c.if-fits.true) in
+    let (words, births) = left r.words r.used r.next m.size c.args.words c.args.births (sym c.fits.ensures
+    ∙ c.if-fits.true) in
     absurd (not_past_bound r.words r.used r.next m.size c.args.words c.args.births words past)
 
 pub returns-else-fits-clause-already : goal.returns-else-fits-clause-already
@@ -28,7 +30,8 @@ returns-else-fits-clause-already c = λ words births.
     let numbered = r.births in
     let filled = m.filled in
     let room : has_room (heap_in r.words r.used r.next (bounded_space m.size)) c.args.words c.args.births ≡ true =
-    room_for r.words r.used r.next m.size c.args.words c.args.births (omega (arith, words, filled)) (omega (arith, births, limited, within, numbered)) in
+    room_for r.words r.used r.next m.size c.args.words c.args.births (omega (arith, words, filled))
+    (omega (arith, births, limited, within, numbered)) in
     let not = c.if-fits.false in
     let answer = c.fits.ensures in
     cc

@@ -7,4 +7,5 @@ use Rattle.ps_mem.proofs.plain.PlainMemory.new.Goals as goal
 pub returns : goal.returns
 returns c =
     let r = c.empty.result in
-    ap (λ u. heap_in r.words u r.next plain_space) c.empty.ensures.1 ∙ (ap (λ n. heap_in r.words 0 n plain_space) c.empty.ensures.2 ∙ heap_in-none r.words plain_space)
+    ap (λ u. heap_in r.words u r.next plain_space) c.empty.ensures.1
+    ∙ (ap (λ n. heap_in r.words 0 n plain_space) c.empty.ensures.2 ∙ heap_in-none r.words plain_space)

@@ -3,4 +3,5 @@ use Rattle.ps_mem.proofs.SpaceLemmas.{below_any}
 use Rattle.ps_mem.proofs.plain.PlainMemoryMemory.fill.Goals as goal
 
 pub put-requires : goal.put-requires
-put-requires c = let r = c.args.self.now.region in below_any r.words r.used r.next plain_space c.args.address c.args.place c.requires.place
+put-requires c = let r = c.args.self.now.region in
+    below_any r.words r.used r.next plain_space c.args.address c.args.place c.requires.place

@@ -16,14 +16,22 @@ invariant_of-self c =
     let room = c.requires.room in
     let fields = c.requires.fields in
     let fits : IsHeader h = record { fields = omega (arith, fields); birth = omega (arith, within, limited, births) } in
-    let same : length c.store.new.self ≡ length r.words = ap length c.store.ensures ∙ length_with_new r.words r.used r.next r.within r.whole r.blank h fits c.pack.result.0 c.pack.ensures n refl room in
+    let same : length c.store.new.self ≡ length r.words = ap length c.store.ensures
+    ∙ length_with_new r.words r.used r.next r.within r.whole r.blank h fits c.pack.result.0 c.pack.ensures n refl
+    room in
     record {
       within = omega (arith, same, room);
       limited = omega (arith, same, limited);
-      whole = ap (λ ws. wanting (take (r.used + 2 + n) ws) 0) c.store.ensures ∙ whole_with_new r.words r.used r.next r.within r.whole r.blank h fits c.pack.result.0 c.pack.ensures n refl room;
-      headers = ap (λ ws. all_headers (take (r.used + 2 + n) ws) 0) c.store.ensures ∙ headers_with_new r.words r.used r.next r.within r.whole r.blank h fits c.pack.result.0 c.pack.ensures n refl room r.headers;
-      blank = subst (λ ws. drop (r.used + 2 + n) ws ≡ replicate {A = ℕ} (length ws - (r.used + 2 + n)) 0) (sym c.store.ensures)
-          (blank_with_new r.words r.used r.next r.within r.whole r.blank h fits c.pack.result.0 c.pack.ensures n refl room);
+      whole = ap (λ ws. wanting (take (r.used + 2 + n) ws) 0) c.store.ensures
+          ∙ whole_with_new r.words r.used r.next r.within r.whole r.blank h fits c.pack.result.0 c.pack.ensures n refl
+          room;
+      headers = ap (λ ws. all_headers (take (r.used + 2 + n) ws) 0) c.store.ensures
+          ∙ headers_with_new r.words r.used r.next r.within r.whole r.blank h fits c.pack.result.0 c.pack.ensures n refl
+          room r.headers;
+      blank = subst (λ ws. drop (r.used + 2 + n) ws ≡ replicate {A = ℕ} (length ws - (r.used + 2 + n)) 0)
+          (sym c.store.ensures)
+          (blank_with_new r.words r.used r.next r.within r.whole r.blank h fits c.pack.result.0 c.pack.ensures n refl
+          room);
       births = omega (arith, births);
     }
 
@@ -34,8 +42,10 @@ returns-clause-free c =
     let within = r.within in
     let limited = r.limited in
     let births = r.births in
-    let fits : IsHeader h = record { fields = omega (arith, c.requires.fields); birth = omega (arith, within, limited, births) } in
-    nothing_there r.words r.used r.next r.within r.whole r.blank h fits c.pack.result.0 c.pack.ensures c.args.fields refl c.requires.room
+    let fits : IsHeader h =
+    record { fields = omega (arith, c.requires.fields); birth = omega (arith, within, limited, births) } in
+    nothing_there r.words r.used r.next r.within r.whole r.blank h fits c.pack.result.0 c.pack.ensures c.args.fields
+    refl c.requires.room
 
 pub returns-clause-heap : goal.returns-clause-heap
 returns-clause-heap c = λ space.
@@ -45,6 +55,8 @@ returns-clause-heap c = λ space.
     let within = r.within in
     let limited = r.limited in
     let births = r.births in
-    let fits : IsHeader h = record { fields = omega (arith, c.requires.fields); birth = omega (arith, within, limited, births) } in
+    let fits : IsHeader h =
+    record { fields = omega (arith, c.requires.fields); birth = omega (arith, within, limited, births) } in
     ap (λ ws. heap_in ws (r.used + 2 + n) (r.next + 1) space) c.store.ensures
-    ∙ heap_with_new r.words r.used r.next r.within r.whole r.blank h fits c.pack.result.0 c.pack.ensures n refl c.requires.room refl space
+    ∙ heap_with_new r.words r.used r.next r.within r.whole r.blank h fits c.pack.result.0 c.pack.ensures n refl
+    c.requires.room refl space

@@ -15,14 +15,22 @@ invariant_of-self c =
     let births = r.births in
     let room = c.requires.room in
     let fits : IsHeader h = record { fields = omega (arith, c.requires.fields); birth = c.requires.birth } in
-    let same : length c.store.new.self ≡ length r.words = ap length c.store.ensures ∙ length_with_new r.words r.used r.next r.within r.whole r.blank h fits c.pack.result.0 c.pack.ensures n refl room in
+    let same : length c.store.new.self ≡ length r.words = ap length c.store.ensures
+    ∙ length_with_new r.words r.used r.next r.within r.whole r.blank h fits c.pack.result.0 c.pack.ensures n refl
+    room in
     record {
       within = omega (arith, same, room);
       limited = omega (arith, same, limited);
-      whole = ap (λ ws. wanting (take (r.used + 2 + n) ws) 0) c.store.ensures ∙ whole_with_new r.words r.used r.next r.within r.whole r.blank h fits c.pack.result.0 c.pack.ensures n refl room;
-      headers = ap (λ ws. all_headers (take (r.used + 2 + n) ws) 0) c.store.ensures ∙ headers_with_new r.words r.used r.next r.within r.whole r.blank h fits c.pack.result.0 c.pack.ensures n refl room r.headers;
-      blank = subst (λ ws. drop (r.used + 2 + n) ws ≡ replicate {A = ℕ} (length ws - (r.used + 2 + n)) 0) (sym c.store.ensures)
-          (blank_with_new r.words r.used r.next r.within r.whole r.blank h fits c.pack.result.0 c.pack.ensures n refl room);
+      whole = ap (λ ws. wanting (take (r.used + 2 + n) ws) 0) c.store.ensures
+          ∙ whole_with_new r.words r.used r.next r.within r.whole r.blank h fits c.pack.result.0 c.pack.ensures n refl
+          room;
+      headers = ap (λ ws. all_headers (take (r.used + 2 + n) ws) 0) c.store.ensures
+          ∙ headers_with_new r.words r.used r.next r.within r.whole r.blank h fits c.pack.result.0 c.pack.ensures n refl
+          room r.headers;
+      blank = subst (λ ws. drop (r.used + 2 + n) ws ≡ replicate {A = ℕ} (length ws - (r.used + 2 + n)) 0)
+          (sym c.store.ensures)
+          (blank_with_new r.words r.used r.next r.within r.whole r.blank h fits c.pack.result.0 c.pack.ensures n refl
+          room);
       births = omega (arith, births);
     }
 
@@ -31,7 +39,8 @@ returns-clause-free c =
     let r = c.args.self.now in
     let h : Header = record { kind = Body; fields = c.args.fields; birth = c.args.birth } in
     let fits : IsHeader h = record { fields = omega (arith, c.requires.fields); birth = c.requires.birth } in
-    nothing_there r.words r.used r.next r.within r.whole r.blank h fits c.pack.result.0 c.pack.ensures c.args.fields refl c.requires.room
+    nothing_there r.words r.used r.next r.within r.whole r.blank h fits c.pack.result.0 c.pack.ensures c.args.fields
+    refl c.requires.room
 
 pub returns-clause-heap : goal.returns-clause-heap
 returns-clause-heap c = λ space.
@@ -40,4 +49,5 @@ returns-clause-heap c = λ space.
     let h : Header = record { kind = Body; fields = n; birth = c.args.birth } in
     let fits : IsHeader h = record { fields = omega (arith, c.requires.fields); birth = c.requires.birth } in
     ap (λ ws. heap_in ws (r.used + 2 + n) r.next space) c.store.ensures
-    ∙ heap_with_body r.words r.used r.next r.within r.whole r.blank h fits c.pack.result.0 c.pack.ensures n refl c.requires.room refl space
+    ∙ heap_with_body r.words r.used r.next r.within r.whole r.blank h fits c.pack.result.0 c.pack.ensures n refl
+    c.requires.room refl space

@@ -11,6 +11,7 @@ invariant_of-result c =
       limited = omega (arith, none);
       whole = refl;
       headers = refl;
-      blank = let zero : 0 ≡ length c.empty.result - 0 = omega (arith, none) in c.empty.ensures ∙ ap (λ k. replicate {A = ℕ} k 0) zero;
+      blank = let zero : 0 ≡ length c.empty.result - 0 = omega (arith, none) in
+          c.empty.ensures ∙ ap (λ k. replicate {A = ℕ} k 0) zero;
       births = omega arith;
     }

@@ -6,7 +6,8 @@ use Rattle.ps_mem.proofs.RegionLemmas.{heap-grown}
 use Rattle.ps_mem.proofs.region.Region.grow.Goals as goal
 
 -- either way the old words stay
-kept : {T E : Type 0} (result : Result T E) (old new more : List ℕ) → OnOk result (new ≡ old ++ more) → OnErr result (new ≡ old) → (added : List ℕ) × (new ≡ old ++ added)
+kept : {T E : Type 0} (result : Result T E) (old new more : List ℕ) → OnOk result (new ≡ old ++ more)
+    → OnErr result (new ≡ old) → (added : List ℕ) × (new ≡ old ++ added)
 kept (Ok _) old new more ok err = (more, ok)
 kept (Err _) old new more ok err = ([], err ∙ sym (append-nil old))
 

@@ -18,9 +18,13 @@ invariant_of-self c =
     record {
       within = omega (arith, same, within);
       limited = omega (arith, same, limited);
-      whole = ap (λ ws. wanting (take r.used ws) 0) c.store.ensures ∙ wanting-put r.words r.used r.next r.within r.whole c.args.address c.args.place c.args.word.0 c.requires;
-      headers = ap (λ ws. all_headers (take r.used ws) 0) c.store.ensures ∙ (headers-put r.words r.used r.next r.within r.whole c.args.address c.args.place c.args.word.0 c.requires ∙ r.headers);
-      blank = ap (drop r.used) c.store.ensures ∙ (behind-put r.words r.used r.next r.within r.whole c.args.address c.args.place c.args.word.0 c.requires
+      whole = ap (λ ws. wanting (take r.used ws) 0) c.store.ensures
+          ∙ wanting-put r.words r.used r.next r.within r.whole c.args.address c.args.place c.args.word.0 c.requires;
+      headers = ap (λ ws. all_headers (take r.used ws) 0) c.store.ensures
+          ∙ (headers-put r.words r.used r.next r.within r.whole c.args.address c.args.place c.args.word.0 c.requires
+          ∙ r.headers);
+      blank = ap (drop r.used) c.store.ensures
+          ∙ (behind-put r.words r.used r.next r.within r.whole c.args.address c.args.place c.args.word.0 c.requires
           ∙ (r.blank ∙ ap (λ k. replicate {A = ℕ} (k - r.used) 0) (sym same)));
       births = r.births;
     }
@@ -28,4 +32,5 @@ invariant_of-self c =
 pub returns-clause-heap : goal.returns-clause-heap
 returns-clause-heap c = λ space.
     let r = c.args.self.now in
-    ap (λ ws. heap_in ws r.used r.next space) c.store.ensures ∙ heap-put r.words r.used r.next r.within r.whole c.args.address c.args.place c.args.word.0 c.requires space
+    ap (λ ws. heap_in ws r.used r.next space) c.store.ensures
+    ∙ heap-put r.words r.used r.next r.within r.whole c.args.address c.args.place c.args.word.0 c.requires space

@@ -7,15 +7,19 @@ use Rattle.ps_mem.proofs.region.Region.write.Goals as goal
 
 pub loop-word-init : goal.loop-word-init
 loop-word-init c =
-    let r = c.args.self.now in
-    (omega arith, (λ space. sym (stored-nil (heap_in r.words r.used r.next space) c.args.address c.args.place)), (refl, refl, refl))
+    let r = c.args.self.now in (
+      omega arith,
+      (λ space. sym (stored-nil (heap_in r.words r.used r.next space) c.args.address c.args.place)),
+      (refl, refl, refl),
+    )
 
 pub put-requires : goal.put-requires
 put-requires c = λ space.
     let r = c.args.self.now in
     let s = c.loop-word.self in
     let at = c.loop-word.invariant.0 in
-    let next = place_of_next (heap_in r.words r.used r.next space) (heap_in s.words s.used s.next space) c.args.address c.args.place c.loop-word.word-index c.args.items.now
+    let next = place_of_next (heap_in r.words r.used r.next space)
+    (heap_in s.words s.used s.next space) c.args.address c.args.place c.loop-word.word-index c.args.items.now
     (c.loop-word.invariant.1 space) c.loop-word-test.true (c.requires space) in
     omega (arith, at, next)
 
@@ -24,8 +28,10 @@ overflow_add-at c =
     let r = c.args.self.now in
     let s = c.loop-word.self in
     let at = c.loop-word.invariant.0 in
-    let below : (space : Space) → c.loop-word.at < length (fields_at (heap_in s.words s.used s.next space) c.args.address) = λ space.
-    (let next = place_of_next (heap_in r.words r.used r.next space) (heap_in s.words s.used s.next space) c.args.address c.args.place c.loop-word.word-index c.args.items.now
+    let below : (space : Space)
+    → c.loop-word.at < length (fields_at (heap_in s.words s.used s.next space) c.args.address) = λ space.
+    (let next = place_of_next (heap_in r.words r.used r.next space)
+    (heap_in s.words s.used s.next space) c.args.address c.args.place c.loop-word.word-index c.args.items.now
     (c.loop-word.invariant.1 space) c.loop-word-test.true (c.requires space) in omega (arith, at, next)) in
     let inside = field_place s.words s.used s.next s.within s.whole c.args.address c.loop-word.at below in
     let within = s.within in
@@ -43,7 +49,8 @@ loop-word-preserved c =
       (λ space.
           c.put.ensures.heap space
           ∙ (ap (λ k. stored (heap_in s.words s.used s.next space) c.args.address k (word ∷ [])) at
-          ∙ stored_next (heap_in r.words r.used r.next space) (heap_in s.words s.used s.next space) c.args.address c.args.place c.loop-word.word-index c.args.items.now
+          ∙ stored_next (heap_in r.words r.used r.next space)
+          (heap_in s.words s.used s.next space) c.args.address c.args.place c.loop-word.word-index c.args.items.now
           (c.loop-word.invariant.1 space) c.loop-word-test.true (c.requires space) zero_word)),
       (c.put.ensures.counts.0 ∙ counts.0, c.put.ensures.counts.1 ∙ counts.1, c.put.ensures.counts.2 ∙ counts.2),
     )
