@@ -20,7 +20,8 @@ use Rattle.ps_core_parts.specs.Conditions.{Permitted}
 use Rattle.ps_core_laws.specs.Laws.{AreSingle, ahead_of}
 use Rattle.ps_core_laws.proofs.Heap as heap
 use Rattle.ps_core_laws.proofs.Heap.{named_by, acted}
-use Rattle.ps_core_laws.proofs.HeapKept.{Good as HeapGood, keeps as heap_keeps, begins as heap_begins}
+use Rattle.ps_core_laws.proofs.HeapGood.{Good as HeapGood, begins as heap_begins}
+use Rattle.ps_core_laws.proofs.HeapKept.{keeps as heap_keeps}
 use Rattle.ps_core_laws.proofs.HeapTests.{bool_cases, at_number, eq_true}
 use Rattle.ps_core_laws.proofs.Lists.{drop_get}
 use Rattle.ps_core_laws.proofs.Bases.{spaces_wide, spaces_far, some_match, drop_all}

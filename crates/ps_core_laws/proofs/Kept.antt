@@ -22,7 +22,8 @@ use Rattle.ps_core_parts.specs.Conditions.{Permitted}
 use Rattle.ps_core_laws.specs.Runs.{run, IsRun, IsSpace}
 use Rattle.ps_core_laws.proofs.Heap as heap
 use Rattle.ps_core_laws.proofs.Heap.{acted}
-use Rattle.ps_core_laws.proofs.HeapKept.{Good as HeapGood, keeps as heap_keeps}
+use Rattle.ps_core_laws.proofs.HeapGood.{Good as HeapGood}
+use Rattle.ps_core_laws.proofs.HeapKept.{keeps as heap_keeps}
 use Rattle.ps_core_laws.proofs.HeapTests.{number_is, number_not}
 use Rattle.ps_core_laws.proofs.Bases.{spaces_far, drop_all}
 use Rattle.ps_core_laws.proofs.Rings.{rings_near}

@@ -5,6 +5,7 @@ pub mod Closes
 pub mod Copies
 pub mod Headed
 pub mod Heap
+pub mod HeapGood
 pub mod HeapKept
 pub mod HeapTests
 pub mod Keeping

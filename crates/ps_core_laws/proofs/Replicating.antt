@@ -23,7 +23,8 @@ use Rattle.ps_core_laws.specs.Runs.{IsSpace}
 use Rattle.ps_core_laws.proofs.Heap as heap
 use Rattle.ps_core_laws.proofs.Heap.{Load, put2, acted}
 use Rattle.ps_core_laws.proofs.Heap.Word.{Plain}
-use Rattle.ps_core_laws.proofs.HeapKept.{Good as HeapGood, keeps as heap_keeps}
+use Rattle.ps_core_laws.proofs.HeapGood.{Good as HeapGood}
+use Rattle.ps_core_laws.proofs.HeapKept.{keeps as heap_keeps}
 use Rattle.ps_core_laws.proofs.HeapTests.{bool_cases, and_parts, or_parts, clash, number_is, at_number, eq_true}
 use Rattle.ps_core_laws.proofs.Bases.{in_current, in_other, spaces_wide, some_match, match_some, zero_at, false_at}
 use Rattle.ps_core_laws.proofs.Rings.{LogsAre, log_of-same, log_of-other, control_off, rings_far, rings_near}

@@ -26,7 +26,8 @@ use Rattle.ps_core_parts.specs.Conditions.{Permitted, CanClear, HasField}
 use Rattle.ps_core_laws.proofs.Heap as heap
 use Rattle.ps_core_laws.proofs.Heap.{put2, acted}
 use Rattle.ps_core_laws.proofs.Heap.Word.{Plain}
-use Rattle.ps_core_laws.proofs.HeapKept.{Good as HeapGood, keeps as heap_keeps}
+use Rattle.ps_core_laws.proofs.HeapGood.{Good as HeapGood}
+use Rattle.ps_core_laws.proofs.HeapKept.{keeps as heap_keeps}
 use Rattle.ps_core_laws.proofs.HeapTests.{bool_cases, clash, number_not, at_number, eq_true}
 use Rattle.ps_core_laws.proofs.Bases.{InTable, in_current, widened-written, logged_all, logged_none, zero_at}
 use Rattle.ps_core_laws.proofs.Rings.{ring_from, ring_in, log_of-same, log_of-other, control_off, rings_far, rings_near}
