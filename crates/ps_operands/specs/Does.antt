@@ -1,7 +1,8 @@
 -- When what an operator did is its row.
 use Rattle.std.specs.Prelude.{◌≡◌, ℕ, ℤ, Option, List, ◌∷◌, map, drop, Result, Ok, Err}
 use Rattle.ps_language.specs.declared.errors.ErrorName.{ErrorName}
-use Rattle.ps_language.specs.declared.errors.ErrorName.TheVariants.{TypeCheck, StackUnderflow, UndefinedResult}
+use Rattle.ps_language.specs.declared.errors.ErrorName.TheVariants.{TypeCheck, StackUnderflow}
+use Rattle.ps_language.specs.declared.errors.ErrorName.TheVariants.{UndefinedResult}
 use Rattle.ps_language.specs.Value.{Value}
 use Rattle.ps_language.specs.Outcome.{Outcome, leaves, fails, given}
 use Rattle.ps_language.specs.Readers.{integer, as_integer, push}

@@ -1,6 +1,7 @@
 //! The operators on the operand stack (PLRM2, 8 'Operators': Operand Stack Manipulation).
 
-ghost use Rattle.std.specs.Prelude.{◌≡◌, ◌∷◌, ◌+◌, ◌^◌, ◌<◌, ◌≤◌, pos, length, IfSome, IfNone, OnOk, OnErr, unsigned_abs};
+ghost use Rattle.std.specs.Prelude.{◌≡◌, ◌∷◌, ◌+◌, ◌^◌, ◌<◌, ◌≤◌, pos, length, IfSome, IfNone};
+ghost use Rattle.std.specs.Prelude.{OnOk, OnErr, unsigned_abs};
 ghost use Rattle.std.specs.Int.{int_rem_euclid};
 ghost use Rattle.ps_language.specs.RowsStack as rows;
 ghost use Rattle.ps_operands.specs.Does.{Does, Pushes, copy_number_row};

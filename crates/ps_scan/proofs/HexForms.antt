@@ -1,5 +1,6 @@
 -- Hexadecimal strings by their places.
-use Rattle.std.proofs.Common.{◌≡◌, refl, sym, ap, ◌∙◌, subst, ℕ, zero, suc, ◌+◌, ◌*◌, ◌/◌, ◌%◌, ◌<◌, ◌≤◌, true, false, List, [], ◌∷◌, ◌++◌, length, take, drop, filter, arith, Option, Some, None}
+use Rattle.std.proofs.Common.{◌≡◌, refl, sym, ap, ◌∙◌, subst, ℕ, zero, suc, ◌+◌, ◌*◌, ◌/◌, ◌%◌, ◌<◌, ◌≤◌, true, false}
+use Rattle.std.proofs.Common.{List, [], ◌∷◌, ◌++◌, length, take, drop, filter, arith, Option, Some, None}
 use Rattle.std.specs.Prelude.{◌==◌, slice_set}
 use Rattle.std.specs.List.{slice_range}
 use Rattle.std.proofs.lemmas.Bool.{or_left, or_right, or_from, ne_eqb, eq-eqb}
@@ -13,13 +14,15 @@ use Rattle.ps_scan.proofs.Pairs.{pairs_behind}
 
 -- ---- digits one by one
 
-pub hex_on : (xs : List ℕ) (i : ℕ) → i < length xs → is_hex (byte_at xs i) ≡ true → filter is_hex (drop i xs) ≡ byte_at xs i ∷ filter is_hex (drop (i + 1) xs)
+pub hex_on : (xs : List ℕ) (i : ℕ) → i < length xs → is_hex (byte_at xs i) ≡ true
+    → filter is_hex (drop i xs) ≡ byte_at xs i ∷ filter is_hex (drop (i + 1) xs)
 hex_on xs i below e = at_drop_more (filter is_hex) xs i 0 below ∙ keep (byte_at xs i) (drop (i + 1) xs) e
   where
     keep : (b : ℕ) (bs : List ℕ) → is_hex b ≡ true → filter is_hex (b ∷ bs) ≡ b ∷ filter is_hex bs
     keep b bs h = rw h refl
 
-pub hex_off : (xs : List ℕ) (i : ℕ) → i < length xs → is_hex (byte_at xs i) ≡ false → filter is_hex (drop i xs) ≡ filter is_hex (drop (i + 1) xs)
+pub hex_off : (xs : List ℕ) (i : ℕ) → i < length xs → is_hex (byte_at xs i) ≡ false
+    → filter is_hex (drop i xs) ≡ filter is_hex (drop (i + 1) xs)
 hex_off xs i below e = at_drop_more (filter is_hex) xs i 0 below ∙ leave (byte_at xs i) (drop (i + 1) xs) e
   where
     leave : (b : ℕ) (bs : List ℕ) → is_hex b ≡ false → filter is_hex (b ∷ bs) ≡ filter is_hex bs
@@ -35,25 +38,38 @@ unfolding pairs
 pairs_none = refl
 
 -- a digit as a high half, and as a low one
-pub high_half : (items : List ℕ) (xs : List ℕ) (i digit : ℕ) → i < length xs → digit ≡ digit_of (byte_at xs i) → is_hex (byte_at xs i) ≡ true
-    → items ++ pairs_behind (Some digit) (filter is_hex (drop (i + 1) xs)) ≡ items ++ pairs_behind None (filter is_hex (drop i xs))
-high_half items xs i digit below d e = ap (λ t. items ++ t) (ap (λ n. pairs_behind (Some n) (filter is_hex (drop (i + 1) xs))) d ∙ sym (pairs_first (byte_at xs i) (filter is_hex (drop (i + 1) xs))) ∙ ap pairs (sym (hex_on xs i below e)))
+pub high_half : (items : List ℕ) (xs : List ℕ) (i digit : ℕ) → i < length xs → digit ≡ digit_of (byte_at xs i)
+    → is_hex (byte_at xs i) ≡ true
+    → items ++ pairs_behind (Some digit) (filter is_hex (drop (i + 1) xs))
+    ≡ items ++ pairs_behind None (filter is_hex (drop i xs))
+high_half items xs i digit below d e =
+    ap (λ t. items ++ t) (ap (λ n. pairs_behind (Some n) (filter is_hex (drop (i + 1) xs))) d
+    ∙ sym (pairs_first (byte_at xs i) (filter is_hex (drop (i + 1) xs))) ∙ ap pairs (sym (hex_on xs i below e)))
 
-pub low_half : (items more : List ℕ) (xs : List ℕ) (i high digit : ℕ) → i < length xs → digit ≡ digit_of (byte_at xs i) → is_hex (byte_at xs i) ≡ true → more ≡ items ++ (high * 16 + digit) ∷ []
-    → more ++ pairs_behind None (filter is_hex (drop (i + 1) xs)) ≡ items ++ pairs_behind (Some high) (filter is_hex (drop i xs))
-low_half items more xs i high digit below d e m = ap (λ t. t ++ pairs (filter is_hex (drop (i + 1) xs))) m ∙ append_assoc items ((high * 16 + digit) ∷ []) (pairs (filter is_hex (drop (i + 1) xs)))
-    ∙ ap (λ n. items ++ (high * 16 + n) ∷ pairs (filter is_hex (drop (i + 1) xs))) d ∙ ap (λ t. items ++ pairs_behind (Some high) t) (sym (hex_on xs i below e))
+pub low_half : (items more : List ℕ) (xs : List ℕ) (i high digit : ℕ) → i < length xs → digit ≡ digit_of (byte_at xs i)
+    → is_hex (byte_at xs i) ≡ true → more ≡ items ++ (high * 16 + digit) ∷ []
+    → more ++ pairs_behind None (filter is_hex (drop (i + 1) xs))
+    ≡ items ++ pairs_behind (Some high) (filter is_hex (drop i xs))
+low_half items more xs i high digit below d e m = ap (λ t. t ++ pairs (filter is_hex (drop (i + 1) xs))) m
+    ∙ append_assoc items ((high * 16 + digit) ∷ []) (pairs (filter is_hex (drop (i + 1) xs)))
+    ∙ ap (λ n. items ++ (high * 16 + n) ∷ pairs (filter is_hex (drop (i + 1) xs))) d
+    ∙ ap (λ t. items ++ pairs_behind (Some high) t) (sym (hex_on xs i below e))
 
 pub no_half : (items : List ℕ) (high : Option ℕ) (xs : List ℕ) (i : ℕ) → i < length xs → is_hex (byte_at xs i) ≡ false
-    → items ++ pairs_behind high (filter is_hex (drop (i + 1) xs)) ≡ items ++ pairs_behind high (filter is_hex (drop i xs))
+    → items ++ pairs_behind high (filter is_hex (drop (i + 1) xs))
+    ≡ items ++ pairs_behind high (filter is_hex (drop i xs))
 no_half items high xs i below e = ap (λ t. items ++ pairs_behind high t) (sym (hex_off xs i below e))
 
-pub last_half : (items more : List ℕ) (xs : List ℕ) (i high : ℕ) → length xs ≤ i → more ≡ items ++ (high * 16) ∷ [] → more ≡ items ++ pairs_behind (Some high) (filter is_hex (drop i xs))
-last_half items more xs i high above m = m ∙ ap (λ t. items ++ pairs_behind (Some high) t) (sym (at_drop_all (filter is_hex) xs i above))
+pub last_half : (items more : List ℕ) (xs : List ℕ) (i high : ℕ) → length xs ≤ i → more ≡ items ++ (high * 16) ∷ []
+    → more ≡ items ++ pairs_behind (Some high) (filter is_hex (drop i xs))
+last_half items more xs i high above m = m
+    ∙ ap (λ t. items ++ pairs_behind (Some high) t) (sym (at_drop_all (filter is_hex) xs i above))
 
-pub no_last : (items : List ℕ) (xs : List ℕ) (i : ℕ) → length xs ≤ i → items ≡ items ++ pairs_behind None (filter is_hex (drop i xs))
+pub no_last : (items : List ℕ) (xs : List ℕ) (i : ℕ) → length xs ≤ i
+    → items ≡ items ++ pairs_behind None (filter is_hex (drop i xs))
 unfolding pairs
-no_last items xs i above = sym (append-nil items) ∙ ap (λ t. items ++ pairs_behind None t) (sym (at_drop_all (filter is_hex) xs i above))
+no_last items xs i above = sym (append-nil items)
+    ∙ ap (λ t. items ++ pairs_behind None t) (sym (at_drop_all (filter is_hex) xs i above))
 
 -- ---- the digits and the white space between them
 
@@ -76,14 +92,22 @@ keep_digit b bs h = rw h (omega arith)
 leave_white : (b : ℕ) (bs : List ℕ) → is_hex b ≡ false → length (filter is_hex (b ∷ bs)) ≡ length (filter is_hex bs)
 leave_white b bs h = rw h refl
 
-pub digits_on : (xs : List ℕ) (i : ℕ) → i < length xs → is_hex (byte_at xs i) ≡ true → digits_from xs i ≡ 1 + digits_from xs (i + 1)
-digits_on xs i below e = ap (λ t. length (filter is_hex t)) (leading_on is_hex_or_white xs i below (hex_or_white_digit (byte_at xs i) e)) ∙ keep_digit (byte_at xs i) (leading is_hex_or_white (drop (i + 1) xs)) e
+pub digits_on : (xs : List ℕ) (i : ℕ) → i < length xs → is_hex (byte_at xs i) ≡ true
+    → digits_from xs i ≡ 1 + digits_from xs (i + 1)
+digits_on xs i below e =
+    ap (λ t. length (filter is_hex t)) (leading_on is_hex_or_white xs i below (hex_or_white_digit (byte_at xs i) e))
+    ∙ keep_digit (byte_at xs i) (leading is_hex_or_white (drop (i + 1) xs)) e
 
-pub digits_white : (xs : List ℕ) (i : ℕ) → i < length xs → is_hex (byte_at xs i) ≡ false → is_white (byte_at xs i) ≡ true → digits_from xs i ≡ digits_from xs (i + 1)
-digits_white xs i below e f = ap (λ t. length (filter is_hex t)) (leading_on is_hex_or_white xs i below (hex_or_white_white (byte_at xs i) f)) ∙ leave_white (byte_at xs i) (leading is_hex_or_white (drop (i + 1) xs)) e
+pub digits_white : (xs : List ℕ) (i : ℕ) → i < length xs → is_hex (byte_at xs i) ≡ false
+    → is_white (byte_at xs i) ≡ true → digits_from xs i ≡ digits_from xs (i + 1)
+digits_white xs i below e f =
+    ap (λ t. length (filter is_hex t)) (leading_on is_hex_or_white xs i below (hex_or_white_white (byte_at xs i) f))
+    ∙ leave_white (byte_at xs i) (leading is_hex_or_white (drop (i + 1) xs)) e
 
-pub digits_off : (xs : List ℕ) (i : ℕ) → i < length xs → is_hex (byte_at xs i) ≡ false → is_white (byte_at xs i) ≡ false → digits_from xs i ≡ 0
-digits_off xs i below e f = ap (λ t. length (filter is_hex t)) (leading_off is_hex_or_white xs i below (hex_or_white_none (byte_at xs i) e f))
+pub digits_off : (xs : List ℕ) (i : ℕ) → i < length xs → is_hex (byte_at xs i) ≡ false → is_white (byte_at xs i) ≡ false
+    → digits_from xs i ≡ 0
+digits_off xs i below e f =
+    ap (λ t. length (filter is_hex t)) (leading_off is_hex_or_white xs i below (hex_or_white_none (byte_at xs i) e f))
 
 pub digits_end : (xs : List ℕ) (i : ℕ) → length xs ≤ i → digits_from xs i ≡ 0
 unfolding leading
@@ -102,45 +126,69 @@ pub angle_end : (xs : List ℕ) (i : ℕ) → length xs ≤ i → after_hex_star
 unfolding after_hex_start
 angle_end xs i above = at_drop_all after_hex_start xs i above
 
-pub angle_angle : (xs : List ℕ) (i : ℕ) → i < length xs → byte_at xs i ≡ 60 → after_hex_start (drop i xs) ≡ token_then (executable_name_token (60 ∷ 60 ∷ [])) (drop (i + 1) xs)
+pub angle_angle : (xs : List ℕ) (i : ℕ) → i < length xs → byte_at xs i ≡ 60
+    → after_hex_start (drop i xs) ≡ token_then (executable_name_token (60 ∷ 60 ∷ [])) (drop (i + 1) xs)
 unfolding after_hex_start
 angle_angle xs i below e = at_drop_more after_hex_start xs i 0 below ∙ ap (λ b. after_hex_start (b ∷ drop (i + 1) xs)) e
 
-pub angle_hex : (xs : List ℕ) (i : ℕ) → i < length xs → (byte_at xs i ≡ 60 → ⊥) → after_hex_start (drop i xs) ≡ hex_reading (leading is_hex_or_white (drop i xs)) (beyond is_hex_or_white (drop i xs))
+pub angle_hex : (xs : List ℕ) (i : ℕ) → i < length xs → (byte_at xs i ≡ 60 → ⊥)
+    → after_hex_start (drop i xs)
+    ≡ hex_reading (leading is_hex_or_white (drop i xs)) (beyond is_hex_or_white (drop i xs))
 unfolding after_hex_start
-angle_hex xs i below n = at_drop_more after_hex_start xs i 0 below ∙ other (byte_at xs i) (drop (i + 1) xs) (ne_eqb (byte_at xs i) 60 n) ∙ sym (at_drop_more (λ t. hex_reading (leading is_hex_or_white t) (beyond is_hex_or_white t)) xs i 0 below)
+angle_hex xs i below n = at_drop_more after_hex_start xs i 0 below
+    ∙ other (byte_at xs i) (drop (i + 1) xs) (ne_eqb (byte_at xs i) 60 n)
+    ∙ sym (at_drop_more (λ t. hex_reading (leading is_hex_or_white t) (beyond is_hex_or_white t)) xs i 0 below)
   where
-    other : (b : ℕ) (bs : List ℕ) → (b == 60) ≡ false → after_hex_start (b ∷ bs) ≡ hex_reading (leading is_hex_or_white (b ∷ bs)) (beyond is_hex_or_white (b ∷ bs))
+    other : (b : ℕ) (bs : List ℕ) → (b == 60) ≡ false
+        → after_hex_start (b ∷ bs) ≡ hex_reading (leading is_hex_or_white (b ∷ bs)) (beyond is_hex_or_white (b ∷ bs))
     other b bs e = rw (e, after_hex_start) refl
 
 pub hex_unfinished : (inner xs : List ℕ) (i : ℕ) → length xs ≤ i → hex_reading inner (drop i xs) ≡ stuck syntax_fault
 unfolding hex_reading
 hex_unfinished inner xs i above = at_drop_all (hex_reading inner) xs i above
 
-pub hex_broken : (inner xs : List ℕ) (i : ℕ) → i < length xs → (byte_at xs i ≡ 62 → ⊥) → hex_reading inner (drop i xs) ≡ stuck syntax_fault
+pub hex_broken : (inner xs : List ℕ) (i : ℕ) → i < length xs → (byte_at xs i ≡ 62 → ⊥)
+    → hex_reading inner (drop i xs) ≡ stuck syntax_fault
 unfolding hex_reading
 hex_broken inner xs i below n = at_drop_more (hex_reading inner) xs i 0 below ∙ rw (ne_eqb (byte_at xs i) 62 n) refl
 
-pub hex_closed : (inner xs : List ℕ) (i : ℕ) → i < length xs → byte_at xs i ≡ 62 → hex_reading inner (drop i xs) ≡ sized_string (pairs (filter is_hex inner)) (drop (i + 1) xs)
+pub hex_closed : (inner xs : List ℕ) (i : ℕ) → i < length xs → byte_at xs i ≡ 62
+    → hex_reading inner (drop i xs) ≡ sized_string (pairs (filter is_hex inner)) (drop (i + 1) xs)
 unfolding hex_reading
 hex_closed inner xs i below e = at_drop_more (hex_reading inner) xs i 0 below ∙ rw (eq-eqb (byte_at xs i) 62 e) refl
 
 -- a hexadecimal string at its places: where its digits end, and how many bytes there are
-pub hex_string_at : (xs : List ℕ) (start end : ℕ) → start < length xs → (byte_at xs start ≡ 60 → ⊥) → drop end xs ≡ beyond is_hex_or_white (drop start xs) → start ≤ end → end < length xs → byte_at xs end ≡ 62
-    → after_hex_start (drop start xs) ≡ sized_string (pairs (filter is_hex (slice_range xs start end))) (drop (end + 1) xs)
-hex_string_at xs start end inside n e low high f = angle_hex xs start inside n ∙ ap (hex_reading (leading is_hex_or_white (drop start xs))) (sym e) ∙ hex_closed (leading is_hex_or_white (drop start xs)) xs end high f
-    ∙ ap (λ t. sized_string (pairs (filter is_hex t)) (drop (end + 1) xs)) (leading_slice is_hex_or_white xs start end (sym e) low (omega (arith, high)))
+pub hex_string_at : (xs : List ℕ) (start end : ℕ) → start < length xs → (byte_at xs start ≡ 60 → ⊥)
+    → drop end xs ≡ beyond is_hex_or_white (drop start xs) → start ≤ end → end < length xs → byte_at xs end ≡ 62
+    → after_hex_start (drop start xs)
+    ≡ sized_string (pairs (filter is_hex (slice_range xs start end))) (drop (end + 1) xs)
+hex_string_at xs start end inside n e low high f = angle_hex xs start inside n
+    ∙ ap (hex_reading (leading is_hex_or_white (drop start xs))) (sym e)
+    ∙ hex_closed (leading is_hex_or_white (drop start xs)) xs end high f
+    ∙ ap (λ t. sized_string (pairs (filter is_hex t)) (drop (end + 1) xs))
+    (leading_slice is_hex_or_white xs start end (sym e) low (omega (arith, high)))
 
-pub hex_no_end : (xs : List ℕ) (start end : ℕ) → start < length xs → (byte_at xs start ≡ 60 → ⊥) → drop end xs ≡ beyond is_hex_or_white (drop start xs) → length xs ≤ end → after_hex_start (drop start xs) ≡ stuck syntax_fault
-hex_no_end xs start end inside n e above = angle_hex xs start inside n ∙ ap (hex_reading (leading is_hex_or_white (drop start xs))) (sym e) ∙ hex_unfinished (leading is_hex_or_white (drop start xs)) xs end above
+pub hex_no_end : (xs : List ℕ) (start end : ℕ) → start < length xs → (byte_at xs start ≡ 60 → ⊥)
+    → drop end xs ≡ beyond is_hex_or_white (drop start xs) → length xs ≤ end
+    → after_hex_start (drop start xs) ≡ stuck syntax_fault
+hex_no_end xs start end inside n e above = angle_hex xs start inside n
+    ∙ ap (hex_reading (leading is_hex_or_white (drop start xs))) (sym e)
+    ∙ hex_unfinished (leading is_hex_or_white (drop start xs)) xs end above
 
-pub hex_bad_byte : (xs : List ℕ) (start end : ℕ) → start < length xs → (byte_at xs start ≡ 60 → ⊥) → drop end xs ≡ beyond is_hex_or_white (drop start xs) → end < length xs → (byte_at xs end ≡ 62 → ⊥) → after_hex_start (drop start xs) ≡ stuck syntax_fault
-hex_bad_byte xs start end inside n e high m = angle_hex xs start inside n ∙ ap (hex_reading (leading is_hex_or_white (drop start xs))) (sym e) ∙ hex_broken (leading is_hex_or_white (drop start xs)) xs end high m
+pub hex_bad_byte : (xs : List ℕ) (start end : ℕ) → start < length xs → (byte_at xs start ≡ 60 → ⊥)
+    → drop end xs ≡ beyond is_hex_or_white (drop start xs) → end < length xs → (byte_at xs end ≡ 62 → ⊥)
+    → after_hex_start (drop start xs) ≡ stuck syntax_fault
+hex_bad_byte xs start end inside n e high m = angle_hex xs start inside n
+    ∙ ap (hex_reading (leading is_hex_or_white (drop start xs))) (sym e)
+    ∙ hex_broken (leading is_hex_or_white (drop start xs)) xs end high m
 
 -- how many bytes the digits write
-pub hex_size : (xs : List ℕ) (start end count : ℕ) → drop end xs ≡ beyond is_hex_or_white (drop start xs) → start ≤ end → end ≤ length xs → count ≡ digits_from xs start → length (pairs (filter is_hex (slice_range xs start end))) ≡ count / 2 + count % 2
+pub hex_size : (xs : List ℕ) (start end count : ℕ) → drop end xs ≡ beyond is_hex_or_white (drop start xs) → start ≤ end
+    → end ≤ length xs → count ≡ digits_from xs start
+    → length (pairs (filter is_hex (slice_range xs start end))) ≡ count / 2 + count % 2
 hex_size xs start end count e low high f = length-pairs (filter is_hex (slice_range xs start end))
-    ∙ ap (λ n. n / 2 + n % 2) (ap (λ t. length (filter is_hex t)) (sym (leading_slice is_hex_or_white xs start end (sym e) low high)) ∙ sym f)
+    ∙ ap (λ n. n / 2 + n % 2)
+    (ap (λ t. length (filter is_hex t)) (sym (leading_slice is_hex_or_white xs start end (sym e) low high)) ∙ sym f)
 
 -- ---- several at once
 

@@ -1,6 +1,7 @@
 -- What number a run of regular bytes writes.
 use Rattle.std.specs.Prelude.{◌^◌, nat_lt, if◌then◌else◌}
-use Rattle.ps_language.specs.Reading.{Word, integer_word, radix_word, real_word, name_word, fits_integer, as_signed}
+use Rattle.ps_language.specs.Reading.{Word, integer_word, radix_word, real_word, name_word}
+use Rattle.ps_language.specs.Reading.{fits_integer, as_signed}
 use Rattle.ps_scan.specs.declared.numbers.Number.{Number}
 use Rattle.ps_scan.specs.declared.numbers.Number.TheVariants.{Integer, PastLimits, NoNumber}
 

@@ -1,6 +1,8 @@
 -- Tokens that are passed over, and the number that a text begins with.
-use Rattle.std.specs.Prelude.{◌≡◌, ℕ, ℤ, ◌<◌, ◌≤◌, List, length, drop, Option, Some, None, Result, Ok, Err}
-use Rattle.ps_language.specs.Token.{Token, Scan, found, exhausted, faulty, syntax_fault, limit_fault}
+use Rattle.std.specs.Prelude.{◌≡◌, ℕ, ℤ, ◌<◌, ◌≤◌, List, length, drop, Option, Some, None, Result}
+use Rattle.std.specs.Prelude.{Ok, Err}
+use Rattle.ps_language.specs.Token.{Token, Scan, found, exhausted, faulty, syntax_fault}
+use Rattle.ps_language.specs.Token.{limit_fault}
 use Rattle.ps_language.specs.Reading.{Reading, token_then}
 use Rattle.ps_language.specs.RowsTypes.{number_in}
 use Rattle.ps_scan.specs.declared.firsts.NumberFault.{NumberFault}

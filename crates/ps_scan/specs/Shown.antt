@@ -1,16 +1,23 @@
 -- What the scanner's answers show: tokens, readings and scans of the language.
-use Rattle.std.specs.Prelude.{◌≡◌, ◌⊎◌, false, ℕ, ◌+◌, ◌<◌, ◌≤◌, List, [], ◌∷◌, length, drop, Option, Some, None, Result, Ok, Err, slice_range, slice_index, ⊤}
-use Rattle.ps_language.specs.Token.{Tokens, number_token, literal_name_token, executable_name_token, immediate_name_token, string_token, procedure_token, no_tokens, more_tokens, Scan, found, exhausted, faulty, syntax_fault, limit_fault}
+use Rattle.std.specs.Prelude.{◌≡◌, ◌⊎◌, false, ℕ, ◌+◌, ◌<◌, ◌≤◌, List, [], ◌∷◌, length, drop}
+use Rattle.std.specs.Prelude.{Option, Some, None, Result, Ok, Err, slice_range, slice_index, ⊤}
+use Rattle.ps_language.specs.Token.{Tokens, number_token, literal_name_token, executable_name_token}
+use Rattle.ps_language.specs.Token.{immediate_name_token, string_token, procedure_token, no_tokens}
+use Rattle.ps_language.specs.Token.{more_tokens, Scan, found, exhausted, faulty, syntax_fault}
+use Rattle.ps_language.specs.Token.{limit_fault}
 use Rattle.ps_language.specs.Token as language
 use Rattle.ps_language.specs.Bytes.{is_regular}
 use Rattle.ps_language.specs.Reading.{Reading, token_then, stuck, sized_name}
-use Rattle.ps_language.specs.Scan.{leading, beyond, start_of, simple_by, token_here, behind_blank, scan}
+use Rattle.ps_language.specs.Scan.{leading, beyond, start_of, simple_by, token_here, behind_blank}
+use Rattle.ps_language.specs.Scan.{scan}
 use Rattle.ps_scan.specs.declared.tokens.Span.{Span}
 use Rattle.ps_scan.specs.declared.tokens.Token.{Token}
 use Rattle.ps_scan.specs.declared.tokens.ScanFault.{ScanFault}
 use Rattle.ps_scan.specs.declared.tokens.ScanFault.TheVariants.{Syntax, Limit, Memory}
 use Rattle.ps_scan.specs.declared.tokens.TokenKind.{TokenKind}
-use Rattle.ps_scan.specs.declared.tokens.TokenKind.TheOpen.{TokenKind-F, Integer, LiteralName, ExecutableName, ImmediateName, Text, Procedure}
+use Rattle.ps_scan.specs.declared.tokens.TokenKind.TheOpen.{TokenKind-F, Integer, LiteralName}
+use Rattle.ps_scan.specs.declared.tokens.TokenKind.TheOpen.{ExecutableName, ImmediateName, Text}
+use Rattle.ps_scan.specs.declared.tokens.TokenKind.TheOpen.{Procedure}
 use Rattle.ps_scan.specs.declared.tokens.TokenKind.TheFolds.{fold-TokenKind}
 
 -- the bytes of a span in its text

@@ -1,7 +1,9 @@
 -- Strings by their parts and their extent.
-use Rattle.std.specs.Prelude.{◌≡◌, ℕ, ◌+◌, ◌<◌, ◌≤◌, List, length, drop, Option, Some, None, option_to_list, Result, Ok, Err}
+use Rattle.std.specs.Prelude.{◌≡◌, ℕ, ◌+◌, ◌<◌, ◌≤◌, List, length, drop, Option, Some, None}
+use Rattle.std.specs.Prelude.{option_to_list, Result, Ok, Err}
 use Rattle.ps_language.specs.Token.{string_token}
-use Rattle.ps_language.specs.Reading.{Reading, token_then, Ending, string_end, unfinished, with_front}
+use Rattle.ps_language.specs.Reading.{Reading, token_then, Ending, string_end, unfinished}
+use Rattle.ps_language.specs.Reading.{with_front}
 use Rattle.ps_language.specs.Scan.{string_from}
 use Rattle.ps_scan.specs.declared.strings.Extent.{Extent}
 use Rattle.ps_scan.specs.declared.strings.Part.{Part}

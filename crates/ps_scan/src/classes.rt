@@ -1,7 +1,8 @@
 //! Classes of bytes: white space, delimiters, digits (PLRM2, 3.2.1).
 
 ghost use Rattle.std.specs.Prelude.{◌≡◌, ◌≤◌, IsTrue, min};
-ghost use Rattle.ps_language.specs.Bytes.{is_white, is_comment_end, is_regular, digit_of, is_digit, is_sign, is_exponent_mark};
+ghost use Rattle.ps_language.specs.Bytes.{is_white, is_comment_end, is_regular, digit_of, is_digit};
+ghost use Rattle.ps_language.specs.Bytes.{is_sign, is_exponent_mark};
 ghost use Rattle.ps_language.specs.Scan.{mark_of, plain};
 
 /// White space: NUL, tab, line feed, form feed, carriage return and space.

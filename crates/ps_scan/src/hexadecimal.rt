@@ -1,6 +1,7 @@
 //! Hexadecimal strings (PLRM2, 3.2.2).
 
-ghost use Rattle.std.specs.Prelude.{◌≡◌, ◌≢◌, ◌+◌, ◌-◌, ◌*◌, ◌/◌, ◌<◌, ◌≤◌, [], ◌∷◌, ◌++◌, length, take, drop, filter, slice_index, slice_range, IfOk, OnOk};
+ghost use Rattle.std.specs.Prelude.{◌≡◌, ◌≢◌, ◌+◌, ◌-◌, ◌*◌, ◌/◌, ◌<◌, ◌≤◌, [], ◌∷◌, ◌++◌, length};
+ghost use Rattle.std.specs.Prelude.{take, drop, filter, slice_index, slice_range, IfOk, OnOk};
 ghost use Rattle.ps_language.specs.Bytes.{is_hex, is_hex_or_white};
 ghost use Rattle.ps_language.specs.Reading.{pairs, sized_string};
 ghost use Rattle.ps_language.specs.Scan.{leading, beyond, after_hex_start};

@@ -1,6 +1,7 @@
 //! Numbers: decimal, signed and with a base (PLRM2, 3.2.2).
 
-ghost use Rattle.std.specs.Prelude.{◌≡◌, ◌+◌, ◌-◌, ◌*◌, ◌<◌, ◌≤◌, ◌^◌, length, drop, IfSome, IfNone, if◌then◌else◌, ◌||◌};
+ghost use Rattle.std.specs.Prelude.{◌≡◌, ◌+◌, ◌-◌, ◌*◌, ◌<◌, ◌≤◌, ◌^◌, length, drop, IfSome};
+ghost use Rattle.std.specs.Prelude.{IfNone, if◌then◌else◌, ◌||◌};
 ghost use Rattle.std.specs.Bool.{OnTrue};
 ghost use Rattle.std.specs.List.{list_all};
 ghost use Rattle.ps_language.specs.Bytes.{value_in, is_digit_in};

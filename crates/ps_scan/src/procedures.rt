@@ -1,6 +1,7 @@
 //! Procedures in braces, and the token that begins at a place (PLRM2, 3.2.2).
 
-ghost use Rattle.std.specs.Prelude.{◌≡◌, nat_lt, if◌then◌else◌, OnOk, [], ◌∷◌, ◌++◌, ◌+◌, ◌<◌, ◌≤◌, length, drop, slice_index, ⊤};
+ghost use Rattle.std.specs.Prelude.{◌≡◌, nat_lt, if◌then◌else◌, OnOk, [], ◌∷◌, ◌++◌, ◌+◌, ◌<◌, ◌≤◌};
+ghost use Rattle.std.specs.Prelude.{length, drop, slice_index, ⊤};
 ghost use Rattle.ps_language.specs.Reading.{sized_procedure};
 ghost use Rattle.ps_language.specs.Scan.{token_here, elements_from};
 ghost use Rattle.ps_scan.specs.Shown.{IsAnswer, MayStarve, token_at};

@@ -37,8 +37,8 @@ pub fn next_token(alloc: Global, bytes: &[u8], at: usize) -> Result<Option<Token
     }
 }
 
-/// The first token of the bytes from a place on, where it is a number or an executable name. `None`:
-/// it is another, or nothing is left, or there is a fault. It takes no memory.
+/// The first token of the bytes from a place on, where it is a number or an executable name.
+/// `None`: it is another, or nothing is left, or there is a fault. It takes no memory.
 #[inline(always)]
 pub fn next_word(bytes: &[u8], at: usize) -> Option<Token>
     requires { at ≤ length bytes.now }

@@ -1,9 +1,12 @@
 //! Strings in parentheses, with their escapes (PLRM2, 3.2.2).
 
-ghost use Rattle.std.specs.Prelude.{◌≡◌, ◌≢◌, ℕ, ◌+◌, ◌-◌, ◌*◌, ◌%◌, ◌<◌, ◌≤◌, ◌^◌, ◌++◌, List, length, drop, slice_index, slice_range, Some, OnOk, IfOk, IfSome, IfNone, MatchOption, option_to_list, true, false};
+ghost use Rattle.std.specs.Prelude.{◌≡◌, ◌≢◌, ℕ, ◌+◌, ◌-◌, ◌*◌, ◌%◌, ◌<◌, ◌≤◌, ◌^◌, ◌++◌, List};
+ghost use Rattle.std.specs.Prelude.{length, drop, slice_index, slice_range, Some, OnOk, IfOk};
+ghost use Rattle.std.specs.Prelude.{IfSome, IfNone, MatchOption, option_to_list, true, false};
 ghost use Rattle.ps_language.specs.Bytes.{value_in, digit_of, is_octal};
 ghost use Rattle.ps_language.specs.Reading.{string_end, unfinished, with_front, string_reading};
-ghost use Rattle.ps_language.specs.Scan.{after_return, octal_front, octal_rest, escape_of, byte_escape, string_escape, string_from};
+ghost use Rattle.ps_language.specs.Scan.{after_return, octal_front, octal_rest, escape_of};
+ghost use Rattle.ps_language.specs.Scan.{byte_escape, string_escape, string_from};
 ghost use Rattle.ps_scan.specs.Shown.{IsAnswer, IsSomeString};
 ghost use Rattle.ps_scan.specs.Strings.{extent_of, IsSized, PartReads};
 

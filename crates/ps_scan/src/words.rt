@@ -1,6 +1,7 @@
 //! Words: numbers, executable and literal names, names looked up at once (PLRM2, 3.2.2).
 
-ghost use Rattle.std.specs.Prelude.{◌≡◌, IfSome, ◌+◌, ◌-◌, ◌<◌, ◌≤◌, length, drop, slice_index, slice_range, true, MatchResult};
+ghost use Rattle.std.specs.Prelude.{◌≡◌, IfSome, ◌+◌, ◌-◌, ◌<◌, ◌≤◌, length, drop, slice_index};
+ghost use Rattle.std.specs.Prelude.{slice_range, true, MatchResult};
 ghost use Rattle.ps_language.specs.Bytes.{is_regular};
 ghost use Rattle.ps_language.specs.Scan.{regular_start, simple_by, after_slash};
 ghost use Rattle.ps_scan.specs.Shown.{IsAnswer, ReadsName};

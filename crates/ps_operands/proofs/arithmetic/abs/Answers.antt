@@ -8,4 +8,5 @@ use Rattle.ps_operands.proofs.arithmetic.abs.Goals as goal
 pub returns-clause-row : goal.returns-clause-row
 returns-clause-row c =
     let only : SFits w32 c.in_ok-i.i = search rules in
-    one_put magnitude_of c.in_ok-i.i _ _ _ _ c.in_ok-i.ensures.read (simp to_z-of_z at c.magnitude_of.ensures) c.put_number.ensures.row
+    one_put magnitude_of c.in_ok-i.i _ _ _ _ c.in_ok-i.ensures.read
+    (simp to_z-of_z at c.magnitude_of.ensures) c.put_number.ensures.row

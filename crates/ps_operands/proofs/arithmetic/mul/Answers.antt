@@ -9,4 +9,5 @@ pub returns-clause-row : goal.returns-clause-row
 returns-clause-row c =
     let first : SFits w32 c.in_ok-i.i = search rules in
     let second : SFits w32 c.in_ok-i.j = search rules in
-    two_put product_of c.in_ok-i.i c.in_ok-i.j _ _ _ _ c.in_ok-i.ensures.read (simp to_z-of_z at c.product_of.ensures) c.put_number.ensures.row
+    two_put product_of c.in_ok-i.i c.in_ok-i.j _ _ _ _ c.in_ok-i.ensures.read
+    (simp to_z-of_z at c.product_of.ensures) c.put_number.ensures.row

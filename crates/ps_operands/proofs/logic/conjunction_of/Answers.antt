@@ -14,7 +14,8 @@ pub returns-in-Some-clause-value : goal.returns-in-Some-clause-value
 returns-in-Some-clause-value c =
     let both : IsBoolean (Some c.in_ok-b.b) c.args.right = search rules in
     let value : c.if-a.boolean ≡ (c.in-Some.a && c.in_ok-b.b) = search rules in
-    truths_combine (λ a b. a && b) (int_bit_and w32) c.args.left c.args.right c.in-Some.a c.in_ok-b.b _ c.in-Some.ensures both
+    truths_combine (λ a b. a && b) (int_bit_and w32) c.args.left c.args.right c.in-Some.a c.in_ok-b.b _
+    c.in-Some.ensures both
     (λ births names. rw value at (c.boolean.ensures.value births names))
 
 pub returns-in_err-j-clause-value : goal.returns-in_err-j-clause-value
@@ -28,4 +29,5 @@ pub returns-clause-value : goal.returns-clause-value
 returns-clause-value c =
     let first : IsInteger (Some c.in_ok-i.i) c.args.left = search rules in
     let second : IsInteger (Some c.in_ok-j.j) c.args.right = search rules in
-    integers_combine (λ a b. a && b) (int_bit_and w32) c.args.left c.args.right c.in_ok-i.i c.in_ok-j.j _ first second (λ births names. c.integer.ensures.value births names ∙ search rules)
+    integers_combine (λ a b. a && b) (int_bit_and w32) c.args.left c.args.right c.in_ok-i.i c.in_ok-j.j _ first second
+    (λ births names. c.integer.ensures.value births names ∙ search rules)

@@ -15,7 +15,9 @@ invariant-pass_procedure-loop-place l = record {
   low : l.at + 1 ≤ l.place;
   high : l.place ≤ length l.bytes;
   few : l.count ≤ l.place;
-  front : (front : List Token) × (with_all front (elements_at l.room l.bytes l.place) ≡ elements_at l.room l.bytes (l.at + 1)) × (length front ≡ l.count);
+  front : (front : List Token)
+      × (with_all front (elements_at l.room l.bytes l.place) ≡ elements_at l.room l.bytes (l.at + 1))
+      × (length front ≡ l.count);
 }
 
 abbrev pub decreases-pass_procedure-loop-place : goal.decreases-pass_procedure-loop-place

@@ -12,7 +12,9 @@ returns-then-first-eq40 c =
     (c.pass_string.ensures xs c.args.at (c.args.at + 1) _ (omega arith) c.sized_extent.ensures)
 
 pub returns-then-first-eq60 : goal.returns-then-first-eq60
-returns-then-first-eq60 c = same_passed c.args.bytes.now c.args.at _ _ _ (angle_at c.args.bytes.now c.args.at c.if-first-eq60.true) c.pass_angle.ensures
+returns-then-first-eq60 c =
+    same_passed c.args.bytes.now c.args.at _ _ _ (angle_at c.args.bytes.now c.args.at c.if-first-eq60.true)
+    c.pass_angle.ensures
 
 pub returns-in-Ok : goal.returns-in-Ok
 returns-in-Ok c =

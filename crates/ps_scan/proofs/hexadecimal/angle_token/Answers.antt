@@ -18,9 +18,14 @@ returns-then-bytes-start-eq60 c =
     let xs = c.args.bytes.now in
     let inside : c.args.at + 1 < length xs = c.if-start-bytes.true in
     let two : c.args.at + 1 + 1 ≡ c.args.at + 2 = omega arith in
-    let name : slice_range xs c.args.at (c.args.at + 2) ≡ 60 ∷ 60 ∷ [] = two_bytes xs c.args.at inside ∙ ap (λ b. b ∷ byte_at xs (c.args.at + 1) ∷ []) c.requires.angle ∙ ap (λ b. 60 ∷ b ∷ []) c.if-bytes-start-eq60.true in (
-      angle_angle xs (c.args.at + 1) inside c.if-bytes-start-eq60.true ∙ ap (λ n. token_then (executable_name_token (60 ∷ 60 ∷ [])) (drop n xs)) two
-          ∙ ap (λ t. token_then (executable_name_token t) (drop (c.args.at + 2) xs)) (sym name) ∙ ap (λ t. token_then t (drop (c.args.at + 2) xs)) (sym (executable_name_is xs (record { start = c.args.at; end = c.args.at + 2 }))),
+    let name : slice_range xs c.args.at (c.args.at + 2) ≡ 60 ∷ 60 ∷ [] = two_bytes xs c.args.at inside
+    ∙ ap (λ b. b ∷ byte_at xs (c.args.at + 1) ∷ []) c.requires.angle
+    ∙ ap (λ b. 60 ∷ b ∷ []) c.if-bytes-start-eq60.true in (
+      angle_angle xs (c.args.at + 1) inside c.if-bytes-start-eq60.true
+          ∙ ap (λ n. token_then (executable_name_token (60 ∷ 60 ∷ [])) (drop n xs)) two
+          ∙ ap (λ t. token_then (executable_name_token t) (drop (c.args.at + 2) xs)) (sym name)
+          ∙ ap (λ t. token_then t (drop (c.args.at + 2) xs))
+          (sym (executable_name_is xs (record { start = c.args.at; end = c.args.at + 2 }))),
       omega arith,
       omega (arith, inside),
     )
@@ -33,7 +38,8 @@ returns-in-Err c =
 pub returns-then-extent-eq0 : goal.returns-then-extent-eq0
 returns-then-extent-eq0 c =
     let sized = c.in-Ok.ensures.sized in (
-      string_kept c.args.bytes.now _ sized.0 _ c.new.result sized.1 (c.new.ensures.items ∙ sym (nil_from_length sized.0 (sized.2 ∙ c.if-extent-eq0.true))),
+      string_kept c.args.bytes.now _ sized.0 _ c.new.result sized.1 (c.new.ensures.items
+          ∙ sym (nil_from_length sized.0 (sized.2 ∙ c.if-extent-eq0.true))),
       omega (arith, sized.4),
       sized.5,
     )
@@ -42,11 +48,13 @@ pub returns-in-Ok-hex_bytes : goal.returns-in-Ok-hex_bytes
 returns-in-Ok-hex_bytes c =
     let sized = c.in-Ok.ensures.sized in
     let inner = c.in-Ok.ensures.inner in (
-      string_kept c.args.bytes.now _ sized.0 _ c.in-Ok-hex_bytes.string sized.1 (c.in-Ok-hex_bytes.ensures ∙ sized_value _ sized.0 _ _ (sym inner.1 ∙ sized.1)),
+      string_kept c.args.bytes.now _ sized.0 _ c.in-Ok-hex_bytes.string sized.1 (c.in-Ok-hex_bytes.ensures
+          ∙ sized_value _ sized.0 _ _ (sym inner.1 ∙ sized.1)),
       omega (arith, sized.4),
       sized.5,
     )
 
 pub returns-in-Err-hex_bytes : goal.returns-in-Err-hex_bytes
 returns-in-Err-hex_bytes c =
-    let sized = c.in-Ok.ensures.sized in some_string _ sized.0 _ sized.1 (λ none. c.if-extent-eq0.false (sym sized.2 ∙ none))
+    let sized = c.in-Ok.ensures.sized in
+    some_string _ sized.0 _ sized.1 (λ none. c.if-extent-eq0.false (sym sized.2 ∙ none))

@@ -15,7 +15,14 @@ loop-pair-preserved c =
     let inside : i + 1 < length xs =
     omega (arith, c.loop-pair-test.true, c.min-most.ensures, c.requires.from) in
     let room : k < length c.loop-pair.string.items =
-    omega (arith, c.loop-pair-test.true, c.min-most.ensures, c.len.ensures, c.args.string.now.ok.0, c.loop-pair.invariant.long) in
+    omega (
+      arith,
+      c.loop-pair-test.true,
+      c.min-most.ensures,
+      c.len.ensures,
+      c.args.string.now.ok.0,
+      c.loop-pair.invariant.long,
+    ) in
     let high : c.hex_value-high.result ≡ digit_of (byte_at xs i) =
     omega (arith, c.hex_value-high.ensures, c.if-high-ge16.false) in
     let low : c.hex_value-low.result ≡ digit_of (byte_at xs (i + 1)) =

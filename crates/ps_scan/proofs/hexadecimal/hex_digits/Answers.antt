@@ -3,7 +3,8 @@ use Rattle.std.proofs.Common.{◌≡◌, ◌∙◌, length, drop, ap, sym, true,
 use Rattle.std.proofs.lemmas.Bool.{lt-ltb, le-ltb}
 use Rattle.ps_language.specs.Bytes.{is_hex, is_hex_or_white}
 use Rattle.ps_language.proofs.Places.{byte_at, beyond_on, beyond_off, beyond_end}
-use Rattle.ps_scan.proofs.HexForms.{hex_or_white_digit, hex_or_white_white, hex_or_white_none, digits_on, digits_white, digits_off, digits_end}
+use Rattle.ps_scan.proofs.HexForms.{hex_or_white_digit, hex_or_white_white, hex_or_white_none, digits_on, digits_white}
+use Rattle.ps_scan.proofs.HexForms.{digits_off, digits_end}
 use Rattle.ps_scan.proofs.hexadecimal.hex_digits.Goals as goal
 
 pub loop-here-preserved-then-hex_value-lt16 : goal.loop-here-preserved-then-hex_value-lt16

@@ -13,12 +13,14 @@ returns-then-at-bytes-clause-sized c = angle_end c.args.bytes.now c.args.at c.if
 pub returns-then-digits-bytes-clause-sized : goal.returns-then-digits-bytes-clause-sized
 returns-then-digits-bytes-clause-sized c =
     let inside : c.args.at < length c.args.bytes.now = omega (arith, c.if-at-bytes.false) in
-    hex_no_end c.args.bytes.now c.args.at _ inside (c.requires.digit inside) c.hex_digits-digits.ensures.rest c.if-digits-bytes.true
+    hex_no_end c.args.bytes.now c.args.at _ inside
+    (c.requires.digit inside) c.hex_digits-digits.ensures.rest c.if-digits-bytes.true
 
 pub returns-then-bytes-digits-ne62-clause-sized : goal.returns-then-bytes-digits-ne62-clause-sized
 returns-then-bytes-digits-ne62-clause-sized c =
     let inside : c.args.at < length c.args.bytes.now = omega (arith, c.if-at-bytes.false) in
-    hex_bad_byte c.args.bytes.now c.args.at _ inside (c.requires.digit inside) c.hex_digits-digits.ensures.rest (omega (arith, c.if-digits-bytes.false)) c.if-bytes-digits-ne62.true
+    hex_bad_byte c.args.bytes.now c.args.at _ inside (c.requires.digit inside) c.hex_digits-digits.ensures.rest
+    (omega (arith, c.if-digits-bytes.false)) c.if-bytes-digits-ne62.true
 
 pub returns-then-length-gt-SEQUENCE_LIMIT-clause-sized : goal.returns-then-length-gt-SEQUENCE_LIMIT-clause-sized
 returns-then-length-gt-SEQUENCE_LIMIT-clause-sized c =
@@ -28,8 +30,14 @@ returns-then-length-gt-SEQUENCE_LIMIT-clause-sized c =
     let inside : c.args.at < length xs = omega (arith, c.if-at-bytes.false) in
     let closed : end < length xs = omega (arith, c.if-digits-bytes.false) in
     let value = pairs (filter is_hex (slice_range xs c.args.at end)) in
-    hex_string_at xs c.args.at end inside (c.requires.digit inside) digits.rest digits.low closed c.if-bytes-digits-ne62.false
-    ∙ sized_long value (drop (end + 1) xs) (omega (arith, hex_size xs c.args.at end c.hex_digits-digits.result.count digits.rest digits.low digits.high digits.count, c.if-length-gt-SEQUENCE_LIMIT.true))
+    hex_string_at xs c.args.at end inside (c.requires.digit inside) digits.rest digits.low closed
+    c.if-bytes-digits-ne62.false
+    ∙ sized_long value (drop (end + 1) xs)
+    (omega (
+      arith,
+      hex_size xs c.args.at end c.hex_digits-digits.result.count digits.rest digits.low digits.high digits.count,
+      c.if-length-gt-SEQUENCE_LIMIT.true,
+    ))
 
 pub returns-clause-sized : goal.returns-clause-sized
 returns-clause-sized c =
@@ -39,9 +47,11 @@ returns-clause-sized c =
     let inside : c.args.at < length xs = omega (arith, c.if-at-bytes.false) in
     let closed : end < length xs = omega (arith, c.if-digits-bytes.false) in
     let value = pairs (filter is_hex (slice_range xs c.args.at end)) in
-    let size = hex_size xs c.args.at end c.hex_digits-digits.result.count digits.rest digits.low digits.high digits.count in (
+    let size = hex_size xs c.args.at end c.hex_digits-digits.result.count digits.rest digits.low digits.high
+    digits.count in (
       value,
-      hex_string_at xs c.args.at end inside (c.requires.digit inside) digits.rest digits.low closed c.if-bytes-digits-ne62.false
+      hex_string_at xs c.args.at end inside (c.requires.digit inside) digits.rest digits.low closed
+          c.if-bytes-digits-ne62.false
           ∙ sized_short value (drop (end + 1) xs) (omega (arith, size, c.if-length-gt-SEQUENCE_LIMIT.false)),
       size,
       c.if-length-gt-SEQUENCE_LIMIT.false,
@@ -58,6 +68,7 @@ returns-clause-inner c =
     let closed : end < length xs = omega (arith, c.if-digits-bytes.false) in
     let before : end ≡ end + 1 - 1 = omega arith in (
       omega (arith, digits.low),
-      hex_string_at xs c.args.at end inside (c.requires.digit inside) digits.rest digits.low closed c.if-bytes-digits-ne62.false
+      hex_string_at xs c.args.at end inside (c.requires.digit inside) digits.rest digits.low closed
+          c.if-bytes-digits-ne62.false
           ∙ ap (λ n. sized_string (pairs (filter is_hex (slice_range xs c.args.at n))) (drop (end + 1) xs)) before,
     )

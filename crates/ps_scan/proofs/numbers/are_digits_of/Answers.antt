@@ -12,9 +12,13 @@ pub returns-then-base-gt36-clause-value : goal.returns-then-base-gt36-clause-val
 returns-then-base-gt36-clause-value c = sym (radix_high c.args.base c.args.digits.now c.if-base-gt36.true)
 
 pub returns-then-not-is_empty-clause-value : goal.returns-then-not-is_empty-clause-value
-returns-then-not-is_empty-clause-value c = c.are_digits_in.ensures ∙ ap (λ b. not b && list_all (is_digit_in c.args.base) c.args.digits.now) (sym c.if-not-is_empty.true ∙ c.is_empty.ensures)
+returns-then-not-is_empty-clause-value c = c.are_digits_in.ensures
+    ∙ ap (λ b. not b && list_all (is_digit_in c.args.base) c.args.digits.now) (sym c.if-not-is_empty.true
+    ∙ c.is_empty.ensures)
     ∙ sym (radix_within c.args.base c.args.digits.now c.if-base-lt2.false c.if-base-gt36.false)
 
 pub returns-else-not-is_empty-clause-value : goal.returns-else-not-is_empty-clause-value
-returns-else-not-is_empty-clause-value c = ap not c.if-not-is_empty.false ∙ ap (λ b. not b && list_all (is_digit_in c.args.base) c.args.digits.now) (sym c.if-not-is_empty.false ∙ c.is_empty.ensures)
+returns-else-not-is_empty-clause-value c = ap not c.if-not-is_empty.false
+    ∙ ap (λ b. not b && list_all (is_digit_in c.args.base) c.args.digits.now) (sym c.if-not-is_empty.false
+    ∙ c.is_empty.ensures)
     ∙ sym (radix_within c.args.base c.args.digits.now c.if-base-lt2.false c.if-base-gt36.false)

@@ -11,13 +11,19 @@ use Rattle.ps_scan.proofs.numbers.integer.Goals as goal
 
 pub returns-in-Some : goal.returns-in-Some
 returns-in-Some c =
-    let minus : to_z w64 (of_z w64 (pos 0 -ℤ to_z w64 c.in-Some.n)) ≡ neg_ℤ (pos c.in-Some.n) = omega (arith, ints, c.in-Some.ensures.some) in
-    c.fitted.ensures ∙ ap (λ z. number_in (integer_word z)) (minus ∙ sym (signed_minus c.in-Some.n) ∙ ap (λ b. signed_value b c.in-Some.n) (sym c.if-is_negative.true) ∙ ap (signed_value c.args.is_negative) c.in-Some.ensures.some.1)
+    let minus : to_z w64 (of_z w64 (pos 0 -ℤ to_z w64 c.in-Some.n)) ≡ neg_ℤ (pos c.in-Some.n) =
+    omega (arith, ints, c.in-Some.ensures.some) in
+    c.fitted.ensures ∙ ap (λ z. number_in (integer_word z)) (minus ∙ sym (signed_minus c.in-Some.n)
+    ∙ ap (λ b. signed_value b c.in-Some.n) (sym c.if-is_negative.true)
+    ∙ ap (signed_value c.args.is_negative) c.in-Some.ensures.some.1)
 
 pub returns-in-Some-2 : goal.returns-in-Some-2
 returns-in-Some-2 c =
     let plus : to_z w64 c.in-Some-2.n ≡ pos c.in-Some-2.n = omega (arith, ints, c.in-Some-2.ensures.some) in
-    c.fitted-in-Some-2.ensures ∙ ap (λ z. number_in (integer_word z)) (ap (to_z w64) c.in-Some-2.n-is ∙ plus ∙ sym (signed_plus c.in-Some-2.n) ∙ ap (λ b. signed_value b c.in-Some-2.n) (sym c.if-is_negative.false) ∙ ap (signed_value c.args.is_negative) c.in-Some-2.ensures.some.1)
+    c.fitted-in-Some-2.ensures ∙ ap (λ z. number_in (integer_word z)) (ap (to_z w64) c.in-Some-2.n-is ∙ plus
+    ∙ sym (signed_plus c.in-Some-2.n) ∙ ap (λ b. signed_value b c.in-Some-2.n) (sym c.if-is_negative.false)
+    ∙ ap (signed_value c.args.is_negative) c.in-Some-2.ensures.some.1)
 
 pub returns-in-None : goal.returns-in-None
-returns-in-None c = sym (cond-false _ _ _ (large_past c.args.is_negative (value_in 10 0 c.args.digits.now) c.in-None.ensures.none))
+returns-in-None c =
+    sym (cond-false _ _ _ (large_past c.args.is_negative (value_in 10 0 c.args.digits.now) c.in-None.ensures.none))

@@ -19,7 +19,9 @@ invariant-procedure_token-loop-place l = record {
   low : l.at + 1 ≤ l.place;
   high : l.place ≤ length l.bytes;
   few : l.count ≤ l.place;
-  front : (front : List Token) × (with_all front (elements_at l.room l.bytes l.place) ≡ elements_at l.room l.bytes (l.at + 1)) × (length front ≡ l.count) × (l.count ≤ 65535 → front ≡ map (token_of l.bytes) l.elements.items);
+  front : (front : List Token)
+      × (with_all front (elements_at l.room l.bytes l.place) ≡ elements_at l.room l.bytes (l.at + 1))
+      × (length front ≡ l.count) × (l.count ≤ 65535 → front ≡ map (token_of l.bytes) l.elements.items);
 }
 
 abbrev pub decreases-procedure_token-loop-place : goal.decreases-procedure_token-loop-place

@@ -7,7 +7,8 @@ use Rattle.ps_scan.proofs.spans.blank_end.Goals as goal
 
 pub returns-else-b-eq37-clause-rest : goal.returns-else-b-eq37-clause-rest
 returns-else-b-eq37-clause-rest c =
-    sym (blank_none c.args.bytes.now c.loop-here.here c.loop-here-test.true (sym c.is_white_byte.ensures ∙ c.if-is_white_byte.false) c.if-b-eq37.false)
+    sym (blank_none c.args.bytes.now c.loop-here.here c.loop-here-test.true (sym c.is_white_byte.ensures
+    ∙ c.if-is_white_byte.false) c.if-b-eq37.false)
     ∙ c.loop-here.invariant.rest
 
 pub returns-clause-rest : goal.returns-clause-rest
@@ -28,6 +29,7 @@ pub loop-here-preserved-then-is_white_byte : goal.loop-here-preserved-then-is_wh
 loop-here-preserved-then-is_white_byte c = record {
   low = omega (arith, c.loop-here.invariant.low);
   high = omega (arith, c.loop-here-test.true);
-  rest = sym (blank_white c.args.bytes.now c.loop-here.here c.loop-here-test.true (sym c.is_white_byte.ensures ∙ c.if-is_white_byte.true))
+  rest = sym (blank_white c.args.bytes.now c.loop-here.here c.loop-here-test.true (sym c.is_white_byte.ensures
+      ∙ c.if-is_white_byte.true))
       ∙ c.loop-here.invariant.rest;
 }

@@ -20,4 +20,6 @@ pub returns-then-letter-eq102 : goal.returns-then-letter-eq102
 returns-then-letter-eq102 c = ap escape_of c.if-letter-eq102.true ∙ escape_f
 
 pub returns-else-letter-eq102 : goal.returns-else-letter-eq102
-returns-else-letter-eq102 c = own_escape c.args.letter c.requires.octal c.requires.feed c.requires.carriage_return c.if-letter-eq110.false c.if-letter-eq114.false c.if-letter-eq116.false c.if-letter-eq98.false c.if-letter-eq102.false
+returns-else-letter-eq102 c =
+    own_escape c.args.letter c.requires.octal c.requires.feed c.requires.carriage_return c.if-letter-eq110.false
+    c.if-letter-eq114.false c.if-letter-eq116.false c.if-letter-eq98.false c.if-letter-eq102.false

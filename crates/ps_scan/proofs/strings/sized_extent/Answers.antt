@@ -7,7 +7,9 @@ pub returns-in-None : goal.returns-in-None
 returns-in-None c = read_unfinished _ c.in-None.ensures.none
 
 pub returns-then-extent-gt-SEQUENCE_LIMIT : goal.returns-then-extent-gt-SEQUENCE_LIMIT
-returns-then-extent-gt-SEQUENCE_LIMIT c = read_long _ c.in-Some.extent.length (drop c.in-Some.extent.end c.args.bytes.now) c.in-Some.ensures.some c.if-extent-gt-SEQUENCE_LIMIT.true
+returns-then-extent-gt-SEQUENCE_LIMIT c =
+    read_long _ c.in-Some.extent.length (drop c.in-Some.extent.end c.args.bytes.now) c.in-Some.ensures.some
+    c.if-extent-gt-SEQUENCE_LIMIT.true
 
 pub returns : goal.returns
 returns c =

@@ -10,7 +10,8 @@ invariant-loop-here l = record {
   high : l.here ≤ length l.bytes;
   depth : l.depth ≤ l.here;
   length : l.length ≤ l.here;
-  extent : extent_of l.length (string_from l.depth (drop l.here l.bytes)) ≡ extent_of 0 (string_from 0 (drop l.fn.at l.bytes));
+  extent : extent_of l.length (string_from l.depth (drop l.here l.bytes))
+      ≡ extent_of 0 (string_from 0 (drop l.fn.at l.bytes));
 }
 
 abbrev pub decreases-loop-here : goal.decreases-loop-here

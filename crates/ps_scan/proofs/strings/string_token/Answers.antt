@@ -16,7 +16,8 @@ returns-in-Err c =
 pub returns-then-extent-eq0 : goal.returns-then-extent-eq0
 returns-then-extent-eq0 c =
     let sized = c.in-Ok.ensures in (
-      string_kept c.args.bytes.now _ sized.0 _ c.new.result sized.1 (c.new.ensures.items ∙ sym (nil_from_length sized.0 (sized.2 ∙ c.if-extent-eq0.true))),
+      string_kept c.args.bytes.now _ sized.0 _ c.new.result sized.1 (c.new.ensures.items
+          ∙ sym (nil_from_length sized.0 (sized.2 ∙ c.if-extent-eq0.true))),
       omega (arith, sized.4),
       sized.5,
     )
@@ -24,7 +25,8 @@ returns-then-extent-eq0 c =
 pub returns-in-Ok-string_bytes : goal.returns-in-Ok-string_bytes
 returns-in-Ok-string_bytes c =
     let sized = c.in-Ok.ensures in (
-      string_kept c.args.bytes.now _ sized.0 _ c.in-Ok-string_bytes.string sized.1 (c.in-Ok-string_bytes.ensures sized.0 _ (ending_is _ sized.0 _ sized.1)),
+      string_kept c.args.bytes.now _ sized.0 _ c.in-Ok-string_bytes.string sized.1
+          (c.in-Ok-string_bytes.ensures sized.0 _ (ending_is _ sized.0 _ sized.1)),
       omega (arith, sized.4),
       sized.5,
     )

@@ -9,11 +9,13 @@ returns-then-end-start-gt-NAME_LIMIT-clause-reading c name =
     let xs = c.args.bytes.now in
     let end = c.run_end-end.result in
     named_run name xs c.args.start end c.run_end-end.ensures.rest c.run_end-end.ensures.low c.run_end-end.ensures.high
-    ∙ named_long name (slice_range xs c.args.start end) (drop end xs) (omega (arith, length_slice xs c.args.start end c.run_end-end.ensures.high))
+    ∙ named_long name (slice_range xs c.args.start end) (drop end xs)
+    (omega (arith, length_slice xs c.args.start end c.run_end-end.ensures.high))
 
 pub returns-clause-reading : goal.returns-clause-reading
 returns-clause-reading c name =
     let xs = c.args.bytes.now in
     let end = c.run_end-end.result in
     named_run name xs c.args.start end c.run_end-end.ensures.rest c.run_end-end.ensures.low c.run_end-end.ensures.high
-    ∙ named_short name (slice_range xs c.args.start end) (drop end xs) (omega (arith, length_slice xs c.args.start end c.run_end-end.ensures.high))
+    ∙ named_short name (slice_range xs c.args.start end) (drop end xs)
+    (omega (arith, length_slice xs c.args.start end c.run_end-end.ensures.high))
