@@ -35,7 +35,10 @@ use Rattle.ps_dict.specs.Keys.{same_place, same_content, same_words}
 use Rattle.ps_dict.specs.Places.{place_of}
 
 same_test : (a b m n : ℕ) → (a ≡ b → m ≡ n) → (m ≡ n → a ≡ b) → nat_eq m n ≡ nat_eq a b
-same_test a b m n there back = same_from_decides (nat_eq m n) (nat_eq a b) (Decides-eqb m n) ((λ e. there ((Decides-eqb a b).0 e)), λ e. (Decides-eqb a b).1 (back e))
+same_test a b m n there back = same_from_decides (nat_eq m n) (nat_eq a b) (Decides-eqb m n) (
+  (λ e. there ((Decides-eqb a b).0 e)),
+  λ e. (Decides-eqb a b).1 (back e),
+)
 
 like_test : (m n : ℕ) → m ≡ n → nat_eq m n ≡ true
 like_test m n is = (Decides-eqb m n).1 is
@@ -59,7 +62,9 @@ test_cases m n = by (nat_eq m n) (Decides-eqb m n)
 operators_same : (a b : OperatorName) → nat_eq (operator_number a) (operator_number b) ≡ same_operator a b
 operators_same a b =
     same_from_decides (nat_eq (operator_number a) (operator_number b)) (same_operator a b) (
-      (λ e. sym (operator_at-number a) ∙ (ap (λ n. slice_index_or every_operator n Pop) ((Decides-eqb (operator_number a) (operator_number b)).0 e) ∙ operator_at-number b)),
+      (λ e. sym (operator_at-number a)
+          ∙ (ap (λ n. slice_index_or every_operator n Pop) ((Decides-eqb (operator_number a) (operator_number b)).0 e)
+          ∙ operator_at-number b)),
       λ e. (Decides-eqb (operator_number a) (operator_number b)).1 (ap operator_number e),
     )
     (same_true the_operator.the_type (search rules) a b, true_same the_operator.the_type a b)
@@ -67,7 +72,8 @@ operators_same a b =
 cast_unsigned-below : (i : ℤ) → FitsSigned w32 i → cast_unsigned w32 i < 2 ^ 32
 cast_unsigned-below i h = search rules
 
-integers_same : (i j : ℤ) → FitsSigned w32 i → FitsSigned w32 j → nat_eq (cast_unsigned w32 i % 2 ^ 57) (cast_unsigned w32 j % 2 ^ 57) ≡ int_eq i j
+integers_same : (i j : ℤ) → FitsSigned w32 i → FitsSigned w32 j
+    → nat_eq (cast_unsigned w32 i % 2 ^ 57) (cast_unsigned w32 j % 2 ^ 57) ≡ int_eq i j
 integers_same i j f g =
     let x = cast_unsigned-below i f in
     let y = cast_unsigned-below j g in
@@ -75,7 +81,8 @@ integers_same i j f g =
     let low' : cast_unsigned w32 j % 2 ^ 57 ≡ cast_unsigned w32 j = omega arith in
     rw (low, low')
     (same_from_decides (nat_eq (cast_unsigned w32 i) (cast_unsigned w32 j)) (int_eq i j) (
-      (λ e. sym (to_z-of_z w32 i f) ∙ (ap (cast_signed w32) ((Decides-eqb (cast_unsigned w32 i) (cast_unsigned w32 j)).0 e) ∙ to_z-of_z w32 j g)),
+      (λ e. sym (to_z-of_z w32 i f)
+          ∙ (ap (cast_signed w32) ((Decides-eqb (cast_unsigned w32 i) (cast_unsigned w32 j)).0 e) ∙ to_z-of_z w32 j g)),
       λ e. (Decides-eqb (cast_unsigned w32 i) (cast_unsigned w32 j)).1 (ap (cast_unsigned w32) e),
     )
     (Decides-int_eq i j))
@@ -94,19 +101,27 @@ parts_same p q f g =
     let second : part_bits q % 2 ^ 57 ≡ q.address * 2 ^ 32 + q.offset * 2 ^ 16 + q.length = omega arith in
     same_from_decides (nat_eq m n) (same_place p q) (
       (λ e.
-          let same : p.address * 2 ^ 32 + p.offset * 2 ^ 16 + p.length ≡ q.address * 2 ^ 32 + q.offset * 2 ^ 16 + q.length = sym first ∙ ((Decides-eqb m n).0 e ∙ second) in
-          ((omega (arith, same, fa, ga, fw, gw), omega (arith, same, fa, ga, fw, gw)), omega (arith, same, fa, ga, fw, gw))),
+          let same : p.address * 2 ^ 32 + p.offset * 2 ^ 16 + p.length
+          ≡ q.address * 2 ^ 32 + q.offset * 2 ^ 16 + q.length = sym first ∙ ((Decides-eqb m n).0 e ∙ second) in (
+            (omega (arith, same, fa, ga, fw, gw), omega (arith, same, fa, ga, fw, gw)),
+            omega (arith, same, fa, ga, fw, gw),
+          )),
       λ (e : ((p.address ≡ q.address) × (p.offset ≡ q.offset)) × (p.length ≡ q.length)).
-          (Decides-eqb m n).1 (first ∙ ((let x = e.0.0 in let y = e.0.1 in let z = e.1 in omega (arith, x, y, z)) ∙ sym second)),
+          (Decides-eqb m n).1 (first ∙ ((let x = e.0.0 in let y = e.0.1 in let z = e.1 in omega (arith, x, y, z))
+          ∙ sym second)),
     )
     (Decides-and (p.address == q.address && p.offset == q.offset) (p.length == q.length)
-    (Decides-and (p.address == q.address) (p.offset == q.offset) (Decides-eqb p.address q.address) (Decides-eqb p.offset q.offset))
+    (Decides-and (p.address == q.address) (p.offset == q.offset) (Decides-eqb p.address q.address)
+    (Decides-eqb p.offset q.offset))
     (Decides-eqb p.length q.length))
 
-addresses_same : (a b : ℕ) → a < 2 ^ 24 → b < 2 ^ 24 → nat_eq ((a * 2 ^ 32) % 2 ^ 57) ((b * 2 ^ 32) % 2 ^ 57) ≡ nat_eq a b
-addresses_same a b f g = same_test a b ((a * 2 ^ 32) % 2 ^ 57) ((b * 2 ^ 32) % 2 ^ 57) (λ e. omega (arith, e)) (λ e. omega (arith, e, f, g))
+addresses_same : (a b : ℕ) → a < 2 ^ 24 → b < 2 ^ 24
+    → nat_eq ((a * 2 ^ 32) % 2 ^ 57) ((b * 2 ^ 32) % 2 ^ 57) ≡ nat_eq a b
+addresses_same a b f g =
+    same_test a b ((a * 2 ^ 32) % 2 ^ 57) ((b * 2 ^ 32) % 2 ^ 57) (λ e. omega (arith, e)) (λ e. omega (arith, e, f, g))
 
-operators_low : (a b : OperatorName) → nat_eq (operator_number a % 2 ^ 57) (operator_number b % 2 ^ 57) ≡ same_operator a b
+operators_low : (a b : OperatorName)
+    → nat_eq (operator_number a % 2 ^ 57) (operator_number b % 2 ^ 57) ≡ same_operator a b
 operators_low a b =
     let x = operator_number-below a in
     let y = operator_number-below b in
@@ -152,13 +167,15 @@ not_text : (c : Content) → type_number c ≢ 7 → as_text c ≡ None
 not_text (Text part) other = absurd (other refl)
 not_text c other = refl
 
-truths_same : (a b : Bool) → nat_eq (content_bits (Boolean a) % 2 ^ 57) (content_bits (Boolean b) % 2 ^ 57) ≡ same_truth a b
+truths_same : (a b : Bool)
+    → nat_eq (content_bits (Boolean a) % 2 ^ 57) (content_bits (Boolean b) % 2 ^ 57) ≡ same_truth a b
 truths_same true true = refl
 truths_same true false = refl
 truths_same false true = refl
 truths_same false false = refl
 
-same_low : (c d : Content) → IsContent c → IsContent d → type_number c ≡ type_number d → type_number c ≢ 7 → is_body c ≡ false → nat_eq (content_bits c % 2 ^ 57) (content_bits d % 2 ^ 57) ≡ same_content c d
+same_low : (c d : Content) → IsContent c → IsContent d → type_number c ≡ type_number d → type_number c ≢ 7
+    → is_body c ≡ false → nat_eq (content_bits c % 2 ^ 57) (content_bits d % 2 ^ 57) ≡ same_content c d
 same_low Null Null f g same plain visible = refl
 same_low Mark Mark f g same plain visible = refl
 same_low (Integer i) (Integer j) f g same plain visible = integers_same i j f g
@@ -176,21 +193,26 @@ same_low c d f g same plain visible = absurd (omega (arith, same))
 module _ (left right : Word) (first : IsWord left.0) (second : IsWord right.0) where
   pub unlike-types : left.0 / 2 ^ 60 ≢ right.0 / 2 ^ 60 → false ≡ same_words left right
   unfolding same_words
-  unlike-types h = other_types (content_in left.0) (content_in right.0) (λ e. h (type-of_word left.0 first ∙ (e ∙ sym (type-of_word right.0 second))))
+  unlike-types h = other_types (content_in left.0) (content_in right.0)
+      (λ e. h (type-of_word left.0 first ∙ (e ∙ sym (type-of_word right.0 second))))
 
   pub unlike-string : left.0 / 2 ^ 60 ≡ 7 → false ≡ same_words left right
   unfolding same_words
   unlike-string h = strings (content_in left.0) (content_in right.0) (sym (type-of_word left.0 first) ∙ h)
 
   low-of : (w : ℕ) → IsWord w → w % 2 ^ 57 ≡ content_bits (content_in w) % 2 ^ 57
-  low-of w word = let low : w % 2 ^ 59 ≡ content_bits (content_in w) = low-of_word w word in let cut : w % 2 ^ 57 ≡ (w % 2 ^ 59) % 2 ^ 57 = omega arith in cut ∙ ap (λ n. n % 2 ^ 57) low
+  low-of w word = let low : w % 2 ^ 59 ≡ content_bits (content_in w) = low-of_word w word in
+      let cut : w % 2 ^ 57 ≡ (w % 2 ^ 59) % 2 ^ 57 = omega arith in cut ∙ ap (λ n. n % 2 ^ 57) low
 
-  pub like-bits : is_body (content_in left.0) ≡ false → left.0 / 2 ^ 60 ≡ right.0 / 2 ^ 60 → left.0 / 2 ^ 60 ≢ 7 → nat_eq (left.0 % 2 ^ 57) (right.0 % 2 ^ 57) ≡ same_words left right
+  pub like-bits : is_body (content_in left.0) ≡ false → left.0 / 2 ^ 60 ≡ right.0 / 2 ^ 60 → left.0 / 2 ^ 60 ≢ 7
+      → nat_eq (left.0 % 2 ^ 57) (right.0 % 2 ^ 57) ≡ same_words left right
   unfolding same_words
   like-bits visible same plain =
       rw (low-of left.0 first, low-of right.0 second)
-      (same_low (content_in left.0) (content_in right.0) (IsContent-of_word left.0 first) (IsContent-of_word right.0 second)
-      (sym (type-of_word left.0 first) ∙ (same ∙ type-of_word right.0 second)) (λ e. plain (type-of_word left.0 first ∙ e)) visible)
+      (same_low (content_in left.0) (content_in right.0) (IsContent-of_word left.0 first)
+      (IsContent-of_word right.0 second)
+      (sym (type-of_word left.0 first) ∙ (same ∙ type-of_word right.0 second))
+      (λ e. plain (type-of_word left.0 first ∙ e)) visible)
 
   pub of_string : right.0 / 2 ^ 60 ≡ 7 → false ≡ same_words left right
   of_string is = elim (test_cases (left.0 / 2 ^ 60) (right.0 / 2 ^ 60)) [
@@ -256,7 +278,8 @@ module _ (names : List (List ℕ)) (distinct : AllPairs (λ first later. first �
     ]
   ]
 
-  same_name : (m n : ℕ) → m < length names → n < length names → bytes_eq (text_of_name names m) (text_of_name names n) ≡ nat_eq m n
+  same_name : (m n : ℕ) → m < length names → n < length names
+      → bytes_eq (text_of_name names m) (text_of_name names n) ≡ nat_eq m n
   same_name m n f g =
       same_from_decides (bytes_eq (text_of_name names m) (text_of_name names n)) (nat_eq m n)
       (bytes_eq-Decides (text_of_name names m) (text_of_name names n))
@@ -264,13 +287,15 @@ module _ (names : List (List ℕ)) (distinct : AllPairs (λ first later. first �
 
   module _ (h : Heap) (sound : IsSound h) where
     -- one birth number is of one object
-    equal_births : (kind also : Kind) (a b m n : ℕ) → kind ≢ BodyKind → also ≢ BodyKind → StandsAs h kind a m → StandsAs h also b n → nat_eq (birth_at h a) (birth_at h b) ≡ nat_eq a b
+    equal_births : (kind also : Kind) (a b m n : ℕ) → kind ≢ BodyKind → also ≢ BodyKind → StandsAs h kind a m
+        → StandsAs h also b n → nat_eq (birth_at h a) (birth_at h b) ≡ nat_eq a b
     unfolding birth_at
     equal_births kind also a b m n bodiless nor first second =
         let one : birth_at h a ≡ first.object.birth = ap birth_of first.at in
         let two : birth_at h b ≡ second.object.birth = ap birth_of second.at in
         same_test a b (birth_at h a) (birth_at h b) (λ same. ap (birth_at h) same)
-        (λ same. sound.single a b first.object second.object first.at second.at (λ is. bodiless (sym first.kind_is ∙ is)) (λ is. nor (sym second.kind_is ∙ is)) (sym one ∙ (same ∙ two)))
+        (λ same. sound.single a b first.object second.object first.at second.at
+        (λ is. bodiless (sym first.kind_is ∙ is)) (λ is. nor (sym second.kind_is ∙ is)) (sym one ∙ (same ∙ two)))
 
     module _ (store : Store) where
       same_contents : (c d : Content) → IsKnownContent h c → IsKnownContent h d → is_body c ≡ false → is_body d ≡ false
@@ -278,16 +303,23 @@ module _ (names : List (List ℕ)) (distinct : AllPairs (λ first later. first �
           → same_what (what_of (birth_at h) names c) (what_of (birth_at h) names d) ≡ same_content c d
       same_contents (Name a) (Name b) known also visible seen within inside = same_name a b within inside
       same_contents (Array p) (Array q) known also visible seen within inside =
-          rw (equal_births ArrayKind ArrayKind p.address q.address (p.offset + p.length) (q.offset + q.length) (λ is. cc) (λ is. cc) known also) refl
-      same_contents (Dictionary a) (Dictionary b) known also visible seen within inside = equal_births DictionaryKind DictionaryKind a b 4 4 (λ is. cc) (λ is. cc) known also
-      same_contents (Lock a) (Lock b) known also visible seen within inside = equal_births LockKind LockKind a b 1 1 (λ is. cc) (λ is. cc) known also
-      same_contents (Condition a) (Condition b) known also visible seen within inside = equal_births ConditionKind ConditionKind a b 1 1 (λ is. cc) (λ is. cc) known also
+          rw (equal_births ArrayKind ArrayKind p.address q.address (p.offset + p.length) (q.offset + q.length)
+          (λ is. cc) (λ is. cc) known also) refl
+      same_contents (Dictionary a) (Dictionary b) known also visible seen within inside =
+          equal_births DictionaryKind DictionaryKind a b 4 4 (λ is. cc) (λ is. cc) known also
+      same_contents (Lock a) (Lock b) known also visible seen within inside =
+          equal_births LockKind LockKind a b 1 1 (λ is. cc) (λ is. cc) known also
+      same_contents (Condition a) (Condition b) known also visible seen within inside =
+          equal_births ConditionKind ConditionKind a b 1 1 (λ is. cc) (λ is. cc) known also
       same_contents (Body a) d known also visible seen within inside = cc
       same_contents c (Body b) known also visible seen within inside = cc
       same_contents c d known also visible seen within inside = refl
 
       -- of words that are held
-      pub same_keys : (left right : Word) → IsValue h left → IsValue h right → IsWithin (birth_at h) names store left → IsWithin (birth_at h) names store right
+      pub same_keys : (left right : Word) → IsValue h left → IsValue h right → IsWithin (birth_at h) names store left
+          → IsWithin (birth_at h) names store right
           → same_key (value_of (birth_at h) names left) (value_of (birth_at h) names right) ≡ same_words left right
       unfolding value_of same_key same_words IsWithin IsKnown
-      same_keys left right held also within inside = same_contents (content_in left.0) (content_in right.0) held.known also.known held.visible also.visible within inside
+      same_keys left right held also within inside =
+          same_contents (content_in left.0) (content_in right.0) held.known also.known held.visible also.visible within
+          inside

@@ -16,13 +16,15 @@ unfolding plan_at
 replace_value-requires-clause-place g c =
     let h = g.M.Memory.heap c.args.memory.now in
     position-below h c.args.address c.requires.known c.requires.sound c.args.key c.in-Replace.place
-    (plan-replace (count_at h c.args.address) (capacity_at h c.args.address) (place_of (pairs_at h c.args.address) c.args.key) c.in-Replace.place (sym c.requires.plan ∙ c.in-Replace.is))
+    (plan-replace (count_at h c.args.address) (capacity_at h c.args.address)
+    (place_of (pairs_at h c.args.address) c.args.key) c.in-Replace.place (sym c.requires.plan ∙ c.in-Replace.is))
 
 pub append_pairs-requires-clause-room : goal.append_pairs-requires-clause-room
 unfolding plan_at
 append_pairs-requires-clause-room g c =
     let h = g.M.Memory.heap c.args.memory.now in
-    let facts = plan-append (count_at h c.args.address) (capacity_at h c.args.address) (place_of (pairs_at h c.args.address) c.args.key) (sym c.requires.plan ∙ c.in-Append.is) in
+    let facts = plan-append (count_at h c.args.address) (capacity_at h c.args.address)
+    (place_of (pairs_at h c.args.address) c.args.key) (sym c.requires.plan ∙ c.in-Append.is) in
     let room = facts.1 in
     omega (arith, room)
 
@@ -30,11 +32,13 @@ pub grow_with-requires-clause-capacity : goal.grow_with-requires-clause-capacity
 unfolding plan_at
 grow_with-requires-clause-capacity g c =
     let h = g.M.Memory.heap c.args.memory.now in
-    let facts = plan-grow (count_at h c.args.address) (capacity_at h c.args.address) (place_of (pairs_at h c.args.address) c.args.key) c.in-Grow.capacity (sym c.requires.plan ∙ c.in-Grow.is) in
+    let facts = plan-grow (count_at h c.args.address) (capacity_at h c.args.address)
+    (place_of (pairs_at h c.args.address) c.args.key) c.in-Grow.capacity (sym c.requires.plan ∙ c.in-Grow.is) in
     let is = facts.1 in
     let full = facts.2 in
     let few = facts.3 in
-    let limits = grown-limits (capacity_at h c.args.address) (count_at h c.args.address + 1) (omega (arith, full)) (omega (arith, few)) in
+    let limits = grown-limits (capacity_at h c.args.address) (count_at h c.args.address + 1) (omega (arith, full))
+    (omega (arith, few)) in
     let most = limits.1 in
     omega (arith, is, most)
 
@@ -42,11 +46,13 @@ pub grow_with-requires-clause-room : goal.grow_with-requires-clause-room
 unfolding plan_at
 grow_with-requires-clause-room g c =
     let h = g.M.Memory.heap c.args.memory.now in
-    let facts = plan-grow (count_at h c.args.address) (capacity_at h c.args.address) (place_of (pairs_at h c.args.address) c.args.key) c.in-Grow.capacity (sym c.requires.plan ∙ c.in-Grow.is) in
+    let facts = plan-grow (count_at h c.args.address) (capacity_at h c.args.address)
+    (place_of (pairs_at h c.args.address) c.args.key) c.in-Grow.capacity (sym c.requires.plan ∙ c.in-Grow.is) in
     let is = facts.1 in
     let full = facts.2 in
     let few = facts.3 in
-    let limits = grown-limits (capacity_at h c.args.address) (count_at h c.args.address + 1) (omega (arith, full)) (omega (arith, few)) in
+    let limits = grown-limits (capacity_at h c.args.address) (count_at h c.args.address + 1) (omega (arith, full))
+    (omega (arith, few)) in
     let least = limits.0 in
     omega (arith, is, least)
 
@@ -55,9 +61,11 @@ unfolding plan_at
 returns-in-Replace-clause-shows g c = λ names s shows distinct first second d holds.
     let h = g.M.Memory.heap c.args.memory.now in
     let b = birth_at h c.args.address in
-    let at = plan-replace (count_at h c.args.address) (capacity_at h c.args.address) (place_of (pairs_at h c.args.address) c.args.key) c.in-Replace.place (sym c.requires.plan ∙ c.in-Replace.is) in
+    let at = plan-replace (count_at h c.args.address) (capacity_at h c.args.address)
+    (place_of (pairs_at h c.args.address) c.args.key) c.in-Replace.place (sym c.requires.plan ∙ c.in-Replace.is) in
     subst (λ (x : Dictionary). Shows (g.M.Memory.heap c.replace_value.new.memory) names (with_dictionary s b x))
-    (put-replaces h c.args.address c.requires.known c.requires.sound names s shows c.args.key c.requires.key distinct first c.in-Replace.place at (value_of (birth_at h) names c.args.value) d holds)
+    (put-replaces h c.args.address c.requires.known c.requires.sound names s shows c.args.key c.requires.key distinct
+    first c.in-Replace.place at (value_of (birth_at h) names c.args.value) d holds)
     (c.replace_value.ensures.shows names s shows second)
 
 pub returns-in-Append-clause-shows : goal.returns-in-Append-clause-shows
@@ -65,9 +73,11 @@ unfolding plan_at pairs_of_words
 returns-in-Append-clause-shows g c = λ names s shows distinct first second d holds.
     let h = g.M.Memory.heap c.args.memory.now in
     let b = birth_at h c.args.address in
-    let facts = plan-append (count_at h c.args.address) (capacity_at h c.args.address) (place_of (pairs_at h c.args.address) c.args.key) (sym c.requires.plan ∙ c.in-Append.is) in
+    let facts = plan-append (count_at h c.args.address) (capacity_at h c.args.address)
+    (place_of (pairs_at h c.args.address) c.args.key) (sym c.requires.plan ∙ c.in-Append.is) in
     subst (λ (x : Dictionary). Shows (g.M.Memory.heap c.append_pairs.new.memory) names (with_dictionary s b x))
-    (put-appends h c.args.address c.requires.known c.requires.sound names s shows c.args.key c.requires.key distinct first facts.0 (value_of (birth_at h) names c.args.value) d holds facts.1)
+    (put-appends h c.args.address c.requires.known c.requires.sound names s shows c.args.key c.requires.key distinct
+    first facts.0 (value_of (birth_at h) names c.args.value) d holds facts.1)
     (c.append_pairs.ensures.shows names s shows (first, (second, tt)))
 
 pub returns-in-Grow-clause-shows : goal.returns-in-Grow-clause-shows
@@ -75,7 +85,9 @@ unfolding plan_at
 returns-in-Grow-clause-shows g c = λ names s shows distinct first second d holds.
     let h = g.M.Memory.heap c.args.memory.now in
     let b = birth_at h c.args.address in
-    let facts = plan-grow (count_at h c.args.address) (capacity_at h c.args.address) (place_of (pairs_at h c.args.address) c.args.key) c.in-Grow.capacity (sym c.requires.plan ∙ c.in-Grow.is) in
+    let facts = plan-grow (count_at h c.args.address) (capacity_at h c.args.address)
+    (place_of (pairs_at h c.args.address) c.args.key) c.in-Grow.capacity (sym c.requires.plan ∙ c.in-Grow.is) in
     subst (λ (x : Dictionary). Shows (g.M.Memory.heap c.grow_with.new.memory) names (with_dictionary s b x))
-    (put-grows h c.args.address c.requires.known c.requires.sound names s shows c.args.key c.requires.key distinct first facts.0 (value_of (birth_at h) names c.args.value) d holds c.in-Grow.capacity facts.1)
+    (put-grows h c.args.address c.requires.known c.requires.sound names s shows c.args.key c.requires.key distinct first
+    facts.0 (value_of (birth_at h) names c.args.value) d holds c.in-Grow.capacity facts.1)
     (c.grow_with.ensures.shows names s shows first second)

@@ -4,4 +4,7 @@ use Rattle.ps_dict.proofs.Shapes.{access_of-shown}
 use Rattle.ps_dict.proofs.dictionaries.access.Goals as goal
 
 pub returns-clause-value : goal.returns-clause-value
-returns-clause-value g c = λ names s shows. c.access_of.ensures ∙ (ap access_of c.natural.ensures.value ∙ access_of-shown (g.M.Memory.heap c.args.memory.now) c.args.address c.requires.known c.requires.sound names s shows)
+returns-clause-value g c = λ names s shows. c.access_of.ensures
+    ∙ (ap access_of c.natural.ensures.value
+    ∙ access_of-shown (g.M.Memory.heap c.args.memory.now) c.args.address c.requires.known c.requires.sound names s
+    shows)

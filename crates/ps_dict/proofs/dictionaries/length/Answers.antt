@@ -9,4 +9,5 @@ returns-clause-below g c =
     omega (arith, small, is)
 
 pub returns-clause-value : goal.returns-clause-value
-returns-clause-value g c = λ names s shows. c.natural.ensures.value ∙ count-shown (g.M.Memory.heap c.args.memory.now) c.args.address c.requires.known c.requires.sound names s shows
+returns-clause-value g c = λ names s shows. c.natural.ensures.value
+    ∙ count-shown (g.M.Memory.heap c.args.memory.now) c.args.address c.requires.known c.requires.sound names s shows

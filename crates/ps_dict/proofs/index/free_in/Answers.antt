@@ -20,5 +20,6 @@ returns-in-None-clause-placed c = λ spots words count small has position.
     subst (λ q. placed position s spots ≡ slice_set spots q (Some position)) (sym is)
     (free-here_in c.args.places.now n spots words count small s c.requires.start 0 (omega (arith, c.requires.start))
     (get_or c.args.places.now s _)
-    (ap (slice_get c.args.places.now) (sym is) ∙ slice_get-get_or c.args.places.now s _ (omega (arith, c.requires.start, c.requires.all)))
+    (ap (slice_get c.args.places.now) (sym is)
+    ∙ slice_get-get_or c.args.places.now s _ (omega (arith, c.requires.start, c.requires.all)))
     (sym c.as_integer.ensures ∙ c.in-None.is) refl position)

@@ -179,7 +179,8 @@ now2 g c =
     ∙ ap (λ n. stored (with_count g d) (body_at (old g d) c.args.address) (2 * n)
     (c.args.key ∷ [])) (is_count g (read g d))))
 
-now3 : (g : Over) (c : After-fill-3 g) → g.M.Memory.heap c.fill-3.new.self ≡ with_pair g c.before.before.before.before.before.before
+now3 : (g : Over) (c : After-fill-3 g)
+    → g.M.Memory.heap c.fill-3.new.self ≡ with_pair g c.before.before.before.before.before.before
 now3 g c =
     let d = c.before.before.before.before.before.before in
     c.fill-3.ensures.heap ∙ (ap
@@ -191,7 +192,8 @@ now3 g c =
     (c.args.value ∷ [])) (is_count g (read g d))
     ∙ then-value g d)))
 
-now4 : (g : Over) (c : After-fill-4 g) → g.M.Memory.heap c.fill-4.new.self ≡ with_index g c.before.before.before.before.before.before.before.before
+now4 : (g : Over) (c : After-fill-4 g)
+    → g.M.Memory.heap c.fill-4.new.self ≡ with_index g c.before.before.before.before.before.before.before.before
 now4 g c =
     let d = c.before.before.before.before.before.before.before.before in
     c.fill-4.ensures.heap ∙ (ap
@@ -279,27 +281,33 @@ fill-requires-4-clause-place g c =
     (fields_at j (body_at (old g d) c.args.address))) (sym (now3 g c.before)) (omega (arith, fits))))
 
 pub returns-clause-sound : goal.returns-clause-sound
-returns-clause-sound g c = subst IsSound (sym (now4 g c)) (sound g c.before.before.before.before.before.before.before.before)
+returns-clause-sound g c =
+    subst IsSound (sym (now4 g c)) (sound g c.before.before.before.before.before.before.before.before)
 
 pub returns-clause-keeps : goal.returns-clause-keeps
-returns-clause-keeps g c = subst (Keeps (old g c.before.before.before.before.before.before.before.before)) (sym (now4 g c)) (keeps g c.before.before.before.before.before.before.before.before)
+returns-clause-keeps g c =
+    subst (Keeps (old g c.before.before.before.before.before.before.before.before)) (sym (now4 g c))
+    (keeps g c.before.before.before.before.before.before.before.before)
 
 pub returns-clause-births : goal.returns-clause-births
 returns-clause-births g c = ap birth_at (now4 g c) ∙ births g c.before.before.before.before.before.before.before.before
 
 pub returns-clause-extends : goal.returns-clause-extends
 returns-clause-extends g c = λ f extends_f free_a free_b.
-    subst (Extends f) (sym (now4 g c)) (extends g c.before.before.before.before.before.before.before.before f extends_f free_a free_b)
+    subst (Extends f) (sym (now4 g c))
+    (extends g c.before.before.before.before.before.before.before.before f extends_f free_a free_b)
 
 pub returns-clause-body : goal.returns-clause-body
-returns-clause-body g c = ap (λ (k : Heap). body_at k c.args.address) (now4 g c) ∙ body g c.before.before.before.before.before.before.before.before
+returns-clause-body g c = ap (λ (k : Heap). body_at k c.args.address) (now4 g c)
+    ∙ body g c.before.before.before.before.before.before.before.before
 
 pub returns-clause-capacity : goal.returns-clause-capacity
 returns-clause-capacity g c = ap (λ (k : Heap). capacity_at k c.args.address) (now4 g c)
     ∙ capacity g c.before.before.before.before.before.before.before.before
 
 pub returns-clause-count : goal.returns-clause-count
-returns-clause-count g c = ap (λ (k : Heap). count_at k c.args.address) (now4 g c) ∙ count g c.before.before.before.before.before.before.before.before
+returns-clause-count g c = ap (λ (k : Heap). count_at k c.args.address) (now4 g c)
+    ∙ count g c.before.before.before.before.before.before.before.before
 
 pub returns-clause-shows : goal.returns-clause-shows
 returns-clause-shows g c = λ names s shows key_within value_within.
