@@ -105,7 +105,8 @@ loop-place-preserved g c = record {
       let word = to_le_bytes w64 c.load.result.0 in
       let eight : length word ≡ 8 = refl in
       let less : (place % 8 + count) - place % 8 ≡ count = omega arith in
-      let run : c.copy_from_slice.new.self ≡ slice_range word (place % 8) (place % 8 + count) = c.copy_from_slice.ensures.after
+      let run : c.copy_from_slice.new.self ≡ slice_range word (place % 8) (place % 8 + count) =
+      c.copy_from_slice.ensures.after
       ∙ ap (λ bs. slice_range bs (place % 8) (place % 8 + count)) c.to_le_bytes-bytes.ensures in
       let long : length c.copy_from_slice.new.self ≡ count =
       ap length run
