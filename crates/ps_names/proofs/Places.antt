@@ -1,10 +1,13 @@
 -- Where texts stand, and what becomes of that with one more.
 use Rattle.std.specs.Prelude.{unwrap_or, option_map}
-use Rattle.std.proofs.Common.{◌≡◌, ℕ, suc, ◌+◌, ◌<◌, ◌≤◌, ◌≢◌, Bool, true, false, not, cond, ◌||◌, List, [], ◌∷◌, ◌++◌, map, take, length, slice_get, get_or, position, Option, None, Some, IsSome, is_some, nat_lt, bytes_eq, Vec, refl, sym, ap, subst, ◌∙◌, arith}
+use Rattle.std.proofs.Common.{◌≡◌, ℕ, suc, ◌+◌, ◌<◌, ◌≤◌, ◌≢◌, Bool, true, false, not, cond, ◌||◌, List, [], ◌∷◌, ◌++◌}
+use Rattle.std.proofs.Common.{map, take, length, slice_get, get_or, position, Option, None, Some, IsSome, is_some}
+use Rattle.std.proofs.Common.{nat_lt, bytes_eq, Vec, refl, sym, ap, subst, ◌∙◌, arith}
 use Rattle.std.specs.List.{position_or_len, list_any}
 use Rattle.std.proofs.lemmas.Bool.{true≢false}
 use Rattle.std.proofs.lemmas.Bool.Decides.{nat_tests}
-use Rattle.std.proofs.lemmas.List.{length-map, map-append, length-take, get_or-take, length_push, get_or_push, get_or_append_left}
+use Rattle.std.proofs.lemmas.List.{length-map, map-append, length-take, get_or-take, length_push, get_or_push}
+use Rattle.std.proofs.lemmas.List.{get_or_append_left}
 use Rattle.std.proofs.lemmas.List.Elements.{All-nil, All-take, All-get_or, All-push}
 use Rattle.std.proofs.lemmas.List.Folds.{list_any_at}
 use Rattle.std.proofs.lemmas.List.Sums.{prefix_len-le-length, position_or_len_is}
@@ -38,7 +41,8 @@ module _ {X : Type 0} (p : X → Bool) where
   any_first [] = refl
   any_first (x ∷ xs) = by (p x) (any_first xs)
     where
-      by : (b : Bool) → list_any p xs ≡ nat_lt (position_or_len p xs) (length xs) → (b || list_any p xs) ≡ nat_lt (cond (not b) (1 + position_or_len p xs) 0) (suc (length xs))
+      by : (b : Bool) → list_any p xs ≡ nat_lt (position_or_len p xs) (length xs)
+          → (b || list_any p xs) ≡ nat_lt (cond (not b) (1 + position_or_len p xs) 0) (suc (length xs))
       by true h = above_zero (length xs)
       by false h = h ∙ shift (position_or_len p xs) (length xs)
 
@@ -57,7 +61,8 @@ module _ {X : Type 0} (p : X → Bool) where
   -- where none passes, the first place is the length
   pub no_position : (xs : List X) → position p xs ≡ None → length xs ≡ position_or_len p xs
   no_position xs h =
-      let past : nat_lt (position_or_len p xs) (length xs) ≡ false = none_cond (nat_lt (position_or_len p xs) (length xs)) (position_or_len p xs) h in
+      let past : nat_lt (position_or_len p xs) (length xs) ≡ false =
+      none_cond (nat_lt (position_or_len p xs) (length xs)) (position_or_len p xs) h in
       let within : position_or_len p xs ≤ length xs = prefix_len-le-length (λ x. not (p x)) xs in
       grind (arith, nat_tests)
 
@@ -77,10 +82,13 @@ module _ (text : List ℕ) (names : List (List ℕ)) (i : ℕ) (at : place_of te
 
   -- so it isn't too long
   pub known_short : AreNames names → length text ≤ name_limit
-  known_short names_are = subst (λ t. length t ≤ name_limit) (sym there.1) (All-get_or (λ t. length t ≤ name_limit) names i [] there.0 names_are.short)
+  known_short names_are =
+      subst (λ t. length t ≤ name_limit) (sym there.1)
+      (All-get_or (λ t. length t ≤ name_limit) names i [] there.0 names_are.short)
 
 -- what is too long doesn't stand
-pub long_new : (text : List ℕ) (names : List (List ℕ)) → AreNames names → name_limit < length text → IsSome (place_of text names) → false ≡ true
+pub long_new : (text : List ℕ) (names : List (List ℕ)) → AreNames names → name_limit < length text
+    → IsSome (place_of text names) → false ≡ true
 long_new text names are long = by (place_of text names) refl
   where
     by : (found : Option ℕ) → place_of text names ≡ found → IsSome found → false ≡ true
@@ -106,9 +114,12 @@ module _ (text : List ℕ) (names : List (List ℕ)) (new : place_of text names 
 
   other : (k : ℕ) (d : List ℕ) → k < length names → get_or names k d ≢ text
   other k d within same =
-      absurd (true≢false (sym (list_any_at (bytes_eq text) names k d within ((bytes_eq-Decides text (get_or names k d)).1 (sym same))) ∙ absent))
+      absurd (true≢false
+      (sym (list_any_at (bytes_eq text) names k d within ((bytes_eq-Decides text (get_or names k d)).1 (sym same)))
+      ∙ absent))
 
-  pub names_with : AreNames names → length text ≤ name_limit → length names < names_limit → AreNames (names ++ text ∷ [])
+  pub names_with : AreNames names → length text ≤ name_limit → length names < names_limit
+      → AreNames (names ++ text ∷ [])
   names_with are short room = record {
     different = all_pairs_push (λ first later. first ≢ later) names text are.different other;
     short = All-push (λ t. length t ≤ name_limit) names text are.short short;
@@ -116,7 +127,12 @@ module _ (text : List ℕ) (names : List (List ℕ)) (new : place_of text names 
   }
 
 pub no_names : AreNames []
-no_names = record { different = λ i j d before within. absurd (omega arith); short = All-nil (λ t. length t ≤ name_limit); few = omega arith }
+no_names =
+    record {
+      different = λ i j d before within. absurd (omega arith);
+      short = All-nil (λ t. length t ≤ name_limit);
+      few = omega arith;
+    }
 
 -- ---- the text of a number
 
@@ -128,7 +144,8 @@ unequal xs ys apart = by (bytes_eq xs ys) refl
     by false _ = refl
 
 -- it stands at that number alone
-pub own_place : (names : List (List ℕ)) (i : ℕ) → AreNames names → i < length names → place_of (unwrap_or (slice_get names i) []) names ≡ Some i
+pub own_place : (names : List (List ℕ)) (i : ℕ) → AreNames names → i < length names
+    → place_of (unwrap_or (slice_get names i) []) names ≡ Some i
 own_place names i are within =
     let text : List ℕ = get_or names i [] in
     let here : bytes_eq text text ≡ true = (bytes_eq-Decides text text).1 refl in
@@ -142,7 +159,8 @@ own_place names i are within =
     ∙ ap (λ b. cond b (Some i) None) inside)
 
 -- a new one is found where it was put
-pub last_found : (text : List ℕ) (names : List (List ℕ)) → place_of text names ≡ None → AreNames names → length text ≤ name_limit → length names < names_limit
+pub last_found : (text : List ℕ) (names : List (List ℕ)) → place_of text names ≡ None → AreNames names
+    → length text ≤ name_limit → length names < names_limit
     → place_of text (names ++ text ∷ []) ≡ Some (length names)
 last_found text names new are short room =
     let more : List (List ℕ) = names ++ text ∷ [] in
@@ -150,7 +168,8 @@ last_found text names new are short room =
     ∙ own_place more (length names) (names_with text names new are short room) (omega (arith, length_push names text))
 
 -- the other numbers keep their texts
-pub kept_number : (names : List (List ℕ)) (text : List ℕ) (number : ℕ) → number < length names → slice_get (names ++ text ∷ []) number ≡ slice_get names number
+pub kept_number : (names : List (List ℕ)) (text : List ℕ) (number : ℕ) → number < length names
+    → slice_get (names ++ text ∷ []) number ≡ slice_get names number
 kept_number names text number within =
     slice_get-get_or (names ++ text ∷ []) number [] (omega (arith, length_push names text))
     ∙ (ap Some (get_or_append_left names (text ∷ []) [] number within)
@@ -159,7 +178,8 @@ kept_number names text number within =
 -- ---- texts in buffers
 
 -- the text of a number, by the buffer at that place
-pub text_of_buffer : {A : Type 0} (buffers : List (Vec ℕ A)) (names : List (List ℕ)) → texts_of buffers ≡ names → (i : ℕ) (found : Option (Vec ℕ A)) → found ≡ slice_get buffers i
+pub text_of_buffer : {A : Type 0} (buffers : List (Vec ℕ A)) (names : List (List ℕ)) → texts_of buffers ≡ names
+    → (i : ℕ) (found : Option (Vec ℕ A)) → found ≡ slice_get buffers i
     → unwrap_or (option_map (λ buffer. buffer.items) found) [] ≡ unwrap_or (slice_get names i) []
 text_of_buffer buffers names are i found is =
     ap (λ o. unwrap_or (option_map (λ buffer. buffer.items) o) []) is
@@ -167,7 +187,8 @@ text_of_buffer buffers names are i found is =
     ∙ ap (λ xs. unwrap_or (slice_get xs i) []) are)
 
 -- the place of a text, by that of its buffer
-pub place_of_buffer : {A : Type 0} (buffers : List (Vec ℕ A)) (names : List (List ℕ)) (text : List ℕ) → texts_of buffers ≡ names
+pub place_of_buffer : {A : Type 0} (buffers : List (Vec ℕ A)) (names : List (List ℕ)) (text : List ℕ)
+    → texts_of buffers ≡ names
     → (found : Option ℕ) → found ≡ position (λ buffer. bytes_eq text buffer.items) buffers → found ≡ place_of text names
 place_of_buffer buffers names text are found is =
     is ∙ (sym (position-map (λ buffer. buffer.items) (bytes_eq text) buffers) ∙ ap (place_of text) are)
@@ -185,7 +206,8 @@ module _ {A : Type 0} (buffers : List (Vec ℕ A)) (buffer : Vec ℕ A) (text : 
       any_position (same_items buffer) buffers
       ∙ ap is_some (place_of_buffer buffers names buffer.items are (position (same_items buffer) buffers) refl ∙ place)
 
-  pub inserted : (after : List (Vec ℕ A)) → after ≡ insert_key (λ a b. bytes_eq a.items b.items) buffers buffer → texts_of after ≡ names ++ text ∷ []
+  pub inserted : (after : List (Vec ℕ A)) → after ≡ insert_key (λ a b. bytes_eq a.items b.items) buffers buffer
+      → texts_of after ≡ names ++ text ∷ []
   unfolding same_items
   inserted after is =
       ap texts_of (is ∙ ap (λ b. cond b buffers (buffers ++ buffer ∷ [])) no_buffer)
@@ -193,8 +215,10 @@ module _ {A : Type 0} (buffers : List (Vec ℕ A)) (buffer : Vec ℕ A) (text : 
       ∙ (λ j. are j ++ holds j ∷ []))
 
   pub names_inserted : AreNames (texts_of buffers) → length text ≤ name_limit → length names < names_limit
-      → (after : List (Vec ℕ A)) → after ≡ insert_key (λ a b. bytes_eq a.items b.items) buffers buffer → AreNames (texts_of after)
-  names_inserted are_names short room after is = subst AreNames (sym (inserted after is)) (names_with text names new (subst AreNames are are_names) short room)
+      → (after : List (Vec ℕ A)) → after ≡ insert_key (λ a b. bytes_eq a.items b.items) buffers buffer
+      → AreNames (texts_of after)
+  names_inserted are_names short room after is =
+      subst AreNames (sym (inserted after is)) (names_with text names new (subst AreNames are are_names) short room)
 
 -- ---- the first ones
 

@@ -1,6 +1,8 @@
 //! The texts of names in the order of meeting.
 
-ghost use Rattle.std.specs.Prelude.{◌≡◌, ℕ, take, ◌<◌, ◌≤◌, ◌↔◌, ◌++◌, [], ◌∷◌, length, unwrap_or, slice_get, Some, None, IsOk, IsSome, IfOk, IfSome, OnOk, OnErr, IsErrOf, option_map, IsTrue};
+ghost use Rattle.std.specs.Prelude.{◌≡◌, ℕ, take, ◌<◌, ◌≤◌, ◌↔◌, ◌++◌, [], ◌∷◌, length, unwrap_or};
+ghost use Rattle.std.specs.Prelude.{slice_get, Some, None, IsOk, IsSome, IfOk, IfSome, OnOk, OnErr};
+ghost use Rattle.std.specs.Prelude.{IsErrOf, option_map, IsTrue};
 ghost use Rattle.std.specs.List.{position_or_len};
 ghost use Rattle.std.specs.Str.{bytes_eq};
 ghost use Rattle.ps_language.specs.Dictionaries.{meet};

@@ -1,5 +1,7 @@
 -- Bytes that are cut at an end.
-use Rattle.std.proofs.Common.{◌≡◌, ℕ, zero, suc, ◌-◌, ◌<◌, ◌≤◌, min, cond, true, false, List, [], ◌∷◌, ◌++◌, length, take, Result, Ok, Err, refl, sym, ap, arith, ◌∙◌, append_assoc, length-append, length-take}
+use Rattle.std.proofs.Common.{◌≡◌, ℕ, zero, suc, ◌-◌, ◌<◌, ◌≤◌, min, cond, true, false, List, [], ◌∷◌, ◌++◌, length}
+use Rattle.std.proofs.Common.{take, Result, Ok, Err, refl, sym, ap, arith, ◌∙◌, append_assoc, length-append}
+use Rattle.std.proofs.Common.{length-take}
 use Rattle.std.specs.Prelude.{OnOk, OnErr}
 use Rattle.std.specs.Result.{is_ok, is_err}
 use Rattle.std.specs.declared.alloc.AllocError.{AllocError}
@@ -12,8 +14,10 @@ cut-cut zero xs ys = refl
 cut-cut (suc end) [] ys = refl
 cut-cut (suc end) (x ∷ xs) ys = ap (λ zs. x ∷ zs) (cut-cut end xs ys)
 
-pub cut_more : (end : ℕ) (old a b now : List ℕ) → now ≡ take end (old ++ a) → take end (now ++ b) ≡ take end (old ++ (a ++ b))
-cut_more end old a b now is = ap (λ xs. take end (xs ++ b)) is ∙ (cut-cut end (old ++ a) b ∙ ap (take end) (append_assoc old a b))
+pub cut_more : (end : ℕ) (old a b now : List ℕ) → now ≡ take end (old ++ a)
+    → take end (now ++ b) ≡ take end (old ++ (a ++ b))
+cut_more end old a b now is = ap (λ xs. take end (xs ++ b)) is
+    ∙ (cut-cut end (old ++ a) b ∙ ap (take end) (append_assoc old a b))
 
 -- what is full stays so
 pub cut_full : (end : ℕ) (now more : List ℕ) → end ≤ length now → length now ≤ end → take end (now ++ more) ≡ now
@@ -30,14 +34,18 @@ take_fits zero (suc n) (x ∷ xs) e = absurd (omega arith)
 take_fits (suc k) (suc n) (x ∷ xs) e = ap (λ ys. x ∷ ys) (take_fits k n xs (omega arith))
 
 -- as many bytes as fit
-pub cut_fits : (end count : ℕ) (old bytes : List ℕ) → length old ≤ end → count ≡ min (length bytes) (end - length old) → take end (old ++ bytes) ≡ old ++ take count bytes
+pub cut_fits : (end count : ℕ) (old bytes : List ℕ) → length old ≤ end → count ≡ min (length bytes) (end - length old)
+    → take end (old ++ bytes) ≡ old ++ take count bytes
 cut_fits end count [] bytes short is = take_fits count end bytes (omega arith)
 cut_fits zero count (x ∷ old) bytes short is = absurd (omega arith)
-cut_fits (suc end) count (x ∷ old) bytes short is = ap (λ xs. x ∷ xs) (cut_fits end count old bytes (omega arith) (omega arith))
+cut_fits (suc end) count (x ∷ old) bytes short is =
+    ap (λ xs. x ∷ xs) (cut_fits end count old bytes (omega arith) (omega arith))
 
-pub cut_extended : (r : Result Unit AllocError) (end count : ℕ) (old bytes part new : List ℕ) → length old ≤ end → count ≡ min (length bytes) (end - length old) → part ≡ take count bytes →
+pub cut_extended : (r : Result Unit AllocError) (end count : ℕ) (old bytes part new : List ℕ) → length old ≤ end
+    → count ≡ min (length bytes) (end - length old) → part ≡ take count bytes →
     new ≡ cond (is_ok r) (old ++ part) old → OnOk r (new ≡ take end (old ++ bytes))
-cut_extended (Ok done) end count old bytes part new short is cut e = e ∙ (ap (λ xs. old ++ xs) cut ∙ sym (cut_fits end count old bytes short is))
+cut_extended (Ok done) end count old bytes part new short is cut e = e
+    ∙ (ap (λ xs. old ++ xs) cut ∙ sym (cut_fits end count old bytes short is))
 cut_extended (Err error) end count old bytes part new short is cut e = tt
 
 module _ (P Q : Type 0) (f : P → Q) where
@@ -46,7 +54,8 @@ module _ (P Q : Type 0) (f : P → Q) where
   on_ok (Err error) p = p
 
 -- a last piece behind what was written
-pub cut_last : (r : Result Unit AllocError) (end : ℕ) (old a b now new : List ℕ) → now ≡ take end (old ++ a) → OnOk r (new ≡ take end (now ++ b)) → OnOk r (new ≡ take end (old ++ (a ++ b)))
+pub cut_last : (r : Result Unit AllocError) (end : ℕ) (old a b now new : List ℕ) → now ≡ take end (old ++ a)
+    → OnOk r (new ≡ take end (now ++ b)) → OnOk r (new ≡ take end (old ++ (a ++ b)))
 cut_last r end old a b now new is last = on_ok _ _ (λ e. e ∙ cut_more end old a b now is) r last
 
 -- ---- what has no room
@@ -55,7 +64,8 @@ pub longer_cut : (end : ℕ) (xs ys : List ℕ) → length (take end xs) ≤ len
 longer_cut end xs ys = omega (arith, length-take end xs, length-take end (xs ++ ys), length-append xs ys)
 
 pub longer : (end : ℕ) (old a b : List ℕ) → length (take end (old ++ a)) ≤ length (take end (old ++ (a ++ b)))
-longer end old a b = let more = longer_cut end (old ++ a) b in omega (arith, more, ap (λ xs. length (take end xs)) (append_assoc old a b))
+longer end old a b = let more = longer_cut end (old ++ a) b in
+    omega (arith, more, ap (λ xs. length (take end xs)) (append_assoc old a b))
 
 module _ (P Q : Type 0) (f : P → Q) where
   pub on_err : (r : Result Unit AllocError) → OnErr r P → OnErr r Q
@@ -63,28 +73,36 @@ module _ (P Q : Type 0) (f : P → Q) where
   on_err (Err error) p = f p
 
 -- a last piece finds no room
-pub full_last : (r : Result Unit AllocError) (end : ℕ) (old a b now : List ℕ) (room room_now : ℕ) → now ≡ take end (old ++ a) → room ≤ room_now →
+pub full_last : (r : Result Unit AllocError) (end : ℕ) (old a b now : List ℕ) (room room_now : ℕ)
+    → now ≡ take end (old ++ a) → room ≤ room_now →
     OnErr r (room_now < length (take end (now ++ b))) → OnErr r (room < length (take end (old ++ (a ++ b))))
 full_last r end old a b now room room_now is grown last =
-    on_err _ _ (λ (h : room_now < length (take end (now ++ b))). omega (arith, grown, h, ap length (cut_more end old a b now is))) r last
+    on_err _ _ (λ (h : room_now < length (take end (now ++ b))). omega
+    (arith, grown, h, ap length (cut_more end old a b now is))) r last
 
 -- a piece before the last finds none
-pub full_first : (end : ℕ) (old a b : List ℕ) (room : ℕ) → room < length (take end (old ++ a)) → room < length (take end (old ++ (a ++ b)))
+pub full_first : (end : ℕ) (old a b : List ℕ) (room : ℕ) → room < length (take end (old ++ a))
+    → room < length (take end (old ++ (a ++ b)))
 full_first end old a b room h = omega (arith, h, longer end old a b)
 
-pub full_next : (end : ℕ) (old a b now : List ℕ) (room room_now : ℕ) → now ≡ take end (old ++ a) → room ≤ room_now → room_now < length (take end (now ++ b)) → room < length (take end (old ++ (a ++ b)))
+pub full_next : (end : ℕ) (old a b now : List ℕ) (room room_now : ℕ) → now ≡ take end (old ++ a) → room ≤ room_now
+    → room_now < length (take end (now ++ b)) → room < length (take end (old ++ (a ++ b)))
 full_next end old a b now room room_now is grown h = omega (arith, grown, h, ap length (cut_more end old a b now is))
 
 -- ---- three pieces
 
-module _ (end : ℕ) (old a b now : List ℕ) (first : now ≡ take end (old ++ a)) (later : List ℕ) (second : later ≡ take end (now ++ b)) where
+module _ (end : ℕ) (old a b now : List ℕ) (first : now ≡ take end (old ++ a)) (later : List ℕ) (second : later
+    ≡ take end (now ++ b)) where
   both : later ≡ take end (old ++ (a ++ b))
   both = second ∙ cut_more end old a b now first
 
-  pub cut_three : (r : Result Unit AllocError) (c new : List ℕ) → OnOk r (new ≡ take end (later ++ c)) → OnOk r (new ≡ take end (old ++ ((a ++ b) ++ c)))
+  pub cut_three : (r : Result Unit AllocError) (c new : List ℕ) → OnOk r (new ≡ take end (later ++ c))
+      → OnOk r (new ≡ take end (old ++ ((a ++ b) ++ c)))
   cut_three r c new third = cut_last r end old (a ++ b) c later new both third
 
-  pub full_three : (r : Result Unit AllocError) (c : List ℕ) (room room_later : ℕ) → room ≤ room_later → OnErr r (room_later < length (take end (later ++ c))) → OnErr r (room < length (take end (old ++ ((a ++ b) ++ c))))
+  pub full_three : (r : Result Unit AllocError) (c : List ℕ) (room room_later : ℕ) → room ≤ room_later
+      → OnErr r (room_later < length (take end (later ++ c)))
+      → OnErr r (room < length (take end (old ++ ((a ++ b) ++ c))))
   full_three r c room room_later grown third = full_last r end old (a ++ b) c later room room_later both grown third
 
 -- at an exit by `?`
@@ -101,11 +119,16 @@ take_less m n xs ys h e = sym (take-take m n xs h) ∙ ap (take m) e
 pub begins_longer : (old new : List ℕ) → take (length old) new ≡ old → length old ≤ length new
 begins_longer old new e = omega (arith, ap length e, length-take (length old) new)
 
-pub begins_on : (old now new : List ℕ) → take (length old) now ≡ old → take (length now) new ≡ now → take (length old) new ≡ old
-begins_on old now new first later = take_less (length old) (length now) new now (begins_longer old now first) later ∙ first
+pub begins_on : (old now new : List ℕ) → take (length old) now ≡ old → take (length now) new ≡ now
+    → take (length old) new ≡ old
+begins_on old now new first later = take_less (length old) (length now) new now (begins_longer old now first) later
+    ∙ first
 
 pub goes_further : (end : ℕ) (old now new : List ℕ) → GoesOn end old now → GoesOn end now new → GoesOn end old new
-goes_further end old now new first later = record { begins = begins_on old now new first.begins later.begins; short = later.short }
+goes_further end old now new first later = record {
+  begins = begins_on old now new first.begins later.begins;
+  short = later.short;
+}
 
 -- ---- which of the two it was
 

@@ -1,5 +1,6 @@
 -- The line of an error by its parts (PLRM2, 3.10).
-use Rattle.std.specs.Prelude.{◌≡◌, ℕ, ◌<◌, ◌≤◌, ◌++◌, List, Option, Result, OnOk, OnErr, codes, length}
+use Rattle.std.specs.Prelude.{◌≡◌, ℕ, ◌<◌, ◌≤◌, ◌++◌, List, Option, Result, OnOk, OnErr, codes}
+use Rattle.std.specs.Prelude.{length}
 use Rattle.std.specs.Option.{option_map_or}
 use Rattle.ps_language.specs.Texts.{no_text, plain_text}
 use Rattle.ps_language.specs.Value.{Value, Store}

@@ -1,6 +1,7 @@
 //! Pieces of texts behind an output: whole, or as far as they fit before an end.
 
-ghost use Rattle.std.specs.Prelude.{◌≡◌, ◌+◌, ◌<◌, ◌≤◌, ◌++◌, take, length, codes, if◌then◌else◌, OnOk, OnErr, vec_capacity};
+ghost use Rattle.std.specs.Prelude.{◌≡◌, ◌+◌, ◌<◌, ◌≤◌, ◌++◌, take, length, codes, if◌then◌else◌};
+ghost use Rattle.std.specs.Prelude.{OnOk, OnErr, vec_capacity};
 ghost use Rattle.std.specs.Fmt.{signed_decimal};
 ghost use Rattle.ps_language.specs.Access as language;
 ghost use Rattle.ps_language.specs.OperatorNames as operators;

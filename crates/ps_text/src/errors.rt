@@ -1,6 +1,7 @@
 //! The line of an error that nothing caught (PLRM2, 3.10).
 
-ghost use Rattle.std.specs.Prelude.{◌≡◌, ◌<◌, ◌≤◌, ◌++◌, List, [], IfSome, OnOk, OnErr, codes, take, length, option_map, vec_capacity};
+ghost use Rattle.std.specs.Prelude.{◌≡◌, ◌<◌, ◌≤◌, ◌++◌, List, [], IfSome, OnOk, OnErr, codes};
+ghost use Rattle.std.specs.Prelude.{take, length, option_map, vec_capacity};
 ghost use Rattle.ps_language.specs.Value.{Store};
 ghost use Rattle.ps_mem.specs.Heap.{birth_at};
 ghost use Rattle.ps_mem.specs.Meaning.{value_of};

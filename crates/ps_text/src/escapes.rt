@@ -1,6 +1,7 @@
 //! Strings in parentheses, with escapes.
 
-ghost use Rattle.std.specs.Prelude.{◌≡◌, ◌<◌, ◌≤◌, ◌+◌, ◌^◌, ◌++◌, ◌∷◌, [], ℕ, List, take, length, slice_range, IsTrue, OnOk, OnErr, vec_capacity};
+ghost use Rattle.std.specs.Prelude.{◌≡◌, ◌<◌, ◌≤◌, ◌+◌, ◌^◌, ◌++◌, ◌∷◌, [], ℕ, List, take, length};
+ghost use Rattle.std.specs.Prelude.{slice_range, IsTrue, OnOk, OnErr, vec_capacity};
 ghost use Rattle.std.specs.List.{flat_map};
 ghost use Rattle.ps_language.specs.Access.{bytes, part_bytes};
 ghost use Rattle.ps_language.specs.Texts as texts;

@@ -1,6 +1,7 @@
 //! The text of `==` and `pstack`.
 
-ghost use Rattle.std.specs.Prelude.{◌≡◌, ◌<◌, ◌≤◌, ◌+◌, ◌++◌, ℕ, List, map, take, length, codes, if◌then◌else◌, OnOk, OnErr, vec_capacity};
+ghost use Rattle.std.specs.Prelude.{◌≡◌, ◌<◌, ◌≤◌, ◌+◌, ◌++◌, ℕ, List, map, take, length, codes};
+ghost use Rattle.std.specs.Prelude.{if◌then◌else◌, OnOk, OnErr, vec_capacity};
 ghost use Rattle.std.specs.List.{join_with_byte};
 ghost use Rattle.ps_language.specs.Access.{part_elements};
 ghost use Rattle.ps_language.specs.Texts.{full_text};

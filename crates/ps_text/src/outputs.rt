@@ -1,6 +1,7 @@
 //! What a program prints, with a bound: an output never has more bytes than it may have.
 
-ghost use Rattle.std.specs.Prelude.{◌≡◌, ℕ, ◌+◌, ◌<◌, ◌≤◌, List, [], IfSome, OnOk, OnErr, take, map, reverse, length, option_map, vec_capacity};
+ghost use Rattle.std.specs.Prelude.{◌≡◌, ℕ, ◌+◌, ◌<◌, ◌≤◌, List, [], IfSome, OnOk, OnErr, take};
+ghost use Rattle.std.specs.Prelude.{map, reverse, length, option_map, vec_capacity};
 ghost use Rattle.std.specs.List.{flat_map};
 ghost use Rattle.ps_language.specs.Access.{bytes, part_bytes};
 ghost use Rattle.ps_language.specs.RowsOutput.{line};

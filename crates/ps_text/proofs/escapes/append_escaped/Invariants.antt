@@ -20,9 +20,12 @@ invariant-loop-index g l =
       within : l.index ≤ l.part.length;
       goes_on : GoesOn l.end l.initial.output.items l.output.items;
       capacity : vec_capacity l.initial.output ≤ vec_capacity l.output;
-      rest : (names : List (List ℕ)) (s : Store) → Shows (heap_in l.initial.memory) names s → l.part.offset + l.part.length ≤ length (bytes s (birth_at (heap_in l.initial.memory) l.part.address)) →
-          take l.end (l.output.items ++ flat_map escaped (drop l.index (part_bytes s (part_of (birth_at (heap_in l.initial.memory)) l.part))))
-          ≡ take l.end (l.initial.output.items ++ flat_map escaped (part_bytes s (part_of (birth_at (heap_in l.initial.memory)) l.part)));
+      rest : (names : List (List ℕ)) (s : Store) → Shows (heap_in l.initial.memory) names s
+          → l.part.offset + l.part.length ≤ length (bytes s (birth_at (heap_in l.initial.memory) l.part.address)) →
+          take l.end (l.output.items ++ flat_map escaped
+          (drop l.index (part_bytes s (part_of (birth_at (heap_in l.initial.memory)) l.part))))
+          ≡ take l.end (l.initial.output.items ++ flat_map escaped
+          (part_bytes s (part_of (birth_at (heap_in l.initial.memory)) l.part)));
     }
 
 abbrev pub decreases-loop-index : goal.decreases-loop-index

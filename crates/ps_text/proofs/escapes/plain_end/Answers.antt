@@ -8,7 +8,8 @@ use Rattle.ps_text.proofs.Rests.{slice_none, slice_next}
 use Rattle.ps_text.proofs.escapes.plain_end.Goals as goal
 
 pub loop-at-init : goal.loop-at-init
-loop-at-init c = ap (flat_map escaped) (slice_none c.args.bytes.now c.args.first) ∙ sym (slice_none c.args.bytes.now c.args.first)
+loop-at-init c = ap (flat_map escaped) (slice_none c.args.bytes.now c.args.first)
+    ∙ sym (slice_none c.args.bytes.now c.args.first)
 
 pub loop-at-preserved : goal.loop-at-preserved
 loop-at-preserved c =

@@ -26,6 +26,9 @@ invariant-append_elements-loop-index g l =
       goes_on : GoesOn l.end l.initial.output.items l.output.items;
       capacity : vec_capacity l.initial.output ≤ vec_capacity l.output;
       rest : (s : Store) → Shows (heap_in l.fn.memory) l.names s →
-          take l.end (l.output.items ++ rest_text l.index (map (text_to l.depth s) (drop l.index (part_elements s (part_of (birth_at (heap_in l.fn.memory)) l.part)))))
-          ≡ take l.end (l.initial.output.items ++ join_with_byte 32 (map (text_to l.depth s) (part_elements s (part_of (birth_at (heap_in l.fn.memory)) l.part))));
+          take l.end (l.output.items ++ rest_text l.index
+          (map (text_to l.depth s)
+          (drop l.index (part_elements s (part_of (birth_at (heap_in l.fn.memory)) l.part)))))
+          ≡ take l.end (l.initial.output.items ++ join_with_byte 32
+          (map (text_to l.depth s) (part_elements s (part_of (birth_at (heap_in l.fn.memory)) l.part))));
     }

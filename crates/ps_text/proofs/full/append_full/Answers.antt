@@ -20,6 +20,8 @@ returns-then-is_err-clause-full g c = λ s shows within.
     let count = c.args.output.now.ok.0 in
     let start = c.len-start.ensures in
     let old = c.args.output.now.items in
-    let lacks = was_err _ c.append_value.result c.if-is_err.ensures.value (c.append_value.ensures.full s shows within) in
-    let whole = full_written s v old (take (c.len-start.result + 65535) (old ++ text_to 32 s v)) (c.len-start.result + 65535) (omega (arith, count, start)) refl in
+    let lacks = was_err _ c.append_value.result c.if-is_err.ensures.value
+    (c.append_value.ensures.full s shows within) in
+    let whole = full_written s v old (take (c.len-start.result + 65535) (old ++ text_to 32 s v))
+    (c.len-start.result + 65535) (omega (arith, count, start)) refl in
     omega (arith, lacks, ap length whole)

@@ -22,8 +22,12 @@ invariant-loop-word g l =
       held : AreValues (heap_in l.fn.memory) l.rest;
       front : take (length l.initial.output.items) l.output.items ≡ l.initial.output.items;
       capacity : vec_capacity l.initial.output ≤ vec_capacity l.output;
-      within : (s : Store) → AreWithin (heap_in l.fn.memory) l.names s l.fn.words → AreWithin (heap_in l.fn.memory) l.names s l.rest;
-      left : (s : Store) → Shows (heap_in l.fn.memory) l.names s → AreWithin (heap_in l.fn.memory) l.names s l.fn.words →
-          l.output.items ++ flat_map (line (text_as l.form) s) (map (value_of (birth_at (heap_in l.fn.memory)) l.names) (reverse l.rest))
-          ≡ l.initial.output.items ++ flat_map (line (text_as l.form) s) (map (value_of (birth_at (heap_in l.fn.memory)) l.names) (reverse l.fn.words));
+      within : (s : Store) → AreWithin (heap_in l.fn.memory) l.names s l.fn.words
+          → AreWithin (heap_in l.fn.memory) l.names s l.rest;
+      left : (s : Store) → Shows (heap_in l.fn.memory) l.names s → AreWithin (heap_in l.fn.memory) l.names s l.fn.words
+          →
+          l.output.items ++ flat_map (line (text_as l.form) s)
+          (map (value_of (birth_at (heap_in l.fn.memory)) l.names) (reverse l.rest))
+          ≡ l.initial.output.items ++ flat_map (line (text_as l.form) s)
+          (map (value_of (birth_at (heap_in l.fn.memory)) l.names) (reverse l.fn.words));
     }

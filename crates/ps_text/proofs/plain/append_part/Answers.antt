@@ -12,7 +12,8 @@ returns-clause-ok g c = λ names s shows within.
     let text = part_bytes s (part_of (birth_at (g.M.Memory.heap c.args.memory.now)) p) in
     let old = c.args.output.now.items in
     let room = c.in_ok-reserve.ensures in
-    let written = with_room c.append_bytes.result c.append_bytes.ensures.full (λ full. omega (arith, full, room.ok, room.len)) (c.append_bytes.ensures.value names s shows within) in
+    let written = with_room c.append_bytes.result c.append_bytes.ensures.full
+    (λ full. omega (arith, full, room.ok, room.len)) (c.append_bytes.ensures.value names s shows within) in
     c.add.ensures.items
     ∙ (ap (λ xs. xs ++ c.args.ending.now) (written ∙ ap (λ xs. xs ++ text) room.items)
     ∙ append_assoc old text c.args.ending.now)

@@ -10,6 +10,8 @@ use Rattle.ps_names.proofs.names.Names.is_at.Goals as goal
 pub returns-then-from-len : goal.returns-then-from-len
 returns-then-from-len c =
     let same = slice_eq-Decides Decides-eqb c.text.result.now c.args.text.now c.eq.result c.eq.ensures in (
-      (λ is. ap (λ t. place_of t c.args.self.now) (sym (same.0 is)) ∙ c.text.ensures.found (rw (← c.len.ensures.count, ← c.from.ensures) c.if-from-len.true)),
-      (λ at. same.1 (c.text.ensures.bytes ∙ ap (λ o. unwrap_or o []) (stands_at c.args.text.now c.args.self.now c.args.id.0 at))),
+      (λ is. ap (λ t. place_of t c.args.self.now) (sym (same.0 is))
+          ∙ c.text.ensures.found (rw (← c.len.ensures.count, ← c.from.ensures) c.if-from-len.true)),
+      (λ at. same.1 (c.text.ensures.bytes
+          ∙ ap (λ o. unwrap_or o []) (stands_at c.args.text.now c.args.self.now c.args.id.0 at))),
     )

@@ -8,8 +8,13 @@ use Rattle.ps_names.proofs.names.Names.text.Goals as goal
 pub returns-in-Some-clause-found : goal.returns-in-Some-clause-found
 returns-in-Some-clause-found c within =
     let bytes : c.as_slice.result.now ≡ unwrap_or (slice_get c.args.self.now c.args.id.0) [] =
-    c.as_slice.ensures.value ∙ text_of_buffer c.self.inside.texts.keys c.args.self.now c.self.view_is c.args.id.0 (Some c.in-Some.text.now) (c.in-Some.ensures.key ∙ ap (slice_get c.self.inside.texts.keys) c.from.ensures) in
-    ap (λ text. place_of text c.args.self.now) bytes ∙ own_place c.args.self.now c.args.id.0 (subst AreNames c.self.view_is c.self.invariant) within
+    c.as_slice.ensures.value
+    ∙ text_of_buffer c.self.inside.texts.keys c.args.self.now c.self.view_is c.args.id.0 (Some c.in-Some.text.now)
+    (c.in-Some.ensures.key ∙ ap (slice_get c.self.inside.texts.keys) c.from.ensures) in
+    ap (λ text. place_of text c.args.self.now) bytes
+    ∙ own_place c.args.self.now c.args.id.0 (subst AreNames c.self.view_is c.self.invariant) within
 
 pub returns-in-None-clause-bytes : goal.returns-in-None-clause-bytes
-returns-in-None-clause-bytes c = text_of_buffer c.self.inside.texts.keys c.args.self.now c.self.view_is c.args.id.0 None (c.in-None.ensures.key ∙ ap (slice_get c.self.inside.texts.keys) c.from.ensures)
+returns-in-None-clause-bytes c =
+    text_of_buffer c.self.inside.texts.keys c.args.self.now c.self.view_is c.args.id.0 None (c.in-None.ensures.key
+    ∙ ap (slice_get c.self.inside.texts.keys) c.from.ensures)
