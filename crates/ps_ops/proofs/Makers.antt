@@ -16,13 +16,19 @@ use Rattle.ps_mem.specs.Meaning.{value_of, what_of, part_of}
 use Rattle.ps_mem.specs.Shows.{IsValue, IsWithin, IsWithinContent}
 
 -- the value of a word whose fields are known
-pub value_of-is : (births : ℕ → ℕ) (names : List (List ℕ)) (w : Word) (content : Content) (executable : Bool) → value_in w.0 ≡ record { content = content; executable = executable }
+pub value_of-is : (births : ℕ → ℕ) (names : List (List ℕ)) (w : Word) (content : Content) (executable : Bool)
+    → value_in w.0 ≡ record { content = content; executable = executable }
     → value_of births names w ≡ record { what = what_of births names content; executable = executable }
 unfolding value_of
-value_of-is births names w content executable is = ap (λ (v : Value). record { what = what_of births names v.content; executable = v.executable }) is
+value_of-is births names w content executable is =
+    ap (λ (v : Value). record { what = what_of births names v.content; executable = v.executable }) is
 
-module _ (w : Word) (part : Part) (executable : Bool) (is : value_in w.0 ≡ record { content = Array part; executable = executable }) where
-  pub array_value_is : (births : ℕ → ℕ) (names : List (List ℕ)) → value_of births names w ≡ record { what = array_value (part_of births part); executable = executable }
+module _ (w : Word) (part : Part) (executable : Bool) (is : value_in w.0 ≡ record {
+  content = Array part;
+  executable = executable;
+}) where
+  pub array_value_is : (births : ℕ → ℕ) (names : List (List ℕ))
+      → value_of births names w ≡ record { what = array_value (part_of births part); executable = executable }
   array_value_is births names = value_of-is births names w (Array part) executable is
 
   pub array_held : IsWord w.0 → (h : Heap) → StandsAs h ArrayKind part.address (part.offset + part.length) → IsValue h w
@@ -33,10 +39,12 @@ module _ (w : Word) (part : Part) (executable : Bool) (is : value_in w.0 ≡ rec
 
   pub array_within : (births : ℕ → ℕ) (names : List (List ℕ)) (store : Store) → IsWithin births names store w
   unfolding IsWithin
-  array_within births names store = subst (IsWithinContent births names store) (sym (ap (λ (v : Value). v.content) is)) tt
+  array_within births names store =
+      subst (IsWithinContent births names store) (sym (ap (λ (v : Value). v.content) is)) tt
 
 -- another part of an array
-part_replaced_of : (births : ℕ → ℕ) (names : List (List ℕ)) (c : Content) (part : PartValue) (old : Part) → words.as_array c ≡ Some old → language.part_replaced (what_of births names c) part ≡ array_value part
+part_replaced_of : (births : ℕ → ℕ) (names : List (List ℕ)) (c : Content) (part : PartValue) (old : Part)
+    → words.as_array c ≡ Some old → language.part_replaced (what_of births names c) part ≡ array_value part
 part_replaced_of births names (Array _) part old is = refl
 part_replaced_of births names Null part old is = cc
 part_replaced_of births names (Integer _) part old is = cc
@@ -50,13 +58,18 @@ part_replaced_of births names (Lock _) part old is = cc
 part_replaced_of births names (Condition _) part old is = cc
 part_replaced_of births names (Body _) part old is = cc
 
-pub with_part-is : (births : ℕ → ℕ) (names : List (List ℕ)) (w : Word) (part old : Part) → words.as_array (content_in w.0) ≡ Some old
-    → record { what = array_value (part_of births part); executable = executable_in w.0 } ≡ language.with_part (value_of births names w) (part_of births part)
+pub with_part-is : (births : ℕ → ℕ) (names : List (List ℕ)) (w : Word) (part old : Part)
+    → words.as_array (content_in w.0) ≡ Some old
+    → record { what = array_value (part_of births part); executable = executable_in w.0 }
+    ≡ language.with_part (value_of births names w) (part_of births part)
 unfolding value_of
-with_part-is births names w part old is = ap (λ (what : What). record { what = what; executable = executable_in w.0 }) (sym (part_replaced_of births names (content_in w.0) (part_of births part) old is))
+with_part-is births names w part old is =
+    ap (λ (what : What). record { what = what; executable = executable_in w.0 })
+    (sym (part_replaced_of births names (content_in w.0) (part_of births part) old is))
 
 -- the value that is packed is one of the format
-pub array_in_format : (part : Part) (executable : Bool) → IsPart part → IsInFormat (record { content = Array part; executable = executable })
+pub array_in_format : (part : Part) (executable : Bool) → IsPart part
+    → IsInFormat (record { content = Array part; executable = executable })
 array_in_format part executable p = record { content = p; literal_body = refl }
 
 pub ruleset maker_lemmas = (array_value_is, array_held, array_within, array_in_format)

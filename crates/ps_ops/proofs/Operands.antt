@@ -21,7 +21,8 @@ first_two_split {A} (a ∷ b ∷ rest) x y e =
     let two : y ≡ b = ap (λ (p : A × A). p.1) pair in
     λ i. sym one i ∷ sym two i ∷ rest
 
-pub first_three_split : {A : Type 0} (xs : List A) (x y z : A) → Some (x, y, z) ≡ first_three_of xs → xs ≡ x ∷ y ∷ z ∷ drop 3 xs
+pub first_three_split : {A : Type 0} (xs : List A) (x y z : A) → Some (x, y, z) ≡ first_three_of xs
+    → xs ≡ x ∷ y ∷ z ∷ drop 3 xs
 first_three_split [] x y z e = cc
 first_three_split (a ∷ []) x y z e = cc
 first_three_split (a ∷ b ∷ []) x y z e = cc
@@ -37,7 +38,8 @@ first_three_split {A} (a ∷ b ∷ c ∷ rest) x y z e =
 pub slice_get-drop : {A : Type 0} (xs : List A) (n i : ℕ) → slice_get (drop n xs) i ≡ slice_get xs (n + i)
 slice_get-drop xs zero i = let none : 0 + i ≡ i = omega arith in ap (slice_get xs) (sym none)
 slice_get-drop [] (suc n) i = let more : suc n + i ≡ suc (n + i) = omega arith in ap (slice_get []) (sym more)
-slice_get-drop (x ∷ xs) (suc n) i = let more : suc n + i ≡ suc (n + i) = omega arith in slice_get-drop xs n i ∙ ap (slice_get (x ∷ xs)) (sym more)
+slice_get-drop (x ∷ xs) (suc n) i = let more : suc n + i ≡ suc (n + i) = omega arith in
+    slice_get-drop xs n i ∙ ap (slice_get (x ∷ xs)) (sym more)
 
 take_next : {A : Type 0} (xs : List A) (i : ℕ) (x : A) → slice_get xs i ≡ Some x → take (suc i) xs ≡ take i xs ++ x ∷ []
 take_next [] i x e = cc
@@ -45,7 +47,8 @@ take_next (y ∷ xs) zero x e = let same : y ≡ x = cc in ap (λ z. z ∷ []) s
 take_next (y ∷ xs) (suc i) x e = ap (λ zs. y ∷ zs) (take_next xs i x e)
 
 -- a run with one item more
-pub run_next : {A : Type 0} (xs : List A) (from i : ℕ) (x : A) → slice_get xs (from + i) ≡ Some x → slice_range xs from (from + (i + 1)) ≡ slice_range xs from (from + i) ++ x ∷ []
+pub run_next : {A : Type 0} (xs : List A) (from i : ℕ) (x : A) → slice_get xs (from + i) ≡ Some x
+    → slice_range xs from (from + (i + 1)) ≡ slice_range xs from (from + i) ++ x ∷ []
 run_next xs from i x e =
     let more : (from + (i + 1)) - from ≡ suc i = omega arith in
     let same : (from + i) - from ≡ i = omega arith in
@@ -61,12 +64,20 @@ reverse-run_next xs below from i x e =
     ∙ ap (λ run. run ++ below) (reverse-append (slice_range xs from (from + i)) (x ∷ [])))
 
 pub run_none : {A : Type 0} (xs below : List A) (from : ℕ) → below ≡ reverse (slice_range xs from (from + 0)) ++ below
-run_none xs below from = let none : (from + 0) - from ≡ 0 = omega arith in sym (ap (λ n. reverse (take n (drop from xs)) ++ below) none)
+run_none xs below from = let none : (from + 0) - from ≡ 0 = omega arith in
+    sym (ap (λ n. reverse (take n (drop from xs)) ++ below) none)
 
-pub length-run : {A : Type 0} (xs below : List A) (from i : ℕ) → length (reverse (slice_range xs from (from + i)) ++ below) ≤ i + length below
+pub length-run : {A : Type 0} (xs below : List A) (from i : ℕ)
+    → length (reverse (slice_range xs from (from + i)) ++ below) ≤ i + length below
 length-run xs below from i =
     let size : (from + i) - from ≡ i = omega arith in
-    omega (arith, length-append (reverse (slice_range xs from (from + i))) below, length-reverse (slice_range xs from (from + i)), length-take ((from + i) - from) (drop from xs), size)
+    omega (
+      arith,
+      length-append (reverse (slice_range xs from (from + i))) below,
+      length-reverse (slice_range xs from (from + i)),
+      length-take ((from + i) - from) (drop from xs),
+      size,
+    )
 
 pub map-reverse : {A B : Type 0} (f : A → B) (xs : List A) → map f (reverse xs) ≡ reverse (map f xs)
 map-reverse f [] = refl

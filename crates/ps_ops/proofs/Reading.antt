@@ -13,7 +13,8 @@ use Rattle.ps_mem.specs.References.{StandsAs, IsKnown, IsKnownContent}
 use Rattle.ps_mem.specs.Meaning.{value_of, what_of, part_of}
 use Rattle.ps_mem.specs.Shows.{IsValue}
 
-integer_in-what : (births : ℕ → ℕ) (names : List (List ℕ)) (c : Content) → language.integer_in (what_of births names c) ≡ words.as_integer c
+integer_in-what : (births : ℕ → ℕ) (names : List (List ℕ)) (c : Content)
+    → language.integer_in (what_of births names c) ≡ words.as_integer c
 integer_in-what births names Null = refl
 integer_in-what births names (Integer _) = refl
 integer_in-what births names (Boolean _) = refl
@@ -27,11 +28,13 @@ integer_in-what births names (Lock _) = refl
 integer_in-what births names (Condition _) = refl
 integer_in-what births names (Body _) = refl
 
-pub as_integer-value : (births : ℕ → ℕ) (names : List (List ℕ)) (w : Word) → language.as_integer (value_of births names w) ≡ words.as_integer (content_in w.0)
+pub as_integer-value : (births : ℕ → ℕ) (names : List (List ℕ)) (w : Word)
+    → language.as_integer (value_of births names w) ≡ words.as_integer (content_in w.0)
 unfolding value_of language.as_integer
 as_integer-value births names w = integer_in-what births names (content_in w.0)
 
-array_in-what : (births : ℕ → ℕ) (names : List (List ℕ)) (c : Content) → language.array_in (what_of births names c) ≡ option_map (part_of births) (words.as_array c)
+array_in-what : (births : ℕ → ℕ) (names : List (List ℕ)) (c : Content)
+    → language.array_in (what_of births names c) ≡ option_map (part_of births) (words.as_array c)
 array_in-what births names Null = refl
 array_in-what births names (Integer _) = refl
 array_in-what births names (Boolean _) = refl
@@ -45,11 +48,13 @@ array_in-what births names (Lock _) = refl
 array_in-what births names (Condition _) = refl
 array_in-what births names (Body _) = refl
 
-pub as_array-value : (births : ℕ → ℕ) (names : List (List ℕ)) (w : Word) → language.as_array (value_of births names w) ≡ option_map (part_of births) (words.as_array (content_in w.0))
+pub as_array-value : (births : ℕ → ℕ) (names : List (List ℕ)) (w : Word)
+    → language.as_array (value_of births names w) ≡ option_map (part_of births) (words.as_array (content_in w.0))
 unfolding value_of language.as_array
 as_array-value births names w = array_in-what births names (content_in w.0)
 
-array_stands : (h : Heap) (c : Content) → IsKnownContent h c → IfSome (words.as_array c) (λ part. StandsAs h ArrayKind part.address (part.offset + part.length))
+array_stands : (h : Heap) (c : Content) → IsKnownContent h c
+    → IfSome (words.as_array c) (λ part. StandsAs h ArrayKind part.address (part.offset + part.length))
 array_stands h Null k = tt
 array_stands h (Integer _) k = tt
 array_stands h (Boolean _) k = tt
@@ -63,7 +68,8 @@ array_stands h (Lock _) k = tt
 array_stands h (Condition _) k = tt
 array_stands h (Body _) k = tt
 
-pub as_array-stands : (h : Heap) (w : Word) → IsValue h w → IfSome (words.as_array (content_in w.0)) (λ part. StandsAs h ArrayKind part.address (part.offset + part.length))
+pub as_array-stands : (h : Heap) (w : Word) → IsValue h w
+    → IfSome (words.as_array (content_in w.0)) (λ part. StandsAs h ArrayKind part.address (part.offset + part.length))
 unfolding IsKnown
 as_array-stands h w v = array_stands h (content_in w.0) v.known
 
@@ -81,7 +87,8 @@ array_ends (Lock _) k = tt
 array_ends (Condition _) k = tt
 array_ends (Body _) k = tt
 
-pub as_array-ends : (w : Word) → IsWord w.0 → IfSome (words.as_array (content_in w.0)) (λ part. part.offset + part.length < 2 ^ 16)
+pub as_array-ends : (w : Word) → IsWord w.0
+    → IfSome (words.as_array (content_in w.0)) (λ part. part.offset + part.length < 2 ^ 16)
 as_array-ends w word = array_ends (content_in w.0) word.value.content
 
 pub ruleset integer_lemmas = (as_integer-value)

@@ -22,13 +22,15 @@ pub plain_value : (h : Heap) (w : Word) → IsPlainWord w → IsValue h w
 plain_value h w plain = IsValue-plain w (plain_content plain.content) h plain.word
 
 -- and within any store
-pub plain_within : (births : ℕ → ℕ) (names : List (List ℕ)) (store : Store) (w : Word) → IsPlainWord w → IsWithin births names store w
+pub plain_within : (births : ℕ → ℕ) (names : List (List ℕ)) (store : Store) (w : Word) → IsPlainWord w
+    → IsWithin births names store w
 plain_within births names store w plain = IsWithin-plain w (plain_content plain.content) births names store
 
 pub ruleset plain_lemmas = (plain_value, plain_within)
 
 pub ready_from : (h : Heap) (old new : List Word) → IsReady h old → AreFrom old new → IsReady h new
-ready_from h old new ready from = record { sound = ready.sound; values = have_from (IsValue h) old new (plain_value h) ready.values from }
+ready_from h old new ready from =
+    record { sound = ready.sound; values = have_from (IsValue h) old new (plain_value h) ready.values from }
 
 pub ready_drop : (h : Heap) (old : List Word) (n : ℕ) → IsReady h old → IsReady h (drop n old)
 ready_drop h old n ready = record { sound = ready.sound; values = rest_held (IsValue h) old ready.values n }

@@ -13,12 +13,17 @@ use Rattle.ps_ops.proofs.Held.{all_reverse}
 
 module _ (h : Heap) (names : List (List ℕ)) (s : Store) (operands : List Word) (n : ℕ) (items : List Word) where
   pub top_within : AreWithin h names s operands → items ≡ reverse (take n operands) → AreWithin h names s items
-  top_within within are = subst (AreWithin h names s) (sym are) (all_reverse (IsWithin (birth_at h) names s) (take n operands) (all_take (IsWithin (birth_at h) names s) n operands within))
+  top_within within are =
+      subst (AreWithin h names s) (sym are) (all_reverse (IsWithin (birth_at h) names s) (take n operands)
+      (all_take (IsWithin (birth_at h) names s) n operands within))
 
-pub top_values : (h : Heap) (operands : List Word) (n : ℕ) (items : List Word) → AreValues h operands → items ≡ reverse (take n operands) → AreValues h items
-top_values h operands n items values are = subst (AreValues h) (sym are) (all_reverse (IsValue h) (take n operands) (all_take (IsValue h) n operands values))
+pub top_values : (h : Heap) (operands : List Word) (n : ℕ) (items : List Word) → AreValues h operands
+    → items ≡ reverse (take n operands) → AreValues h items
+top_values h operands n items values are =
+    subst (AreValues h) (sym are) (all_reverse (IsValue h) (take n operands) (all_take (IsValue h) n operands values))
 
-pub top_elements : (h : Heap) (names : List (List ℕ)) (operands : List Word) (n : ℕ) (items : List Word) → items ≡ reverse (take n operands) → values_in h names items ≡ reverse (take n (values_in h names operands))
+pub top_elements : (h : Heap) (names : List (List ℕ)) (operands : List Word) (n : ℕ) (items : List Word)
+    → items ≡ reverse (take n operands) → values_in h names items ≡ reverse (take n (values_in h names operands))
 top_elements h names operands n items are =
     ap (values_in h names) are
     ∙ (map-reverse (value_of (birth_at h) names) (take n operands)

@@ -11,7 +11,9 @@ returns-then-len-part-gt-OPERAND_LIMIT-clause-does g c =
     let old = c.args.operands.now in
     let ready = c.requires.ready in
     let stands = c.in-Some-array_of.ensures.stands h (first_held (IsValue h) old ready.values _ c.in-Some.ensures) in
-    aload_overflows h old ready c.in-Some.array c.in-Some.ensures c.in-Some-array_of.part (λ births names. c.in-Some-array_of.ensures.part births names) (sym c.is_readable.ensures ∙ c.if-not-is_readable.false) stands (omega arith)
+    aload_overflows h old ready c.in-Some.array c.in-Some.ensures c.in-Some-array_of.part
+    (λ births names. c.in-Some-array_of.ensures.part births names) (sym c.is_readable.ensures
+    ∙ c.if-not-is_readable.false) stands (omega arith)
 
 pub returns-clause-does : goal.returns-clause-does
 returns-clause-does g c =
@@ -19,8 +21,14 @@ returns-clause-does g c =
     let old = c.args.operands.now in
     let ready = c.requires.ready in
     let stands = c.in-Some-array_of.ensures.stands h (first_held (IsValue h) old ready.values _ c.in-Some.ensures) in
-    aload_done h old ready c.in-Some.array c.in-Some.ensures c.in-Some-array_of.part (λ births names. c.in-Some-array_of.ensures.part births names) (sym c.is_readable.ensures ∙ c.if-not-is_readable.false) stands _ (omega arith)
-    (c.push_within.ensures ∙ (ap (λ ws. c.in-Some.array ∷ ws) (c.push_elements.ensures.pushed ∙ ap (λ ws. reverse (elements_read h old ready c.in-Some.array c.in-Some.ensures c.in-Some-array_of.part (λ births names. c.in-Some-array_of.ensures.part births names) (sym c.is_readable.ensures ∙ c.if-not-is_readable.false) stands) ++ ws) c.discard.ensures)))
+    aload_done h old ready c.in-Some.array c.in-Some.ensures c.in-Some-array_of.part
+    (λ births names. c.in-Some-array_of.ensures.part births names) (sym c.is_readable.ensures
+    ∙ c.if-not-is_readable.false) stands _ (omega arith)
+    (c.push_within.ensures
+    ∙ (ap (λ ws. c.in-Some.array ∷ ws) (c.push_elements.ensures.pushed
+    ∙ ap (λ ws. reverse (elements_read h old ready c.in-Some.array c.in-Some.ensures c.in-Some-array_of.part
+    (λ births names. c.in-Some-array_of.ensures.part births names) (sym c.is_readable.ensures
+    ∙ c.if-not-is_readable.false) stands) ++ ws) c.discard.ensures)))
 
 pub returns-clause-ready : goal.returns-clause-ready
 returns-clause-ready g c =
@@ -28,5 +36,11 @@ returns-clause-ready g c =
     let old = c.args.operands.now in
     let ready = c.requires.ready in
     let stands = c.in-Some-array_of.ensures.stands h (first_held (IsValue h) old ready.values _ c.in-Some.ensures) in
-    aload_ready h old ready c.in-Some.array c.in-Some.ensures c.in-Some-array_of.part (λ births names. c.in-Some-array_of.ensures.part births names) (sym c.is_readable.ensures ∙ c.if-not-is_readable.false) stands _
-    (c.push_within.ensures ∙ (ap (λ ws. c.in-Some.array ∷ ws) (c.push_elements.ensures.pushed ∙ ap (λ ws. reverse (elements_read h old ready c.in-Some.array c.in-Some.ensures c.in-Some-array_of.part (λ births names. c.in-Some-array_of.ensures.part births names) (sym c.is_readable.ensures ∙ c.if-not-is_readable.false) stands) ++ ws) c.discard.ensures)))
+    aload_ready h old ready c.in-Some.array c.in-Some.ensures c.in-Some-array_of.part
+    (λ births names. c.in-Some-array_of.ensures.part births names) (sym c.is_readable.ensures
+    ∙ c.if-not-is_readable.false) stands _
+    (c.push_within.ensures
+    ∙ (ap (λ ws. c.in-Some.array ∷ ws) (c.push_elements.ensures.pushed
+    ∙ ap (λ ws. reverse (elements_read h old ready c.in-Some.array c.in-Some.ensures c.in-Some-array_of.part
+    (λ births names. c.in-Some-array_of.ensures.part births names) (sym c.is_readable.ensures
+    ∙ c.if-not-is_readable.false) stands) ++ ws) c.discard.ensures)))

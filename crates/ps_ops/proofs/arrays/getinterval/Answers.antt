@@ -14,7 +14,15 @@ returns-clause-ready g c =
     let array = third_held (IsValue h) old ready.values _ _ _ c.in-Some.ensures in
     let stands = c.in-Some-array_of.ensures.stands h array in
     let inner = stands_less h ArrayKind _ _ (c.interval.result.offset + c.interval.result.length)
-    (omega (arith, ap (λ (p : Part). p.offset) c.interval.ensures, ap (λ (p : Part). p.length) c.interval.ensures, c.in-Some-interval_within.ensures.within)) stands in
+    (omega (
+      arith,
+      ap (λ (p : Part). p.offset) c.interval.ensures,
+      ap (λ (p : Part). p.length) c.interval.ensures,
+      c.in-Some-interval_within.ensures.within,
+    )) stands in
     let address = ap (λ (p : Part). p.address) c.interval.ensures in
-    let held = c.with_part-found.ensures.held h (subst (λ a. StandsAs h ArrayKind a (c.interval.result.offset + c.interval.result.length)) (sym address) inner) in
+    let held =
+    c.with_part-found.ensures.held h
+    (subst (λ a. StandsAs h ArrayKind a (c.interval.result.offset + c.interval.result.length))
+    (sym address) inner) in
     ready_with h old _ ready (replaced_held (IsValue h) old ready.values _ 3 _ held c.replace.ensures)

@@ -8,4 +8,5 @@ abbrev pub invariant-loop-index : goal.invariant-loop-index
 invariant-loop-index g l =
     (g.M.Memory.heap l.memory ≡ g.M.Memory.heap l.initial.memory)
     × (g.M.Memory.grants l.memory ≡ g.M.Memory.grants l.initial.memory)
-    × (l.operands ≡ reverse (slice_range (fields_at (g.M.Memory.heap l.initial.memory) l.part.address) l.part.offset (l.part.offset + l.index)) ++ l.initial.operands)
+    × (l.operands ≡ reverse (slice_range (fields_at (g.M.Memory.heap l.initial.memory) l.part.address) l.part.offset
+    (l.part.offset + l.index)) ++ l.initial.operands)
