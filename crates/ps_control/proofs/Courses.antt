@@ -10,6 +10,11 @@ course_begins first (pos n) fits = (omega (arith, ints, fits), omega (arith, int
 course_begins first (negsuc n) fits = (omega (arith, ints, fits), omega (arith, ints, fits))
 
 -- while it isn't past the limit it is an integer of 32 bits, and the next is near
-pub course_goes : (control increment limit : ℤ) → IsCourse control increment → SFits w32 increment → SFits w32 limit → is_past control increment limit ≡ false → IsCourse (control +ℤ increment) increment
-course_goes control (pos n) limit course step fits going = let low = course.0 in let high : control ≤ℤ limit = grind (arith, ints, going) in (omega (arith, ints, low, high, step, fits), omega (arith, ints, low, high, step, fits))
-course_goes control (negsuc n) limit course step fits going = let high = course.1 in let low : limit ≤ℤ control = grind (arith, ints, going) in (omega (arith, ints, low, high, step, fits), omega (arith, ints, low, high, step, fits))
+pub course_goes : (control increment limit : ℤ) → IsCourse control increment → SFits w32 increment → SFits w32 limit
+    → is_past control increment limit ≡ false → IsCourse (control +ℤ increment) increment
+course_goes control (pos n) limit course step fits going = let low = course.0 in
+    let high : control ≤ℤ limit = grind (arith, ints, going) in
+    (omega (arith, ints, low, high, step, fits), omega (arith, ints, low, high, step, fits))
+course_goes control (negsuc n) limit course step fits going = let high = course.1 in
+    let low : limit ≤ℤ control = grind (arith, ints, going) in
+    (omega (arith, ints, low, high, step, fits), omega (arith, ints, low, high, step, fits))

@@ -1,5 +1,6 @@
 -- Unwinding by frames.
-use Rattle.std.proofs.Common.{◌≡◌, ℕ, zero, suc, ◌+◌, ◌≤◌, true, false, List, [], ◌∷◌, drop, length, Some, refl, arith, sym, ◌∙◌, true≢false}
+use Rattle.std.proofs.Common.{◌≡◌, ℕ, zero, suc, ◌+◌, ◌≤◌, true, false, List, [], ◌∷◌, drop, length, Some, refl, arith}
+use Rattle.std.proofs.Common.{sym, ◌∙◌, true≢false}
 use Rattle.std.specs.Prelude.{slice_get}
 use Rattle.ps_language.specs.World as world
 use Rattle.ps_language.specs.Effect.{Scene}
@@ -8,7 +9,8 @@ use Rattle.ps_language.specs.StepValues.{leads, breaks}
 use Rattle.ps_language.specs.StepFrames.{unwound_turn, stopped_turn}
 use Rattle.ps_mem.specs.Heap.{Heap}
 use Rattle.ps_control.specs.declared.frames.Frame.{Frame}
-use Rattle.ps_control.specs.declared.frames.Frame.TheVariants.{Text, Procedure, Pending, Repeat, Loop, For, Forall, Stopped, Monitor, Bind}
+use Rattle.ps_control.specs.declared.frames.Frame.TheVariants.{Text, Procedure, Pending, Repeat, Loop, For, Forall}
+use Rattle.ps_control.specs.declared.frames.Frame.TheVariants.{Stopped, Monitor, Bind}
 use Rattle.ps_control.specs.declared.frames.Cause.{Cause}
 use Rattle.ps_control.specs.declared.frames.Cause.TheVariants.{Stop, Exit, Quit}
 use Rattle.ps_control.specs.Frames.{frame_of, frames_in}

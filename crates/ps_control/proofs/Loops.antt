@@ -1,7 +1,9 @@
 -- The turns of the loops by their frames.
-use Rattle.std.proofs.Common.{◌≡◌, ℕ, zero, suc, ◌+◌, ◌-◌, ◌≤◌, ℤ, ◌+ℤ◌, true, false, List, [], ◌∷◌, drop, Some, None, Ok, refl, sym, arith}
+use Rattle.std.proofs.Common.{◌≡◌, ℕ, zero, suc, ◌+◌, ◌-◌, ◌≤◌, ℤ, ◌+ℤ◌, true, false, List, [], ◌∷◌, drop, Some, None}
+use Rattle.std.proofs.Common.{Ok, refl, sym, arith}
 use Rattle.ps_language.specs.declared.operators.Operator.{Operator}
-use Rattle.ps_language.specs.declared.operators.Operator.TheVariants.{Loop as LoopOperator, Repeat as RepeatOperator, For as ForOperator, Forall as ForallOperator}
+use Rattle.ps_language.specs.declared.operators.Operator.TheVariants.{Loop as LoopOperator, Repeat as RepeatOperator}
+use Rattle.ps_language.specs.declared.operators.Operator.TheVariants.{For as ForOperator, Forall as ForallOperator}
 use Rattle.ps_language.specs.Value.{Value, Store}
 use Rattle.ps_language.specs.World as world
 use Rattle.ps_language.specs.Effect.{Around}

@@ -6,7 +6,8 @@ use Rattle.ps_language.specs.Access.{is_executable}
 use Rattle.ps_word.specs.declared.values.Part.{Part}
 use Rattle.ps_word.specs.declared.words.Word.{Word}
 use Rattle.ps_word.specs.declared.values.Content.{Content}
-use Rattle.ps_word.specs.declared.values.Content.TheVariants.{Null, Integer, Boolean, Mark, Name, Operator, Array, Text, Dictionary, Lock, Condition, Body}
+use Rattle.ps_word.specs.declared.values.Content.TheVariants.{Null, Integer, Boolean, Mark, Name, Operator, Array, Text}
+use Rattle.ps_word.specs.declared.values.Content.TheVariants.{Dictionary, Lock, Condition, Body}
 use Rattle.ps_word.specs.Format.{content_in, executable_in}
 use Rattle.ps_word.specs.Readers as words
 use Rattle.ps_word.proofs.Reading.{enterable}
@@ -17,7 +18,8 @@ use Rattle.ps_ops.proofs.Reading.{as_array-value, as_array-stands, as_array-ends
 use Rattle.ps_control.specs.Frames.{IsHeld}
 use Rattle.ps_language.specs.Readers as language
 
-boolean_meant : (births : ℕ → ℕ) (names : List (List ℕ)) (c : Content) → boolean_in (what_of births names c) ≡ words.as_boolean c
+boolean_meant : (births : ℕ → ℕ) (names : List (List ℕ)) (c : Content)
+    → boolean_in (what_of births names c) ≡ words.as_boolean c
 boolean_meant births names Null = refl
 boolean_meant births names (Integer number) = refl
 boolean_meant births names (Boolean truth) = refl
@@ -31,17 +33,20 @@ boolean_meant births names (Lock address) = refl
 boolean_meant births names (Condition address) = refl
 boolean_meant births names (Body address) = refl
 
-pub as_boolean-value : (births : ℕ → ℕ) (names : List (List ℕ)) (w : Word) → as_boolean (value_of births names w) ≡ words.as_boolean (content_in w.0)
+pub as_boolean-value : (births : ℕ → ℕ) (names : List (List ℕ)) (w : Word)
+    → as_boolean (value_of births names w) ≡ words.as_boolean (content_in w.0)
 unfolding as_boolean value_of
 as_boolean-value births names w = boolean_meant births names (content_in w.0)
 
 -- an executable array is a procedure
-pub procedure-executable : (births : ℕ → ℕ) (names : List (List ℕ)) (w : Word) → executable_in w.0 ≡ true → as_procedure (value_of births names w) ≡ language.as_array (value_of births names w)
+pub procedure-executable : (births : ℕ → ℕ) (names : List (List ℕ)) (w : Word) → executable_in w.0 ≡ true
+    → as_procedure (value_of births names w) ≡ language.as_array (value_of births names w)
 unfolding as_procedure value_of language.as_array
 procedure-executable births names w executable = rw executable refl
 
 -- what is literal is none
-pub procedure-literal : (births : ℕ → ℕ) (names : List (List ℕ)) (w : Word) → executable_in w.0 ≡ false → as_procedure (value_of births names w) ≡ None
+pub procedure-literal : (births : ℕ → ℕ) (names : List (List ℕ)) (w : Word) → executable_in w.0 ≡ false
+    → as_procedure (value_of births names w) ≡ None
 unfolding as_procedure value_of
 procedure-literal births names w literal = rw literal refl
 

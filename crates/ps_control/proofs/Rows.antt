@@ -1,5 +1,6 @@
 -- What the rows of control push, by what the operands are.
-use Rattle.std.proofs.Common.{◌≡◌, ℕ, ℤ, List, [], ◌∷◌, Bool, true, false, ◌&&◌, Some, None, drop, length, ◌<◌, ◌≤◌, Ok, refl, ap, subst, arith, ◌∙◌}
+use Rattle.std.proofs.Common.{◌≡◌, ℕ, ℤ, List, [], ◌∷◌, Bool, true, false, ◌&&◌, Some, None, drop, length, ◌<◌, ◌≤◌, Ok}
+use Rattle.std.proofs.Common.{refl, ap, subst, arith, ◌∙◌}
 use Rattle.std.specs.Prelude.{slice_get}
 use Rattle.std.specs.List.{AllByRecursion}
 use Rattle.ps_language.specs.declared.errors.ErrorName.TheVariants.{ExecStackOverflow, InvalidAccess, TypeCheck}
@@ -8,7 +9,8 @@ use Rattle.ps_language.specs.Effect.{Scene}
 use Rattle.ps_language.specs.Outcome.{leaves, fails}
 use Rattle.ps_language.specs.Access.{is_executable, is_writable}
 use Rattle.ps_language.specs.Readers.{as_integer, as_count}
-use Rattle.ps_language.specs.Control.{as_procedure, as_boolean, with_operands, exec_row, if_row, ifelse_row, for_row, repeat_row, loop_row, stopped_row, bind_row}
+use Rattle.ps_language.specs.Control.{as_procedure, as_boolean, with_operands, exec_row, if_row, ifelse_row, for_row}
+use Rattle.ps_language.specs.Control.{repeat_row, loop_row, stopped_row, bind_row}
 use Rattle.ps_stacks.specs.Tops.{first_of, first_two_of, first_three_of}
 use Rattle.ps_word.specs.declared.words.Word.{Word}
 use Rattle.ps_word.specs.declared.values.Part.{Part}

@@ -1,10 +1,12 @@
 -- How many frames stand up to a loop (PLRM2, 8 'Operators': exit).
-use Rattle.std.proofs.Common.{◌≡◌, ◌≢◌, ℕ, zero, suc, ◌+◌, ◌≤◌, Bool, true, false, List, [], ◌∷◌, length, drop, Option, Some, None, refl, sym, ap, ◌∙◌, arith}
+use Rattle.std.proofs.Common.{◌≡◌, ◌≢◌, ℕ, zero, suc, ◌+◌, ◌≤◌, Bool, true, false, List, [], ◌∷◌, length, drop, Option}
+use Rattle.std.proofs.Common.{Some, None, refl, sym, ap, ◌∙◌, arith}
 use Rattle.std.specs.Prelude.{option_map, slice_get, nat_le, if◌then◌else◌}
 use Rattle.std.proofs.lemmas.Bool.Decides.{nat_tests}
 use Rattle.ps_word.specs.declared.values.Part.{Part}
 use Rattle.ps_control.specs.declared.frames.Frame.{Frame}
-use Rattle.ps_control.specs.declared.frames.Frame.TheVariants.{Text, Procedure, Pending, Repeat, Loop, For, Forall, Stopped, Monitor, Bind}
+use Rattle.ps_control.specs.declared.frames.Frame.TheVariants.{Text, Procedure, Pending, Repeat, Loop, For, Forall}
+use Rattle.ps_control.specs.declared.frames.Frame.TheVariants.{Stopped, Monitor, Bind}
 use Rattle.ps_control.specs.declared.frames.Cause.TheVariants.{Exit}
 use Rattle.ps_control.specs.Turns.{ends_at_loop, frames_to_loop, no_more_than}
 use Rattle.ps_control.proofs.FramesLeft.{drop_at}

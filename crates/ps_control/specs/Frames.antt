@@ -2,7 +2,8 @@
 -- (PLRM2, 3.4).
 use Rattle.std.specs.Prelude.{ℕ, ℤ, pos, negsuc, ◌≤ℤ◌, ◌+◌, ◌<◌, ◌≤◌, ◌^◌, List, length, map}
 use Rattle.std.specs.List.{AllByRecursion}
-use Rattle.ps_language.specs.declared.kinds.Kind.TheVariants.{Array as ArrayKind, Text as TextKind, Lock as LockKind}
+use Rattle.ps_language.specs.declared.kinds.Kind.TheVariants.{Array as ArrayKind, Text as TextKind}
+use Rattle.ps_language.specs.declared.kinds.Kind.TheVariants.{Lock as LockKind}
 use Rattle.ps_language.specs.Value.{Value, Store}
 use Rattle.ps_language.specs.Access.{bytes}
 use Rattle.ps_language.specs.Effect.{Scene}
@@ -18,7 +19,9 @@ use Rattle.ps_ops.specs.Does.{values_in}
 use Rattle.ps_control.specs.declared.frames.Source.{Source}
 use Rattle.ps_control.specs.declared.frames.Source.TheVariants.{Program, Text as TextOf}
 use Rattle.ps_control.specs.declared.frames.Frame.{Frame}
-use Rattle.ps_control.specs.declared.frames.Frame.TheVariants.{Text, Procedure, Pending, Repeat, Loop, For, Forall, Stopped, Monitor, Bind}
+use Rattle.ps_control.specs.declared.frames.Frame.TheVariants.{Text, Procedure, Pending, Repeat}
+use Rattle.ps_control.specs.declared.frames.Frame.TheVariants.{Loop, For, Forall, Stopped, Monitor}
+use Rattle.ps_control.specs.declared.frames.Frame.TheVariants.{Bind}
 
 -- ---- what they stand for
 

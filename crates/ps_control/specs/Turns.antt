@@ -1,5 +1,6 @@
 -- When what a turn of a frame did to operands and frames is what the definitions say.
-use Rattle.std.specs.Prelude.{◌≡◌, ℕ, suc, Bool, true, false, if◌then◌else◌, nat_le, List, [], ◌∷◌, drop, Option, Some, None, option_map, IfSome, Result, Ok, Err}
+use Rattle.std.specs.Prelude.{◌≡◌, ℕ, suc, Bool, true, false, if◌then◌else◌, nat_le, List, [], ◌∷◌}
+use Rattle.std.specs.Prelude.{drop, Option, Some, None, option_map, IfSome, Result, Ok, Err}
 use Rattle.ps_language.specs.declared.errors.ErrorName.{ErrorName}
 use Rattle.ps_language.specs.declared.operators.Operator.{Operator}
 use Rattle.ps_language.specs.Value.{Value, Store}
@@ -15,7 +16,8 @@ use Rattle.ps_mem.specs.Meaning.{value_of, part_of}
 use Rattle.ps_mem.specs.Shows.{AreValues, IsWithin, AreWithin, Shows}
 use Rattle.ps_ops.specs.Does.{values_in}
 use Rattle.ps_control.specs.declared.frames.Frame.{Frame}
-use Rattle.ps_control.specs.declared.frames.Frame.TheVariants.{Procedure, Repeat, Loop, For, Forall, Stopped, Monitor}
+use Rattle.ps_control.specs.declared.frames.Frame.TheVariants.{Procedure, Repeat, Loop, For, Forall}
+use Rattle.ps_control.specs.declared.frames.Frame.TheVariants.{Stopped, Monitor}
 use Rattle.ps_control.specs.declared.frames.Cause.{Cause}
 use Rattle.ps_control.specs.declared.frames.Cause.TheVariants.{Stop, Exit, Quit}
 use Rattle.ps_control.specs.declared.turns.TurnOperands.{TurnOperands}

@@ -1,13 +1,15 @@
-//! Turns of loops, and `if` and `ifelse`, where they raise no error. The frame of the procedure that
-//! is entered is left to the caller, who may do its elements before it is pushed (PLRM2, 3.4, 8
-//! 'Operators': Control).
+//! Turns of loops, and `if` and `ifelse`, where they raise no error. The frame of the procedure
+//! that is entered is left to the caller, who may do its elements before it is pushed (PLRM2, 3.4,
+//! 8 'Operators': Control).
 
-ghost use Rattle.std.specs.Prelude.{◌≡◌, ℕ, ◌+◌, ◌∷◌, ◌≤◌, ◌<◌, ◌^◌, Some, IsTrue, List, drop, length};
+ghost use Rattle.std.specs.Prelude.{◌≡◌, ℕ, ◌+◌, ◌∷◌, ◌≤◌, ◌<◌, ◌^◌, Some, IsTrue, List, drop};
+ghost use Rattle.std.specs.Prelude.{length};
 ghost use Rattle.ps_language.specs.Control as rows;
 ghost use Rattle.ps_mem.specs.Heap.{Heap};
 ghost use Rattle.ps_stacks.specs.Tops.{first_of};
 ghost use Rattle.ps_control.specs.declared.frames.Frame.{Frame as TheFrame};
-ghost use Rattle.ps_control.specs.Ahead.{OnLeft, HasRoom, done_ahead, entered_ahead, ControlsAhead, TurnsAhead};
+ghost use Rattle.ps_control.specs.Ahead.{OnLeft, HasRoom, done_ahead, entered_ahead, ControlsAhead};
+ghost use Rattle.ps_control.specs.Ahead.{TurnsAhead};
 ghost use Rattle.ps_control.specs.Controls.{IsReadyFor, stacks};
 ghost use Rattle.ps_control.specs.Frames.{IsCourse};
 ghost use Rattle.ps_control.specs.Turns.{words_of, IsPushed};
@@ -107,8 +109,8 @@ pub fn repeat_ahead(operands: &Operands, frames: &mut Frames, count: usize, body
     Ahead::Enters(body)
 }
 
-/// Writes the control value of the next turn into the topmost frame, in place, and pushes that of this
-/// turn. The frame is found first, so that no load of it is made again behind the push.
+/// Writes the control value of the next turn into the topmost frame, in place, and pushes that of
+/// this turn. The frame is found first, so that no load of it is made again behind the push.
 #[inline(always)]
 fn push_control(
     operands: &mut Operands,
@@ -244,8 +246,8 @@ pub fn if_ahead(operands: &mut Operands) -> Ahead
     }
 }
 
-/// `t P1 P2 ifelse`: the first procedure is entered where `t` is true, else the second, if its frame
-/// has room.
+/// `t P1 P2 ifelse`: the first procedure is entered where `t` is true, else the second, if its
+/// frame has room.
 #[inline]
 pub fn if_else_ahead(operands: &mut Operands) -> Ahead
     ensures controls { (h : Heap) (size : ℕ) (frames : List TheFrame) → HasRoom 1 result frames

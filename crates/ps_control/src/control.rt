@@ -8,7 +8,8 @@ ghost use Rattle.ps_language.specs.Outcome.{Outcome};
 ghost use Rattle.ps_language.specs.Value.{Value};
 ghost use Rattle.ps_mem.specs.Heap.{Heap};
 ghost use Rattle.ps_control.specs.Frames.{IsFrame, IsHeld};
-ghost use Rattle.ps_control.specs.Controls.{Controls, IsReadyFor, IsFrameHeld, Begins, Enters, IsSecondAccess, stacks};
+ghost use Rattle.ps_control.specs.Controls.{Controls, IsReadyFor, IsFrameHeld, Begins, Enters};
+ghost use Rattle.ps_control.specs.Controls.{IsSecondAccess, stacks};
 
 use crate::frames::{Frame, Frames, push_frame};
 use crate::readers::{boolean_of, may_loop, procedure_of};

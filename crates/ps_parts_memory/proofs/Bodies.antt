@@ -1,5 +1,6 @@
 -- A new body, with the birth number of a dictionary that stands.
-use Rattle.std.proofs.Common.{◌≡◌, ℕ, ◌+◌, ◌-◌, ◌&&◌, Bool, true, nat_eq, List, [], ◌∷◌, replicate, Some, None, Option, refl, sym, ap, ◌∙◌, inl, inr, subst, arith}
+use Rattle.std.proofs.Common.{◌≡◌, ℕ, ◌+◌, ◌-◌, ◌&&◌, Bool, true, nat_eq, List, [], ◌∷◌, replicate, Some, None, Option}
+use Rattle.std.proofs.Common.{refl, sym, ap, ◌∙◌, inl, inr, subst, arith}
 use Rattle.std.specs.Option.{option_map}
 use Rattle.std.specs.List.{list_any}
 use native.Mathlib.Decide.{ℕ_discrete}

@@ -1,6 +1,7 @@
 -- Stores to the fields of an object, the last one first: they are permitted, and leave the part
 -- that stores in rising order leave.
-use Rattle.std.proofs.Common.{◌≡◌, ◌≢◌, ℕ, zero, suc, ◌+◌, ◌-◌, ◌<◌, ◌≤◌, true, false, nat_eq, List, [], ◌∷◌, length, Some, None, Option, refl, sym, ap, ◌∙◌, inl, inr, subst, arith}
+use Rattle.std.proofs.Common.{◌≡◌, ◌≢◌, ℕ, zero, suc, ◌+◌, ◌-◌, ◌<◌, ◌≤◌, true, false, nat_eq, List, [], ◌∷◌, length}
+use Rattle.std.proofs.Common.{Some, None, Option, refl, sym, ap, ◌∙◌, inl, inr, subst, arith}
 use Rattle.std.specs.Prelude.{slice_set, min, max}
 use Rattle.ps_core_parts.specs.declared.events.Object.{Object}
 use Rattle.ps_core_parts.specs.declared.events.Vm.{Vm}
@@ -10,7 +11,8 @@ use Rattle.ps_core_parts.specs.Steps.{is_open, field_stored}
 use Rattle.ps_core_laws.proofs.HeapTests.{bool_cases, le_true, same_number}
 use Rattle.ps_core_laws.proofs.Headed.{stored_objects, stored_header}
 use Rattle.ps_parts_memory.specs.Stores.{fields_stored, fields_stored_down, MayStoreFieldsDown}
-use Rattle.ps_parts_memory.proofs.Written.{over, one, only, new_same, old_after, written_out, range, written_all, AllStand, word_same, has_field, after_one, count_one}
+use Rattle.ps_parts_memory.proofs.Written.{over, one, only, new_same, old_after, written_out, range, written_all}
+use Rattle.ps_parts_memory.proofs.Written.{AllStand, word_same, has_field, after_one, count_one}
 
 only_down : (v : Vm) (a i : ℕ) (ws : List ℕ)
     → fields_stored_down v a i ws ≡ over v (fields_stored_down v a i ws)

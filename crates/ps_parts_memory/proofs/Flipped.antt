@@ -1,5 +1,7 @@
 -- What a flip does to a body and to its index.
-use Rattle.std.proofs.Common.{◌≡◌, ℕ, zero, suc, ◌+◌, ◌*◌, ◌^◌, ◌<◌, ◌≤◌, true, false, List, [], ◌∷◌, ◌++◌, length, map, take, drop, replicate, Option, Some, None, refl, sym, ap, ◌∙◌, arith, subst, is_some, rules}
+use Rattle.std.proofs.Common.{◌≡◌, ℕ, zero, suc, ◌+◌, ◌*◌, ◌^◌, ◌<◌, ◌≤◌, true, false, List, [], ◌∷◌, ◌++◌, length, map}
+use Rattle.std.proofs.Common.{take, drop, replicate, Option, Some, None, refl, sym, ap, ◌∙◌, arith, subst, is_some}
+use Rattle.std.proofs.Common.{rules}
 use Rattle.std.specs.Prelude.{slice_index, MatchOption, nat_eq, not, pos, FitsSigned, if◌then◌else◌}
 use Rattle.std.specs.Int.{w32}
 use Rattle.std.proofs.lemmas.Bool.Decides.{nat_tests}
@@ -9,7 +11,8 @@ use Rattle.std.proofs.lemmas.List.{take-map, length-map, length-take}
 use Rattle.ps_language.specs.declared.kinds.Kind.TheVariants.{Text as TextKind, Body as BodyKind}
 use Rattle.ps_word.specs.declared.words.Word.{Word}
 use Rattle.ps_word.specs.declared.values.Content.{Content}
-use Rattle.ps_word.specs.declared.values.Content.TheVariants.{Null, Integer, Boolean, Mark, Name, Operator, Array, Text, Dictionary, Lock, Condition, Body}
+use Rattle.ps_word.specs.declared.values.Content.TheVariants.{Null, Integer, Boolean, Mark, Name, Operator, Array, Text}
+use Rattle.ps_word.specs.declared.values.Content.TheVariants.{Dictionary, Lock, Condition, Body}
 use Rattle.ps_word.specs.declared.values.Value.{Value}
 use Rattle.ps_word.specs.Format.{IsWord, address_in, content_in, packed}
 use Rattle.ps_word.specs.Headers.{birth_in, kind_in}
@@ -19,7 +22,8 @@ use Rattle.ps_word.proofs.Packing.{value_in-packed}
 use Rattle.ps_word.proofs.Places.{is_reference-at, address_of-at}
 use Rattle.ps_mem.specs.Heap.{Heap, IsKind, birth_of, birth_at, fields_of, fields_at}
 use Rattle.ps_mem.specs.Heap as memory
-use Rattle.ps_mem.specs.Index.{hash_of_content, hash_of, filled, placed, placed_all, index_of, pairs_of_words, index_word, hashes_of, index_words, has_free}
+use Rattle.ps_mem.specs.Index.{hash_of_content, hash_of, filled, placed, placed_all, index_of, pairs_of_words}
+use Rattle.ps_mem.specs.Index.{index_word, hashes_of, index_words, has_free}
 use Rattle.ps_mem.specs.Objects.{kind_of_number, word_of}
 use Rattle.ps_mem.proofs.Lists.{all_append, all_take, all_drop, drop-map}
 use Rattle.ps_core_parts.specs.declared.events.Event.TheVariants.{CycleStore}

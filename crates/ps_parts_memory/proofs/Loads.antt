@@ -1,5 +1,6 @@
 -- Loads of words: what stands in the memory, while the part stays.
-use Rattle.std.proofs.Common.{◌≡◌, ℕ, ◌+◌, ◌-◌, ◌<◌, ◌≤◌, Bool, false, ◌&&◌, length, map, Some, Option, refl, sym, ap, ◌∙◌, inl, inr, subst, arith}
+use Rattle.std.proofs.Common.{◌≡◌, ℕ, ◌+◌, ◌-◌, ◌<◌, ◌≤◌, Bool, false, ◌&&◌, length, map, Some, Option, refl, sym, ap}
+use Rattle.std.proofs.Common.{◌∙◌, inl, inr, subst, arith}
 use Rattle.std.specs.Prelude.{slice_get, slice_set, nat_le, nat_lt, IfSome, if◌then◌else◌}
 use Rattle.std.specs.Option.{option_map}
 use Rattle.ps_word.specs.Headers.{kind_in, fields_in, birth_in}

@@ -1,5 +1,6 @@
 -- The numbers that the mutator's seat keeps beside its part, and the records that are left.
-use Rattle.std.proofs.Common.{◌≡◌, ◌≢◌, ◌^◌, ℕ, ◌+◌, ◌-◌, ◌<◌, ◌≤◌, true, ◌&&◌, not, List, length, None, refl, ap, inl, inr, arith, Bool, false}
+use Rattle.std.proofs.Common.{◌≡◌, ◌≢◌, ◌^◌, ℕ, ◌+◌, ◌-◌, ◌<◌, ◌≤◌, true, ◌&&◌, not, List, length, None, refl, ap, inl}
+use Rattle.std.proofs.Common.{inr, arith, Bool, false}
 use Rattle.std.specs.Prelude.{slice_index, slice_set, nat_le, nat_lt, min, ◌==◌, if◌then◌else◌}
 use Rattle.std.proofs.lemmas.List.{get_or-set_same, get_or-set_other}
 use Rattle.ps_mem.specs.Heap.{empty_heap}

@@ -1,5 +1,6 @@
 -- The objects of the machine as those of a memory.
-use Rattle.std.proofs.Common.{◌≡◌, ℕ, zero, suc, ◌<◌, List, [], ◌∷◌, length, map, Some, None, Option, refl, ap, ◌∙◌, subst, arith}
+use Rattle.std.proofs.Common.{◌≡◌, ℕ, zero, suc, ◌<◌, List, [], ◌∷◌, length, map, Some, None, Option, refl, ap, ◌∙◌}
+use Rattle.std.proofs.Common.{subst, arith}
 use Rattle.std.specs.Prelude.{slice_index, slice_get, IsSome}
 use Rattle.std.specs.Option.{option_map}
 use Rattle.ps_mem.specs.Heap.{Heap, Standing, fields_of, fields_at}

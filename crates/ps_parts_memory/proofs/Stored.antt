@@ -1,5 +1,6 @@
 -- The laws of a part as a memory, put together.
-use Rattle.std.proofs.Common.{inl, inr, ◌≡◌, ◌^◌, ℕ, ◌-◌, ◌&&◌, true, false, [], ◌∷◌, length, refl, sym, ap, ◌∙◌, subst, arith}
+use Rattle.std.proofs.Common.{inl, inr, ◌≡◌, ◌^◌, ℕ, ◌-◌, ◌&&◌, true, false, [], ◌∷◌, length, refl, sym, ap, ◌∙◌, subst}
+use Rattle.std.proofs.Common.{arith}
 use Rattle.std.specs.Prelude.{nat_le, nat_eq}
 use Rattle.ps_language.specs.declared.kinds.Kind.{Kind}
 use Rattle.ps_word.specs.Headers.{kind_in}
@@ -18,7 +19,8 @@ use Rattle.ps_parts_memory.proofs.Room.{room_answer}
 use Rattle.ps_parts_memory.proofs.Made.{kind_range, not_body, place_end, free_end, low_end, heap_made, after_new}
 use Rattle.ps_core_laws.proofs.HeapTests.{bool_cases}
 use Rattle.ps_parts_memory.proofs.Written.{new_same, written_out, may_store, names_stand}
-use Rattle.ps_parts_memory.proofs.Logged.{logs_kept, length_here, length_numbers, target, fields_permitted, heap_stored, granted, after_fields, after_logged, part_logged, may_log}
+use Rattle.ps_parts_memory.proofs.Logged.{logs_kept, length_here, length_numbers, target, fields_permitted, heap_stored}
+use Rattle.ps_parts_memory.proofs.Logged.{granted, after_fields, after_logged, part_logged, may_log}
 
 pub rooms : (v : Vm) → VmFacts v → HasRoomGranted v
 rooms v k words births =

@@ -1,5 +1,7 @@
 -- What stores to one field after another leave.
-use Rattle.std.proofs.Common.{◌≡◌, ◌≢◌, ◌⊎◌, ◌/◌, ◌^◌, ℕ, zero, suc, ◌+◌, ◌-◌, ◌<◌, ◌≤◌, Bool, true, false, nat_eq, not, List, [], ◌∷◌, length, map, Some, None, Option, refl, sym, ap, ◌∙◌, inl, inr, subst, arith, length-set, is_some}
+use Rattle.std.proofs.Common.{◌≡◌, ◌≢◌, ◌⊎◌, ◌/◌, ◌^◌, ℕ, zero, suc, ◌+◌, ◌-◌, ◌<◌, ◌≤◌, Bool, true, false, nat_eq, not}
+use Rattle.std.proofs.Common.{List, [], ◌∷◌, length, map, Some, None, Option, refl, sym, ap, ◌∙◌, inl, inr, subst}
+use Rattle.std.proofs.Common.{arith, length-set, is_some}
 use Rattle.std.specs.Prelude.{slice_set, nat_le, ◌==◌, if◌then◌else◌, min, max}
 use Rattle.std.specs.Option.{option_map}
 use native.Mathlib.Decide.{ℕ_discrete}
@@ -13,12 +15,14 @@ use Rattle.ps_mem.specs.Heap.{Heap, Standing, fields_of, fields_at}
 use Rattle.ps_mem.specs.Heap as memory
 use Rattle.ps_mem.specs.Objects.{kind_of_number, word_of}
 use Rattle.ps_mem.specs.References.{NamesStanding, AreKnown, IsKnown, IsKnownContent}
-use Rattle.ps_mem.proofs.HeapLemmas.{same_heap, object_at-stored_other, object_at-stored_same, next-stored, used-stored, space-stored, stored-nil, stored_more}
+use Rattle.ps_mem.proofs.HeapLemmas.{same_heap, object_at-stored_other, object_at-stored_same, next-stored, used-stored}
+use Rattle.ps_mem.proofs.HeapLemmas.{space-stored, stored-nil, stored_more}
 use Rattle.ps_mem.proofs.Lists.{splice-one}
 use Rattle.ps_core_parts.specs.declared.events.Object.{Object}
 use Rattle.ps_core_parts.specs.declared.events.Vm.{Vm}
 use Rattle.ps_core_parts.specs.declared.events.Written.{Written}
-use Rattle.ps_core_parts.specs.Objects.{among, object_at, stored, with_field, holds_values, value_stands, word_stands, adjoins, widened}
+use Rattle.ps_core_parts.specs.Objects.{among, object_at, stored, with_field, holds_values, value_stands, word_stands}
+use Rattle.ps_core_parts.specs.Objects.{adjoins, widened}
 use Rattle.ps_core_parts.specs.Steps.{is_open, field_stored, space_base}
 use Rattle.ps_core_parts.specs.Conditions.{HasField}
 use Rattle.ps_core_laws.proofs.HeapTests.{bool_cases, number_not, eq_true, le_true, le_is, and_parts, same_number}

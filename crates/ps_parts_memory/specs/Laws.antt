@@ -1,11 +1,15 @@
 -- What the part of a run gives to a seat that serves the mutator as a memory.
-use Rattle.std.specs.Prelude.{◌≡◌, ◌≢◌, ℕ, ◌+◌, ◌-◌, ◌^◌, ◌<◌, ◌≤◌, ◌&&◌, true, false, min, nat_le, List, [], ◌∷◌, length, take, drop, Option, Some, None, IsTrue, IsSome, IfSome, slice_get, slice_index, slice_range}
+use Rattle.std.specs.Prelude.{◌≡◌, ◌≢◌, ℕ, ◌+◌, ◌-◌, ◌^◌, ◌<◌, ◌≤◌, ◌&&◌, true, false, min, nat_le}
+use Rattle.std.specs.Prelude.{List, [], ◌∷◌, length, take, drop, Option, Some, None, IsTrue, IsSome}
+use Rattle.std.specs.Prelude.{IfSome, slice_get, slice_index, slice_range}
 use Rattle.ps_language.specs.declared.kinds.Kind.{Kind}
 use Rattle.ps_language.specs.declared.kinds.Kind.TheVariants.{Dictionary, Body}
 use Rattle.ps_word.specs.declared.words.Word.{Word}
 use Rattle.ps_word.specs.declared.headers.Header.{Header}
 use Rattle.ps_word.specs.Headers.{kind_in, fields_in, birth_in, kind_number, cycle_limit}
-use Rattle.ps_mem.specs.Heap.{Standing, standing_words, fields_at, stored, made, made_body, birth_at, IsKind, has_room, empty_heap, Grants, AfterNew, AfterStore, records_put}
+use Rattle.ps_mem.specs.Heap.{Standing, standing_words, fields_at, stored, made, made_body}
+use Rattle.ps_mem.specs.Heap.{birth_at, IsKind, has_room, empty_heap, Grants, AfterNew, AfterStore}
+use Rattle.ps_mem.specs.Heap.{records_put}
 use Rattle.ps_mem.specs.Heap as memory
 use Rattle.ps_mem.specs.Bounded.{bounded_space}
 use Rattle.ps_mem.specs.Objects.{kind_of_number, word_of}
@@ -13,15 +17,19 @@ use Rattle.ps_mem.specs.References.{NamesStanding}
 use Rattle.ps_record.specs.declared.Record.TheVariants.{Place, Close}
 use Rattle.ps_record.specs.Format.{slots, ring_length, log_limit, head_place}
 use Rattle.ps_core_parts.specs.declared.events.Event.{Event}
-use Rattle.ps_core_parts.specs.declared.events.Event.TheVariants.{VmLoad, ClearStore, HeaderStore, FieldStore, RecordStore, EpochStore}
+use Rattle.ps_core_parts.specs.declared.events.Event.TheVariants.{VmLoad, ClearStore, HeaderStore}
+use Rattle.ps_core_parts.specs.declared.events.Event.TheVariants.{FieldStore, RecordStore}
+use Rattle.ps_core_parts.specs.declared.events.Event.TheVariants.{EpochStore}
 use Rattle.ps_core_parts.specs.declared.events.Vm.{Vm}
 use Rattle.ps_core_parts.specs.declared.events.Gc.{Gc}
 use Rattle.ps_core_parts.specs.Objects.{log_of}
-use Rattle.ps_core_parts.specs.Steps.{start, is_open, table_size, field_stored, vm_after, with_record}
+use Rattle.ps_core_parts.specs.Steps.{start, is_open, table_size, field_stored, vm_after}
+use Rattle.ps_core_parts.specs.Steps.{with_record}
 use Rattle.ps_core_parts.specs.Conditions.{CanClear, HasRoom, VmMay}
 use Rattle.ps_parts_memory.specs.Shown.{VmRuns, VmFinds}
 use Rattle.ps_parts_memory.specs.Memory.{heap_of, grants_of, records_left, is_shut}
-use Rattle.ps_parts_memory.specs.Stores.{number_of, numbers, fields_stored, MayStoreFields, fields_stored_down, MayStoreFieldsDown, part_made}
+use Rattle.ps_parts_memory.specs.Stores.{number_of, numbers, fields_stored, MayStoreFields}
+use Rattle.ps_parts_memory.specs.Stores.{fields_stored_down, MayStoreFieldsDown, part_made}
 
 -- ---- my part is the part of some run
 

@@ -1,5 +1,6 @@
 -- The mutator's part of the state as a memory: what stands, and what is granted.
-use Rattle.std.specs.Prelude.{ℕ, ◌+◌, ◌-◌, ◌==◌, ◌&&◌, Bool, not, nat_lt, min, length, map, slice_index, if◌then◌else◌}
+use Rattle.std.specs.Prelude.{ℕ, ◌+◌, ◌-◌, ◌==◌, ◌&&◌, Bool, not, nat_lt, min, length, map}
+use Rattle.std.specs.Prelude.{slice_index, if◌then◌else◌}
 use Rattle.std.specs.Option.{option_map}
 use Rattle.ps_word.specs.Headers.{kind_in, birth_in, birth_limit}
 use Rattle.ps_record.specs.Format.{slots, ring_length, log_limit}

@@ -17,7 +17,8 @@ ghost use Rattle.ps_core_laws.specs.Kept.{VmKnows};
 ghost use Rattle.ps_core_laws.specs.Runs.{Whenever};
 ghost use Rattle.ps_parts_memory.specs.Flips.{KeepsIndexes};
 ghost use Rattle.ps_parts_memory.specs.Laws.{OfParts, StoresGoOn, LoadsGoOn, LoadsControl};
-ghost use Rattle.ps_parts_memory.specs.Laws.{LoadsFields, LoadsHeaders, IsCounted, HasRoomGranted, Stores};
+ghost use Rattle.ps_parts_memory.specs.Laws.{LoadsFields, LoadsHeaders, IsCounted, HasRoomGranted};
+ghost use Rattle.ps_parts_memory.specs.Laws.{Stores};
 ghost use Rattle.ps_parts_memory.specs.Laws.{Logs, Fills, Copies, GrantsLogs, Makes, MakesBodies};
 ghost use Rattle.ps_parts_memory.specs.Laws.{SeesHeads, Opens, ClosesLogs, StartsEmpty};
 

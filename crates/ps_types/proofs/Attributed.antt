@@ -16,9 +16,14 @@ use Rattle.ps_ops.proofs.Operands.{first_split}
 use Rattle.ps_ops.proofs.Held.{first_held, rest_held}
 
 module _ (w r : Word) (e : Bool) (is : value_in r.0 ≡ record (value_in w.0) { executable = e }) where
-  pub attributed_value : (births : ℕ → ℕ) (names : List (List ℕ)) → value_of births names r ≡ record (value_of births names w) { executable = e }
+  pub attributed_value : (births : ℕ → ℕ) (names : List (List ℕ))
+      → value_of births names r ≡ record (value_of births names w) { executable = e }
   unfolding value_of
-  attributed_value births names = ap {B = Value} (λ (packed : Packed). record { what = what_of births names packed.content; executable = packed.executable }) is
+  attributed_value births names =
+      ap {B = Value} (λ (packed : Packed). record {
+        what = what_of births names packed.content;
+        executable = packed.executable;
+      }) is
 
   same_content : content_in r.0 ≡ content_in w.0
   same_content = ap (λ (packed : Packed). packed.content) is
@@ -31,19 +36,24 @@ module _ (w r : Word) (e : Bool) (is : value_in r.0 ≡ record (value_in w.0) { 
     visible = ap is_body same_content ∙ v.visible;
   }
 
-  pub attributed_within : (births : ℕ → ℕ) (names : List (List ℕ)) (store : Store) → IsWithin births names store w → IsWithin births names store r
+  pub attributed_within : (births : ℕ → ℕ) (names : List (List ℕ)) (store : Store) → IsWithin births names store w
+      → IsWithin births names store r
   unfolding IsWithin
   attributed_within births names store within = subst (IsWithinContent births names store) (sym same_content) within
 
 -- one word in the place of the topmost
 module _ (h : Heap) (old : List Word) (w r : Word) (one : Some w ≡ first_of old) where
-  pub replaced_observes : (f : Value → Value) → ((births : ℕ → ℕ) (names : List (List ℕ)) → value_of births names r ≡ f (value_of births names w))
-      → ((names : List (List ℕ)) (store : Store) → IsWithin (birth_at h) names store w → IsWithin (birth_at h) names store r)
+  pub replaced_observes : (f : Value → Value)
+      → ((births : ℕ → ℕ) (names : List (List ℕ)) → value_of births names r ≡ f (value_of births names w))
+      → ((names : List (List ℕ)) (store : Store) → IsWithin (birth_at h) names store w
+      → IsWithin (birth_at h) names store r)
       → Observes (λ store. of_one f) (Ok tt) h old (r ∷ drop 1 old)
   replaced_observes f is within_r = record {
     meets = λ names store shows within.
-        let top : IsWithin (birth_at h) names store w = first_held (IsWithin (birth_at h) names store) old within w one in
-        let below : AllByRecursion (IsWithin (birth_at h) names store) (drop 1 old) = rest_held (IsWithin (birth_at h) names store) old within 1 in
+        let top : IsWithin (birth_at h) names store w =
+        first_held (IsWithin (birth_at h) names store) old within w one in
+        let below : AllByRecursion (IsWithin (birth_at h) names store) (drop 1 old) =
+        rest_held (IsWithin (birth_at h) names store) old within 1 in
         rw (first_split old w one, is (birth_at h) names) (refl, (within_r names store top, below));
   }
 
@@ -51,6 +61,7 @@ module _ (h : Heap) (old : List Word) (w r : Word) (one : Some w ≡ first_of ol
   replaced_ready ready held = record { sound = ready.sound; values = (held, rest_held (IsValue h) old ready.values 1) }
 
 -- the attribute of a value is that of its word
-pub attribute_of : (births : ℕ → ℕ) (names : List (List ℕ)) (w : Word) → (value_of births names w).executable ≡ executable_in w.0
+pub attribute_of : (births : ℕ → ℕ) (names : List (List ℕ)) (w : Word)
+    → (value_of births names w).executable ≡ executable_in w.0
 unfolding value_of
 attribute_of births names w = refl

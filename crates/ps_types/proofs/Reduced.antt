@@ -14,7 +14,8 @@ use Rattle.ps_stacks.specs.Tops.{first_of}
 use Rattle.ps_word.specs.declared.words.Word.{Word}
 use Rattle.ps_word.specs.declared.values.Part.{Part}
 use Rattle.ps_word.specs.declared.values.Content.{Content}
-use Rattle.ps_word.specs.declared.values.Content.TheVariants.{Null, Integer, Boolean, Mark, Name, Operator, Array, Text, Dictionary, Lock, Condition, Body}
+use Rattle.ps_word.specs.declared.values.Content.TheVariants.{Null, Integer, Boolean, Mark, Name, Operator, Array, Text}
+use Rattle.ps_word.specs.declared.values.Content.TheVariants.{Dictionary, Lock, Condition, Body}
 use Rattle.ps_word.specs.declared.values.Value.{Value as Packed}
 use Rattle.ps_word.specs.Format.{content_in, value_in, IsWord, is_body}
 use Rattle.ps_word.specs.Readers as words
@@ -41,11 +42,14 @@ module _ (births : ℕ → ℕ) (names : List (List ℕ)) where
   sequence_meant (Condition _) = refl
   sequence_meant (Body _) = refl
 
-  pub sequence_of : (w : Word) → as_sequence (value_of births names w) ≡ option_map (part_of births) (words.as_part (content_in w.0))
+  pub sequence_of : (w : Word)
+      → as_sequence (value_of births names w) ≡ option_map (part_of births) (words.as_part (content_in w.0))
   unfolding as_sequence value_of
   sequence_of w = sequence_meant (content_in w.0)
 
-  reduced_meant : (access : Access) (c : Content) (part : Part) → Some part ≡ words.as_part c → what_of births names (words.with_access c access) ≡ part_replaced (what_of births names c) (record (part_of births part) { access = access })
+  reduced_meant : (access : Access) (c : Content) (part : Part) → Some part ≡ words.as_part c
+      → what_of births names (words.with_access c access)
+      ≡ part_replaced (what_of births names c) (record (part_of births part) { access = access })
   reduced_meant access Null part is = cc
   reduced_meant access (Integer _) part is = cc
   reduced_meant access (Boolean _) part is = cc
@@ -59,7 +63,8 @@ module _ (births : ℕ → ℕ) (names : List (List ℕ)) where
   reduced_meant access (Condition _) part is = cc
   reduced_meant access (Body _) part is = cc
 
-known_reduced : (h : Heap) (access : Access) (c : Content) → IsKnownContent h c → IsKnownContent h (words.with_access c access)
+known_reduced : (h : Heap) (access : Access) (c : Content) → IsKnownContent h c
+    → IsKnownContent h (words.with_access c access)
 known_reduced h access Null k = k
 known_reduced h access (Integer _) k = k
 known_reduced h access (Boolean _) k = k
@@ -87,7 +92,8 @@ visible_reduced access (Lock _) k = k
 visible_reduced access (Condition _) k = k
 visible_reduced access (Body _) k = k
 
-within_reduced : (births : ℕ → ℕ) (names : List (List ℕ)) (store : Store) (access : Access) (c : Content) → IsWithinContent births names store c → IsWithinContent births names store (words.with_access c access)
+within_reduced : (births : ℕ → ℕ) (names : List (List ℕ)) (store : Store) (access : Access) (c : Content)
+    → IsWithinContent births names store c → IsWithinContent births names store (words.with_access c access)
 within_reduced births names store access Null k = k
 within_reduced births names store access (Integer _) k = k
 within_reduced births names store access (Boolean _) k = k
@@ -101,13 +107,20 @@ within_reduced births names store access (Lock _) k = k
 within_reduced births names store access (Condition _) k = k
 within_reduced births names store access (Body _) k = k
 
-module _ (access : Access) (w r : Word) (is : value_in r.0 ≡ record (value_in w.0) { content = words.with_access (content_in w.0) access }) where
+module _ (access : Access) (w r : Word) (is : value_in r.0
+    ≡ record (value_in w.0) { content = words.with_access (content_in w.0) access }) where
   same_content : content_in r.0 ≡ words.with_access (content_in w.0) access
   same_content = ap (λ (packed : Packed). packed.content) is
 
-  pub reduced_value : (part : Part) → Some part ≡ words.as_part (content_in w.0) → (births : ℕ → ℕ) (names : List (List ℕ)) → value_of births names r ≡ with_part (value_of births names w) (record (part_of births part) { access = access })
+  pub reduced_value : (part : Part) → Some part ≡ words.as_part (content_in w.0)
+      → (births : ℕ → ℕ) (names : List (List ℕ)) → value_of births names r
+      ≡ with_part (value_of births names w) (record (part_of births part) { access = access })
   unfolding value_of
-  reduced_value part sequence births names = ap {B = Value} (λ (packed : Packed). record { what = what_of births names packed.content; executable = packed.executable }) is
+  reduced_value part sequence births names =
+      ap {B = Value} (λ (packed : Packed). record {
+        what = what_of births names packed.content;
+        executable = packed.executable;
+      }) is
       ∙ rw (reduced_meant births names access (content_in w.0) part sequence) refl
 
   pub reduced_held : (h : Heap) → IsValue h w → IsWord r.0 → IsValue h r
@@ -118,25 +131,49 @@ module _ (access : Access) (w r : Word) (is : value_in r.0 ≡ record (value_in 
     visible = ap is_body same_content ∙ visible_reduced access (content_in w.0) v.visible;
   }
 
-  pub reduced_within : (births : ℕ → ℕ) (names : List (List ℕ)) (store : Store) → IsWithin births names store w → IsWithin births names store r
+  pub reduced_within : (births : ℕ → ℕ) (names : List (List ℕ)) (store : Store) → IsWithin births names store w
+      → IsWithin births names store r
   unfolding IsWithin
-  reduced_within births names store within = subst (IsWithinContent births names store) (sym same_content) (within_reduced births names store access (content_in w.0) within)
+  reduced_within births names store within =
+      subst (IsWithinContent births names store) (sym same_content)
+      (within_reduced births names store access (content_in w.0) within)
 
 -- executeonly
 module _ (h : Heap) (old : List Word) (w : Word) (one : Some w ≡ first_of old) where
-  pub executeonly_wrong : None ≡ words.as_part (content_in w.0) → Observes (λ store. executeonly_row) (Err TypeCheck) h old old
-  executeonly_wrong none = record { meets = λ names store shows within. rw (first_split old w one, sequence_of (birth_at h) names w, sym none) (refl, refl) }
+  pub executeonly_wrong : None ≡ words.as_part (content_in w.0)
+      → Observes (λ store. executeonly_row) (Err TypeCheck) h old old
+  executeonly_wrong none =
+      record {
+        meets = λ names store shows within. rw (first_split old w one, sequence_of (birth_at h) names w, sym none)
+            (refl, refl);
+      }
 
   module _ (part : Part) (sequence : Some part ≡ words.as_part (content_in w.0)) where
-    pub executeonly_hidden : reduces_to part.access ExecuteOnly ≡ false → Observes (λ store. executeonly_row) (Err InvalidAccess) h old old
-    executeonly_hidden hidden = record { meets = λ names store shows within. rw (first_split old w one, sequence_of (birth_at h) names w, sym sequence, hidden) (refl, refl) }
+    pub executeonly_hidden : reduces_to part.access ExecuteOnly ≡ false
+        → Observes (λ store. executeonly_row) (Err InvalidAccess) h old old
+    executeonly_hidden hidden =
+        record {
+          meets =
+              λ names store shows within.
+              rw (first_split old w one, sequence_of (birth_at h) names w, sym sequence, hidden) (refl, refl);
+        }
 
-    pub executeonly_reduced : (r : Word) → value_in r.0 ≡ record (value_in w.0) { content = words.with_access (content_in w.0) ExecuteOnly } → reduces_to part.access ExecuteOnly ≡ true
+    pub executeonly_reduced : (r : Word) → value_in r.0
+        ≡ record (value_in w.0) { content = words.with_access (content_in w.0) ExecuteOnly }
+        → reduces_to part.access ExecuteOnly ≡ true
         → Observes (λ store. executeonly_row) (Ok tt) h old (r ∷ drop 1 old)
     executeonly_reduced r is may = record {
       meets = λ names store shows within.
-          let top : IsWithin (birth_at h) names store w = first_held (IsWithin (birth_at h) names store) old within w one in
-          let below : AllByRecursion (IsWithin (birth_at h) names store) (drop 1 old) = rest_held (IsWithin (birth_at h) names store) old within 1 in
-          rw (first_split old w one, sequence_of (birth_at h) names w, sym sequence, may, reduced_value ExecuteOnly w r is part sequence (birth_at h) names)
+          let top : IsWithin (birth_at h) names store w =
+          first_held (IsWithin (birth_at h) names store) old within w one in
+          let below : AllByRecursion (IsWithin (birth_at h) names store) (drop 1 old) =
+          rest_held (IsWithin (birth_at h) names store) old within 1 in
+          rw (
+            first_split old w one,
+            sequence_of (birth_at h) names w,
+            sym sequence,
+            may,
+            reduced_value ExecuteOnly w r is part sequence (birth_at h) names,
+          )
           (refl, (reduced_within ExecuteOnly w r is (birth_at h) names store top, below));
     }

@@ -6,7 +6,9 @@ use Rattle.ps_language.specs.Outcome.{Outcome}
 use Rattle.ps_language.specs.Worlds.{first_names}
 use Rattle.ps_word.specs.declared.words.Word.{Word}
 use Rattle.ps_word.specs.declared.values.Content.{Content}
-use Rattle.ps_word.specs.declared.values.Content.TheVariants.{Null, Integer, Boolean, Mark, Name, Operator, Array, Text, Dictionary, Lock, Condition, Body}
+use Rattle.ps_word.specs.declared.values.Content.TheVariants.{Null, Integer, Boolean, Mark, Name}
+use Rattle.ps_word.specs.declared.values.Content.TheVariants.{Operator, Array, Text, Dictionary}
+use Rattle.ps_word.specs.declared.values.Content.TheVariants.{Lock, Condition, Body}
 use Rattle.ps_mem.specs.Heap.{Heap}
 use Rattle.ps_mem.specs.Shows.{AreWithin, Shows}
 use Rattle.ps_ops.specs.Does.{values_in, ObservesAs}

@@ -9,9 +9,14 @@ use Rattle.ps_control.proofs.control.begin_bind.Goals as goal
 pub returns-then-is_unlimited : goal.returns-then-is_unlimited
 returns-then-is_unlimited c = record {
   controls = λ h size ready.
-      c.begin.ensures.controls bind_row h size ready
-      (c.in-Some-procedure_of.ensures.held h (first_held (IsValue h) _ ready.operands.values _ c.in-Some.ensures), omega (arith), omega (arith), omega (arith))
+      c.begin.ensures.controls bind_row h size ready (
+        c.in-Some-procedure_of.ensures.held h (first_held (IsValue h) _ ready.operands.values _ c.in-Some.ensures),
+        omega (arith),
+        omega (arith),
+        omega (arith),
+      )
       (record { within = λ names store both. tt })
-      (bind_begins h _ _ _ c.in-Some.ensures c.in-Some-procedure_of.ensures.part (sym c.is_unlimited.ensures ∙ c.if-is_unlimited.true));
+      (bind_begins h _ _ _ c.in-Some.ensures c.in-Some-procedure_of.ensures.part (sym c.is_unlimited.ensures
+      ∙ c.if-is_unlimited.true));
   framed = c.begin.ensures.framed;
 }

@@ -15,14 +15,21 @@ use Rattle.ps_control.proofs.control.begin_for.Goals as goal
 pub returns-in_default-integer_of-3 : goal.returns-in_default-integer_of-3
 returns-in_default-integer_of-3 c = record {
   controls = λ h size ready. controls_failed for_row h size _ ready TypeCheck
-      (λ names store dictionaries. for_wrong h _ _ _ _ _ _ _ _ c.in-Some-top_three.ensures c.in-Some.ensures c.in-Some-procedure_of.ensures.part c.in-Some-integer_of.ensures c.in-Some-integer_of-2.ensures c.in_default-integer_of-3.ensures names (scene_of h names store dictionaries (stacks c.args.operands.now c.args.frames.now)));
+      (λ names store dictionaries. for_wrong h _ _ _ _ _ _ _ _ c.in-Some-top_three.ensures c.in-Some.ensures
+      c.in-Some-procedure_of.ensures.part c.in-Some-integer_of.ensures c.in-Some-integer_of-2.ensures
+      c.in_default-integer_of-3.ensures names
+      (scene_of h names store dictionaries (stacks c.args.operands.now c.args.frames.now)));
   framed = refl;
 }
 
 pub returns-then-not-is_executable : goal.returns-then-not-is_executable
 returns-then-not-is_executable c = record {
   controls = λ h size ready. controls_failed for_row h size _ ready InvalidAccess
-      (λ names store dictionaries. for_hidden h _ _ _ _ _ _ _ _ c.in-Some-top_three.ensures c.in-Some.ensures c.in-Some-procedure_of.ensures.part c.in-Some-integer_of.ensures c.in-Some-integer_of-2.ensures _ c.in-Some-integer_of-3.ensures (sym c.is_executable.ensures ∙ c.if-not-is_executable.true) names (scene_of h names store dictionaries (stacks c.args.operands.now c.args.frames.now)));
+      (λ names store dictionaries. for_hidden h _ _ _ _ _ _ _ _ c.in-Some-top_three.ensures c.in-Some.ensures
+      c.in-Some-procedure_of.ensures.part c.in-Some-integer_of.ensures c.in-Some-integer_of-2.ensures _
+      c.in-Some-integer_of-3.ensures (sym c.is_executable.ensures
+      ∙ c.if-not-is_executable.true) names
+      (scene_of h names store dictionaries (stacks c.args.operands.now c.args.frames.now)));
   framed = refl;
 }
 
@@ -34,9 +41,14 @@ returns c =
     let wide_fits : SFits w64 c.in-Some-integer_of-3.first = search rules in
     record {
       controls = λ h size ready.
-          (simp to_z-of_z at c.begin.ensures.controls for_row h size) ready
-          (c.in-Some-procedure_of.ensures.held h (first_of_three_held (IsValue h) _ ready.operands.values _ _ _ c.in-Some-top_three.ensures), course_begins c.in-Some-integer_of-3.first c.in-Some-integer_of-2.increment first_fits)
+          (simp to_z-of_z at c.begin.ensures.controls for_row h size) ready (
+            c.in-Some-procedure_of.ensures.held h
+                (first_of_three_held (IsValue h) _ ready.operands.values _ _ _ c.in-Some-top_three.ensures),
+            course_begins c.in-Some-integer_of-3.first c.in-Some-integer_of-2.increment first_fits,
+          )
           (record { within = λ names store both. tt })
-          (for_begins h _ _ _ _ _ _ _ _ c.in-Some-top_three.ensures c.in-Some.ensures c.in-Some-procedure_of.ensures.part c.in-Some-integer_of.ensures c.in-Some-integer_of-2.ensures _ c.in-Some-integer_of-3.ensures (sym c.is_executable.ensures ∙ c.if-not-is_executable.false));
+          (for_begins h _ _ _ _ _ _ _ _ c.in-Some-top_three.ensures c.in-Some.ensures
+          c.in-Some-procedure_of.ensures.part c.in-Some-integer_of.ensures c.in-Some-integer_of-2.ensures _
+          c.in-Some-integer_of-3.ensures (sym c.is_executable.ensures ∙ c.if-not-is_executable.false));
       framed = c.begin.ensures.framed;
     }

@@ -12,6 +12,7 @@ returns c = record {
       c.begin.ensures.controls loop_row h size ready
       (c.in-Some-procedure_of.ensures.held h (first_held (IsValue h) _ ready.operands.values _ c.in-Some.ensures))
       (record { within = λ names store both. tt })
-      (loop_begins h _ _ _ c.in-Some.ensures c.in-Some-procedure_of.ensures.part (sym c.is_executable.ensures ∙ c.if-not-is_executable.false));
+      (loop_begins h _ _ _ c.in-Some.ensures c.in-Some-procedure_of.ensures.part (sym c.is_executable.ensures
+      ∙ c.if-not-is_executable.false));
   framed = c.begin.ensures.framed;
 }

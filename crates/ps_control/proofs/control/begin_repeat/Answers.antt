@@ -15,8 +15,10 @@ returns c =
     record {
       controls = λ h size ready.
           c.begin.ensures.controls repeat_row h size ready
-          (c.in-Some-procedure_of.ensures.held h (first_of_two_held (IsValue h) _ ready.operands.values _ _ c.in-Some.ensures))
+          (c.in-Some-procedure_of.ensures.held h
+          (first_of_two_held (IsValue h) _ ready.operands.values _ _ c.in-Some.ensures))
           (record { within = λ names store both. tt })
-          (repeat_begins h _ _ _ _ _ _ c.in-Some.ensures c.in-Some-procedure_of.ensures.part c.in-Some-integer_of.ensures (sym c.is_executable.ensures ∙ c.if-not-is_executable.false) (sym counted));
+          (repeat_begins h _ _ _ _ _ _ c.in-Some.ensures c.in-Some-procedure_of.ensures.part
+          c.in-Some-integer_of.ensures (sym c.is_executable.ensures ∙ c.if-not-is_executable.false) (sym counted));
       framed = c.begin.ensures.framed;
     }

@@ -10,9 +10,16 @@ use Rattle.ps_control.proofs.control.begin_stopped.Goals as goal
 pub returns-then-len : goal.returns-then-len
 returns-then-len c = record {
   controls = λ h size ready. controls_failed stopped_row h size _ ready ExecStackOverflow
-      (λ names store dictionaries. stopped_full h _ _ _ c.in-Some.ensures (omega (arith, nat_tests, c.len.ensures.count, c.if-len.true)) names store dictionaries);
+      (λ names store dictionaries. stopped_full h _ _ _ c.in-Some.ensures
+      (omega (arith, nat_tests, c.len.ensures.count, c.if-len.true)) names store dictionaries);
   framed = refl;
 }
 
 pub returns : goal.returns
-returns c = record { controls = λ h size ready. rw (c.discard.ensures, c.push_frame-2.ensures, c.push_frame.ensures) (stopped_held h size _ _ ready _ c.in-Some.ensures (omega (arith, nat_tests, c.len.ensures.count, c.if-len.false))); framed = tt }
+returns c =
+    record {
+      controls = λ h size ready. rw (c.discard.ensures, c.push_frame-2.ensures, c.push_frame.ensures)
+          (stopped_held h size _ _ ready _ c.in-Some.ensures
+          (omega (arith, nat_tests, c.len.ensures.count, c.if-len.false)));
+      framed = tt;
+    }

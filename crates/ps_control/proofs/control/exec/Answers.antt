@@ -9,8 +9,11 @@ use Rattle.ps_control.proofs.control.exec.Goals as goal
 pub returns : goal.returns
 returns c = record {
   controls = λ h size ready.
-      c.begin.ensures.controls exec_row h size ready (first_held (IsValue h) _ ready.operands.values _ c.in-Some.ensures)
-      (record { within = λ names store both. first_held (IsWithin (birth_at h) names store) _ both.operands _ c.in-Some.ensures })
+      c.begin.ensures.controls exec_row h size ready
+      (first_held (IsValue h) _ ready.operands.values _ c.in-Some.ensures)
+      (record {
+        within = λ names store both. first_held (IsWithin (birth_at h) names store) _ both.operands _ c.in-Some.ensures;
+      })
       (exec_begins h _ _ c.in-Some.ensures);
   framed = c.begin.ensures.framed;
 }

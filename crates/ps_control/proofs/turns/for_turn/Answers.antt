@@ -14,7 +14,9 @@ returns-then-is_past-clause-turns c =
     let increment_fits : SFits w32 c.args.increment = search rules in
     let limit_fits : SFits w32 c.args.limit = search rules in
     let past = simp to_z-of_z at c.is_past.ensures in
-    λ h size ready. rw (c.leave.ensures) (for_ends h size _ _ ready c.args.control c.args.increment c.args.limit c.args.body (sym c.requires.top) (sym past ∙ c.if-is_past.true))
+    λ h size ready. rw (c.leave.ensures)
+    (for_ends h size _ _ ready c.args.control c.args.increment c.args.limit c.args.body (sym c.requires.top)
+    (sym past ∙ c.if-is_past.true))
 
 pub returns-clause-turns : goal.returns-clause-turns
 returns-clause-turns c =
@@ -27,6 +29,9 @@ returns-clause-turns c =
     let going = sym past ∙ c.if-is_past.false in
     let top = sym c.requires.top in
     λ h size ready. (simp to_z-of_z at c.go_on.ensures.turns _ h size ready)
-    (for_held h size _ _ ready c.args.control c.args.increment c.args.limit c.args.body top _ (plain_value h _ c.control_word.ensures.plain) (λ names store. plain_within (birth_at h) names store _ c.control_word.ensures.plain)
+    (for_held h size _ _ ready c.args.control c.args.increment c.args.limit c.args.body top _
+    (plain_value h _ c.control_word.ensures.plain)
+    (λ names store. plain_within (birth_at h) names store _ c.control_word.ensures.plain)
     (course_goes c.args.control c.args.increment c.args.limit c.requires.course increment_fits limit_fits going))
-    (for_is h size _ _ ready c.args.control c.args.increment c.args.limit c.args.body top _ (λ births names. simp to_z-of_z at c.control_word.ensures.value births names) going)
+    (for_is h size _ _ ready c.args.control c.args.increment c.args.limit c.args.body top _
+    (λ births names. simp to_z-of_z at c.control_word.ensures.value births names) going)

@@ -6,4 +6,5 @@ use Rattle.ps_control.proofs.unwinding.is_in_loop.Given as goal
 
 -- those above are no loops
 abbrev pub invariant-loop-depth : goal.invariant-loop-depth
-invariant-loop-depth l = (h : Heap) (names : List (List ℕ)) → language.is_in_loop (frames_in h names l.frames) ≡ language.is_in_loop (frames_in h names (drop l.depth l.frames))
+invariant-loop-depth l = (h : Heap) (names : List (List ℕ))
+    → language.is_in_loop (frames_in h names l.frames) ≡ language.is_in_loop (frames_in h names (drop l.depth l.frames))

@@ -8,8 +8,13 @@ use Rattle.ps_types.proofs.Attributed.{attribute_of, replaced_observes, replaced
 use Rattle.ps_types.proofs.attributes.xcheck.Goals as goal
 
 pub returns-clause-row : goal.returns-clause-row
-returns-clause-row c = λ h ready. rw (c.replace.ensures) (replaced_observes h _ _ _ c.in-Some.ensures (λ (x : Value). boolean x.executable)
-    (λ births names. c.boolean.ensures.value births names ∙ ap boolean (c.is_executable.ensures ∙ sym (attribute_of births names c.in-Some.word))) (λ names store within. plain_within (birth_at h) names store _ c.boolean.ensures.plain))
+returns-clause-row c = λ h ready. rw (c.replace.ensures)
+    (replaced_observes h _ _ _ c.in-Some.ensures (λ (x : Value). boolean x.executable)
+    (λ births names. c.boolean.ensures.value births names
+    ∙ ap boolean (c.is_executable.ensures ∙ sym (attribute_of births names c.in-Some.word)))
+    (λ names store within. plain_within (birth_at h) names store _ c.boolean.ensures.plain))
 
 pub returns-clause-ready : goal.returns-clause-ready
-returns-clause-ready c = λ h ready. rw (c.replace.ensures) (replaced_ready h _ _ _ c.in-Some.ensures ready (plain_value h _ c.boolean.ensures.plain))
+returns-clause-ready c =
+    λ h ready. rw (c.replace.ensures) (replaced_ready h _ _ _ c.in-Some.ensures ready
+    (plain_value h _ c.boolean.ensures.plain))
