@@ -1,5 +1,6 @@
 -- The flip of the machine moves the memory of the mutator's part to the replicas.
-use Rattle.std.proofs.Common.{◌≡◌, ◌≢◌, ℕ, ◌^◌, ◌<◌, ◌≤◌, true, false, not, nat_eq, List, [], ◌∷◌, length, map, Some, None, Option, refl, sym, ap, ◌∙◌, subst, arith, is_some}
+use Rattle.std.proofs.Common.{◌≡◌, ◌≢◌, ℕ, ◌^◌, ◌<◌, ◌≤◌, true, false, not, nat_eq, List, [], ◌∷◌, length, map, Some}
+use Rattle.std.proofs.Common.{None, Option, refl, sym, ap, ◌∙◌, subst, arith, is_some}
 use Rattle.std.specs.Prelude.{slice_index, if◌then◌else◌}
 use Rattle.std.specs.Option.{option_map}
 use Rattle.std.proofs.lemmas.List.{map-id}
@@ -14,7 +15,8 @@ use Rattle.ps_mem.specs.Objects.{kind_of_number, word_of}
 use Rattle.ps_core_parts.specs.declared.events.Event.TheVariants.{CycleStore}
 use Rattle.ps_core_parts.specs.declared.events.Object.{Object}
 use Rattle.ps_core_parts.specs.declared.events.Pair.{Pair}
-use Rattle.ps_core_parts.specs.Objects.{object_at, pair_of, pair_to, renamed_value, renamed, redirected, holds_values, value_has_replica, values_have_replicas, as_object}
+use Rattle.ps_core_parts.specs.Objects.{object_at, pair_of, pair_to, renamed_value, renamed, redirected, holds_values}
+use Rattle.ps_core_parts.specs.Objects.{value_has_replica, values_have_replicas, as_object}
 use Rattle.ps_core_parts.specs.Steps.{State}
 use Rattle.ps_core_laws.specs.Kept.{Kept, VmKnows}
 use Rattle.ps_core_laws.specs.Laws.{PairsHold, IsPair, IsMoved, Flips}
@@ -26,7 +28,8 @@ use Rattle.ps_core_laws.proofs.Lookups.{pair_of-to, pair_to-replica, object_at-r
 use Rattle.ps_parts_memory.specs.Memory.{standing, heap_of}
 use Rattle.ps_parts_memory.proofs.Counted.{counted}
 use Rattle.ps_parts_memory.proofs.Flipped.{mapped, all_places, replicas_low}
-use Rattle.ps_flips.specs.Moves.{IsMovedTo, led, moved_word, moved_words, moved_fields, moved_object, HasReplica, HaveReplicas, IsReplica}
+use Rattle.ps_flips.specs.Moves.{IsMovedTo, led, moved_word, moved_words, moved_fields, moved_object, HasReplica}
+use Rattle.ps_flips.specs.Moves.{HaveReplicas, IsReplica}
 use Rattle.ps_flips.specs.Flips.{flipped, replica_at, as_words, AtFlip}
 
 -- ---- renaming

@@ -1,9 +1,11 @@
 -- What moving makes of objects: of dictionaries with their indexes, and of all that stands.
-use Rattle.std.proofs.Common.{◌≡◌, ◌≢◌, ℕ, zero, suc, ◌-◌, ◌*◌, false, List, [], ◌∷◌, ◌++◌, length, map, take, drop, replicate, Some, None, Option, refl, sym, ap, ◌∙◌, subst, arith, is_some}
+use Rattle.std.proofs.Common.{◌≡◌, ◌≢◌, ℕ, zero, suc, ◌-◌, ◌*◌, false, List, [], ◌∷◌, ◌++◌, length, map, take, drop}
+use Rattle.std.proofs.Common.{replicate, Some, None, Option, refl, sym, ap, ◌∙◌, subst, arith, is_some}
 use Rattle.std.specs.List.{AllByRecursion}
 use Rattle.std.proofs.lemmas.List.{take-map, length-map, length-take, map-append}
 use Rattle.ps_language.specs.declared.kinds.Kind.{Kind}
-use Rattle.ps_language.specs.declared.kinds.Kind.TheVariants.{Text as TextKind, Lock as LockKind, Condition as ConditionKind, Body as BodyKind}
+use Rattle.ps_language.specs.declared.kinds.Kind.TheVariants.{Text as TextKind, Lock as LockKind}
+use Rattle.ps_language.specs.declared.kinds.Kind.TheVariants.{Condition as ConditionKind, Body as BodyKind}
 use Rattle.ps_language.specs.Value.{Dictionary as DictionaryValue, Object, lock_object, condition_object}
 use Rattle.ps_word.specs.declared.words.Word.{Word}
 use Rattle.ps_word.specs.declared.values.Content.TheVariants.{Body}
@@ -13,11 +15,17 @@ use Rattle.ps_word.specs.Readers.{address_of}
 use Rattle.ps_word.proofs.Places.{is_reference-at}
 use Rattle.ps_mem.specs.Heap.{Heap, Standing, object_at, birth_at, zero_word}
 use Rattle.ps_mem.specs.Index.{hash_of, index_of, pairs_of_words, index_word, hashes_of, index_words}
-use Rattle.ps_mem.specs.Shows.{IsNatural, DictionaryFields, AreFields, array_fields, text_fields, dictionary_fields, lock_fields, condition_fields, body_fields, words_of_pairs, pair_of, ShowsDictionary, IsOwner, IsShown, shown_array, shown_text, shown_dictionary, shown_lock, shown_condition, IsObject, AreWithin}
+use Rattle.ps_mem.specs.Shows.{IsNatural, DictionaryFields, AreFields, array_fields, text_fields, dictionary_fields}
+use Rattle.ps_mem.specs.Shows.{lock_fields, condition_fields, body_fields, words_of_pairs, pair_of, ShowsDictionary}
+use Rattle.ps_mem.specs.Shows.{IsOwner, IsShown, shown_array, shown_text, shown_dictionary, shown_lock, shown_condition}
+use Rattle.ps_mem.specs.Shows.{IsObject, AreWithin}
 use Rattle.ps_mem.proofs.Lists.{all_take, drop-map}
 use Rattle.ps_parts_memory.proofs.Flipped.{both, pairs-map, index-map, first-words, all-index, position-plain}
-use Rattle.ps_flips.specs.Moves.{Forwarding, moved_word, moved_words, moved_fields, moved_object, HasReplica, HaveReplicas, IsReplica, IsMovedTo, KeepsObjects, KeepsSound, KeepsShown}
-use Rattle.ps_flips.proofs.Words.{place, replica, complete, content-moved, executable-moved, placed, value-moved, hash-moved, word-stays, length-moved_fields, moved_fields-words, values_of-moved, AreValues-moved, AreWithin-moved}
+use Rattle.ps_flips.specs.Moves.{Forwarding, moved_word, moved_words, moved_fields, moved_object, HasReplica}
+use Rattle.ps_flips.specs.Moves.{HaveReplicas, IsReplica, IsMovedTo, KeepsObjects, KeepsSound, KeepsShown}
+use Rattle.ps_flips.proofs.Words.{place, replica, complete, content-moved, executable-moved, placed, value-moved}
+use Rattle.ps_flips.proofs.Words.{hash-moved, word-stays, length-moved_fields, moved_fields-words, values_of-moved}
+use Rattle.ps_flips.proofs.Words.{AreValues-moved, AreWithin-moved}
 
 -- ---- words that stay
 

@@ -1,5 +1,6 @@
 -- What a move of just what is reached leaves.
-use Rattle.std.proofs.Common.{◌≡◌, ◌≢◌, ℕ, zero, suc, ◌<◌, ◌^◌, true, List, [], ◌∷◌, map, Some, None, Option, refl, sym, ap, ◌∙◌, subst, arith}
+use Rattle.std.proofs.Common.{◌≡◌, ◌≢◌, ℕ, zero, suc, ◌<◌, ◌^◌, true, List, [], ◌∷◌, map, Some, None, Option, refl, sym}
+use Rattle.std.proofs.Common.{ap, ◌∙◌, subst, arith}
 use Rattle.std.specs.Prelude.{nat_le, ◌&&◌}
 use Rattle.std.specs.List.{Contains}
 use Rattle.std.proofs.lemmas.List.Elements.{All-contains, All-from_recursion}
@@ -9,7 +10,8 @@ use Rattle.ps_word.specs.Format.{address_in}
 use Rattle.ps_word.specs.Readers.{is_reference, readdressed}
 use Rattle.ps_word.proofs.Changes.{address_in-readdressed, type-readdressed}
 use Rattle.ps_mem.specs.Heap.{Heap, Standing, object_at}
-use Rattle.ps_flips.specs.Moves.{Forwarding, led, moved_word, moved_words, moved_object, HasReplica, HaveReplicas, IsMovedTo}
+use Rattle.ps_flips.specs.Moves.{Forwarding, led, moved_word, moved_words, moved_object, HasReplica, HaveReplicas}
+use Rattle.ps_flips.specs.Moves.{IsMovedTo}
 use Rattle.ps_flips.proofs.Words.{moved_fields-words}
 use Rattle.ps_flips.specs.Reached.{IsReached, by_root, by_field, AreReached, MovesReached}
 

@@ -1,5 +1,6 @@
 -- How many words stand: after a move no more than before.
-use Rattle.std.proofs.Common.{◌≡◌, ◌≢◌, ◌^◌, ℕ, zero, suc, ◌+◌, ◌<◌, ◌≤◌, length, Some, None, Option, refl, sym, ap, ◌∙◌, arith}
+use Rattle.std.proofs.Common.{◌≡◌, ◌≢◌, ◌^◌, ℕ, zero, suc, ◌+◌, ◌<◌, ◌≤◌, length, Some, None, Option, refl, sym, ap}
+use Rattle.std.proofs.Common.{◌∙◌, arith}
 use Rattle.ps_mem.specs.Heap.{Heap, Standing, object_at, size_of, words_below, standing_words}
 use Rattle.ps_mem.proofs.LessWords.{without, there, words_less}
 use Rattle.ps_flips.specs.Moves.{Forwarding, moved_object, IsMovedTo, KeepsRoom}

@@ -1,5 +1,6 @@
 -- What moving makes of a word: what it says, what it names and what it stands for.
-use Rattle.std.proofs.Common.{◌≡◌, ◌≢◌, ℕ, ◌+◌, ◌*◌, ◌/◌, ◌%◌, ◌^◌, ◌<◌, ◌≤◌, ◌&&◌, true, false, List, [], ◌∷◌, length, map, Some, None, Option, refl, sym, ap, ◌∙◌, subst, arith, is_some, nat_eq}
+use Rattle.std.proofs.Common.{◌≡◌, ◌≢◌, ℕ, ◌+◌, ◌*◌, ◌/◌, ◌%◌, ◌^◌, ◌<◌, ◌≤◌, ◌&&◌, true, false, List, [], ◌∷◌, length}
+use Rattle.std.proofs.Common.{map, Some, None, Option, refl, sym, ap, ◌∙◌, subst, arith, is_some, nat_eq}
 use Rattle.std.specs.Prelude.{nat_le, unwrap_or, if◌then◌else◌}
 use Rattle.std.proofs.lemmas.List.{length-map}
 use Rattle.ps_language.specs.declared.kinds.Kind.{Kind}
@@ -18,7 +19,8 @@ use Rattle.ps_mem.specs.Index.{hash_of_content, hash_of}
 use Rattle.ps_mem.specs.Meaning.{what_of, value_of}
 use Rattle.ps_mem.specs.References.{StandsAs, IsKnown, IsKnownContent}
 use Rattle.ps_mem.specs.Shows.{IsValue, AreValues, IsWithinContent, IsWithin, AreWithin}
-use Rattle.ps_flips.specs.Moves.{Forwarding, led, moved_word, moved_words, moved_fields, moved_object, HasReplica, HaveReplicas, IsReplica, IsMovedTo, KeepsWords}
+use Rattle.ps_flips.specs.Moves.{Forwarding, led, moved_word, moved_words, moved_fields, moved_object, HasReplica}
+use Rattle.ps_flips.specs.Moves.{HaveReplicas, IsReplica, IsMovedTo, KeepsWords}
 
 -- ---- another address
 

@@ -18,7 +18,8 @@ returns-in_default-found-clause-does g c =
     (λ births names s within. c.in-Some-string_of-2.ensures.within births names s within)
     (vec_capacity c.args.text.now) (vec_capacity c.args.sought.now) c.in-Ok.found
     (λ names s shows in_part in_wanted. c.in-Ok.ensures.value names s shows in_part in_wanted)
-    c.in_default-found.is _ c.boolean-in_default-found.result (λ births names. c.boolean-in_default-found.ensures.value births names)
+    c.in_default-found.is _ c.boolean-in_default-found.result
+    (λ births names. c.boolean-in_default-found.ensures.value births names)
     c.boolean-in_default-found.ensures.plain c.replace-in_default-found.ensures
 
 pub returns-in_default-found-clause-ready : goal.returns-in_default-found-clause-ready
