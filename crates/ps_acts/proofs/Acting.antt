@@ -1,5 +1,6 @@
 -- An operator acts: by an error, by a reason, or by what it leaves.
-use Rattle.std.proofs.Common.{◌≡◌, ℕ, zero, suc, ◌≤◌, List, ◌++◌, arith, Bool, true, false, inl, inr, Result, Ok, Err, refl, sym, subst}
+use Rattle.std.proofs.Common.{◌≡◌, ℕ, zero, suc, ◌≤◌, List, ◌++◌, arith, Bool, true, false, inl, inr, Result, Ok, Err}
+use Rattle.std.proofs.Common.{refl, sym, subst}
 use Rattle.std.specs.Prelude.{OnErr}
 use Rattle.ps_language.specs.declared.errors.ErrorName.{ErrorName}
 use Rattle.ps_language.specs.Value.{Store}
@@ -16,8 +17,10 @@ use Rattle.ps_acts.specs.declared.breaks.Break.TheVariants.{Raises, NotMade}
 use Rattle.ps_acts.specs.declared.lent.Trial.{Trial}
 use Rattle.ps_acts.specs.declared.lent.Scratch.{Scratch}
 use Rattle.ps_acts.specs.Lent.{Lent, Rooms, rooms_of, IsEmpty, scene_of, IsShown, IsGood}
-use Rattle.ps_acts.specs.Acts.{Asked, IsAtLeast, names_formed, needs_as, needs_between, needs_of_refused, IsReason, Lasts, Stays, Meets, effect_in, Acts}
-use Rattle.ps_acts.proofs.Meeting.{keeps-same, logs-same, stays_as, at_least-same, made_meets, unmade_meets, wanting_meets, raised_meets, meets_by}
+use Rattle.ps_acts.specs.Acts.{Asked, IsAtLeast, names_formed, needs_as, needs_between, needs_of_refused, IsReason}
+use Rattle.ps_acts.specs.Acts.{Lasts, Stays, Meets, effect_in, Acts}
+use Rattle.ps_acts.proofs.Meeting.{keeps-same, logs-same, stays_as, at_least-same, made_meets, unmade_meets}
+use Rattle.ps_acts.proofs.Meeting.{wanting_meets, raised_meets, meets_by}
 
 module _ (row : Row) (trial : Trial) (asks : Scene → Asked) (l : Lent) where
   -- the row makes what is left, for which there is room

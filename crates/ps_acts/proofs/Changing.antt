@@ -1,10 +1,12 @@
 -- Operators that change objects or make them.
-use Rattle.std.proofs.Common.{◌≡◌, ℕ, ◌-◌, ◌≤◌, arith, Bool, true, false, List, [], ◌∷◌, length, Option, Some, None, Result, Ok, Err, refl, sym, ap, subst, ◌∙◌, append-nil, inl, inr}
+use Rattle.std.proofs.Common.{◌≡◌, ℕ, ◌-◌, ◌≤◌, arith, Bool, true, false, List, [], ◌∷◌, length, Option, Some, None}
+use Rattle.std.proofs.Common.{Result, Ok, Err, refl, sym, ap, subst, ◌∙◌, append-nil, inl, inr}
 use Rattle.std.proofs.lemmas.Bool.Decides.{eqb_tells, nat_tests}
 use Rattle.std.specs.Prelude.{OnErr, min, nat_le, slice_get, if◌then◌else◌}
 use Rattle.ps_language.specs.declared.errors.ErrorName.{ErrorName}
 use Rattle.ps_language.specs.declared.errors.ErrorName.TheVariants.{VmError, InvalidAccess, RangeCheck, StackUnderflow}
-use Rattle.ps_language.specs.Value.{Part as PartValue, Value, Store, Object, array_object, string_object, dictionary_object, lock_object, condition_object}
+use Rattle.ps_language.specs.Value.{Part as PartValue, Value, Store, Object, array_object, string_object}
+use Rattle.ps_language.specs.Value.{dictionary_object, lock_object, condition_object}
 use Rattle.ps_language.specs.Access.{is_writable, bytes, bytes_in, with_elements}
 use Rattle.ps_language.specs.Outcome.{Outcome, leaves, fails, given, given_that, Change}
 use Rattle.ps_language.specs.Objects.{size_of, made_between, lacks_room, changing}
@@ -17,7 +19,8 @@ use Rattle.ps_language.specs.RowsSequences.{astore_row}
 use Rattle.ps_language.proofs.AskedLemmas.{made-new}
 use Rattle.ps_word.specs.declared.words.Word.{Word}
 use Rattle.ps_word.specs.declared.values.Content.{Content}
-use Rattle.ps_word.specs.declared.values.Content.TheVariants.{Null, Integer, Boolean, Mark, Name, Operator, Array, Text, Dictionary, Lock, Condition, Body}
+use Rattle.ps_word.specs.declared.values.Content.TheVariants.{Null, Integer, Boolean, Mark, Name, Operator, Array, Text}
+use Rattle.ps_word.specs.declared.values.Content.TheVariants.{Dictionary, Lock, Condition, Body}
 use Rattle.ps_word.specs.Format.{content_in}
 use Rattle.ps_mem.specs.Heap.{Heap, Grants, birth_at}
 use Rattle.ps_mem.specs.Keeps.{Keeps}
@@ -30,14 +33,16 @@ use Rattle.ps_mem.proofs.StoreShows.{array-shown}
 use Rattle.ps_seq.proofs.ArrayLemmas.{birth-array}
 use Rattle.ps_ops.specs.declared.failure.Failure.{Failure}
 use Rattle.ps_ops.specs.declared.failure.Failure.TheVariants.{Error, NotMade}
-use Rattle.ps_ops.specs.Does.{values_in, ChangesAs, KeepsLogsWithin, most_records, spent, IsRecordReason, Changes, refusing, IsRoomReason, Makes}
+use Rattle.ps_ops.specs.Does.{values_in, ChangesAs, KeepsLogsWithin, most_records, spent, IsRecordReason, Changes}
+use Rattle.ps_ops.specs.Does.{refusing, IsRoomReason, Makes}
 use Rattle.ps_acts.proofs.Asking.{Leaving, IsUnasked, IsMade}
 use Rattle.ps_control.specs.declared.frames.Frame.{Frame}
 use Rattle.ps_acts.specs.declared.lent.Trial.{Trial}
 use Rattle.ps_acts.specs.Breaks.{tried}
 use Rattle.ps_acts.specs.Lent.{Lent, scene_of, IsShown, IsGood}
 use Rattle.ps_acts.specs.Acts.{Asked, needs_as, nothing_asked, stores, Lasts, IsLeft, ActsAs, Meets, Acts, over}
-use Rattle.ps_acts.proofs.Meeting.{lasts-same, logs_more, stays_as, at_least-same, lacks_nothing, made_meets, wanting_meets}
+use Rattle.ps_acts.proofs.Meeting.{lasts-same, logs_more, stays_as, at_least-same, lacks_nothing, made_meets}
+use Rattle.ps_acts.proofs.Meeting.{wanting_meets}
 use Rattle.ps_acts.proofs.Reasons.{record_reason, room_reason}
 use Rattle.ps_acts.proofs.Lifts.{changed_good, changed_left}
 
@@ -261,7 +266,8 @@ module _ (l : Lent) (good : IsGood l) (trial : Trial) (new : Heap) (left : Grant
         → ChangesAs (λ reason c. IsRoomReason reason l.heap (made_between store c.store)
         (length c.store - length store)) result
         (if lacking then fails VmError else leaves change) l.names l.heap new l.operands after
-        → ActsAs (needs_as (nothing_asked (scene_of l store)) (scene_of l store) (makes made_scene []) lacking) trial.slot
+        → ActsAs (needs_as (nothing_asked (scene_of l store)) (scene_of l store) (makes made_scene []) lacking)
+        trial.slot
         (scene_of l store) (tried result) (makes made_scene []) lacking l (over l new left after)
     made_as true (Ok _) did = absurd did
     made_as true (Err (Error error)) did = (

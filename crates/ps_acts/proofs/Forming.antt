@@ -1,5 +1,7 @@
 -- What is lent once a name is formed, and without it again.
-use Rattle.std.proofs.Common.{◌≡◌, ◌≢◌, ℕ, zero, suc, ◌≤◌, ◌++◌, arith, Bool, true, false, List, [], length, take, Ok, Err, refl, sym, ap, subst, ◌∙◌, append-nil, inl, inr, AllPairs, length-append, append_assoc, ◌-◌}
+use Rattle.std.proofs.Common.{◌≡◌, ◌≢◌, ℕ, zero, suc, ◌≤◌, ◌++◌, arith, Bool, true, false, List, [], length, take, Ok}
+use Rattle.std.proofs.Common.{Err, refl, sym, ap, subst, ◌∙◌, append-nil, inl, inr, AllPairs, length-append}
+use Rattle.std.proofs.Common.{append_assoc, ◌-◌}
 use Rattle.std.proofs.lemmas.List.{take-append-le, take_all, length-take}
 use Rattle.ps_language.specs.declared.errors.ErrorName.TheVariants.{VmError}
 use Rattle.ps_language.specs.Value.{Store}
@@ -14,9 +16,11 @@ use Rattle.ps_ops.specs.Does.{KeepsLogsWithin}
 use Rattle.ps_acts.specs.declared.breaks.Break.TheVariants.{Raises, NotMade}
 use Rattle.ps_acts.specs.declared.lent.Trial.{Trial}
 use Rattle.ps_acts.specs.Lent.{Lent, Rooms, scene_of, IsShown, IsGood}
-use Rattle.ps_acts.specs.Acts.{Asked, needs_as, needs_of_refused, IsLeft, names_formed, lacks, IsReason, IsRefused, MayNote, ActsAs, effect_in, Acts}
+use Rattle.ps_acts.specs.Acts.{Asked, needs_as, needs_of_refused, IsLeft, names_formed, lacks, IsReason, IsRefused}
+use Rattle.ps_acts.specs.Acts.{MayNote, ActsAs, effect_in, Acts}
 use Rattle.ps_acts.proofs.Naming.{named_left}
-use Rattle.ps_acts.proofs.Meeting.{keeps-same, stays_as, at_least-same, AreNeedsWithin, needs_within-same, reason_more, meets_by, refused_meets}
+use Rattle.ps_acts.proofs.Meeting.{keeps-same, stays_as, at_least-same, AreNeedsWithin, needs_within-same, reason_more}
+use Rattle.ps_acts.proofs.Meeting.{meets_by, refused_meets}
 
 begins_more : (first names more : List (List ℕ)) → take (length first) names ≡ first
     → take (length first) (names ++ more) ≡ first

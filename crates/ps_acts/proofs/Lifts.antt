@@ -30,7 +30,8 @@ use Rattle.ps_acts.specs.Breaks.{made}
 use Rattle.ps_acts.specs.Lent.{Lent, scene_of, IsShown, IsErrorDictionary, IsGood}
 use Rattle.ps_acts.specs.Acts.{nothing_asked, Lasts, IsLeft, Meets, Acts, over}
 use Rattle.ps_acts.proofs.Kept.{frames-good, frames-same, frames-within}
-use Rattle.ps_acts.proofs.Meeting.{keeps-same, lasts-same, logs-same, stays_as, at_least-same, lacks_for_same, made_meets, unwound_meets, meets_by}
+use Rattle.ps_acts.proofs.Meeting.{keeps-same, lasts-same, logs-same, stays_as, at_least-same, lacks_for_same}
+use Rattle.ps_acts.proofs.Meeting.{made_meets, unwound_meets, meets_by}
 
 -- what is always made
 made_framed : (P : Type 0) (result : Result Unit ErrorName) → OnErr result P

@@ -1,5 +1,6 @@
 -- What came about for a store, by its effect; and what stays of what is lent.
-use Rattle.std.proofs.Common.{◌≡◌, ℕ, ◌+◌, ◌≤◌, ◌++◌, arith, Bool, true, false, List, [], length, Result, Ok, Err, refl, sym, ap, subst, ◌∙◌, inl, inr, append-nil, append_assoc}
+use Rattle.std.proofs.Common.{◌≡◌, ℕ, ◌+◌, ◌≤◌, ◌++◌, arith, Bool, true, false, List, [], length, Result, Ok, Err, refl}
+use Rattle.std.proofs.Common.{sym, ap, subst, ◌∙◌, inl, inr, append-nil, append_assoc}
 use Rattle.std.specs.Prelude.{◌==◌, ◌&&◌, not}
 use Rattle.ps_language.specs.declared.errors.ErrorName.{ErrorName}
 use Rattle.ps_language.specs.declared.errors.ErrorName.TheVariants.{VmError}
@@ -19,7 +20,8 @@ use Rattle.ps_acts.specs.declared.breaks.Break.{Break}
 use Rattle.ps_acts.specs.declared.breaks.Break.TheVariants.{Unwinds, Raises, NotMade}
 use Rattle.ps_acts.specs.declared.lent.Trial.{Trial}
 use Rattle.ps_acts.specs.Lent.{Lent, Rooms, rooms_of}
-use Rattle.ps_acts.specs.Acts.{Needs, needs_as, needs_between, LacksRooms, IsReason, Lasts, IsLeft, IsSame, IsRefused, ActsAs, IsAtLeast, Stays, Meets, Asked}
+use Rattle.ps_acts.specs.Acts.{Needs, needs_as, needs_between, LacksRooms, IsReason, Lasts, IsLeft, IsSame, IsRefused}
+use Rattle.ps_acts.specs.Acts.{ActsAs, IsAtLeast, Stays, Meets, Asked}
 
 -- ---- what stays
 

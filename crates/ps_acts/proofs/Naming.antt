@@ -6,7 +6,8 @@ use Rattle.ps_mem.specs.Heap.{Heap, birth_at}
 use Rattle.ps_mem.specs.Meaning.{part_of}
 use Rattle.ps_mem.proofs.NameLemmas.{value_of-named, values_of-named, IsWithin-named, AreWithin-named, Shows-named}
 use Rattle.ps_control.specs.declared.frames.Frame.{Frame}
-use Rattle.ps_control.specs.declared.frames.Frame.TheVariants.{Text, Procedure, Pending, Repeat, Loop, For, Forall, Stopped, Monitor, Bind}
+use Rattle.ps_control.specs.declared.frames.Frame.TheVariants.{Text, Procedure, Pending, Repeat, Loop, For, Forall}
+use Rattle.ps_control.specs.declared.frames.Frame.TheVariants.{Stopped, Monitor, Bind}
 use Rattle.ps_control.specs.Frames.{frame_of, frames_in, IsFrameWithin, AreFramesWithin}
 use Rattle.ps_acts.specs.Lent.{Lent, scene_of, IsShown}
 use Rattle.ps_acts.specs.Acts.{IsLeft}

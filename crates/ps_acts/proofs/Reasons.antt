@@ -3,7 +3,8 @@ use Rattle.std.proofs.Common.{◌≡◌, ℕ, ◌<◌, ◌≤◌, arith, false, 
 use Rattle.std.specs.Prelude.{IsTrue}
 use Rattle.ps_ops.specs.declared.failure.NotMade.{NotMade as Reason}
 use Rattle.ps_ops.specs.declared.failure.NotMade.TheVariants.{LogFull, LogClosed, NeedSpace, Memory}
-use Rattle.ps_ops.specs.Does.{RecordsAsked, WordsAsked, records_asked, words_asked, no_records, no_words, IsReasonFor, IsRecordReason, IsRoomReason}
+use Rattle.ps_ops.specs.Does.{RecordsAsked, WordsAsked, records_asked, words_asked, no_records, no_words, IsReasonFor}
+use Rattle.ps_ops.specs.Does.{IsRecordReason, IsRoomReason}
 use Rattle.ps_acts.specs.Lent.{Lent}
 use Rattle.ps_acts.specs.Acts.{Needs, IsShort, IsReason}
 

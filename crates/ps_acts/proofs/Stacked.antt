@@ -90,7 +90,8 @@ module _ (row : Row) (l : Lent) where
     full_is error store (fails raised) after did = ap raises (sym did.0)
 
     pub pushed_acts : (asks : Scene → Asked) (trial : Trial) → IsGood l → IsValue l.heap w
-        → (result : Result Unit ErrorName) (after : List Word) → Pushes w result l.operands after → ((store : Store) → IsShown l store → PushesIn store)
+        → (result : Result Unit ErrorName) (after : List Word) → Pushes w result l.operands after
+        → ((store : Store) → IsShown l store → PushesIn store)
         → OnOk result (after ≡ w ∷ l.operands) → OnErr result (after ≡ l.operands)
         → Acts asks row trial (made result) l (record l { operands = after })
     pushed_acts asks trial good held (Ok _) after pushes each pushed full =

@@ -1,11 +1,14 @@
 -- An operator that neither sees nor changes frames acts alike under more of them.
-use Rattle.std.proofs.Common.{◌≡◌, ℕ, Bool, true, false, true≢false, List, [], ◌∷◌, ◌++◌, length, Ok, Err, refl, sym, ap, subst, ◌∙◌}
+use Rattle.std.proofs.Common.{◌≡◌, ℕ, Bool, true, false, true≢false, List, [], ◌∷◌, ◌++◌, length, Ok, Err, refl, sym}
+use Rattle.std.proofs.Common.{ap, subst, ◌∙◌}
 use Rattle.std.specs.List.{AllByRecursion}
-use Rattle.ps_language.specs.Acts.{operands_effect, change_effect, naming_effect, stacks_effect, printing_effect, effect_of}
+use Rattle.ps_language.specs.Acts.{operands_effect, change_effect, naming_effect, stacks_effect, printing_effect}
+use Rattle.ps_language.specs.Acts.{effect_of}
 use Rattle.ps_language.specs.Effect.{Around, Scene, Effect, makes, unwinds, raises, calls}
 use Rattle.ps_language.specs.Objects.{lacks_room}
 use Rattle.ps_language.specs.Outcome.{Outcome, leaves, fails, Change, Naming, Stacks, Printing}
-use Rattle.ps_language.specs.Rows.{Row, operand_row, reading_row, changing_row, naming_row, looking_row, stacking_row, printing_row, around_row, scene_row, world_row}
+use Rattle.ps_language.specs.Rows.{Row, operand_row, reading_row, changing_row, naming_row, looking_row, stacking_row}
+use Rattle.ps_language.specs.Rows.{printing_row, around_row, scene_row, world_row}
 use Rattle.ps_language.specs.Value.{Value, Store}
 use Rattle.ps_language.specs.World as world
 use Rattle.ps_mem.specs.Heap.{birth_at}

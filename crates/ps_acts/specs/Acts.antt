@@ -1,5 +1,6 @@
 -- When what an operator did is the effect of its row.
-use Rattle.std.specs.Prelude.{◌≡◌, ◌⊎◌, ℕ, zero, suc, ◌+◌, ◌-◌, ◌<◌, ◌≤◌, ◌++◌, min, Bool, true, false, IsTrue, List, length, Result, Ok, Err, OnErr}
+use Rattle.std.specs.Prelude.{◌≡◌, ◌⊎◌, ℕ, zero, suc, ◌+◌, ◌-◌, ◌<◌, ◌≤◌, ◌++◌, min, Bool, true}
+use Rattle.std.specs.Prelude.{false, IsTrue, List, length, Result, Ok, Err, OnErr}
 use Rattle.ps_language.specs.declared.errors.ErrorName.TheVariants.{VmError}
 use Rattle.ps_language.specs.Value.{Value, Store}
 use Rattle.ps_language.specs.Access.{bytes}
@@ -11,7 +12,8 @@ use Rattle.ps_word.specs.declared.words.Word.{Word}
 use Rattle.ps_mem.specs.Heap.{Heap, Grants}
 use Rattle.ps_mem.specs.Keeps.{Keeps}
 use Rattle.ps_ops.specs.declared.failure.NotMade.{NotMade as Reason}
-use Rattle.ps_ops.specs.Does.{KeepsLogsWithin, most_records, spent, records_asked, words_asked, IsReasonFor}
+use Rattle.ps_ops.specs.Does.{KeepsLogsWithin, most_records, spent, records_asked, words_asked}
+use Rattle.ps_ops.specs.Does.{IsReasonFor}
 use Rattle.ps_control.specs.Turns.{cause_of}
 use Rattle.ps_acts.specs.declared.breaks.Break.{Break}
 use Rattle.ps_acts.specs.declared.breaks.Break.TheVariants.{Unwinds, Raises, NotMade}
