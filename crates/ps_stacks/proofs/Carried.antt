@@ -1,7 +1,9 @@
 -- A list whose items are moved by one place, one after another.
-use Rattle.std.proofs.Common.{◌≡◌, ℕ, ◌+◌, ◌-◌, ◌<◌, ◌≤◌, List, [], ◌∷◌, ◌++◌, length, drop, take, sym, ap, refl, ◌∙◌, arith, zero, suc, length-take, length-drop, length-append, append-nil}
+use Rattle.std.proofs.Common.{◌≡◌, ℕ, ◌+◌, ◌-◌, ◌<◌, ◌≤◌, List, [], ◌∷◌, ◌++◌, length, drop, take, sym, ap, refl, ◌∙◌}
+use Rattle.std.proofs.Common.{arith, zero, suc, length-take, length-drop, length-append, append-nil}
 use Rattle.std.specs.Prelude.{slice_set, slice_index_or}
-use Rattle.std.proofs.lemmas.List.{drop_all, drop_more, take_all, get_or-take, get_or-drop, get_or_at, get_or_append_left}
+use Rattle.std.proofs.lemmas.List.{drop_all, drop_more, take_all, get_or-take, get_or-drop, get_or_at}
+use Rattle.std.proofs.lemmas.List.{get_or_append_left}
 
 -- ---- of two lists of the same length, the first items of one and the others of the other
 

@@ -1,8 +1,10 @@
 -- A list read from its end.
-use Rattle.std.proofs.Common.{◌≡◌, ℕ, ◌-◌, ◌≤◌, List, ◌++◌, length, drop, take, sym, ap, ◌∙◌, arith, ◌∷◌, [], suc, refl, length-drop, append-nil}
+use Rattle.std.proofs.Common.{◌≡◌, ℕ, ◌-◌, ◌≤◌, List, ◌++◌, length, drop, take, sym, ap, ◌∙◌, arith, ◌∷◌, [], suc, refl}
+use Rattle.std.proofs.Common.{length-drop, append-nil}
 use Rattle.std.specs.Prelude.{reverse, slice_range, slice_set, slice_index_or, Some}
 use Rattle.std.proofs.lemmas.Slice.{between_to_end}
-use Rattle.std.proofs.lemmas.List.{reverse-append, reverse-reverse, set_split, drop_all, set-get_or, length-reverse, take-append-drop, take_all}
+use Rattle.std.proofs.lemmas.List.{reverse-append, reverse-reverse, set_split, drop_all, set-get_or, length-reverse}
+use Rattle.std.proofs.lemmas.List.{take-append-drop, take_all}
 use Rattle.std.proofs.Math.Seq.{drop-append_seam, take-append_seam, drop-length, take-length}
 use Rattle.ps_stacks.specs.Tops.{rotated, first_of}
 

@@ -1,6 +1,8 @@
 //! Stacks of a bounded depth.
 
-ghost use Rattle.std.specs.Prelude.{◌≡◌, ℕ, ◌+◌, ◌-◌, ◌<◌, ◌≤◌, ◌↔◌, IsTrue, List, [], ◌∷◌, ◌++◌, length, take, drop, slice_get, reverse, IfOk, IfSome, IfNone, OnOk, OnErr, Some, None, vec_len, vec_capacity, nat_le};
+ghost use Rattle.std.specs.Prelude.{◌≡◌, ℕ, ◌+◌, ◌-◌, ◌<◌, ◌≤◌, ◌↔◌, IsTrue, List, [], ◌∷◌, ◌++◌};
+ghost use Rattle.std.specs.Prelude.{length, take, drop, slice_get, reverse, IfOk, IfSome, IfNone};
+ghost use Rattle.std.specs.Prelude.{OnOk, OnErr, Some, None, vec_len, vec_capacity, nat_le};
 ghost use Rattle.ps_stacks.specs.Tops.{first_of, first_two_of, first_three_of, rotated};
 ghost use Rattle.std.specs.Borrow.{sem};
 
