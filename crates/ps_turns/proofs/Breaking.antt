@@ -1,5 +1,6 @@
 -- An unwinding that leaves no frame ends its context (PLRM2, 3.10).
-use Rattle.std.proofs.Common.{◌≡◌, ℕ, ◌+◌, ◌≤◌, ◌++◌, arith, Bool, true, false, List, [], ◌∷◌, length, Ok, Err, refl, sym, ap, subst, ◌∙◌}
+use Rattle.std.proofs.Common.{◌≡◌, ℕ, ◌+◌, ◌≤◌, ◌++◌, arith, Bool, true, false, List, [], ◌∷◌, length, Ok, Err, refl}
+use Rattle.std.proofs.Common.{sym, ap, subst, ◌∙◌}
 use Rattle.std.specs.Prelude.{if◌then◌else◌}
 use Rattle.ps_language.specs.Value.{Dictionary, Store}
 use Rattle.ps_language.specs.World.{Cause, for_stop, for_exit, for_quit, unwinding, finished, Machine}
@@ -22,7 +23,8 @@ use Rattle.ps_acts.specs.Lent.{Lent, scene_of, IsShown, IsGood}
 use Rattle.ps_acts.specs.Acts.{Needs, nothing_needed, IsReason}
 use Rattle.ps_acts.proofs.Meeting.{keeps-same, lasts-same, logs-same, logs_more, stays_as, at_least-same}
 use Rattle.ps_turns.specs.declared.turned.Turned.TheVariants.{Ends}
-use Rattle.ps_turns.specs.Turns.{IsUnlogged, Turns, break_needs, break_turn, is_told, last_line, none_asked, nothing_more}
+use Rattle.ps_turns.specs.Turns.{IsUnlogged, Turns, break_needs, break_turn, is_told, last_line, none_asked}
+use Rattle.ps_turns.specs.Turns.{nothing_more}
 use Rattle.ps_turns.proofs.Ending.{ends_as, finished_as}
 use Rattle.ps_turns.proofs.Composing.{here_good}
 use Rattle.ps_turns.proofs.Unlogged.{unlogged_reason}

@@ -1,15 +1,19 @@
 -- The machine of a context that ends by an error (PLRM2, 3.10).
-use Rattle.std.proofs.Common.{◌≡◌, ℕ, ◌+◌, ◌++◌, Bool, true, false, List, [], Option, Some, None, refl, sym, ap, ◌∙◌, inl, inr, append-nil}
+use Rattle.std.proofs.Common.{◌≡◌, ℕ, ◌+◌, ◌++◌, Bool, true, false, List, [], Option, Some, None, refl, sym, ap, ◌∙◌}
+use Rattle.std.proofs.Common.{inl, inr, append-nil}
 use Rattle.std.specs.Prelude.{slice_get, slice_set, slice_range, codes, if◌then◌else◌}
 use Rattle.std.proofs.lemmas.Bool.{cases_eq}
 use Rattle.ps_language.specs.declared.errors.ErrorName.{ErrorName}
-use Rattle.ps_language.specs.Value.{What, null_value, mark_value, integer_value, boolean_value, name_value, operator_value, array_value, string_value, dictionary_value, lock_value, condition_value, Value, Dictionary, dictionary_object, Store}
+use Rattle.ps_language.specs.Value.{What, null_value, mark_value, integer_value, boolean_value, name_value}
+use Rattle.ps_language.specs.Value.{operator_value, array_value, string_value, dictionary_value, lock_value}
+use Rattle.ps_language.specs.Value.{condition_value, Value, Dictionary, dictionary_object, Store}
 use Rattle.ps_language.specs.World.{unwinding, finished, for_stop, Machine}
 use Rattle.ps_language.specs.Access.{is_readable, bytes, bytes_in, dictionary_at, with_dictionary}
 use Rattle.ps_language.specs.Effect.{Scene}
 use Rattle.ps_language.specs.Readers.{literal_name}
 use Rattle.ps_language.specs.Dictionaries.{find}
-use Rattle.ps_language.specs.StepErrors.{errorname_key, command_key, error_text, with_error, with_error_entries, error_line, told}
+use Rattle.ps_language.specs.StepErrors.{errorname_key, command_key, error_text, with_error, with_error_entries}
+use Rattle.ps_language.specs.StepErrors.{error_line, told}
 use Rattle.ps_language.specs.StepValues.{errs}
 use Rattle.ps_language.specs.Texts.{no_text, plain_text, plain_text_in}
 use Rattle.ps_language.specs.Machines.{with_status, with_scene, with_line, with_line_of, settled, reaches, after_turn}

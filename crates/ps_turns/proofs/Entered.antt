@@ -1,9 +1,12 @@
 -- What stands in a dictionary once entries were put that never make it grow (PLRM2, 3.10).
-use Rattle.std.proofs.Common.{◌≡◌, ℕ, suc, ◌+◌, ◌-◌, arith, Bool, true, false, List, [], ◌∷◌, length, Option, Some, None, refl, sym, ap, subst, ◌∙◌, true≢false}
+use Rattle.std.proofs.Common.{◌≡◌, ℕ, suc, ◌+◌, ◌-◌, arith, Bool, true, false, List, [], ◌∷◌, length, Option, Some}
+use Rattle.std.proofs.Common.{None, refl, sym, ap, subst, ◌∙◌, true≢false}
 use Rattle.std.specs.Prelude.{◌||◌, is_some, nat_lt, if◌then◌else◌, option_map}
 use Rattle.std.specs.Str.{bytes_eq}
 use Rattle.std.proofs.lemmas.Slice.Eq.{bytes_eq-Decides}
-use Rattle.ps_language.specs.Value.{What, null_value, mark_value, integer_value, boolean_value, name_value, operator_value, array_value, string_value, dictionary_value, lock_value, condition_value, Value, Dictionary}
+use Rattle.ps_language.specs.Value.{What, null_value, mark_value, integer_value, boolean_value, name_value}
+use Rattle.ps_language.specs.Value.{operator_value, array_value, string_value, dictionary_value, lock_value}
+use Rattle.ps_language.specs.Value.{condition_value, Value, Dictionary}
 use Rattle.ps_language.specs.Equality.{same_what, same_key}
 use Rattle.ps_language.specs.Readers.{literal_name}
 use Rattle.ps_language.specs.Dictionaries.{find, put_pair}

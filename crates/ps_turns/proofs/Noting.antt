@@ -1,5 +1,6 @@
 -- The words of an error's entries, and what a note leaves.
-use Rattle.std.proofs.Common.{◌≡◌, ◌≢◌, ℕ, zero, suc, ◌+◌, ◌≤◌, arith, Bool, false, List, [], ◌∷◌, map, Option, Some, None, Ok, refl, sym, ap, subst}
+use Rattle.std.proofs.Common.{◌≡◌, ◌≢◌, ℕ, zero, suc, ◌+◌, ◌≤◌, arith, Bool, false, List, [], ◌∷◌, map, Option, Some}
+use Rattle.std.proofs.Common.{None, Ok, refl, sym, ap, subst}
 use Rattle.std.specs.Prelude.{◌==◌, slice_get, codes}
 use Rattle.std.specs.List.{AllPairs}
 use Rattle.ps_language.specs.declared.errors.ErrorName.{ErrorName}

@@ -24,7 +24,8 @@ use Rattle.ps_acts.proofs.Kept.{frames-good, frames-same, frames-within}
 use Rattle.ps_acts.proofs.Meeting.{stays_as, at_least-same}
 use Rattle.ps_turns.specs.declared.turned.Turned.{Turned}
 use Rattle.ps_turns.specs.declared.turned.Turned.TheVariants.{Breaks}
-use Rattle.ps_turns.specs.Turns.{Notes, IsTurned, IsUnderWay, IsShownWith, TurnsBy, TurnsWith, error_turn, needs_in, nothing_more}
+use Rattle.ps_turns.specs.Turns.{Notes, IsTurned, IsUnderWay, IsShownWith, TurnsBy, TurnsWith, error_turn, needs_in}
+use Rattle.ps_turns.specs.Turns.{nothing_more}
 
 -- ---- over another memory that keeps what stood
 

@@ -17,7 +17,8 @@ use Rattle.ps_acts.specs.Acts.{Asked, IsAtLeast, Lasts}
 use Rattle.ps_acts.proofs.Meeting.{stays_as}
 use Rattle.ps_turns.specs.declared.turned.Turned.{Turned}
 use Rattle.ps_turns.specs.declared.turned.Turned.TheVariants.{Goes}
-use Rattle.ps_turns.specs.Turns.{LeavesHeap, IsTurned, IsUnderWay, TurnsOver, Turns, needs_in, reached_by, status_of, lines_after}
+use Rattle.ps_turns.specs.Turns.{LeavesHeap, IsTurned, IsUnderWay, TurnsOver, Turns, needs_in, reached_by, status_of}
+use Rattle.ps_turns.specs.Turns.{lines_after}
 use Rattle.ps_turns.proofs.Composing.{AreGood, restacked, restacked_good, restacked_shown}
 use Rattle.ps_turns.proofs.Raising.{left_over, good_over}
 

@@ -1,18 +1,22 @@
 -- $error at the end of a context: what the line shows, and that it is new no more (PLRM2, 3.10).
-use Rattle.std.proofs.Common.{◌≡◌, ℕ, ◌+◌, ◌-◌, arith, Bool, true, false, Option, Some, None, refl, sym, ap, ◌∙◌, true≢false}
+use Rattle.std.proofs.Common.{◌≡◌, ℕ, ◌+◌, ◌-◌, arith, Bool, true, false, Option, Some, None, refl, sym, ap, ◌∙◌}
+use Rattle.std.proofs.Common.{true≢false}
 use Rattle.std.specs.Option.{option_map_or}
 use Rattle.std.specs.Prelude.{◌||◌, is_some, nat_lt, if◌then◌else◌, codes}
 use Rattle.ps_language.specs.declared.errors.ErrorName.{ErrorName}
 use Rattle.ps_language.specs.Value.{Value, Dictionary}
 use Rattle.ps_language.specs.Readers.{boolean, literal_name}
 use Rattle.ps_language.specs.Dictionaries.{find}
-use Rattle.ps_language.specs.StepErrors.{newerror_key, errorname_key, command_key, error_text, with_entry, with_error_entries, truth_in, has_new_error, told}
+use Rattle.ps_language.specs.StepErrors.{newerror_key, errorname_key, command_key, error_text, with_entry}
+use Rattle.ps_language.specs.StepErrors.{with_error_entries, truth_in, has_new_error, told}
 use Rattle.ps_dict.specs.declared.entries.ErrorPlan.{ErrorPlan}
 use Rattle.ps_dict.specs.Places.{first_place}
 use Rattle.ps_dict.specs.Entries.{error_planned, with_entries}
 use Rattle.ps_turns.specs.Ends.{vacant, newerror_stands, errorname_stands, command_stands, given_that_stands}
 use Rattle.ps_turns.specs.Entries.{entries_with}
-use Rattle.ps_turns.proofs.Entered.{AreKeysApart, names_apart, name_same, enters, room_in, lacking, left_out, entry_found, entry_other, entry_room, enters_after, changed-twice, changed-before, place_found}
+use Rattle.ps_turns.proofs.Entered.{AreKeysApart, names_apart, name_same, enters, room_in, lacking, left_out}
+use Rattle.ps_turns.proofs.Entered.{entry_found, entry_other, entry_room, enters_after, changed-twice, changed-before}
+use Rattle.ps_turns.proofs.Entered.{place_found}
 
 -- the keys are apart
 name_by : AreKeysApart newerror_key errorname_key

@@ -5,7 +5,9 @@ use Rattle.std.specs.Option.{option_map_or}
 use Rattle.ps_language.specs.Control.{as_boolean, boolean_in}
 use Rattle.ps_language.specs.Dictionaries.{find}
 use Rattle.ps_language.specs.StepErrors.{newerror_key, errorname_key, command_key, truth_in, has_new_error, error_line}
-use Rattle.ps_language.specs.Value.{What, null_value, mark_value, integer_value, boolean_value, name_value, operator_value, array_value, string_value, dictionary_value, lock_value, condition_value, Value, Dictionary, Store}
+use Rattle.ps_language.specs.Value.{What, null_value, mark_value, integer_value, boolean_value, name_value}
+use Rattle.ps_language.specs.Value.{operator_value, array_value, string_value, dictionary_value, lock_value}
+use Rattle.ps_language.specs.Value.{condition_value, Value, Dictionary, Store}
 use Rattle.ps_dict.specs.Places.{first_place}
 use Rattle.ps_text.specs.Errors.{error_line_by}
 use Rattle.ps_turns.proofs.Entered.{place_found}

@@ -1,5 +1,6 @@
 -- Which entries of an error stand in $error at the end of its context (PLRM2, 3.10).
-use Rattle.std.specs.Prelude.{ℕ, ◌+◌, ◌||◌, Bool, is_some, nat_lt, List, [], Option, Some, None, if◌then◌else◌}
+use Rattle.std.specs.Prelude.{ℕ, ◌+◌, ◌||◌, Bool, is_some, nat_lt, List, [], Option, Some, None}
+use Rattle.std.specs.Prelude.{if◌then◌else◌}
 use Rattle.ps_language.specs.Value.{Value, Store}
 use Rattle.ps_dict.specs.declared.entries.ErrorPlan.{ErrorPlan}
 use Rattle.ps_text.specs.Errors.{error_line_by}

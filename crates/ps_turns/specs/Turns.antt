@@ -1,19 +1,24 @@
 -- When a step, or a part of one, went as the definitions say (PLRM2, 3.5, 3.10).
-use Rattle.std.specs.Prelude.{◌≡◌, ◌≢◌, ℕ, suc, ◌+◌, ◌<◌, Bool, true, false, IsTrue, Option, Some, None, is_some, unwrap_or, IfOk, OnErr, List, [], ◌∷◌, length, AllPairs, Result, Ok, Err, if◌then◌else◌}
+use Rattle.std.specs.Prelude.{◌≡◌, ◌≢◌, ℕ, suc, ◌+◌, ◌<◌, Bool, true, false, IsTrue, Option, Some}
+use Rattle.std.specs.Prelude.{None, is_some, unwrap_or, IfOk, OnErr, List, [], ◌∷◌, length}
+use Rattle.std.specs.Prelude.{AllPairs, Result, Ok, Err, if◌then◌else◌}
 use Rattle.ps_language.specs.declared.errors.ErrorName.{ErrorName}
 use Rattle.ps_language.specs.declared.errors.ErrorName.TheVariants.{VmError, Undefined}
 use Rattle.ps_language.specs.declared.operators.Operator.{Operator}
 use Rattle.ps_language.specs.Value.{Value, Dictionary, Store}
-use Rattle.ps_language.specs.World.{Cause, for_stop, Frame, Status, running, unwinding, finished, Machine}
+use Rattle.ps_language.specs.World.{Cause, for_stop, Frame, Status, running, unwinding, finished}
+use Rattle.ps_language.specs.World.{Machine}
 use Rattle.ps_language.specs.Access.{dictionary_at}
 use Rattle.ps_language.specs.Objects.{lacks_room}
 use Rattle.ps_language.specs.Effect.{Scene, Call, Deed, Calling}
 use Rattle.ps_language.specs.Outcome.{Outcome, fails}
 use Rattle.ps_language.specs.Scan.{scan}
 use Rattle.ps_language.specs.Rows.{Row, world_row, row_of}
-use Rattle.ps_language.specs.StepValues.{Turn, command_of, goes, tries, breaks, errs, asks as leaves_to}
+use Rattle.ps_language.specs.StepValues.{Turn, command_of, goes, tries, breaks, errs}
+use Rattle.ps_language.specs.StepValues.{asks as leaves_to}
 use Rattle.ps_language.specs.StepErrors.{with_error, has_new_error, error_line}
-use Rattle.ps_language.specs.Machines.{with_scene, settled, Reached, reaches, leaves_to_world, after_turn}
+use Rattle.ps_language.specs.Machines.{with_scene, settled, Reached, reaches, leaves_to_world}
+use Rattle.ps_language.specs.Machines.{after_turn}
 use Rattle.ps_word.specs.declared.words.Word.{Word}
 use Rattle.ps_mem.specs.Heap.{Heap, Grants, birth_at}
 use Rattle.ps_mem.specs.Keeps.{Keeps}
@@ -28,7 +33,8 @@ use Rattle.ps_control.specs.Frames.{AreFramesWithin}
 use Rattle.ps_control.specs.Turns.{cause_of}
 use Rattle.ps_acts.specs.declared.lent.Trial.{Trial}
 use Rattle.ps_acts.specs.Lent.{Lent, Rooms, scene_of, IsShown, IsGood}
-use Rattle.ps_acts.specs.Acts.{Asked, Needs, nothing_needed, no_rooms, names_formed, needs_between, IsReason, Lasts, IsSame, Stays}
+use Rattle.ps_acts.specs.Acts.{Asked, Needs, nothing_needed, no_rooms, names_formed, needs_between}
+use Rattle.ps_acts.specs.Acts.{IsReason, Lasts, IsSame, Stays}
 use Rattle.ps_turns.specs.declared.turned.Turned.{Turned}
 use Rattle.ps_turns.specs.declared.turned.Turned.TheVariants.{Goes, Calls, Breaks, Ends}
 

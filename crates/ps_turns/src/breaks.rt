@@ -1,7 +1,8 @@
 //! An unwinding goes on, or ends a context that has no frame left (PLRM2, 3.10, 8 'Operators':
 //! Control).
 
-ghost use Rattle.std.specs.Prelude.{◌≡◌, ◌≢◌, ◌<◌, ◌≤◌, [], ℕ, List, Some, IfSome, IfErr, OnOk, OnErr};
+ghost use Rattle.std.specs.Prelude.{◌≡◌, ◌≢◌, ◌<◌, ◌≤◌, [], ℕ, List, Some, IfSome, IfErr, OnOk};
+ghost use Rattle.std.specs.Prelude.{OnErr};
 ghost use Rattle.std.specs.List.{AllPairs};
 ghost use Rattle.ps_language.specs.Access.{dictionary_at};
 ghost use Rattle.ps_language.specs.StepErrors as language;

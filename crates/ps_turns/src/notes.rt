@@ -1,6 +1,7 @@
 //! Errors noted in `$error` (PLRM2, 3.10).
 
-ghost use Rattle.std.specs.Prelude.{◌≡◌, ◌≢◌, ◌<◌, ◌≤◌, ℕ, List, Some, Err, IfErr, OnOk, map, slice_get};
+ghost use Rattle.std.specs.Prelude.{◌≡◌, ◌≢◌, ◌<◌, ◌≤◌, ℕ, List, Some, Err, IfErr, OnOk, map};
+ghost use Rattle.std.specs.Prelude.{slice_get};
 ghost use Rattle.ps_language.specs.Value.{Store};
 ghost use Rattle.ps_language.specs.declared.errors.ErrorName.{ErrorName};
 ghost use Rattle.ps_language.specs.StepErrors.{error_text};
@@ -9,7 +10,8 @@ ghost use Rattle.ps_word.specs.declared.words.Word.{Word as TheWord};
 ghost use Rattle.ps_mem.specs.Heap.{Heap, birth_at};
 ghost use Rattle.ps_mem.specs.Meaning.{value_of};
 ghost use Rattle.ps_mem.specs.References.{StandsAs};
-ghost use Rattle.ps_mem.specs.Shows.{IsValue, AreValues, IsWithin, AreWithin, IsSound, pair_of, words_of_pairs};
+ghost use Rattle.ps_mem.specs.Shows.{IsValue, AreValues, IsWithin, AreWithin, IsSound, pair_of};
+ghost use Rattle.ps_mem.specs.Shows.{words_of_pairs};
 ghost use Rattle.ps_dict.specs.Entries.{AreApart, entry_pairs};
 ghost use Rattle.ps_types.specs.Met.{BeginWithFirst};
 ghost use Rattle.ps_turns.specs.Turns.{Notes};

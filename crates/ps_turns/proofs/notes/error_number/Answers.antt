@@ -2,7 +2,11 @@
 use Rattle.std.proofs.Common.{◌≡◌, ◌+◌, Some, refl}
 use Rattle.std.specs.Prelude.{slice_get}
 use Rattle.ps_language.specs.declared.errors.ErrorName.{ErrorName}
-use Rattle.ps_language.specs.declared.errors.ErrorName.TheVariants.{DictStackOverflow, DictStackUnderflow, ExecStackOverflow, InvalidAccess, InvalidContext, InvalidExit, LimitCheck, RangeCheck, StackOverflow, StackUnderflow, SyntaxError, TypeCheck, Undefined, UndefinedResult, UnmatchedMark, VmError}
+use Rattle.ps_language.specs.declared.errors.ErrorName.TheVariants.{DictStackOverflow, DictStackUnderflow}
+use Rattle.ps_language.specs.declared.errors.ErrorName.TheVariants.{ExecStackOverflow, InvalidAccess, InvalidContext}
+use Rattle.ps_language.specs.declared.errors.ErrorName.TheVariants.{InvalidExit, LimitCheck, RangeCheck, StackOverflow}
+use Rattle.ps_language.specs.declared.errors.ErrorName.TheVariants.{StackUnderflow, SyntaxError, TypeCheck, Undefined}
+use Rattle.ps_language.specs.declared.errors.ErrorName.TheVariants.{UndefinedResult, UnmatchedMark, VmError}
 use Rattle.ps_language.specs.StepErrors.{error_text}
 use Rattle.ps_language.specs.Worlds.{first_names}
 use denote.Enum.Declared.{tag_of}
