@@ -1,5 +1,6 @@
 -- What stands behind a text after parts were appended.
-use Rattle.std.proofs.Common.{◌≡◌, ◌<◌, ◌≤◌, ◌+◌, ℕ, List, [], ◌∷◌, ◌++◌, take, drop, length, get_or, arith, refl, sym, ap, ◌∙◌, append_assoc, append-nil, length-append}
+use Rattle.std.proofs.Common.{◌≡◌, ◌<◌, ◌≤◌, ◌+◌, ℕ, List, [], ◌∷◌, ◌++◌, take, drop, length, get_or, arith, refl, sym}
+use Rattle.std.proofs.Common.{ap, ◌∙◌, append_assoc, append-nil, length-append}
 use Rattle.std.proofs.lemmas.List.{take_at, take-append-drop, take-take, take_more}
 use Rattle.ps_language.specs.declared.schedules.Entry.{Entry}
 use Rattle.ps_schedules.specs.Texts.{line_of, text_of, field_of, flag_of, ending_of, space}

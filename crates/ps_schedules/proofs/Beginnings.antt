@@ -1,12 +1,16 @@
 -- Bytes that begin with a field.
-use Rattle.std.proofs.Common.{◌≡◌, ◌≢◌, ◌+◌, ◌-◌, ◌*◌, ◌<◌, ◌≤◌, ◌^◌, ℕ, zero, suc, List, [], ◌∷◌, ◌++◌, take, drop, length, get_or, true, false, arith, refl, sym, ap, ◌∙◌, subst, length-append, append_assoc}
+use Rattle.std.proofs.Common.{◌≡◌, ◌≢◌, ◌+◌, ◌-◌, ◌*◌, ◌<◌, ◌≤◌, ◌^◌, ℕ, zero, suc, List, [], ◌∷◌, ◌++◌, take, drop}
+use Rattle.std.proofs.Common.{length, get_or, true, false, arith, refl, sym, ap, ◌∙◌, subst, length-append}
+use Rattle.std.proofs.Common.{append_assoc}
 use Rattle.std.specs.Char.{is_ascii_digit}
 use Rattle.std.specs.Int.{IsInRange}
 use Rattle.std.specs.Fmt.{decimal}
 use Rattle.std.specs.Str.Parse.{AllDigits, digits_value}
-use Rattle.std.proofs.lemmas.Fmt.{decimal_is_IsNumeral, decimal_nonempty, first_decimal, decimal-digits_value, decimal_injective}
+use Rattle.std.proofs.lemmas.Fmt.{decimal_is_IsNumeral, decimal_nonempty, first_decimal, decimal-digits_value}
+use Rattle.std.proofs.lemmas.Fmt.{decimal_injective}
 use Rattle.std.proofs.lemmas.Int.Digits.{digits_value_more, digits_more}
-use Rattle.std.proofs.lemmas.List.{append_cancel_left, take-append-drop, take-append-le, take_at, take_rest, get_or-take, length-take-le, drop_more, take-take, get_or_append_left}
+use Rattle.std.proofs.lemmas.List.{append_cancel_left, take-append-drop, take-append-le, take_at, take_rest}
+use Rattle.std.proofs.lemmas.List.{get_or-take, length-take-le, drop_more, take-take, get_or_append_left}
 use Rattle.std.proofs.lemmas.Str.{digit_value_digit}
 use Rattle.std.proofs.lemmas.Str.Parse.{digit_at, digits_value-take-le, numerals_by_value, tells_digits}
 use Rattle.std.proofs.Math.Seq.{get_or-append_seam, take-length}

@@ -2,7 +2,8 @@
 use Rattle.std.proofs.Common.{◌≡◌, ◌≢◌, ℕ, Bool, Option, Some, None, List, ◌∷◌, ◌++◌, drop, arith, refl, sym, ap, ◌∙◌}
 use Rattle.std.specs.Prelude.{ℤ, pos, negsuc, IfNone}
 use Rattle.ps_language.specs.declared.schedules.Entry.{Entry}
-use Rattle.ps_schedules.specs.Texts.{IsUpTo, IsWords, IsShown, IsEntry, space, line_feed, field_of, words_field, pair_of, flag_of, ending_of, line_of, BeginsNoLine}
+use Rattle.ps_schedules.specs.Texts.{IsUpTo, IsWords, IsShown, IsEntry, space, line_feed, field_of, words_field}
+use Rattle.ps_schedules.specs.Texts.{pair_of, flag_of, ending_of, line_of, BeginsNoLine}
 use Rattle.ps_schedules.proofs.Beginnings.{field_once}
 use Rattle.ps_schedules.proofs.Once.{pair_parts, line_parts, words_once}
 

@@ -1,9 +1,11 @@
 -- Bytes begin with one line alone, and are the text of one schedule alone.
-use Rattle.std.proofs.Common.{◌≡◌, ◌≢◌, ℕ, Bool, true, false, Option, Some, None, List, [], ◌∷◌, ◌++◌, drop, length, get_or, arith, refl, sym, ap, ◌∙◌, length-append, append_assoc}
+use Rattle.std.proofs.Common.{◌≡◌, ◌≢◌, ℕ, Bool, true, false, Option, Some, None, List, [], ◌∷◌, ◌++◌, drop, length}
+use Rattle.std.proofs.Common.{get_or, arith, refl, sym, ap, ◌∙◌, length-append, append_assoc}
 use Rattle.std.specs.Prelude.{ℤ, pos, negsuc}
 use Rattle.std.specs.Char.{is_ascii_digit}
 use Rattle.ps_language.specs.declared.schedules.Entry.{Entry}
-use Rattle.ps_schedules.specs.Texts.{IsWords, IsShown, IsEntry, AreEntries, space, line_feed, field_of, words_field, pair_of, flag_of, ending_of, line_of, text_of, BeginsNoLine, IsBadAt}
+use Rattle.ps_schedules.specs.Texts.{IsWords, IsShown, IsEntry, AreEntries, space, line_feed, field_of, words_field}
+use Rattle.ps_schedules.specs.Texts.{pair_of, flag_of, ending_of, line_of, text_of, BeginsNoLine, IsBadAt}
 use Rattle.ps_schedules.proofs.Beginnings.{field_once}
 
 -- ---- parts of a line

@@ -1,5 +1,7 @@
 -- Bytes that have a whole line, or as many as a line may have, tell whether they begin with one.
-use Rattle.std.proofs.Common.{◌≡◌, ◌≢◌, ◌<◌, ◌≤◌, ◌+◌, ℕ, Bool, Option, Some, None, List, [], ◌∷◌, ◌++◌, take, drop, length, arith, refl, sym, ap, subst, ◌∙◌, true, false, true≢false, inl, inr, length-append, append_assoc, append-nil}
+use Rattle.std.proofs.Common.{◌≡◌, ◌≢◌, ◌<◌, ◌≤◌, ◌+◌, ℕ, Bool, Option, Some, None, List, [], ◌∷◌, ◌++◌, take, drop}
+use Rattle.std.proofs.Common.{length, arith, refl, sym, ap, subst, ◌∙◌, true, false, true≢false, inl, inr}
+use Rattle.std.proofs.Common.{length-append, append_assoc, append-nil}
 use Rattle.std.specs.Prelude.{ℤ, pos, negsuc, ◌==◌, ◌||◌}
 use Rattle.std.specs.Char.{digit_value}
 use Rattle.std.specs.Fmt.{decimal}
@@ -8,7 +10,9 @@ use Rattle.std.proofs.lemmas.Fmt.{decimal_is_IsNumeral, length-decimal-le}
 use Rattle.std.proofs.lemmas.List.{take_at, take-append-drop, take-append-le}
 use Rattle.std.proofs.lemmas.List.Folds.{list_any-append}
 use Rattle.ps_language.specs.declared.schedules.Entry.{Entry}
-use Rattle.ps_schedules.specs.Texts.{AreEntries, IsBadAt, IsUpTo, IsWords, IsShown, IsEntry, TellsLine, has_line_feed, space, line_feed, field_of, words_field, pair_of, flag_of, ending_of, line_of, text_of, BeginsNoLine, most_line_bytes}
+use Rattle.ps_schedules.specs.Texts.{AreEntries, IsBadAt, IsUpTo, IsWords, IsShown, IsEntry, TellsLine, has_line_feed}
+use Rattle.ps_schedules.specs.Texts.{space, line_feed, field_of, words_field, pair_of, flag_of, ending_of, line_of}
+use Rattle.ps_schedules.specs.Texts.{text_of, BeginsNoLine, most_line_bytes}
 
 -- ---- how long a line is
 

@@ -1,8 +1,10 @@
 //! The entry of a line.
 
-ghost use Rattle.std.specs.Prelude.{◌≡◌, ◌≢◌, ◌++◌, ◌∷◌, ℤ, Bool, List, ℕ, Option, Some, IfSome, IfNone};
+ghost use Rattle.std.specs.Prelude.{◌≡◌, ◌≢◌, ◌++◌, ◌∷◌, ℤ, Bool, List, ℕ, Option, Some, IfSome};
+ghost use Rattle.std.specs.Prelude.{IfNone};
 ghost use Rattle.ps_language.specs.declared.schedules.Entry.{Entry};
-ghost use Rattle.ps_schedules.specs.Texts.{IsEntry, IsShown, line_of, flag_of, ending_of, pair_of, BeginsNoLine};
+ghost use Rattle.ps_schedules.specs.Texts.{IsEntry, IsShown, line_of, flag_of, ending_of, pair_of};
+ghost use Rattle.ps_schedules.specs.Texts.{BeginsNoLine};
 
 use crate::fields::field;
 use ps_language::schedules::Entry;

@@ -25,7 +25,8 @@ returns-in-Ok-Some-clause-value g c = λ names s k shows distinct sought.
     c.loop-below.invariant.value names s k shows distinct sought
     ∙ found_here births names s k c.args.dictionaries.now _ _
     (topmost_left _ _ (omega (arith, c.loop-below-test.true))
-    c.loop-below.invariant.within c.dictionary_above-dictionary.ensures) c.in-Ok-Some.value (here names s k shows distinct sought)
+    c.loop-below.invariant.within c.dictionary_above-dictionary.ensures) c.in-Ok-Some.value
+    (here names s k shows distinct sought)
 
 pub loop-below-preserved : goal.loop-below-preserved
 loop-below-preserved g c =

@@ -1,7 +1,11 @@
 use Rattle.std.proofs.Common.{◌+◌, ◌<◌, arith, sym, ◌∙◌}
-use Rattle.ps_schedules.proofs.Beginnings.{AreDigits, ended, goes_on, not_greater, not_zero, field_read, digit_read, value_read, first_read}
+use Rattle.ps_schedules.proofs.Beginnings.{AreDigits, ended, goes_on, not_greater, not_zero, field_read, digit_read}
+use Rattle.ps_schedules.proofs.Beginnings.{value_read, first_read}
 use Rattle.ps_schedules.proofs.fields.field.Goals as goal
-use Rattle.ps_schedules.proofs.fields.field.Goals.{then-byte-ending-via-then-byte-ending, then-byte-ending-via-else-byte-ending+then-place-eq0, then-number-eq0-via-then-number-eq0, then-number-eq0-via-else-number-eq0+then-number-from}
+use Rattle.ps_schedules.proofs.fields.field.Goals.{then-byte-ending-via-then-byte-ending}
+use Rattle.ps_schedules.proofs.fields.field.Goals.{then-byte-ending-via-else-byte-ending+then-place-eq0}
+use Rattle.ps_schedules.proofs.fields.field.Goals.{then-number-eq0-via-then-number-eq0}
+use Rattle.ps_schedules.proofs.fields.field.Goals.{then-number-eq0-via-else-number-eq0+then-number-from}
 
 pub returns-then-byte-ending-clause-none : goal.returns-then-byte-ending-clause-none
 returns-then-byte-ending-clause-none c number up rest is =
