@@ -30,8 +30,10 @@ use Rattle.ps_ops.specs.declared.failure.NotMade.{NotMade as Reason}
 use Rattle.ps_values.specs.declared.quick.Quick.{Quick}
 use Rattle.ps_values.specs.declared.quick.Quick.TheVariants.{Enters, Treats, Left}
 use Rattle.ps_values.specs.Quick.{IsTreated, TreatsAs, ComesTo, came_or}
-use Rattle.ps_values.specs.Values.{meaning, EntersIn, EntersAlone, GoesAlone, among, pushed_turn, operated_turn, treated_turn, done_turn, Asks, operated_asks, treated_asks, executed_asks}
-use Rattle.ps_values.proofs.Executing.{operator_acts, treated_literal, treated_executable, procedure_pushed, found_as, finds_value}
+use Rattle.ps_values.specs.Values.{meaning, EntersIn, EntersAlone, GoesAlone, among, pushed_turn, operated_turn}
+use Rattle.ps_values.specs.Values.{treated_turn, done_turn, Asks, operated_asks, treated_asks, executed_asks}
+use Rattle.ps_values.proofs.Executing.{operator_acts, treated_literal, treated_executable, procedure_pushed, found_as}
+use Rattle.ps_values.proofs.Executing.{finds_value}
 
 -- the same turn, said otherwise
 pub enters_as : (some words : List Word) (asked other : Lent → Store → Asked)

@@ -1,15 +1,20 @@
 -- What executing a word comes to, by what was done.
-use Rattle.std.proofs.Common.{◌≡◌, ◌⊎◌, ℕ, Bool, true, false, List, [], ◌∷◌, Option, Some, None, Ok, Err, refl, sym, ap, subst, ◌∙◌, inl, inr}
+use Rattle.std.proofs.Common.{◌≡◌, ◌⊎◌, ℕ, Bool, true, false, List, [], ◌∷◌, Option, Some, None, Ok, Err, refl, sym, ap}
+use Rattle.std.proofs.Common.{subst, ◌∙◌, inl, inr}
 use Rattle.std.specs.Prelude.{ℤ, ◌&&◌, Result, IfOk, IfSome, if◌then◌else◌}
 use Rattle.ps_language.specs.declared.errors.ErrorName.{ErrorName}
 use Rattle.ps_language.specs.declared.errors.ErrorName.TheVariants.{InvalidAccess, Undefined}
 use Rattle.ps_language.specs.declared.operators.Operator.{Operator as Named}
 use Rattle.ps_language.specs.Effect.{Around, Scene}
-use Rattle.ps_language.specs.Value.{What, null_value, mark_value, integer_value, boolean_value, name_value, operator_value, array_value, string_value, dictionary_value, lock_value, condition_value, Value, Store}
-use Rattle.ps_language.specs.StepValues.{Turn, LookedUp, known, unknown, unreadable, seen, looked_up, name_in, is_array, is_executable_name, is_procedure, executed_what, executed, done}
+use Rattle.ps_language.specs.Value.{What, null_value, mark_value, integer_value, boolean_value, name_value}
+use Rattle.ps_language.specs.Value.{operator_value, array_value, string_value, dictionary_value, lock_value}
+use Rattle.ps_language.specs.Value.{condition_value, Value, Store}
+use Rattle.ps_language.specs.StepValues.{Turn, LookedUp, known, unknown, unreadable, seen, looked_up, name_in, is_array}
+use Rattle.ps_language.specs.StepValues.{is_executable_name, is_procedure, executed_what, executed, done}
 use Rattle.ps_language.specs.Dictionaries.{look_up}
 use Rattle.ps_word.specs.declared.values.Content.{Content}
-use Rattle.ps_word.specs.declared.values.Content.TheVariants.{Null, Integer, Boolean, Mark, Name, Operator, Array, Text, Dictionary, Lock, Condition, Body}
+use Rattle.ps_word.specs.declared.values.Content.TheVariants.{Null, Integer, Boolean, Mark, Name, Operator, Array, Text}
+use Rattle.ps_word.specs.declared.values.Content.TheVariants.{Dictionary, Lock, Condition, Body}
 use Rattle.ps_word.specs.declared.values.Part.{Part}
 use Rattle.ps_word.specs.declared.words.Word.{Word}
 use Rattle.ps_word.specs.Format.{content_in, executable_in, IsContent}
@@ -28,7 +33,10 @@ use Rattle.ps_turns.specs.declared.turned.Turned.TheVariants.{Goes}
 use Rattle.ps_turns.specs.Turns.{IsShownWith, TurnsOver, Turns, TurnsWith, error_turn, none_asked, nothing_more}
 use Rattle.ps_turns.proofs.Composing.{turns_over}
 use Rattle.ps_keys.specs.Lookups.{found_of}
-use Rattle.ps_values.specs.Values.{meaning, pushed_turn, framed_turn, entered_turn, string_frame, scanned_turn, operated_turn, executed_what_turn, treated_turn, executed_turn, done_turn, Asks, what_asks, found_asks, done_asks, operated_asks, word_asks, treated_asks, executed_asks}
+use Rattle.ps_values.specs.Values.{meaning, pushed_turn, framed_turn, entered_turn, string_frame, scanned_turn}
+use Rattle.ps_values.specs.Values.{operated_turn, executed_what_turn, treated_turn, executed_turn, done_turn, Asks}
+use Rattle.ps_values.specs.Values.{what_asks, found_asks, done_asks, operated_asks, word_asks, treated_asks}
+use Rattle.ps_values.specs.Values.{executed_asks}
 use Rattle.ps_values.proofs.Pushing.{behind_first, goes_as}
 
 -- a procedure as an element asks for nothing

@@ -10,7 +10,8 @@ use Rattle.ps_acts.specs.Lent.{Lent, IsGood}
 use Rattle.ps_turns.specs.Turns.{IsShownWith}
 use Rattle.ps_values.specs.declared.quick.Quick.{Quick}
 use Rattle.ps_values.specs.declared.quick.Quick.TheVariants.{Done, Enters, Treats, Left}
-use Rattle.ps_values.specs.Values.{Asks, done_turn, executed_asks, treated_turn, treated_asks, among, EntersIn}
+use Rattle.ps_values.specs.Values.{Asks, done_turn, executed_asks, treated_turn, treated_asks}
+use Rattle.ps_values.specs.Values.{among, EntersIn}
 
 -- doing an element, with itself as the command, is treating this value
 pub record IsTreated (asks : Asks) (word value : Word) (l : Lent) (s : Store) : Type 0 where

@@ -6,7 +6,8 @@ use Rattle.ps_language.specs.Access.{is_executable}
 use Rattle.ps_language.specs.Control.{with_frame, entered}
 use Rattle.ps_language.specs.Effect.{Around, Scene}
 use Rattle.ps_language.specs.Outcome.{given_that}
-use Rattle.ps_language.specs.StepValues.{Turn, LookedUp, known, turned, operated, looked_up, pushed, executed_what, treated, is_executable_name, executed, done}
+use Rattle.ps_language.specs.StepValues.{Turn, LookedUp, known, turned, operated, looked_up, pushed}
+use Rattle.ps_language.specs.StepValues.{executed_what, treated, is_executable_name, executed, done}
 use Rattle.ps_language.specs.Value.{What, operator_value, Value, Store}
 use Rattle.ps_word.specs.declared.values.Part.{Part}
 use Rattle.ps_word.specs.declared.words.Word.{Word}
@@ -143,7 +144,8 @@ module _ (asks : Asks) where
 -- ---- by operands and frames alone
 
 -- With these values in hand the turn goes on by operands and frames alone, whatever else is lent in
--- this setting and however it is tried, once the frame is pushed of the procedure that it enters, if
+-- this setting and however it is tried, once the frame is pushed of the procedure that it enters,
+-- if
 -- that has room; or nothing has changed
 abbrev pub EntersIn : (setting : Lent → Lent) → (words : List Word) → (asked : Lent → Store → Asked)
     → (turn : Lent → Store → Turn) → Ahead → (old new : List Word) → Type 0

@@ -13,9 +13,9 @@ use ps_control::ahead::{Ahead, enter_ahead};
 use ps_operands::Operands;
 use ps_word::words::Word;
 
-/// Treats a value by operands and frames alone, where that raises no error: a literal one becomes an
-/// operand, a procedure is entered where one may be, up to its frame, and an operator acts ahead.
-/// Else nothing has changed.
+/// Treats a value by operands and frames alone, where that raises no error: a literal one becomes
+/// an operand, a procedure is entered where one may be, up to its frame, and an operator acts
+/// ahead. Else nothing has changed.
 #[inline(always)]
 pub fn treat_ahead<O: Operate>(
     value: Word,

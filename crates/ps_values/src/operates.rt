@@ -24,16 +24,16 @@ pub trait Operate {
     ghost asks: { names.Operator → Around → Scene → Asked };
 
     /// An operator on operands alone acts, where it raises no error, and so does one that enters a
-    /// procedure, up to the frame of that, where one may be entered. Else nothing has changed, as by
-    /// every other operator.
+    /// procedure, up to the frame of that, where one may be entered. Else nothing has changed, as
+    /// by every other operator.
     fn operate_ahead(&self, operator: Operator, operands: &mut Operands, may_enter: bool) -> Ahead
         ensures comes { EntersAlone [] (operated_asks asks operator) (operated_turn operator) result
             operands.old operands.new }
         ensures enters { (body : ThePart) → result ≡ Ahead.Enters body → IsTrue may_enter };
 
-    /// An operator that neither sees nor changes frames acts, where it raises no error and is made, as
-    /// it would under any more frames. Else nothing was done. Every other operator may be left, and
-    /// nothing has changed. The records go into the log of a slot.
+    /// An operator that neither sees nor changes frames acts, where it raises no error and is made,
+    /// as it would under any more frames. Else nothing was done. Every other operator may be left,
+    /// and nothing has changed. The records go into the log of a slot.
     fn operate_under<M: Memory>(
         &self,
         operator: Operator,
@@ -46,8 +46,8 @@ pub trait Operate {
         requires good { IsGood
             (lent (M.heap memory.old) (M.grants memory.old) context.old shared.old) }
         ensures frames { context.new.frames ≡ context.old.frames }
-        ensures goes { GoesUnder [] (operated_asks asks operator) (operated_turn operator) slot result
-            (lent (M.heap memory.old) (M.grants memory.old) context.old shared.old)
+        ensures goes { GoesUnder [] (operated_asks asks operator) (operated_turn operator) slot
+            result (lent (M.heap memory.old) (M.grants memory.old) context.old shared.old)
             (lent (M.heap memory.new) (M.grants memory.new) context.new shared.new) };
 
     /// An operator acts: its effect comes about, or its error is raised with the operator as the

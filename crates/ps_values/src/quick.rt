@@ -1,5 +1,5 @@
-//! An element of a procedure is done by operands and frames alone, or it is known as which value it is
-//! treated (PLRM2, 3.5).
+//! An element of a procedure is done by operands and frames alone, or it is known as which value it
+//! is treated (PLRM2, 3.5).
 
 ghost use Rattle.std.specs.Prelude.{◌≡◌, IsTrue};
 ghost use Rattle.ps_word.specs.declared.values.Part.{Part as ThePart};
@@ -45,9 +45,9 @@ impl Quick {
 }
 
 /// Does an element by operands and frames alone, where that raises no error: a literal value or a
-/// procedure becomes an operand, an operator acts ahead, and a name is looked up and its value treated
-/// ahead. A procedure is entered only where one may be. Else it tells as which value the element is
-/// treated. The memory stays as it is.
+/// procedure becomes an operand, an operator acts ahead, and a name is looked up and its value
+/// treated ahead. A procedure is entered only where one may be. Else it tells as which value the
+/// element is treated. The memory stays as it is.
 #[inline(always)]
 pub fn do_quickly<O: Operate, M: Memory>(
     word: Word,

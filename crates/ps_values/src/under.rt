@@ -22,8 +22,8 @@ pub enum Under {
     Left,
 }
 
-/// Treats a value that is an operator which neither sees nor changes frames, where it raises no error
-/// and is made. The records go into the log of a slot.
+/// Treats a value that is an operator which neither sees nor changes frames, where it raises no
+/// error and is made. The records go into the log of a slot.
 #[inline(always)]
 pub fn treat_under<O: Operate, M: Memory>(
     value: Word,

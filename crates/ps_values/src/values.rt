@@ -7,7 +7,8 @@ ghost use Rattle.ps_mem.specs.Meaning.{value_of};
 ghost use Rattle.ps_mem.specs.Shows.{IsValue};
 ghost use Rattle.ps_acts.specs.Lent.{lent, IsGood};
 ghost use Rattle.ps_turns.specs.Turns.{TurnsWith};
-ghost use Rattle.ps_values.specs.Values.{done_turn, executed_asks, executed_turn, executed_what_turn, treated_asks, treated_turn, word_asks};
+ghost use Rattle.ps_values.specs.Values.{done_turn, executed_asks, executed_turn};
+ghost use Rattle.ps_values.specs.Values.{executed_what_turn, treated_asks, treated_turn, word_asks};
 
 use crate::enters::{enter, scan_string};
 use crate::operates::Operate;

@@ -1,8 +1,10 @@
 -- A procedure is pushed, a name is treated as what is found, and all else as it is.
 use Rattle.std.proofs.Common.{Ok, refl, sym, ap, ◌∙◌}
 use Rattle.ps_mem.specs.Shows.{IsValue}
-use Rattle.ps_values.proofs.Alone.{literal_treated, name_treats, operator_treated, own_treats, procedure_comes, treated_comes}
-use Rattle.ps_values.proofs.Executing.{found_as, literal_unmade, literal_unnamed, name_unmade, named, made, operator_unmade, operator_unnamed, unmade, unnamed}
+use Rattle.ps_values.proofs.Alone.{literal_treated, name_treats, operator_treated, own_treats, procedure_comes}
+use Rattle.ps_values.proofs.Alone.{treated_comes}
+use Rattle.ps_values.proofs.Executing.{found_as, literal_unmade, literal_unnamed, name_unmade, named, made}
+use Rattle.ps_values.proofs.Executing.{operator_unmade, operator_unnamed, unmade, unnamed}
 use Rattle.ps_values.proofs.quick.do_quickly.Goals as goal
 
 pub returns-then-not-is_executable-clause-comes : goal.returns-then-not-is_executable-clause-comes

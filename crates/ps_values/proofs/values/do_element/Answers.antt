@@ -1,6 +1,8 @@
 -- A procedure is pushed, and all else is executed.
 use Rattle.std.proofs.Common.{sym, ◌∙◌}
-use Rattle.ps_values.proofs.Executing.{treated_literal, treated_executable, executed_treated, done_executed, procedure_pushed, literal_unnamed, literal_unmade, named, name_unmade, made, unnamed, unmade}
+use Rattle.ps_values.proofs.Executing.{treated_literal, treated_executable, executed_treated, done_executed}
+use Rattle.ps_values.proofs.Executing.{procedure_pushed, literal_unnamed, literal_unmade, named, name_unmade, made}
+use Rattle.ps_values.proofs.Executing.{unnamed, unmade}
 use Rattle.ps_values.proofs.values.do_element.Goals as goal
 
 pub execute_name-requires-clause-name : goal.execute_name-requires-clause-name

@@ -1,6 +1,7 @@
 -- A name is looked up, and all else is treated.
 use Rattle.std.proofs.Common.{sym, ◌∙◌}
-use Rattle.ps_values.proofs.Executing.{treated_literal, treated_executable, executed_treated, literal_unnamed, named, unnamed}
+use Rattle.ps_values.proofs.Executing.{treated_literal, treated_executable, executed_treated, literal_unnamed, named}
+use Rattle.ps_values.proofs.Executing.{unnamed}
 use Rattle.ps_values.proofs.values.execute.Goals as goal
 
 pub execute_name-requires-clause-name : goal.execute_name-requires-clause-name

@@ -1,6 +1,7 @@
 -- By the content.
 use Rattle.std.proofs.Common.{sym, ◌∙◌}
-use Rattle.ps_values.proofs.Executing.{name_waits, operator_acts, array_entered, text_scanned, idle_goes, datum_pushed, array_held, text_held}
+use Rattle.ps_values.proofs.Executing.{name_waits, operator_acts, array_entered, text_scanned, idle_goes, datum_pushed}
+use Rattle.ps_values.proofs.Executing.{array_held, text_held}
 use Rattle.ps_values.proofs.values.execute_content.Goals as goal
 
 pub enter-requires-clause-part : goal.enter-requires-clause-part

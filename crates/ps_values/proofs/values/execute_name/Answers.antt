@@ -4,7 +4,8 @@ use Rattle.ps_mem.specs.Heap.{birth_at}
 use Rattle.ps_mem.specs.Shows.{IsValue, IsWithin}
 use Rattle.ps_acts.specs.Lent.{Lent, lent}
 use Rattle.ps_turns.specs.Turns.{IsShownWith}
-use Rattle.ps_values.proofs.Executing.{found_as, finds_value, finds_none, finds_closed, found_treated, unknown_raised, unreadable_raised}
+use Rattle.ps_values.proofs.Executing.{found_as, finds_value, finds_none, finds_closed, found_treated, unknown_raised}
+use Rattle.ps_values.proofs.Executing.{unreadable_raised}
 use Rattle.ps_values.proofs.values.execute_name.Goals as goal
 
 pub treat-requires-clause-word : goal.treat-requires-clause-word
