@@ -172,7 +172,8 @@ module _ (l : Lent) (x : Word) (top : Some x ≡ first_of l.operands) where
           effects store shown =
               cvn_tail may store shown
               ∙ (ap (naming_effect (scene_of l store))
-              (formed_is (birth_at l.heap) l.names store value are.few key (are.shown store shown.shows (inside store shown)) done
+              (formed_is (birth_at l.heap) l.names store value are.few key
+              (are.shown store shown.shows (inside store shown)) done
               (leaves (record { operands = cvn_left store; store = store })))
               ∙ (ap (λ (ns : List (List ℕ)). quiet (record (scene_of l store)
               { operands = cvn_left store; names = ns })) (sym same)

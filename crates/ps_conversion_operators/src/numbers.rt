@@ -66,7 +66,8 @@ fn number_of_string<M: Memory>(memory: &mut M, part: Part) -> Result<i32, Number
     number_of_long_string(memory, part)
 }
 
-/// The same of a string however long.
+/// The same of a string however long. Its frame is large, so it isn't the caller's.
+#[inline(never)]
 fn number_of_long_string<M: Memory>(memory: &mut M, part: Part) -> Result<i32, NumberFault>
     requires sound { IsSound (M.heap memory.old) }
     requires known { StandsAs (M.heap memory.old) Kind.Text part.address (words_for

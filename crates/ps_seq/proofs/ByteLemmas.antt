@@ -1,9 +1,8 @@
 -- Words and the bytes in them.
-use Rattle.std.proofs.Common.{◌≡◌, ℕ, zero, suc, ◌+◌, ◌-◌, ◌*◌, ◌/◌, ◌%◌, ◌^◌, ◌<◌, ◌≤◌, List, [], ◌∷◌, ◌++◌, length, take, drop, get_or, Some, refl, sym, ap, arith, ◌∙◌}
+use Rattle.std.proofs.Common.{◌≡◌, ℕ, zero, suc, ◌+◌, ◌*◌, ◌/◌, ◌%◌, ◌^◌, ◌<◌, ◌≤◌, List, [], ◌∷◌, length, take, drop, get_or, Some, refl, sym, ap, arith, ◌∙◌}
 use Rattle.std.specs.Prelude.{slice_get}
 use Rattle.std.specs.Int.{w64, to_le_bytes, bytes_low_first}
-use borrow.Rule.Slice.PartMut.{put_mid, post_of}
-use Rattle.std.proofs.lemmas.List.{drop-drop, append_assoc, length-append, length-take-le, take_at}
+use Rattle.std.proofs.lemmas.List.{drop-drop}
 use Rattle.std.proofs.Math.Nat.{div-div-eq-div-mul, pow-suc}
 use Rattle.ps_word.specs.declared.words.Word.{Word}
 use Rattle.ps_mem.specs.Objects.{word_of}
@@ -128,20 +127,3 @@ pub get_of_word : (ws : List Word) (i : ℕ) (d w : Word) → slice_get ws i ≡
 get_of_word [] i d w e = cc
 get_of_word (x ∷ ws) zero d w e = cc
 get_of_word (x ∷ ws) (suc i) d w e = get_of_word ws i d w e
-
--- ---- bytes that are written
-
--- a list that is written from a place on to its end
-pub written_behind : (all new rest old : List ℕ) (start count : ℕ) → take start all ≡ old
-    → length all ≡ start + count → length new ≡ count
-    → take (start + count) (put_mid start (length all - start) all new ++ rest) ≡ old ++ new
-written_behind all new rest old start count before long size =
-    let first = take start all in
-    let post = post_of start (length all - start) all in
-    let first_size : length first ≡ start = length-take-le start all (omega (arith, long)) in
-    ap (take (start + count)) (append_assoc first (new ++ post) rest
-    ∙ (ap (λ r. first ++ r) (append_assoc new post rest)
-    ∙ sym (append_assoc first new (post ++ rest))))
-    ∙ (take_at (first ++ new) (post ++ rest) (start + count) (omega
-    (arith, length-append first new, first_size, size))
-    ∙ ap (λ o. o ++ new) before)

@@ -136,7 +136,7 @@ words_from-run n first count bs fits =
     ∙ take_at (words_from count (drop (8 * first) bs)) behind count (length-words_from count (drop
     (8 * first) bs)))))
 
-words_from-taken : (n : ℕ) (bs : List ℕ) → words_from n (take (8 * n) bs) ≡ words_from n bs
+pub words_from-taken : (n : ℕ) (bs : List ℕ) → words_from n (take (8 * n) bs) ≡ words_from n bs
 words_from-taken n bs = same_words n (take (8 * n) bs) bs
     (λ i below. get_or-take (8 * n) bs i 0 below)
 

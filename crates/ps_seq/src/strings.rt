@@ -14,7 +14,7 @@ ghost use Rattle.ps_mem.specs.Meaning.{part_of};
 ghost use Rattle.ps_mem.specs.Strings.{number_of_bytes, words_from};
 ghost use Rattle.ps_mem.specs.Shows.{IsSound, Shows};
 
-use crate::reads::read_part;
+use crate::reads::read_run;
 use ps_language::access::Access;
 use ps_language::kinds::Kind;
 use ps_mem::Memory;
@@ -25,6 +25,9 @@ use std::cmp::Ordering;
 
 /// The bytes of a word.
 pub(crate) const BYTES: u32 = 8;
+
+/// How many bytes are put together on the stack before they go to a list at once.
+const RUN: usize = 256;
 
 /// The words that so many bytes take.
 #[inline]
@@ -76,9 +79,17 @@ pub fn append_bytes<M: Memory>(
     ensures full { OnErr result (vec_capacity output.old < vec_len output.old + part.length) }
     ensures room { vec_capacity output.old ≤ vec_capacity output.new }
 {
-    let start = output.len();
-    output.resize(start + part.length as usize, 0)?;
-    read_part(memory, part, &mut output.as_mut_slice()[start..]);
+    let count = part.length as u32;
+    output.reserve(part.length as usize)?;
+    let mut run = [0; RUN];
+    let mut done = 0;
+    while done < count {
+        let more = (count - done).min(RUN as u32);
+        let bytes = &mut run[..more as usize];
+        read_run(memory, part.address, part.offset as u32 + done, bytes);
+        output.extend_from_slice(bytes)?;
+        done += more;
+    }
     Ok(())
 }
 
@@ -201,6 +212,17 @@ pub fn set_byte<M: Memory>(memory: &mut M, slot: u32, part: Part, index: u16, by
     memory.store(slot, part.address, place / BYTES, &[changed]);
 }
 
+/// Puts the words that bytes make, eight a word, into a list of as many words.
+#[inline]
+fn fill_words(text: &[u8], words: &mut [Word])
+    requires { length text.now ≡ 8 * length words.old }
+    ensures { words.new ≡ words_from (length words.old) text.now }
+{
+    for index in 0..words.len() {
+        words[index] = whole_word(&text[8 * index..8 * index + 8]);
+    }
+}
+
 /// Pushes the words that bytes make, eight a word.
 ///
 /// `AllocError`: the list of words lacks the room, and its growth was refused.
@@ -214,8 +236,14 @@ fn push_words(text: &[u8], words: &mut Vec<Word>) -> Result<(), AllocError>
 {
     let count = text.len() / 8;
     words.reserve(count)?;
-    for index in 0..count {
-        words.push(whole_word(&text[8 * index..8 * index + 8]))?;
+    let mut run = [Word(0); RUN / 8];
+    let mut done = 0;
+    while done < count {
+        let more = (count - done).min(RUN / 8);
+        let part = &mut run[..more];
+        fill_words(&text[8 * done..8 * (done + more)], part);
+        words.extend_from_slice(part)?;
+        done += more;
     }
     Ok(())
 }
@@ -265,7 +293,7 @@ fn changed_words<M: Memory>(
             let stop = end.min(index * BYTES + BYTES);
             let chunk = &text[(start - place) as usize..(stop - place) as usize];
             let word = memory.load(address, index);
-            words.push(with_bytes(word, (start - index * BYTES) as usize, chunk))?;
+            words.push_reserved(with_bytes(word, (start - index * BYTES) as usize, chunk));
             index += 1;
         }
     }

@@ -1,6 +1,7 @@
 pub mod Beginnings
 pub mod Changed
 pub mod Copied
+pub mod Early
 pub mod Found
 pub mod Intervals
 pub mod Made

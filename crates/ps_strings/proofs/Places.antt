@@ -11,7 +11,7 @@ use Rattle.ps_strings.proofs.Beginnings.{starts_exactly}
 
 -- ---- at the front
 
-starts_occurs : (hay needle : List ℕ) → starts_with nat_eq hay needle ≡ true → OccursAt hay needle 0
+pub starts_occurs : (hay needle : List ℕ) → starts_with nat_eq hay needle ≡ true → OccursAt hay needle 0
 starts_occurs hay needle starts =
     let same = (starts_exactly hay needle).0 starts in
     let long = ap length same in

@@ -27,7 +27,7 @@ occurs_dropped text needle from k o =
           get_or-drop from text (k + j) 0 ∙ (ap (slice_index text) there ∙ o.reads j below);
     }
 
-occurs_undropped : (text needle : List ℕ) (from k : ℕ) → from ≤ length text
+pub occurs_undropped : (text needle : List ℕ) (from k : ℕ) → from ≤ length text
     → OccursAt (drop from text) needle k → OccursAt text needle (from + k)
 occurs_undropped text needle from k within o =
     let fits = o.fits in

@@ -6,7 +6,7 @@ ghost use Rattle.ps_language.specs.Value.{Store};
 ghost use Rattle.ps_language.specs.Access.{bytes, part_bytes};
 ghost use Rattle.ps_language.specs.Access as language;
 ghost use Rattle.ps_language.specs.RowsSequences as sequences;
-ghost use Rattle.memchr.specs.Find.{OccursAt, FindsNeedle};
+ghost use Rattle.memchr.specs.Find.{OccursAt, FindsNeedle, IsFirstByte, is_byte};
 ghost use Rattle.ps_mem.specs.Heap.{Heap, birth_at};
 ghost use Rattle.ps_mem.specs.References.{StandsAs, words_for};
 ghost use Rattle.ps_mem.specs.Meaning.{part_of};
@@ -29,7 +29,7 @@ use ps_ops::arrays::{is_readable, push_within};
 use ps_ops::failure::{Failure, NotMade};
 use ps_ops::makes::SEQUENCE_LIMIT;
 use ps_seq::arrays::interval;
-use ps_seq::strings::{append_bytes, compare_bytes};
+use ps_seq::strings::{append_bytes, byte, compare_bytes};
 use ps_stacks::OPERAND_LIMIT;
 use ps_word::values::Part;
 use ps_word::words::Word;
@@ -155,6 +155,60 @@ fn find_by_windows<M: Memory>(
     }
 }
 
+/// The first place of a part of a string that is a byte, if one is. The memory stays as it is.
+fn find_byte<M: Memory>(memory: &mut M, part: Part, sought: u8) -> Option<u16>
+    requires sound { IsSound (M.heap memory.old) }
+    requires part { StandsAs (M.heap memory.old) Kind.Text part.address (words_for
+        (part.offset + part.length)) }
+    ensures heap { M.heap memory.new ≡ M.heap memory.old }
+    ensures grants { M.grants memory.new ≡ M.grants memory.old }
+    ensures value { (names : List (List ℕ)) (s : Store) → Shows (M.heap memory.old) names s
+        → part.offset + part.length ≤ length (bytes s (birth_at (M.heap memory.old) part.address))
+        → IsFirstByte (is_byte sought) (part_bytes s (part_of (birth_at
+        (M.heap memory.old)) part)) result }
+    ensures within { IfSome result (λ place. place < part.length) }
+{
+    for index in 0..part.length {
+        if byte(memory, part, index) == sought {
+            return Some(index);
+        }
+    }
+    None
+}
+
+/// The first place of a part of a string that has the bytes of another, where they stand at the
+/// first byte that could begin them, and that is near. `None` says nothing: they have to be sought.
+/// The memory stays as it is.
+fn find_early<M: Memory>(memory: &mut M, part: Part, wanted: Part) -> Option<u16>
+    requires sound { IsSound (M.heap memory.old) }
+    requires part { StandsAs (M.heap memory.old) Kind.Text part.address (words_for
+        (part.offset + part.length)) }
+    requires wanted { StandsAs (M.heap memory.old) Kind.Text wanted.address (words_for
+        (wanted.offset + wanted.length)) }
+    requires end { part.offset + part.length < 2 ^ 16 }
+    ensures heap { M.heap memory.new ≡ M.heap memory.old }
+    ensures grants { M.grants memory.new ≡ M.grants memory.old }
+    ensures value { (names : List (List ℕ)) (s : Store) → Shows (M.heap memory.old) names s
+        → part.offset + part.length ≤ length (bytes s (birth_at (M.heap memory.old) part.address))
+        → wanted.offset + wanted.length ≤ length (bytes s (birth_at
+        (M.heap memory.old) wanted.address)) → IfSome result (λ place. Some place
+        ≡ sequences.place_of (part_bytes s (part_of (birth_at (M.heap memory.old)) wanted))
+        (part_bytes s (part_of (birth_at (M.heap memory.old)) part))) }
+    ensures fits { IfSome result (λ place. place + wanted.length ≤ part.length) }
+{
+    if wanted.length == 0 {
+        return None;
+    }
+    let first = byte(memory, wanted, 0);
+    let near = part.length.min(FIRST_WINDOW as u16);
+    let place = find_byte(memory, interval(part, 0, near), first)?;
+    let behind = interval(part, place, part.length - place);
+    if wanted.length == 1 || begins_with(memory, behind, wanted) {
+        return Some(place);
+    }
+    None
+}
+
 /// The first place of a part of a string that has the bytes of another, if one has. No more of the
 /// part is read than must be, but for some windows. The memory stays as it is; the lists are empty
 /// before and after, and their room is kept for the next call.
@@ -196,6 +250,9 @@ fn find_part<M: Memory>(
     if wanted.length > part.length {
         return Ok(None);
     }
+    if let Some(place) = find_early(memory, part, wanted) {
+        return Ok(Some(place as usize));
+    }
     append_bytes(memory, wanted, sought)?;
     let found = find_by_windows(memory, part, sought.as_slice(), text);
     text.clear();
@@ -204,7 +261,8 @@ fn find_part<M: Memory>(
 }
 
 /// Whether a part of a string has the bytes of another at some place. No memory is taken: both are
-/// read onto the stack. The memory stays as it is.
+/// read onto the stack. The memory stays as it is. Its frame is large, so it isn't the caller's.
+#[inline(never)]
 fn contains<M: Memory>(memory: &mut M, part: Part, wanted: Part) -> bool
     requires sound { IsSound (M.heap memory.old) }
     requires part { StandsAs (M.heap memory.old) Kind.Text part.address (words_for

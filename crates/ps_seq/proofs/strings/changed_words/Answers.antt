@@ -73,7 +73,7 @@ loop-index-preserved g c = record {
       (omega (arith, largest)) (omega (arith, largest)) (omega
       (arith, largest, least, from, below, some)) (omega (arith, least)) (omega (arith, least))
       (λ i early. omega (arith, largest, early)) (λ i low past. omega (arith, least, low, past))) in
-      c.in_ok-push.ensures.items
+      c.push_reserved.ensures.items
       ∙ next_word (splice (bytes s (birth_at h a)) place text) c.loop-index.words.items
       c.with_bytes.result (place / 8) k from (c.loop-index.invariant.value names s shows within)
       value;

@@ -1,34 +1,38 @@
-use Rattle.std.proofs.Common.{◌≡◌, ◌+◌, ◌-◌, ◌*◌, [], ◌∷◌, ◌++◌, take, drop, arith, rules, sym, ap, ◌∙◌}
-use Rattle.std.proofs.lemmas.List.{append_assoc, append-nil}
-use Rattle.ps_mem.specs.Objects.{word_of}
-use Rattle.ps_mem.specs.Strings.{number_of_bytes, words_from}
-use Rattle.ps_seq.proofs.SpliceLemmas.{words_from-more}
+use Rattle.std.proofs.Common.{◌≡◌, ◌+◌, ◌-◌, ◌*◌, ◌++◌, length, take, drop, arith, rules, sym, ap, ◌∙◌}
+use Rattle.std.proofs.lemmas.List.{append_assoc, append-nil, length-take-le}
+use Rattle.ps_mem.specs.Strings.{words_from}
+use Rattle.ps_seq.proofs.SpliceLemmas.{words_from-add, words_from-taken}
 use Rattle.ps_seq.proofs.strings.push_words.Goals as goal
 
-pub loop-index-init : goal.loop-index-init
+pub loop-done-init : goal.loop-done-init
 unfolding words_from
-loop-index-init c = record {
+loop-done-init c = record {
+  upto = search rules;
   count = search rules;
   room = search rules;
   kept = search rules;
   value = c.reserve.ensures.items ∙ sym (append-nil c.args.words.now.items);
 }
 
-pub loop-index-preserved : goal.loop-index-preserved
-loop-index-preserved c = record {
+pub loop-done-preserved : goal.loop-done-preserved
+loop-done-preserved c = record {
+  upto = search rules;
   count = search rules;
   room = search rules;
   kept = search rules;
   value =
       let text = c.args.text.now in
       let old = c.args.words.now.items in
-      let i = c.loop-index.index in
-      let eight : (8 * i + 8) - 8 * i ≡ 8 = omega arith in
-      let value : c.whole_word.result.0 ≡ number_of_bytes (take 8 (drop (8 * i) text)) =
-      c.whole_word.ensures ∙ ap (λ n. number_of_bytes (take n (drop (8 * i) text))) eight in
-      c.in_ok-push.ensures.items
-      ∙ ((λ k. c.loop-index.invariant.value k ++ word_of (value k) ∷ [])
-      ∙ (append_assoc old (words_from i text) (word_of (number_of_bytes (take 8 (drop (8 * i)
-      text))) ∷ [])
-      ∙ ap (λ ws. old ++ ws) (words_from-more i text)));
+      let done = c.loop-done.done in
+      let more = c.min-more.result in
+      let taken : length (take more c.loop-done.run) ≡ more = length-take-le more c.loop-done.run
+      (omega (arith, c.min-more.ensures, c.min-more.array_long)) in
+      let bytes : 8 * (done + more) - 8 * done ≡ 8 * more = omega arith in
+      let next = drop (8 * done) text in
+      let new : c.fill_words.new.words ≡ words_from more next = c.fill_words.ensures
+      ∙ ((λ i. words_from (taken i) (take (bytes i) next)) ∙ words_from-taken more next) in
+      c.in_ok-extend_from_slice.ensures.items
+      ∙ ((λ i. c.loop-done.invariant.value i ++ new i)
+      ∙ (append_assoc old (words_from done text) (words_from more next)
+      ∙ ap (λ ws. old ++ ws) (sym (words_from-add done more text))));
 }

@@ -2,11 +2,15 @@ use Rattle.std.proofs.Common.{◌≡◌, ◌+◌, ◌-◌, ◌≤◌, ◌++◌, 
 use Rattle.ps_mem.specs.Strings.{words_from}
 use Rattle.ps_seq.proofs.strings.push_words.Given as goal
 
--- the words before the index are pushed, and there is room for the rest
-abbrev pub invariant-loop-index : goal.invariant-loop-index
-invariant-loop-index l = record {
-  count : vec_len l.words ≡ vec_len l.fn.words + l.index;
-  room : vec_len l.words + (l.count - l.index) ≤ vec_capacity l.words;
+-- so many words are pushed, and there is room for the rest
+abbrev pub invariant-loop-done : goal.invariant-loop-done
+invariant-loop-done l = record {
+  upto : l.done ≤ l.count;
+  count : vec_len l.words ≡ vec_len l.fn.words + l.done;
+  room : vec_len l.words + (l.count - l.done) ≤ vec_capacity l.words;
   kept : vec_capacity l.fn.words ≤ vec_capacity l.words;
-  value : l.words.items ≡ l.fn.words.items ++ words_from l.index l.text;
+  value : l.words.items ≡ l.fn.words.items ++ words_from l.done l.text;
 }
+
+abbrev pub decreases-loop-done : goal.decreases-loop-done
+decreases-loop-done l = l.count - l.done

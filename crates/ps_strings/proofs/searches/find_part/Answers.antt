@@ -27,12 +27,13 @@ returns-clause-value g c = λ names s shows in_part in_wanted.
     let part = c.args.part in
     let births = birth_at (g.M.Memory.heap c.args.memory.now) in
     let needle = part_bytes s (part_of births c.args.wanted) in
-    let read = c.in_ok-append_bytes.ensures.value names s shows in_wanted ∙ ap (λ
+    let before = c.find_early.ensures.heap in
+    let read = (rw before at c.in_ok-append_bytes.ensures.value) names s shows in_wanted ∙ ap (λ
     (b : List ℕ). b ++ needle) c.requires.sought in
     let found = subst (λ (h : Heap). (names : List (List ℕ)) (s : Store) → Shows h names s
     → part.offset + part.length ≤ length (bytes s (birth_at h part.address))
     → IfOk c.find_by_windows-found.result (λ found. found ≡ place_of c.as_slice.result.now
-    (part_bytes s (part_of (birth_at h) part)))) c.in_ok-append_bytes.ensures.heap
+    (part_bytes s (part_of (birth_at h) part)))) (c.in_ok-append_bytes.ensures.heap ∙ before)
     (λ names s shows within. c.find_by_windows-found.ensures.value names s shows within) in
     subst (λ (n : List ℕ). IfOk c.find_by_windows-found.result (λ found. found ≡ place_of n
     (part_bytes s (part_of births part)))) (c.as_slice.ensures.value ∙ read)
