@@ -19,6 +19,7 @@ pub mod Growing
 pub mod Fields
 pub mod Filling
 pub mod Making
+pub mod Marking
 pub mod Indexing
 pub mod Gathering
 pub mod Removing

@@ -1,6 +1,6 @@
 //! Dictionaries that are read (PLRM2, 3.3.9 and 8: length, maxlength, get, known, forall).
 
-ghost use Rattle.std.specs.Prelude.{◌≡◌, ◌≢◌, ℕ, ◌+◌, ◌<◌, ◌≤◌, ◌^◌, List, length, Option, Some, None, IfSome, option_map, slice_get};
+ghost use Rattle.std.specs.Prelude.{◌≡◌, ◌≢◌, ℕ, ◌+◌, ◌<◌, ◌≤◌, ◌^◌, true, List, length, Option, Some, None, IfSome, option_map, slice_get};
 ghost use Rattle.std.specs.List.{AllPairs};
 ghost use Rattle.ps_language.specs.Value.{Store};
 ghost use Rattle.ps_language.specs.Access.{dictionary_at};
@@ -191,6 +191,25 @@ fn near_position<M: Memory>(memory: &mut M, address: u32, capacity: u32, key: Wo
     }
 }
 
+/// Whether a key is a name that other dictionaries alone may have, as its mark tells.
+#[inline(always)]
+fn is_elsewhere<M: Memory>(memory: &mut M, address: u32, key: Word) -> bool
+    requires sound { IsSound (M.heap memory.old) }
+    requires known { StandsAs (M.heap memory.old) Kind.Dictionary address 4 }
+    ensures heap { M.heap memory.new ≡ M.heap memory.old }
+    ensures grants { M.grants memory.new ≡ M.grants memory.old }
+    ensures absent { result ≡ true
+        → place_of (pairs_at (M.heap memory.old) address) key ≡ None }
+{
+    match key.as_name() {
+        Some(name) => {
+            let mark = memory.mark(name);
+            !mark.admits(memory.header(address).birth)
+        }
+        None => false,
+    }
+}
+
 /// How many places of an index are looked at before the pairs are gone through in order: a key that
 /// is there mostly stands that near.
 #[inline(always)]
@@ -202,8 +221,8 @@ fn looks_in(capacity: u32) -> u32
 }
 
 /// The same by the places of the index behind that at which the key is looked for first, which has
-/// another: where places are free, a few looks tell that a key is absent. Where they tell nothing,
-/// by the order.
+/// another. A name's mark may tell at once that it is absent; else, where places are free, a few
+/// looks do. Where they tell nothing, by the order.
 #[inline(never)]
 fn indexed_position<M: Memory>(
     memory: &mut M,
@@ -225,6 +244,9 @@ fn indexed_position<M: Memory>(
     ensures within { IfSome result (λ place. place < count_at (M.heap memory.old) address) }
     ensures words { result ≡ place_of (pairs_at (M.heap memory.old) address) key }
 {
+    if is_elsewhere(memory, address, key) {
+        return None;
+    }
     for behind in 1..looks_in(capacity) {
         let place = place_behind(start, behind, capacity);
         match look_at(memory, address, capacity, place, key) {

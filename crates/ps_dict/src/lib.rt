@@ -10,6 +10,9 @@
 //! - A search looks at a share of the index's places (`looks_in`), and then goes through the pairs
 //!   in order. A key that is there mostly stands near its place, and a full index tells little of
 //!   an absent one.
+//! - The name of an operator is looked for in dictionaries that never had it, and a full one has no
+//!   null to end a search at. The memory's marks tell it, and they are asked only where the first
+//!   place has another key: most searches end before.
 //! - The first place is looked at in line and all others by a call (`near_position`,
 //!   `indexed_position`). Most searches end at the first.
 //! - Two words are the same key by their bits without access and attribute (`is_same_key`): names

@@ -4,3 +4,4 @@ pub mod Sizes
 pub mod Moved
 pub mod Flipped
 pub mod Reached
+pub mod Marks

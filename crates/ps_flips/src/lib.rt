@@ -30,6 +30,7 @@ ghost use Rattle.ps_word.specs.declared.words.Word.{Word};
 ghost use Rattle.std.specs.Prelude.{List};
 
 pub mod collected;
+mod marked;
 pub mod sides;
 
 use ps_core_laws::law;

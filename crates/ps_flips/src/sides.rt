@@ -127,3 +127,22 @@ pub trait Works {
     /// The logs are looked at anew, also those that had nothing to take.
     fn look_anew(&mut self);
 }
+
+/// The collector of a memory that is held in another one, which does more in its calls. It reaches
+/// past that one.
+#[derive(Drop)]
+pub struct Past<C>(pub C);
+
+impl<C: Works> Works for Past<C> {
+    fn act(&mut self) -> bool {
+        self.0.act()
+    }
+
+    fn copied(&self) -> u64 {
+        self.0.copied()
+    }
+
+    fn look_anew(&mut self) {
+        self.0.look_anew();
+    }
+}

@@ -25,3 +25,4 @@ pub mod ValueLemmas
 pub mod StandsLemmas
 pub mod LessWords
 pub mod ReachedWords
+pub mod MarkLemmas

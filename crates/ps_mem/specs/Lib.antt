@@ -2,6 +2,7 @@ pub mod Bounded
 pub mod Heap
 pub mod Index
 pub mod Keeps
+pub mod Marks
 pub mod Meaning
 pub mod Objects
 pub mod Plain

@@ -26,13 +26,17 @@
 ghost use Rattle.std.specs.Prelude.{◌≡◌, ℕ, ◌+◌, ◌-◌, ◌^◌, ◌<◌, ◌≤◌, ◌↔◌, ◌≢◌, List, [], ◌∷◌, Bool, true, false, IsTrue, length, slice_get, Option, Some, None, OnOk, OnErr, IsOk, IsErr, IfSome, IsSome, slice_range};
 ghost use Rattle.ps_word.specs.Headers.{birth_limit};
 ghost use Rattle.ps_mem.specs.Heap.{Heap, Grants, AfterNew, AfterStore, object_at, fields_at, birth_at, stored, made, made_body, IsKind, has_room, standing_words, records_put, IsLogBounded};
+ghost use Rattle.ps_mem.specs.Marks.{Tells};
 ghost use Rattle.ps_mem.specs.References.{NamesStanding};
 ghost use Rattle.ps_mem.specs.Stands.{IsAddressed};
 
 pub mod bounded;
+pub mod marked;
+pub mod marks;
 pub mod plain;
 mod region;
 
+use marks::Mark;
 use ps_language::kinds::Kind;
 use ps_word::headers::Header;
 use ps_word::words::Word;
@@ -230,4 +234,15 @@ pub trait Memory {
         ensures full { result ≡ Permit.LogFull → (grants self.new).records slot < count }
         ensures closed { (result ≡ Permit.LogClosed) ↔
             ((1 ≤ count) × IsTrue ((grants self.old).closed slot)) };
+
+    /// Which dictionaries may have a name as a key: no other has. A memory that keeps no marks
+    /// answers that any may.
+    #[inline(always)]
+    fn mark(&mut self, _name: u16) -> Mark
+        ensures heap { heap self.new ≡ heap self.old }
+        ensures grants { grants self.new ≡ grants self.old }
+        ensures tells { Tells (heap self.old) _name result }
+    {
+        Mark::Anywhere
+    }
 }

@@ -1,0 +1,34 @@
+use Rattle.std.proofs.Common.{sym, subst, ◌≡◌, ◌+◌, length, ◌∙◌, ap, arith}
+use Rattle.std.specs.Prelude.{slice_range}
+use Rattle.ps_mem.specs.Heap.{Heap, fields_at, stored}
+use Rattle.ps_mem.specs.Marks.{Covers}
+use Rattle.ps_mem.proofs.MarkLemmas.{has_field, Covers-stored, length-range}
+use Rattle.ps_mem.proofs.marked.MarkedMemory.copy.Goals as goal
+
+pub mark_copied-requires-clause-stands : goal.mark_copied-requires-clause-stands
+mark_copied-requires-clause-stands g c =
+    let some = c.requires.some in
+    let target = c.requires.target in
+    has_field (g.M.Memory.heap c.args.self.now.memory) c.args.to c.args.to_place
+    (omega (arith, some, target))
+
+pub invariant_of-self : goal.invariant_of-self
+invariant_of-self g c =
+    let s = c.mark_copied.new.self in
+    let h = g.M.Memory.heap c.args.self.now.memory in
+    let a = c.args in
+    let marks = s.marks.items.items in
+    let covers : Covers h marks = subst (λ (k : Heap). Covers k marks) c.mark_copied.ensures.heap s.covers in
+    let items = slice_range (fields_at h a.from) a.from_place (a.from_place + a.count) in
+    let long : length items ≡ a.count = length-range (fields_at h a.from) a.from_place a.count c.requires.source in
+    let some = c.requires.some in
+    let target = c.requires.target in
+    let now : g.M.Memory.heap c.copy.new.self ≡ stored h a.to a.to_place items =
+    c.copy.ensures.heap
+    ∙ ap (λ (k : Heap). stored k a.to a.to_place
+    (slice_range (fields_at k a.from) a.from_place (a.from_place + a.count))) c.mark_copied.ensures.heap in
+    record {
+      covers = subst (λ (k : Heap). Covers k marks) (sym now)
+          (Covers-stored h a.to a.to_place items (omega (arith, long, some)) (omega (arith, long, target))
+          marks covers c.mark_copied.ensures.marked);
+    }

@@ -1,0 +1,28 @@
+use Rattle.std.proofs.Common.{sym, subst, ◌≡◌, ◌∷◌, [], ◌∙◌, ap, arith}
+use Rattle.ps_mem.specs.Heap.{Heap, stored}
+use Rattle.ps_mem.specs.Marks.{Covers}
+use Rattle.ps_mem.proofs.MarkLemmas.{has_field, Covers-stored, one-marked}
+use Rattle.ps_mem.proofs.marked.MarkedMemory.fill.Goals as goal
+
+pub mark_word-requires : goal.mark_word-requires
+mark_word-requires g c =
+    record {
+      stands = has_field (g.M.Memory.heap c.args.self.now.memory) c.args.address c.args.place
+          c.requires.place;
+    }
+
+pub invariant_of-self : goal.invariant_of-self
+invariant_of-self g c =
+    let s = c.mark_word.new.self in
+    let h = g.M.Memory.heap c.args.self.now.memory in
+    let marks = s.marks.items.items in
+    let covers : Covers h marks = subst (λ (k : Heap). Covers k marks) c.mark_word.ensures.heap s.covers in
+    let place = c.requires.place in
+    let now : g.M.Memory.heap c.fill.new.self ≡ stored h c.args.address c.args.place (c.args.word ∷ []) =
+    c.fill.ensures.heap
+    ∙ ap (λ (k : Heap). stored k c.args.address c.args.place (c.args.word ∷ [])) c.mark_word.ensures.heap in
+    record {
+      covers = subst (λ (k : Heap). Covers k marks) (sym now)
+          (Covers-stored h c.args.address c.args.place (c.args.word ∷ []) (omega arith) (omega (arith, place))
+          marks covers (one-marked h marks c.args.address c.args.place c.args.word c.mark_word.ensures.marked));
+    }
