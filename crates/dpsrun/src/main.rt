@@ -80,8 +80,8 @@ fn read_part<R: Read>(reader: &mut R, most: usize, bytes: &mut Vec<u8>) -> Resul
 /// How many names beside that of a file are tried.
 const BESIDE_NAMES: u32 = 16;
 
-/// Makes a file beside that of a name, to be put in its place: of that name with `.part` and a number
-/// behind it, which no file had.
+/// Makes a file beside that of a name, to be put in its place: of that name with `.part` and a
+/// number behind it, which no file had.
 fn file_beside(rt: &HostRuntime, name: &str) -> io::Result<(String, File)> {
     for number in 1..=BESIDE_NAMES {
         let beside = format!(in rt.alloc(); "{name}.part{number}")?;
@@ -94,8 +94,8 @@ fn file_beside(rt: &HostRuntime, name: &str) -> io::Result<(String, File)> {
     Err(io::Error::from(io::ErrorKind::AlreadyExists))
 }
 
-/// Whether this failure to make a file leaves it open that one of that name can be written: the folder
-/// takes no new file, or each name beside it is taken.
+/// Whether this failure to make a file leaves it open that one of that name can be written: the
+/// folder takes no new file, or each name beside it is taken.
 fn is_of_folder(error: &io::Error) -> bool {
     matches!(
         error.kind(),
@@ -114,9 +114,9 @@ fn take_name(
     fs::rename(rt, names.0, names.1)
 }
 
-/// Puts bytes in the place of a file, or makes it: they are written beside it, and what has them takes
-/// its name, with what the old one says of who may read and write it. Where that fails, as on a full
-/// disk, the file is as it was. Where no file can be made beside it, it is written itself.
+/// Puts bytes in the place of a file, or makes it: they are written beside it, and what has them
+/// takes its name, with what the old one says of who may read and write it. Where that fails, as on
+/// a full disk, the file is as it was. Where no file can be made beside it, it is written itself.
 fn replace_file(
     rt: &HostRuntime,
     name: &str,
@@ -201,8 +201,8 @@ impl FileSet for SystemFiles<'_> {
     }
 }
 
-/// Runs the program that the command line names, by threads of `workers`, and gives the exit status.
-/// Fails where the command line, or the keys of the table of names, can't be had.
+/// Runs the program that the command line names, by threads of `workers`, and gives the exit
+/// status. Fails where the command line, or the keys of the table of names, can't be had.
 fn run<R: Threads + Wait + Sync>(rt: &HostRuntime, workers: &R) -> io::Result<u8> {
     let alloc = rt.alloc();
     let given = match env::args(rt) {

@@ -1,7 +1,9 @@
 -- The operators that change their caller alone.
-use Rattle.std.proofs.Common.{◌≡◌, ℕ, arith, ℤ, Bool, true, false, List, [], ◌∷◌, ◌++◌, Option, Some, None, Ok, Err, refl, sym, ap, subst, ◌∙◌}
+use Rattle.std.proofs.Common.{◌≡◌, ℕ, arith, ℤ, Bool, true, false, List, [], ◌∷◌, ◌++◌, Option, Some, None, Ok, Err}
+use Rattle.std.proofs.Common.{refl, sym, ap, subst, ◌∙◌}
 use Rattle.std.specs.Prelude.{◌≢◌, Result, not, pos, negsuc, int_le, ◌&&◌}
-use Rattle.ps_language.specs.declared.operators.Operator.TheVariants.{Lock, Condition, CurrentContext, VmReclaim, VmStatus, Yield}
+use Rattle.ps_language.specs.declared.operators.Operator.TheVariants.{Lock, Condition, CurrentContext, VmReclaim}
+use Rattle.ps_language.specs.declared.operators.Operator.TheVariants.{VmStatus, Yield}
 use Rattle.ps_language.specs.declared.errors.ErrorName.{ErrorName}
 use Rattle.ps_language.specs.declared.errors.ErrorName.TheVariants.{RangeCheck, StackOverflow, TypeCheck, VmError}
 use Rattle.ps_language.specs.Acts.{operands_effect}
@@ -29,7 +31,8 @@ use Rattle.ps_contexts.specs.Worlds.{context_of}
 use Rattle.ps_contexts.specs.Desks.{Desk, lent_to, desk_unmade, IsWorld, IsSteady}
 use Rattle.ps_world.specs.declared.notes.Note.TheVariants.{Nothing, ShowsMemory, TurnEnds, Wishes}
 use Rattle.ps_world.specs.Calls.{RunsAt, IsHeldUpAs, call_by, call_wants}
-use Rattle.ps_context_operators.specs.Rows.{new_part, new_caller, currentcontext_part, currentcontext_caller, vmreclaim_part, vmreclaim_caller, vmstatus_part, vmstatus_caller, wished}
+use Rattle.ps_context_operators.specs.Rows.{new_part, new_caller, currentcontext_part, currentcontext_caller}
+use Rattle.ps_context_operators.specs.Rows.{vmreclaim_part, vmreclaim_caller, vmstatus_part, vmstatus_caller, wished}
 use Rattle.ps_context_operators.specs.Deeds.{part_at, with_scene_of, scene_deed}
 use Rattle.ps_context_operators.proofs.DeedLaws.{new_deed, currentcontext_deed, vmreclaim_deed, vmstatus_deed}
 use Rattle.ps_callers.specs.Done.{IsLeftAs, outcome_of, noted, DoesBy}

@@ -1,5 +1,6 @@
 -- An operator that changes its caller alone does what the definitions say.
-use Rattle.std.proofs.Common.{◌≡◌, ℕ, ◌≤◌, ℤ, Bool, false, List, [], length, Option, Some, None, Ok, Err, refl, sym, ap, subst, ◌∙◌}
+use Rattle.std.proofs.Common.{◌≡◌, ℕ, ◌≤◌, ℤ, Bool, false, List, [], length, Option, Some, None, Ok, Err, refl, sym, ap}
+use Rattle.std.proofs.Common.{subst, ◌∙◌}
 use Rattle.std.specs.Prelude.{◌≢◌, Result, not, drop}
 use Rattle.ps_language.specs.declared.errors.ErrorName.{ErrorName}
 use Rattle.ps_language.specs.declared.errors.ErrorName.TheVariants.{VmError}
@@ -37,7 +38,8 @@ use Rattle.ps_world.proofs.Asked.{IsAsked}
 use Rattle.ps_world.proofs.Owning.{same_desk}
 use Rattle.ps_context_operators.specs.Deeds.{part_at, with_scene_of, after_part, scene_deed}
 use Rattle.ps_callers.specs.Done.{IsLeftAs, ComesTo, outcome_of, noted, DoesBy}
-use Rattle.ps_callers.proofs.Parts.{IsPlain, IsWithStore, IsFew, part_runs, part_framed, part_steady, part_is, made_by, raised_by, unmade_by, held_up_by, unwinds_not}
+use Rattle.ps_callers.proofs.Parts.{IsPlain, IsWithStore, IsFew, part_runs, part_framed, part_steady, part_is, made_by}
+use Rattle.ps_callers.proofs.Parts.{raised_by, unmade_by, held_up_by, unwinds_not}
 
 -- what makes objects wants memory for them
 asked_by : (calling : Calling) (w : World) (context : Context) (scene : Scene)

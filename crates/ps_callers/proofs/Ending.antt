@@ -1,5 +1,6 @@
 -- What was done comes to its end: its caller settles, or its error is noted.
-use Rattle.std.proofs.Common.{◌≡◌, ℕ, ◌≤◌, arith, ℤ, Bool, false, List, [], ◌∷◌, Option, Some, None, Ok, Err, refl, sym, ap, subst, ◌∙◌}
+use Rattle.std.proofs.Common.{◌≡◌, ℕ, ◌≤◌, arith, ℤ, Bool, false, List, [], ◌∷◌, Option, Some, None, Ok, Err, refl, sym}
+use Rattle.std.proofs.Common.{ap, subst, ◌∙◌}
 use Rattle.std.specs.Prelude.{◌||◌}
 use Rattle.ps_language.specs.declared.errors.ErrorName.{ErrorName}
 use Rattle.ps_language.specs.declared.operators.Operator.{Operator}
@@ -25,12 +26,15 @@ use Rattle.ps_acts.specs.Lent.{Lent, scene_of, IsShown}
 use Rattle.ps_acts.proofs.Meeting.{logs-same, logs_then}
 use Rattle.ps_turns.specs.declared.turned.Turned.{Turned}
 use Rattle.ps_turns.specs.declared.turned.Turned.TheVariants.{Goes, Calls as TurnedCalls, Breaks, Ends}
-use Rattle.ps_turns.specs.Turns.{Turns, TurnsBy, IsUnderWay, calling_of, error_needs, needs_in, nothing_more, operator_error, reached_by}
+use Rattle.ps_turns.specs.Turns.{Turns, TurnsBy, IsUnderWay, calling_of, error_needs, needs_in, nothing_more}
+use Rattle.ps_turns.specs.Turns.{operator_error, reached_by}
 use Rattle.ps_contexts.specs.declared.members.Course.TheVariants.{Running}
 use Rattle.ps_contexts.specs.declared.members.Member.{Member}
 use Rattle.ps_contexts.specs.Seats.{item_at, with_item}
 use Rattle.ps_contexts.specs.Worlds.{context_of}
-use Rattle.ps_contexts.specs.Desks.{Desk, desk, lent_to, returned, desk_turned, desk_unmade, course_after, member_left, tells, turned_member, turned_members, HasFrame, AreFramed, IsOwn, IsCourseHeld, IsGoodMember, IsWorld, IsSteady}
+use Rattle.ps_contexts.specs.Desks.{Desk, desk, lent_to, returned, desk_turned, desk_unmade, course_after, member_left}
+use Rattle.ps_contexts.specs.Desks.{tells, turned_member, turned_members, HasFrame, AreFramed, IsOwn, IsCourseHeld}
+use Rattle.ps_contexts.specs.Desks.{IsGoodMember, IsWorld, IsSteady}
 use Rattle.ps_contexts.proofs.Changing.{changed_desk, changed_steady}
 use Rattle.ps_contexts.proofs.Going.{with_item_members, left_members}
 use Rattle.ps_contexts.proofs.Lifting.{settled_world, failed_world}
@@ -40,7 +44,8 @@ use Rattle.ps_contexts.proofs.Stepping.{context_there}
 use Rattle.ps_contexts.proofs.Turning.{member_at, frame_after, went_steady, turned_reaches, unmade_steady, unmade_world}
 use Rattle.ps_world.specs.declared.notes.Note.{Note}
 use Rattle.ps_world.specs.declared.notes.Note.TheVariants.{Nothing, ShowsMemory}
-use Rattle.ps_world.specs.Calls.{RunsAt, AreFramedBut, IsSameDesk, IsHeldUpAs, CallsTo, Calls, call_by, call_wants, deed_wants}
+use Rattle.ps_world.specs.Calls.{RunsAt, AreFramedBut, IsSameDesk, IsHeldUpAs, CallsTo, Calls, call_by, call_wants}
+use Rattle.ps_world.specs.Calls.{deed_wants}
 use Rattle.ps_world.specs.Growth.{Growth, growth_for}
 use Rattle.ps_world.proofs.Called.{same_members}
 use Rattle.ps_world.proofs.Owning.{same_desk}

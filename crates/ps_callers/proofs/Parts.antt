@@ -1,11 +1,13 @@
 -- The caller's part of an operator, in the world of all.
-use Rattle.std.proofs.Common.{◌≡◌, ℕ, ◌≤◌, ◌-◌, arith, ℤ, Bool, true, false, List, [], ◌∷◌, ◌++◌, length, Option, Some, None, Ok, Err, refl, sym, ap, subst, ◌∙◌}
+use Rattle.std.proofs.Common.{◌≡◌, ℕ, ◌≤◌, ◌-◌, arith, ℤ, Bool, true, false, List, [], ◌∷◌, ◌++◌, length, Option, Some}
+use Rattle.std.proofs.Common.{None, Ok, Err, refl, sym, ap, subst, ◌∙◌}
 use Rattle.std.proofs.lemmas.List.{length-drop}
 use Rattle.std.specs.Prelude.{Result, not, nat_lt, ◌&&◌, ◌||◌}
 use Rattle.ps_language.specs.declared.errors.ErrorName.{ErrorName}
 use Rattle.ps_language.specs.declared.errors.ErrorName.TheVariants.{VmError}
 use Rattle.ps_language.specs.Acts.{effect_of}
-use Rattle.ps_language.specs.Effect.{Scene, Call, Deed, does, waits, Effect, makes, unwinds, raises, calls, quiet, effect_by}
+use Rattle.ps_language.specs.Effect.{Scene, Call, Deed, does, waits, Effect, makes, unwinds, raises, calls, quiet}
+use Rattle.ps_language.specs.Effect.{effect_by}
 use Rattle.ps_language.specs.Machines.{with_scene}
 use Rattle.ps_language.specs.Objects.{made_between, lacks_room}
 use Rattle.ps_language.specs.Outcome.{Outcome, leaves, fails, given_that}
@@ -21,13 +23,15 @@ use Rattle.ps_ops.specs.Does.{most_records}
 use Rattle.ps_acts.specs.declared.breaks.Break.{Break}
 use Rattle.ps_acts.specs.declared.breaks.Break.TheVariants.{Unwinds, Raises, NotMade}
 use Rattle.ps_acts.specs.declared.lent.Trial.{Trial}
-use Rattle.ps_acts.specs.Acts.{Asked, Needs, no_rooms, nothing_asked, names_formed, needs_between, needs_of_refused, needs_as, lacks, IsReason, IsLeft, IsSame, Stays, ActsAs, effect_in}
+use Rattle.ps_acts.specs.Acts.{Asked, Needs, no_rooms, nothing_asked, names_formed, needs_between, needs_of_refused}
+use Rattle.ps_acts.specs.Acts.{needs_as, lacks, IsReason, IsLeft, IsSame, Stays, ActsAs, effect_in}
 use Rattle.ps_acts.specs.Lent.{Lent, scene_of, IsGood}
 use Rattle.ps_contexts.specs.declared.members.Course.TheVariants.{Running}
 use Rattle.ps_contexts.specs.declared.members.Member.{Member}
 use Rattle.ps_contexts.specs.Seats.{item_at, with_item}
 use Rattle.ps_contexts.specs.Worlds.{status_of, context_of}
-use Rattle.ps_contexts.specs.Desks.{Desk, lent_to, returned, desk_of, desk_after, desk_unmade, AreFramed, IsWorld, IsLentBy, IsGoodMember, IsSteady}
+use Rattle.ps_contexts.specs.Desks.{Desk, lent_to, returned, desk_of, desk_after, desk_unmade, AreFramed, IsWorld}
+use Rattle.ps_contexts.specs.Desks.{IsLentBy, IsGoodMember, IsSteady}
 use Rattle.ps_contexts.proofs.Places.{with_item-twice, item_at-with_item}
 use Rattle.ps_contexts.proofs.Turning.{member_at, went_steady, went_world, same_world}
 use Rattle.ps_world.specs.Calls.{RunsAt, AreFramedBut, IsSameDesk, IsHeldUpAs, call_by}

@@ -4,8 +4,11 @@ use Rattle.std.specs.Prelude.{◌++◌, not, ⊤}
 use Rattle.ps_language.specs.declared.errors.ErrorName.{ErrorName}
 use Rattle.ps_language.specs.declared.errors.ErrorName.TheVariants.{VmError, StackOverflow}
 use Rattle.ps_language.specs.declared.operators.Operator.{Operator}
-use Rattle.ps_language.specs.declared.operators.Operator.TheVariants.{CurrentContext, Fork, Join, Detach, Lock, Monitor, Condition, Wait, Notify, Yield, VmStatus, VmReclaim}
-use Rattle.ps_language.specs.Contexts.{with_context, with_operands_of, doing_operands, memory_shown, vmstatus_row, vmreclaim_row, new_row, fork_row, join_row, detach_row}
+use Rattle.ps_language.specs.declared.operators.Operator.TheVariants.{CurrentContext, Fork, Join, Detach, Lock, Monitor}
+use Rattle.ps_language.specs.declared.operators.Operator.TheVariants.{Condition, Wait, Notify, Yield, VmStatus}
+use Rattle.ps_language.specs.declared.operators.Operator.TheVariants.{VmReclaim}
+use Rattle.ps_language.specs.Contexts.{with_context, with_operands_of, doing_operands, memory_shown, vmstatus_row}
+use Rattle.ps_language.specs.Contexts.{vmreclaim_row, new_row, fork_row, join_row, detach_row}
 use Rattle.ps_language.specs.Effect.{Call, Note, nothing, turn_ends, shows_memory, Deed, does, waits, Calling}
 use Rattle.ps_language.specs.Locks.{monitor_row, wait_row, notify_row}
 use Rattle.ps_language.specs.Outcome.{Outcome, leaves, fails, given_that}
@@ -13,7 +16,8 @@ use Rattle.ps_language.specs.Readers.{room_for}
 use Rattle.ps_language.specs.Step.{deed_given_room, after_deed, called}
 use Rattle.ps_language.specs.Value.{Value, Object, lock_object, condition_object}
 use Rattle.ps_language.specs.World.{Context, World}
-use Rattle.ps_language.proofs.Leaving.{Leaves, left_with, left_none, and_then-leaves, given_that-leaves, each-leaves, leaving}
+use Rattle.ps_language.proofs.Leaving.{Leaves, left_with, left_none, and_then-leaves, given_that-leaves, each-leaves}
+use Rattle.ps_language.proofs.Leaving.{leaving}
 use Rattle.ps_acts.proofs.Meeting.{lacks_for_same}
 use Rattle.ps_turns.specs.Turns.{calling_of}
 use Rattle.ps_world.specs.Calls.{call_by}

@@ -2,7 +2,9 @@
 -- (PLRM2, 7.1).
 use Rattle.std.specs.Prelude.{◌≡◌, ◌≢◌, ℕ, ℤ, Bool, Option, Some, Result, Ok, Err, OnErr}
 use Rattle.ps_language.specs.declared.operators.Operator.{Operator}
-use Rattle.ps_language.specs.declared.operators.Operator.TheVariants.{CurrentContext, VmStatus, VmReclaim, Lock, Condition, Yield}
+use Rattle.ps_language.specs.declared.operators.Operator.TheVariants.{CurrentContext, VmStatus}
+use Rattle.ps_language.specs.declared.operators.Operator.TheVariants.{VmReclaim, Lock, Condition}
+use Rattle.ps_language.specs.declared.operators.Operator.TheVariants.{Yield}
 use Rattle.ps_language.specs.Contexts.{context_at}
 use Rattle.ps_language.specs.Effect.{Deed, does, waits}
 use Rattle.ps_language.specs.Outcome.{Outcome, leaves, fails}

@@ -1,5 +1,6 @@
 -- One element more is done by operands alone.
-use Rattle.std.proofs.Common.{◌≡◌, ◌≢◌, ℕ, zero, suc, ◌+◌, ◌-◌, ◌<◌, ◌≤◌, arith, Bool, true, false, List, [], ◌∷◌, drop, length, Option, Some, None, Ok, refl, sym, ap, subst, ◌∙◌}
+use Rattle.std.proofs.Common.{◌≡◌, ◌≢◌, ℕ, zero, suc, ◌+◌, ◌-◌, ◌<◌, ◌≤◌, arith, Bool, true, false, List, [], ◌∷◌, drop}
+use Rattle.std.proofs.Common.{length, Option, Some, None, Ok, refl, sym, ap, subst, ◌∙◌}
 use Rattle.std.specs.Prelude.{Result, IsNone, nat_lt, slice_get, if◌then◌else◌}
 use Rattle.std.proofs.lemmas.Bool.{true≢false}
 use Rattle.std.proofs.lemmas.Bool.Decides.{nat_tests}
@@ -16,7 +17,8 @@ use Rattle.ps_stacks.specs.Tops.{first_of}
 use Rattle.ps_ops.proofs.Operands.{first_split}
 use Rattle.ps_ops.specs.declared.failure.NotMade.{NotMade as Reason}
 use Rattle.ps_control.specs.declared.frames.Frame.{Frame}
-use Rattle.ps_control.specs.declared.frames.Frame.TheVariants.{Text, Procedure, Pending, Repeat, Loop, For, Forall, Stopped, Bind, Monitor}
+use Rattle.ps_control.specs.declared.frames.Frame.TheVariants.{Text, Procedure, Pending, Repeat, Loop, For, Forall}
+use Rattle.ps_control.specs.declared.frames.Frame.TheVariants.{Stopped, Bind, Monitor}
 use Rattle.ps_control.specs.declared.frames.Source.{Source}
 use Rattle.ps_control.specs.declared.ahead.Ahead.{Ahead}
 use Rattle.ps_control.specs.declared.ahead.Ahead.TheVariants as ahead
@@ -30,7 +32,8 @@ use Rattle.ps_turns.specs.Turns.{Turns, TurnsWith, none_asked}
 use Rattle.ps_turns.proofs.Composing.{turns_as, restacked_good}
 use Rattle.ps_values.specs.Values.{meaning, EntersIn, among, done_turn, Asks, executed_asks}
 use Rattle.ps_frames.specs.declared.elements.Element.{Element}
-use Rattle.ps_frames.specs.Steps.{frames_after, rest_frames, running_turn, frame_asks, above, part_behind, procedure_in, with_frames, IsElement}
+use Rattle.ps_frames.specs.Steps.{frames_after, rest_frames, running_turn, frame_asks, above, part_behind, procedure_in}
+use Rattle.ps_frames.specs.Steps.{with_frames, IsElement}
 use Rattle.ps_frames.proofs.Taking.{rest_good, element_made}
 use Rattle.ps_interpreter.specs.Interprets.{asks_in, own_turn}
 use Rattle.ps_interpreter.specs.Makes.{TurnsBehind, Runs}

@@ -1,5 +1,6 @@
 -- What a procedure's first element came to, without its frame or over it.
-use Rattle.std.proofs.Common.{◌≡◌, ℕ, ◌+◌, arith, true, false, List, ◌∷◌, length, Option, Some, None, Ok, refl, sym, subst}
+use Rattle.std.proofs.Common.{◌≡◌, ℕ, ◌+◌, arith, true, false, List, ◌∷◌, length, Option, Some, None, Ok, refl, sym}
+use Rattle.std.proofs.Common.{subst}
 use Rattle.std.proofs.lemmas.Bool.{true≢false}
 use Rattle.std.specs.Prelude.{Result, is_some}
 use Rattle.ps_mem.specs.Keeps.{Keeps}

@@ -1,6 +1,7 @@
 -- A step that takes no memory: a literal, a procedure or a frugal operator is the next element of a
 -- procedure, and another frame stands below.
-use Rattle.std.proofs.Common.{◌≡◌, inl, inr, ℕ, ◌-◌, Bool, true, false, ◌&&◌, List, [], ◌∷◌, length, refl, sym, ap, subst, ◌∙◌, arith}
+use Rattle.std.proofs.Common.{◌≡◌, inl, inr, ℕ, ◌-◌, Bool, true, false, ◌&&◌, List, [], ◌∷◌, length, refl, sym, ap}
+use Rattle.std.proofs.Common.{subst, ◌∙◌, arith}
 use Rattle.std.specs.Prelude.{nat_lt, not, if◌then◌else◌}
 use Rattle.std.proofs.lemmas.Bool.{true≢false}
 use Rattle.ps_language.specs.declared.errors.ErrorName.TheVariants.{StackOverflow}
@@ -14,7 +15,9 @@ use Rattle.ps_language.specs.Outcome.{leaves, given_that}
 use Rattle.ps_language.specs.Readers.{is_full}
 use Rattle.ps_language.specs.StepErrors.{with_error}
 use Rattle.ps_language.specs.StepFrames.{rest_frames, element_at, frame_turn}
-use Rattle.ps_language.specs.StepValues.{Turn, goes, tries, breaks, errs, asks as leaves_to, turned, command_of, effect_turn, operated, pushed, is_array, is_executable_name, is_procedure, executed, done}
+use Rattle.ps_language.specs.StepValues.{Turn, goes, tries, breaks, errs, asks as leaves_to, turned, command_of}
+use Rattle.ps_language.specs.StepValues.{effect_turn, operated, pushed, is_array, is_executable_name, is_procedure}
+use Rattle.ps_language.specs.StepValues.{executed, done}
 use Rattle.ps_language.specs.Value.{What, array_value, Part, Value, Dictionary, Store}
 use Rattle.ps_language.specs.World.{Status, Frame, procedure_frame, running, Machine}
 use Rattle.ps_language.proofs.AskedLemmas.{made-same}

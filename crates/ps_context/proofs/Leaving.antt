@@ -1,10 +1,12 @@
 -- A loop is left by exit, with the procedures above it (PLRM2, 8 'Operators': exit).
-use Rattle.std.proofs.Common.{◌≡◌, ℕ, suc, ◌+◌, true, false, List, [], ◌∷◌, drop, Option, Some, None, Ok, refl, subst, arith}
+use Rattle.std.proofs.Common.{◌≡◌, ℕ, suc, ◌+◌, true, false, List, [], ◌∷◌, drop, Option, Some, None, Ok, refl, subst}
+use Rattle.std.proofs.Common.{arith}
 use Rattle.std.specs.Prelude.{option_map, Result}
 use Rattle.ps_ops.specs.declared.failure.NotMade.{NotMade as Reason}
 use Rattle.ps_language.specs.World.{unwinding, for_exit}
 use Rattle.ps_control.specs.declared.frames.Frame.{Frame}
-use Rattle.ps_control.specs.declared.frames.Frame.TheVariants.{Text, Procedure, Pending, Repeat, Loop, For, Forall, Stopped, Monitor, Bind}
+use Rattle.ps_control.specs.declared.frames.Frame.TheVariants.{Text, Procedure, Pending, Repeat, Loop, For, Forall}
+use Rattle.ps_control.specs.declared.frames.Frame.TheVariants.{Stopped, Monitor, Bind}
 use Rattle.ps_control.specs.declared.frames.Cause.TheVariants.{Exit}
 use Rattle.ps_control.specs.Turns.{ends_at_loop, is_monitor, frames_to_loop}
 use Rattle.ps_acts.specs.Lent.{Lent}

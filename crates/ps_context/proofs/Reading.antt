@@ -1,5 +1,6 @@
 -- A token of a text is done by operands alone.
-use Rattle.std.proofs.Common.{◌≡◌, ℕ, ◌+◌, true, false, List, [], ◌∷◌, drop, length, Option, Some, None, Result, Ok, Err, refl, sym, subst, ◌∙◌}
+use Rattle.std.proofs.Common.{◌≡◌, ℕ, ◌+◌, true, false, List, [], ◌∷◌, drop, length, Option, Some, None, Result, Ok}
+use Rattle.std.proofs.Common.{Err, refl, sym, subst, ◌∙◌}
 use Rattle.ps_language.specs.Token as language
 use Rattle.ps_language.specs.Token.{found}
 use Rattle.ps_language.specs.Value.{Store}
@@ -24,7 +25,8 @@ use Rattle.ps_turns.proofs.Composing.{turns_as, turns_shown}
 use Rattle.ps_values.specs.Quick.{IsTreated, TreatsAs}
 use Rattle.ps_values.specs.declared.quick.Quick.TheVariants.{Done as QuickDone}
 use Rattle.ps_control.specs.declared.ahead.Ahead.TheVariants as ahead
-use Rattle.ps_values.specs.Values.{Asks, EntersIn, GoesAlone, among, executed_asks, done_turn, pushed_turn, treated_asks, treated_turn}
+use Rattle.ps_values.specs.Values.{Asks, EntersIn, GoesAlone, among, executed_asks, done_turn, pushed_turn}
+use Rattle.ps_values.specs.Values.{treated_asks, treated_turn}
 use Rattle.ps_values.proofs.Alone.{literal_treated, own_treats, treated_comes}
 use Rattle.ps_values.proofs.Executing.{literal_unmade, literal_unnamed}
 use Rattle.ps_frames.specs.Steps.{running_turn}

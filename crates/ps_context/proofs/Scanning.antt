@@ -1,5 +1,6 @@
 -- What a text that was read says of the step.
-use Rattle.std.proofs.Common.{◌≡◌, Some, None, Ok, Err, Option, Result, ℕ, ◌+◌, ◌-◌, ◌<◌, ◌≤◌, arith, Bool, true, false, List, [], ◌∷◌, ◌++◌, take, drop, length, refl, sym, ap, subst, ◌∙◌, inl, inr}
+use Rattle.std.proofs.Common.{◌≡◌, Some, None, Ok, Err, Option, Result, ℕ, ◌+◌, ◌-◌, ◌<◌, ◌≤◌, arith, Bool, true, false}
+use Rattle.std.proofs.Common.{List, [], ◌∷◌, ◌++◌, take, drop, length, refl, sym, ap, subst, ◌∙◌, inl, inr}
 use Rattle.std.specs.Prelude.{⊤, IfOk, IfErr, IfSome, slice_range, vec_capacity}
 use Rattle.std.proofs.lemmas.List.{drop-drop}
 use Rattle.std.proofs.Math.Seq.{take-add}
@@ -9,7 +10,8 @@ use Rattle.ps_language.specs.Scan.{further_on, scan}
 use Rattle.ps_language.specs.StepFrames.{frame_turn, fault_name}
 use Rattle.ps_language.specs.StepValues.{leads}
 use Rattle.ps_language.specs.Token as language
-use Rattle.ps_language.specs.Token.{number_token, literal_name_token, executable_name_token, immediate_name_token, string_token, procedure_token, Scan, found, exhausted, faulty, ScanFault}
+use Rattle.ps_language.specs.Token.{number_token, literal_name_token, executable_name_token, immediate_name_token}
+use Rattle.ps_language.specs.Token.{string_token, procedure_token, Scan, found, exhausted, faulty, ScanFault}
 use Rattle.ps_language.specs.Value.{Store}
 use Rattle.ps_language.specs.World as world
 use Rattle.ps_language.proofs.ScanSteps.{scan_shifted}

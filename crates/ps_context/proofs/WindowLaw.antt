@@ -1,13 +1,24 @@
 -- A token that ends before its text does is the same with more behind the text.
-use Rattle.std.proofs.Common.{◌≡◌, ◌∷◌, [], ◌++◌, ℕ, zero, suc, ◌+◌, ◌<◌, ◌≤◌, Bool, true, false, not, List, arith, length, drop, refl, ap, subst, inl, inr}
+use Rattle.std.proofs.Common.{◌≡◌, ◌∷◌, [], ◌++◌, ℕ, zero, suc, ◌+◌, ◌<◌, ◌≤◌, Bool, true, false, not, List, arith}
+use Rattle.std.proofs.Common.{length, drop, refl, ap, subst, inl, inr}
 use Rattle.std.specs.Prelude.{◌==◌, ◌%◌, ◌^◌, nat_le, nat_lt, filter, if◌then◌else◌}
 use Rattle.std.proofs.lemmas.Bool.{cases_Bool, cases_lt}
 use Rattle.std.proofs.lemmas.List.{length-append, drop-append-le, drop_all}
 use Rattle.ps_language.specs.Bytes.{is_white, is_comment_end, is_hex, is_hex_or_white, is_regular, is_octal, value_in}
 use Rattle.ps_language.specs.Limits.{name_limit, sequence_limit}
-use Rattle.ps_language.specs.Reading.{Reading, token_then, stuck, Ending, string_end, unfinished, with_front, string_reading, sized_string, pairs, Tail, procedure_end, procedure_fault, with_first, sized_procedure, token_count, sized_name, Word, integer_word, radix_word, real_word, name_word, word_reading, fits_integer}
-use Rattle.ps_language.specs.Scan.{leading, beyond, behind_blank, after_return, octal_front, octal_rest, Escape, octal_escape, feed_escape, return_escape, byte_escape, escape_of, escape_front, escape_rest, Mark, opening, closing, escaping, returning, plain, mark_of, string_close, string_escape, string_step, string_body, hex_reading, Start, regular_start, string_start, hex_start, angle_start, bracket_start, slash_start, stray_start, start_of, after_hex_start, after_angle, after_slash, word_of, simple_by, then_elements, elements_step, elements_by, token_here, as_scan, text_scan, scan}
-use Rattle.ps_language.specs.Token.{Token, executable_name_token, literal_name_token, immediate_name_token, Scan, found, exhausted, faulty, ScanFault, syntax_fault, no_tokens}
+use Rattle.ps_language.specs.Reading.{Reading, token_then, stuck, Ending, string_end, unfinished, with_front}
+use Rattle.ps_language.specs.Reading.{string_reading, sized_string, pairs, Tail, procedure_end, procedure_fault}
+use Rattle.ps_language.specs.Reading.{with_first, sized_procedure, token_count, sized_name, Word, integer_word}
+use Rattle.ps_language.specs.Reading.{radix_word, real_word, name_word, word_reading, fits_integer}
+use Rattle.ps_language.specs.Scan.{leading, beyond, behind_blank, after_return, octal_front, octal_rest, Escape}
+use Rattle.ps_language.specs.Scan.{octal_escape, feed_escape, return_escape, byte_escape, escape_of, escape_front}
+use Rattle.ps_language.specs.Scan.{escape_rest, Mark, opening, closing, escaping, returning, plain, mark_of}
+use Rattle.ps_language.specs.Scan.{string_close, string_escape, string_step, string_body, hex_reading, Start}
+use Rattle.ps_language.specs.Scan.{regular_start, string_start, hex_start, angle_start, bracket_start, slash_start}
+use Rattle.ps_language.specs.Scan.{stray_start, start_of, after_hex_start, after_angle, after_slash, word_of, simple_by}
+use Rattle.ps_language.specs.Scan.{then_elements, elements_step, elements_by, token_here, as_scan, text_scan, scan}
+use Rattle.ps_language.specs.Token.{Token, executable_name_token, literal_name_token, immediate_name_token, Scan, found}
+use Rattle.ps_language.specs.Token.{exhausted, faulty, ScanFault, syntax_fault, no_tokens}
 
 -- ---- what stays: whatever leaves some of the text, leaves that and what is behind it
 

@@ -4,7 +4,8 @@ use Rattle.ps_language.specs.Control.{with_frames}
 use Rattle.ps_language.specs.Scan.{scan}
 use Rattle.ps_language.specs.StepFrames.{source_bytes}
 use Rattle.ps_language.specs.Token.{Scan, found}
-use Rattle.ps_language.specs.World.{Frame, Source, from_program, from_string, text_frame, running, unwinding}
+use Rattle.ps_language.specs.World.{Frame, Source, from_program, from_string, text_frame, running}
+use Rattle.ps_language.specs.World.{unwinding}
 use Rattle.ps_acts.specs.Acts.{Asked, IsFew, AreFew}
 use Rattle.ps_values.specs.Values.{Asks}
 use Rattle.ps_values.proofs.Few.{none_few}

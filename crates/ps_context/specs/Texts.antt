@@ -1,11 +1,13 @@
 -- A step by a text: what is scanned, and what it asks for that the language does not say (PLRM2,
 -- 3.2, 3.5).
-use Rattle.std.specs.Prelude.{◌≡◌, ℕ, ◌^◌, Bool, true, false, List, ◌∷◌, max, ⊤, Option, Result, Ok, Err, IfOk, IfSome}
+use Rattle.std.specs.Prelude.{◌≡◌, ℕ, ◌^◌, Bool, true, false, List, ◌∷◌, max, ⊤, Option, Result, Ok}
+use Rattle.std.specs.Prelude.{Err, IfOk, IfSome}
 use Rattle.ps_language.specs.Control.{with_frames}
 use Rattle.ps_language.specs.Effect.{Around, Scene}
 use Rattle.ps_language.specs.Scan.{scan}
 use Rattle.ps_language.specs.StepFrames.{source_bytes}
-use Rattle.ps_language.specs.Token.{string_token, procedure_token, Scan, found, faulty, syntax_fault, limit_fault}
+use Rattle.ps_language.specs.Token.{string_token, procedure_token, Scan, found, faulty}
+use Rattle.ps_language.specs.Token.{syntax_fault, limit_fault}
 use Rattle.ps_language.specs.Value.{Store}
 use Rattle.ps_language.specs.World as world
 use Rattle.ps_mem.specs.Heap.{Heap, birth_at}

@@ -1,4 +1,5 @@
-//! Elements of a procedure one after another, as far as operands and frames alone do them (PLRM2, 3.5).
+//! Elements of a procedure one after another, as far as operands and frames alone do them (PLRM2,
+//! 3.5).
 
 ghost use Rattle.std.specs.Prelude.{◌≡◌, ◌+◌, ◌-◌, ◌<◌, ◌≤◌, ◌^◌};
 ghost use Rattle.ps_control.specs.Frames.{IsHeld};

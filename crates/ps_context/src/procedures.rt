@@ -47,9 +47,9 @@ fn least(budget: u32, length: u16) -> u16
     }
 }
 
-/// The first element of a procedure above the frames, which is known, is done without its frame, where
-/// it neither sees nor changes frames, raises no error and is made. Else it is done over its frame, and
-/// what its turn came to is told. The records go into the log of a slot.
+/// The first element of a procedure above the frames, which is known, is done without its frame,
+/// where it neither sees nor changes frames, raises no error and is made. Else it is done over its
+/// frame, and what its turn came to is told. The records go into the log of a slot.
 #[inline(always)]
 fn do_known<O: Operate, M: Memory>(
     rest: Part,
@@ -81,9 +81,9 @@ fn do_known<O: Operate, M: Memory>(
     }
 }
 
-/// Pushes what is left of a procedure, for whose frame there is room. It is a call, so that a frame's
-/// bytes are written apart from the steps. It gets the procedure by a reference: so this stays in
-/// memory, and leaves its registers to the elements.
+/// Pushes what is left of a procedure, for whose frame there is room. It is a call, so that a
+/// frame's bytes are written apart from the steps. It gets the procedure by a reference: so this
+/// stays in memory, and leaves its registers to the elements.
 #[inline(never)]
 fn push_left(frames: &mut Frames, rest: &Part)
     requires room { length frames.old < 250 }
@@ -92,8 +92,8 @@ fn push_left(frames: &mut Frames, rest: &Part)
     push_frame(frames, Frame::Procedure { rest: *rest });
 }
 
-/// How many elements of so many may be done ahead within a budget: none where the frames have no room
-/// for two more.
+/// How many elements of so many may be done ahead within a budget: none where the frames have no
+/// room for two more.
 #[inline(always)]
 fn may_do(frames: &Frames, budget: u32, count: u16) -> u16
     ensures within { result ≤ min budget count }
@@ -109,9 +109,9 @@ fn may_do(frames: &Frames, budget: u32, count: u16) -> u16
 
 /// Makes the first steps of a procedure above the frames, at most so many: those of its first
 /// elements, as far as operands and frames alone do them, of each procedure that is entered so, of
-/// operators that neither see nor change frames, and that of the element behind them. What is left of
-/// the procedure is pushed before that, or where no more are to be made. The records go into the log
-/// of a slot.
+/// operators that neither see nor change frames, and that of the element behind them. What is left
+/// of the procedure is pushed before that, or where no more are to be made. The records go into the
+/// log of a slot.
 #[inline(always)]
 pub fn run_entered<O: Operate, M: Memory>(
     entered: Part,

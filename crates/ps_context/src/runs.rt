@@ -1,7 +1,8 @@
-//! Steps one after another: those of frames that go ahead, and those by the tokens of a text (PLRM2,
-//! 3.4, 3.5).
+//! Steps one after another: those of frames that go ahead, and those by the tokens of a text
+//! (PLRM2, 3.4, 3.5).
 
-ghost use Rattle.std.specs.Prelude.{◌≡◌, ◌≢◌, ℕ, ◌+◌, ◌<◌, ◌≤◌, [], IfSome, IsSome, IsNone, Some, None};
+ghost use Rattle.std.specs.Prelude.{◌≡◌, ◌≢◌, ℕ, ◌+◌, ◌<◌, ◌≤◌, [], IfSome, IsSome, IsNone, Some};
+ghost use Rattle.std.specs.Prelude.{None};
 ghost use Rattle.ps_stacks.specs.Tops.{first_of};
 ghost use Rattle.ps_acts.specs.Lent.{lent, Lent, IsGood};
 ghost use Rattle.ps_turns.specs.Turns.{Turns};
@@ -97,10 +98,10 @@ fn with_turn(made: u32, turn: Result<Turned, NotMade>, most: u32, frames: &mut F
     }
 }
 
-/// Makes the first steps of the topmost frame, a text, at most so many: those of its next tokens, as
-/// far as operands alone do them, and that of the token behind them. The text's frame goes on once
-/// for all of them, and what was read of a string serves more than one: while operands alone change,
-/// the string doesn't. The records go into the log of a slot.
+/// Makes the first steps of the topmost frame, a text, at most so many: those of its next tokens,
+/// as far as operands alone do them, and that of the token behind them. The text's frame goes on
+/// once for all of them, and what was read of a string serves more than one: while operands alone
+/// change, the string doesn't. The records go into the log of a slot.
 #[inline(always)]
 fn run_text<O: Operate, M: Memory>(
     source: Source,
@@ -240,9 +241,10 @@ fn begin_with<M: Memory>(
     }
 }
 
-/// Makes the first steps of the topmost frame where it goes ahead, at most so many, and one at least
-/// but where it is told what the first came to: of a procedure those of its first elements, and of a
-/// loop one. `None`: it doesn't, and nothing has changed. The records go into the log of a slot.
+/// Makes the first steps of the topmost frame where it goes ahead, at most so many, and one at
+/// least but where it is told what the first came to: of a procedure those of its first elements,
+/// and of a loop one. `None`: it doesn't, and nothing has changed. The records go into the log of a
+/// slot.
 #[inline(always)]
 fn run_frame<O: Operate, M: Memory>(
     most: u32,

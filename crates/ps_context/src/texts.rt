@@ -12,7 +12,8 @@ ghost use Rattle.ps_tokens.specs.Short.{IsShort};
 ghost use Rattle.ps_turns.specs.Turns.{Turns};
 ghost use Rattle.ps_frames.specs.Steps.{running_turn};
 ghost use Rattle.ps_context.specs.Reading.{read_to, IsRead, Takes};
-ghost use Rattle.ps_context.specs.Texts.{IsFaulty, IsScanned, Starves, IsTaken, scan_at, scanned_asks, text_asks};
+ghost use Rattle.ps_context.specs.Texts.{IsFaulty, IsScanned, Starves, IsTaken, scan_at};
+ghost use Rattle.ps_context.specs.Texts.{scanned_asks, text_asks};
 ghost use Rattle.ps_context.specs.Windows.{IsWindow, OnDone};
 
 use crate::sources::{scan_source, scanned_bytes};
@@ -190,8 +191,8 @@ pub enum Taken {
     Turned(Result<Turned, NotMade>),
 }
 
-/// A token is done as its value is treated, and the frame of the text goes on behind it. Raises what
-/// the value raises, with the token's word as the command.
+/// A token is done as its value is treated, and the frame of the text goes on behind it. Raises
+/// what the value raises, with the token's word as the command.
 ///
 /// Not made, with nothing changed but for the frame, which is read up to the token: as the value.
 #[inline(never)]

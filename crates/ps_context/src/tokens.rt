@@ -37,7 +37,8 @@ pub enum Read {
 }
 
 /// Does a token by operands alone, where that raises no error and forms no name. Else it tells as
-/// which value the token is treated, where its name was met and looked up. The memory stays as it is.
+/// which value the token is treated, where its name was met and looked up. The memory stays as it
+/// is.
 #[inline(always)]
 fn do_ahead<O: Operate, M: Memory>(
     token: &Token,

@@ -1,10 +1,15 @@
 -- The deed of each operator on contexts, locks and memory, by its caller's part.
-use Rattle.std.proofs.Common.{◌≡◌, ℕ, ℤ, ◌==◌, Bool, true, false, List, [], ◌∷◌, ◌++◌, length, Option, Some, None, refl, ap, ◌∙◌}
-use Rattle.std.specs.Prelude.{◌+◌, ◌&&◌, not, pos, negsuc, int_le, unwrap_or, nat_lt, if◌then◌else◌, option_map, option_and_then}
-use Rattle.ps_language.specs.declared.errors.ErrorName.TheVariants.{ExecStackOverflow, InvalidAccess, InvalidContext, LimitCheck, RangeCheck, StackOverflow, TypeCheck, UnmatchedMark}
+use Rattle.std.proofs.Common.{◌≡◌, ℕ, ℤ, ◌==◌, Bool, true, false, List, [], ◌∷◌, ◌++◌, length, Option, Some, None, refl}
+use Rattle.std.proofs.Common.{ap, ◌∙◌}
+use Rattle.std.specs.Prelude.{◌+◌, ◌&&◌, not, pos, negsuc, int_le, unwrap_or, nat_lt, if◌then◌else◌, option_map}
+use Rattle.std.specs.Prelude.{option_and_then}
+use Rattle.ps_language.specs.declared.errors.ErrorName.TheVariants.{ExecStackOverflow, InvalidAccess, InvalidContext}
+use Rattle.ps_language.specs.declared.errors.ErrorName.TheVariants.{LimitCheck, RangeCheck, StackOverflow, TypeCheck}
+use Rattle.ps_language.specs.declared.errors.ErrorName.TheVariants.{UnmatchedMark}
 use Rattle.ps_language.specs.Value.{Part, Value, Object, mark_value}
 use Rattle.ps_language.specs.World.{Context, waiting}
-use Rattle.ps_language.specs.Effect.{Scene, Call, Note, does, waits, nothing, shows_memory, wishes, turn_ends, quiet, effect_by}
+use Rattle.ps_language.specs.Effect.{Scene, Call, Note, does, waits, nothing, shows_memory, wishes, turn_ends, quiet}
+use Rattle.ps_language.specs.Effect.{effect_by}
 use Rattle.ps_language.specs.Outcome.{Outcome, leaves, fails, given, given_that, and_then}
 use Rattle.ps_language.specs.Access.{is_executable}
 use Rattle.ps_language.specs.Acts.{operands_effect, change_effect}
@@ -15,10 +20,16 @@ use Rattle.ps_language.specs.StepErrors.{new_error_dictionary}
 use Rattle.ps_language.specs.Control.{as_procedure, frames_fit}
 use Rattle.ps_language.specs.Limits.{context_limit, identifier_limit}
 use Rattle.ps_language.specs.Owners.{as_lock, as_condition, owner_of, with_owner, is_owner, is_free}
-use Rattle.ps_language.specs.Contexts.{with_context, with_operands_of, doing, doing_operands, currentcontext_row, vmstatus_row, vmreclaim_row, new_row, count_not_ended, new_context, with_new_context, fork_row, identifier_of, named_context, is_finished, without_context, join_row, with_detached, detach_row}
+use Rattle.ps_language.specs.Contexts.{with_context, with_operands_of, doing, doing_operands, currentcontext_row}
+use Rattle.ps_language.specs.Contexts.{vmstatus_row, vmreclaim_row, new_row, count_not_ended, new_context}
+use Rattle.ps_language.specs.Contexts.{with_new_context, fork_row, identifier_of, named_context, is_finished}
+use Rattle.ps_language.specs.Contexts.{without_context, join_row, with_detached, detach_row}
 use Rattle.ps_language.specs.Locks.{monitor_frames, monitor_row, wait_row, with_notified, notify_row, is_wait}
-use Rattle.ps_context_operators.specs.Rows.{currentcontext_caller, vmstatus_caller, vmreclaim_part, wished, new_caller, is_waiting, monitor_part, wait_part, waited, notify_part, notified_condition, fork_part, identifier_operand, join_part, detach_part}
-use Rattle.ps_context_operators.specs.Deeds.{scene_at, part_at, with_scene_as, with_scene_of, after_part, scene_deed, free_seat, with_context_more, forked}
+use Rattle.ps_context_operators.specs.Rows.{currentcontext_caller, vmstatus_caller, vmreclaim_part, wished, new_caller}
+use Rattle.ps_context_operators.specs.Rows.{is_waiting, monitor_part, wait_part, waited, notify_part}
+use Rattle.ps_context_operators.specs.Rows.{notified_condition, fork_part, identifier_operand, join_part, detach_part}
+use Rattle.ps_context_operators.specs.Deeds.{scene_at, part_at, with_scene_as, with_scene_of, after_part, scene_deed}
+use Rattle.ps_context_operators.specs.Deeds.{free_seat, with_context_more, forked}
 
 module _ (call : Call) where
   abbrev operands : List Value

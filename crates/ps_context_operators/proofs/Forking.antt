@@ -1,5 +1,7 @@
 -- What `fork` leaves to its caller, and the context that it makes.
-use Rattle.std.proofs.Common.{◌≡◌, ℕ, zero, suc, ◌+◌, ◌-◌, ◌<◌, ◌≤◌, ◌==◌, ◌^◌, ◌++◌, arith, Bool, true, false, List, [], ◌∷◌, take, drop, length, map, Option, Some, None, Ok, Err, inl, add-one, refl, sym, ap, subst, ◌∙◌, append-nil}
+use Rattle.std.proofs.Common.{◌≡◌, ℕ, zero, suc, ◌+◌, ◌-◌, ◌<◌, ◌≤◌, ◌==◌, ◌^◌, ◌++◌, arith, Bool, true, false, List}
+use Rattle.std.proofs.Common.{[], ◌∷◌, take, drop, length, map, Option, Some, None, Ok, Err, inl, add-one, refl, sym}
+use Rattle.std.proofs.Common.{ap, subst, ◌∙◌, append-nil}
 use Rattle.std.specs.Prelude.{option_map, if◌then◌else◌}
 use Rattle.std.specs.List.{AllByRecursion}
 use Rattle.std.proofs.lemmas.List.{length-append, drop-map}

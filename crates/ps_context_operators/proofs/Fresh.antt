@@ -6,7 +6,8 @@ use Rattle.ps_language.specs.Value.{lock_object, condition_object, Store}
 use Rattle.ps_language.specs.Access.{splice}
 use Rattle.ps_word.specs.declared.words.Word.{Word}
 use Rattle.ps_word.specs.Format.{IsWord}
-use Rattle.ps_mem.specs.Heap.{Heap, Standing, object_at, birth_at, birth_of, fields_at, fields_of, made, stored, zero_word}
+use Rattle.ps_mem.specs.Heap.{Heap, Standing, object_at, birth_at, birth_of, fields_at, fields_of, made, stored}
+use Rattle.ps_mem.specs.Heap.{zero_word}
 use Rattle.ps_mem.specs.Keeps.{Extends}
 use Rattle.ps_mem.specs.References.{StandsAs, NamesStanding}
 use Rattle.ps_mem.specs.Shows.{IsNatural, lock_fields, condition_fields, IsSound, shown_lock, shown_condition, Shows}

@@ -1,5 +1,6 @@
 -- The operands of another context under a mark.
-use Rattle.std.proofs.Common.{◌≡◌, ℕ, ◌++◌, arith, List, [], ◌∷◌, take, drop, length, map, Result, Ok, Err, refl, sym, ap, subst, ◌∙◌, append-nil}
+use Rattle.std.proofs.Common.{◌≡◌, ℕ, ◌++◌, arith, List, [], ◌∷◌, take, drop, length, map, Result, Ok, Err, refl, sym}
+use Rattle.std.proofs.Common.{ap, subst, ◌∙◌, append-nil}
 use Rattle.std.proofs.Math.Seq.{take-append_seam, drop-append_seam, take-length}
 use Rattle.std.specs.Prelude.{OnErr, reverse}
 use Rattle.std.proofs.lemmas.List.{reverse-reverse}
@@ -23,7 +24,8 @@ use Rattle.ps_acts.specs.Breaks.{made}
 use Rattle.ps_acts.specs.Lent.{Lent, scene_of, IsShown, IsGood}
 use Rattle.ps_acts.specs.Acts.{nothing_asked, Meets}
 use Rattle.ps_acts.proofs.Lifts.{changed_good, changed_left}
-use Rattle.ps_acts.proofs.Meeting.{keeps-same, lasts-same, logs-same, stays_as, at_least-same, lacks_for_same, made_meets}
+use Rattle.ps_acts.proofs.Meeting.{keeps-same, lasts-same, logs-same, stays_as, at_least-same, lacks_for_same}
+use Rattle.ps_acts.proofs.Meeting.{made_meets}
 use Rattle.ps_context_operators.specs.Done.{ActsWhere}
 use Rattle.ps_context_operators.specs.Rows.{join_part, join_caller}
 

@@ -1,9 +1,11 @@
 -- A lock that is read, and that is given to an owner or freed.
-use Rattle.std.proofs.Common.{◌≡◌, ◌≢◌, ℕ, zero, suc, ◌<◌, ◌≤◌, List, [], ◌∷◌, length, Option, Some, None, refl, sym, ap, subst, ◌∙◌, arith, to_z, w32}
+use Rattle.std.proofs.Common.{◌≡◌, ◌≢◌, ℕ, zero, suc, ◌<◌, ◌≤◌, List, [], ◌∷◌, length, Option, Some, None, refl, sym}
+use Rattle.std.proofs.Common.{ap, subst, ◌∙◌, arith, to_z, w32}
 use Rattle.std.specs.Prelude.{ℤ, pos, ◌^◌, slice_get, false}
 use Rattle.std.proofs.lemmas.Int.{to_z_pos}
 use Rattle.ps_language.specs.declared.kinds.Kind.TheVariants.{Lock as LockKind, Body as BodyKind}
-use Rattle.ps_language.specs.Value.{Object, array_object, string_object, dictionary_object, lock_object, condition_object, Store}
+use Rattle.ps_language.specs.Value.{Object, array_object, string_object, dictionary_object, lock_object}
+use Rattle.ps_language.specs.Value.{condition_object, Store}
 use Rattle.ps_language.specs.Access.{splice}
 use Rattle.ps_language.specs.Owners.{owner_in, owner_of, with_owner}
 use Rattle.ps_word.specs.declared.words.Word.{Word}

@@ -1,5 +1,6 @@
 -- What `monitor` comes to: the frames and the owner that it leaves, or that its caller waits.
-use Rattle.std.proofs.Common.{◌≡◌, ℕ, zero, suc, ◌+◌, ◌<◌, ◌≤◌, ◌==◌, ◌∙◌, ◌++◌, arith, Bool, true, false, List, [], ◌∷◌, drop, length, map, Option, Some, None, Ok, refl, sym, ap, subst, append-nil}
+use Rattle.std.proofs.Common.{◌≡◌, ℕ, zero, suc, ◌+◌, ◌<◌, ◌≤◌, ◌==◌, ◌∙◌, ◌++◌, arith, Bool, true, false, List, []}
+use Rattle.std.proofs.Common.{◌∷◌, drop, length, map, Option, Some, None, Ok, refl, sym, ap, subst, append-nil}
 use Rattle.std.specs.Prelude.{unwrap_or, if◌then◌else◌}
 use Rattle.std.specs.List.{AllByRecursion}
 use Rattle.std.proofs.lemmas.List.{map-append}
@@ -37,7 +38,8 @@ use Rattle.ps_acts.specs.Acts.{effect_in, Acts}
 use Rattle.ps_acts.proofs.Acting.{Made, Wants, left_acts}
 use Rattle.ps_acts.proofs.Kept.{frames-within}
 use Rattle.ps_acts.proofs.Lifts.{changed_good}
-use Rattle.ps_acts.proofs.Meeting.{keeps-same, lasts-same, logs-same, logs_more, stays_as, at_least-same, lacks_nothing, lacks_for_same}
+use Rattle.ps_acts.proofs.Meeting.{keeps-same, lasts-same, logs-same, logs_more, stays_as, at_least-same, lacks_nothing}
+use Rattle.ps_acts.proofs.Meeting.{lacks_for_same}
 use Rattle.ps_turns.specs.Turns.{IsUnlogged}
 use Rattle.ps_turns.proofs.Unlogged.{unlogged_reason}
 use Rattle.ps_context_operators.specs.Monitors.{monitored, monitored_count}

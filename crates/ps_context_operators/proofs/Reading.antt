@@ -5,7 +5,8 @@ use Rattle.ps_language.specs.declared.kinds.Kind.TheVariants.{Lock as LockKind, 
 use Rattle.ps_language.specs.Owners.{lock_in, condition_in, as_lock, as_condition}
 use Rattle.ps_word.specs.declared.words.Word.{Word}
 use Rattle.ps_word.specs.declared.values.Content.{Content}
-use Rattle.ps_word.specs.declared.values.Content.TheVariants.{Null, Integer, Boolean, Mark, Name, Operator, Array, Text, Dictionary, Lock, Condition, Body}
+use Rattle.ps_word.specs.declared.values.Content.TheVariants.{Null, Integer, Boolean, Mark, Name, Operator, Array, Text}
+use Rattle.ps_word.specs.declared.values.Content.TheVariants.{Dictionary, Lock, Condition, Body}
 use Rattle.ps_word.specs.Format.{content_in}
 use Rattle.ps_word.specs.Readers as words
 use Rattle.ps_mem.specs.Heap.{Heap}

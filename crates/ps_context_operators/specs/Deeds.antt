@@ -1,7 +1,9 @@
 -- What the operators on contexts, locks and memory do to the world, by the caller's part (PLRM2,
 -- 7.1).
-use Rattle.std.specs.Prelude.{ℕ, ◌+◌, ◌&&◌, Option, Some, None, List, [], ◌∷◌, ◌++◌, length, nat_lt, if◌then◌else◌, option_map, option_and_then}
-use Rattle.ps_language.specs.Effect.{Scene, Call, Note, Deed, does, waits, Effect, makes, unwinds, raises, calls}
+use Rattle.std.specs.Prelude.{ℕ, ◌+◌, ◌&&◌, Option, Some, None, List, [], ◌∷◌, ◌++◌, length, nat_lt}
+use Rattle.std.specs.Prelude.{if◌then◌else◌, option_map, option_and_then}
+use Rattle.ps_language.specs.Effect.{Scene, Call, Note, Deed, does, waits, Effect, makes, unwinds}
+use Rattle.ps_language.specs.Effect.{raises, calls}
 use Rattle.ps_language.specs.World.{Status, Context, World}
 use Rattle.ps_language.specs.Outcome.{Outcome, leaves, fails}
 use Rattle.ps_language.specs.Rows.{Row}

@@ -1,5 +1,6 @@
 -- A context more, over words (PLRM2, 7.1).
-use Rattle.std.specs.Prelude.{◌≡◌, ℕ, ◌==◌, ◌++◌, false, List, [], ◌∷◌, Option, Some, Result, Ok, Err, length, if◌then◌else◌}
+use Rattle.std.specs.Prelude.{◌≡◌, ℕ, ◌==◌, ◌++◌, false, List, [], ◌∷◌, Option, Some, Result, Ok}
+use Rattle.std.specs.Prelude.{Err, length, if◌then◌else◌}
 use Rattle.ps_language.specs.Value.{Store}
 use Rattle.ps_language.specs.World.{Status, running, finished, Context}
 use Rattle.ps_language.specs.Effect.{Effect, makes, unwinds, raises, calls}

@@ -1,8 +1,14 @@
 -- The caller's part of the operators on contexts, locks and memory: what each does to what is lent
 -- to its caller. What it does to other contexts is the world's (PLRM2, 7.1, 8 'Operators': Multiple
 -- Execution Contexts, Virtual Memory). Operands are listed from the topmost down.
-use Rattle.std.specs.Prelude.{ℕ, ℤ, pos, negsuc, int_le, ◌&&◌, Bool, true, false, not, Option, Some, None, unwrap_or, List, [], ◌∷◌, ◌++◌, length, if◌then◌else◌, option_map, option_and_then}
-use Rattle.ps_language.specs.declared.errors.ErrorName.TheVariants.{ExecStackOverflow, InvalidAccess, InvalidContext, LimitCheck, RangeCheck, StackOverflow, StackUnderflow, TypeCheck, UnmatchedMark}
+use Rattle.std.specs.Prelude.{ℕ, ℤ, pos, negsuc, int_le, ◌&&◌, Bool, true, false, not, Option, Some}
+use Rattle.std.specs.Prelude.{None, unwrap_or, List, [], ◌∷◌, ◌++◌, length, if◌then◌else◌}
+use Rattle.std.specs.Prelude.{option_map, option_and_then}
+use Rattle.ps_language.specs.declared.errors.ErrorName.TheVariants.{ExecStackOverflow}
+use Rattle.ps_language.specs.declared.errors.ErrorName.TheVariants.{InvalidAccess, InvalidContext}
+use Rattle.ps_language.specs.declared.errors.ErrorName.TheVariants.{LimitCheck, RangeCheck}
+use Rattle.ps_language.specs.declared.errors.ErrorName.TheVariants.{StackOverflow, StackUnderflow}
+use Rattle.ps_language.specs.declared.errors.ErrorName.TheVariants.{TypeCheck, UnmatchedMark}
 use Rattle.ps_language.specs.Value.{mark_value, Value, Object, Store}
 use Rattle.ps_language.specs.Effect.{Scene, quiet, effect_by}
 use Rattle.ps_language.specs.Outcome.{Outcome, leaves, fails, given, given_that, Change}

@@ -1,6 +1,7 @@
 //! A context more, that runs a procedure (PLRM2, 7.1, 8 'fork').
 
-ghost use Rattle.std.specs.Prelude.{◌≡◌, ◌+◌, ◌<◌, ◌≤◌, ◌^◌, ◌++◌, ◌∷◌, [], ℕ, List, Some, Err, IfOk, length, take, drop};
+ghost use Rattle.std.specs.Prelude.{◌≡◌, ◌+◌, ◌<◌, ◌≤◌, ◌^◌, ◌++◌, ◌∷◌, [], ℕ, List, Some, Err};
+ghost use Rattle.std.specs.Prelude.{IfOk, length, take, drop};
 ghost use Rattle.std.specs.Option.{ForSome};
 ghost use Rattle.ps_acts.specs.Acts.{nothing_asked};
 ghost use Rattle.ps_acts.specs.Lent.{lent, IsGood};

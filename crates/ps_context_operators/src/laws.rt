@@ -2,14 +2,22 @@
 //! leaves, and what is done to other contexts.
 
 ghost use Rattle.std.specs.Prelude.{◌≡◌, ◌==◌, Bool, not, length, if◌then◌else◌};
-ghost use Rattle.ps_language.specs.Contexts.{currentcontext_row, vmstatus_row, vmreclaim_row, new_row, fork_row, join_row, detach_row, named_context, is_finished, with_detached, without_context, doing};
-ghost use Rattle.ps_language.specs.Effect.{Call, nothing, turn_ends, shows_memory, wishes, does, waits};
-ghost use Rattle.ps_language.specs.Locks.{monitor_row, wait_row, notify_row, with_notified, is_wait};
+ghost use Rattle.ps_language.specs.Contexts.{currentcontext_row, vmstatus_row, vmreclaim_row};
+ghost use Rattle.ps_language.specs.Contexts.{new_row, fork_row, join_row, detach_row};
+ghost use Rattle.ps_language.specs.Contexts.{named_context, is_finished, with_detached};
+ghost use Rattle.ps_language.specs.Contexts.{without_context, doing};
+ghost use Rattle.ps_language.specs.Effect.{Call, nothing, turn_ends, shows_memory, wishes, does};
+ghost use Rattle.ps_language.specs.Effect.{waits};
+ghost use Rattle.ps_language.specs.Locks.{monitor_row, wait_row, notify_row, with_notified};
+ghost use Rattle.ps_language.specs.Locks.{is_wait};
 ghost use Rattle.ps_language.specs.Outcome.{leaves, given, given_that, and_then};
 ghost use Rattle.ps_language.specs.Value.{Object};
 ghost use Rattle.ps_language.specs.World.{waiting};
-ghost use Rattle.ps_language.specs.declared.errors.ErrorName.TheVariants.{InvalidContext, TypeCheck};
-ghost use Rattle.ps_context_operators.specs.Deeds.{scene_at, part_at, with_scene_as, with_scene_of, after_part, scene_deed, free_seat, with_context_more, forked};
+ghost use Rattle.ps_language.specs.declared.errors.ErrorName.TheVariants.{InvalidContext};
+ghost use Rattle.ps_language.specs.declared.errors.ErrorName.TheVariants.{TypeCheck};
+ghost use Rattle.ps_context_operators.specs.Deeds.{scene_at, part_at, with_scene_as, with_scene_of};
+ghost use Rattle.ps_context_operators.specs.Deeds.{after_part, scene_deed, free_seat};
+ghost use Rattle.ps_context_operators.specs.Deeds.{with_context_more, forked};
 ghost use Rattle.ps_context_operators.specs.Rows as rows;
 
 /// The deed of each operator, by the row of its caller's part.

@@ -1,6 +1,7 @@
 //! What memory shows, and wishes about it (PLRM2, 8 'Operators': Virtual Memory).
 
-ghost use Rattle.std.specs.Prelude.{◌≡◌, ◌&&◌, ℕ, ℤ, pos, negsuc, int_le, List, IfErr, IfOk, Some, map};
+ghost use Rattle.std.specs.Prelude.{◌≡◌, ◌&&◌, ℕ, ℤ, pos, negsuc, int_le, List, IfErr, IfOk, Some};
+ghost use Rattle.std.specs.Prelude.{map};
 ghost use Rattle.ps_mem.specs.Meaning.{value_of};
 ghost use Rattle.ps_operands.specs.Does.{Does};
 ghost use Rattle.ps_operands.specs.Kept.{AreFrom};

@@ -1,5 +1,6 @@
 -- The world where the table of contexts alone is changed.
-use Rattle.std.proofs.Common.{◌≡◌, ℕ, Bool, true, false, List, [], ◌∷◌, ◌++◌, Option, Some, None, refl, sym, ap, ap₂, ◌∙◌, inl, inr}
+use Rattle.std.proofs.Common.{◌≡◌, ℕ, Bool, true, false, List, [], ◌∷◌, ◌++◌, Option, Some, None, refl, sym, ap, ap₂}
+use Rattle.std.proofs.Common.{◌∙◌, inl, inr}
 use Rattle.std.proofs.lemmas.Bool.{eq-eqb, ne_eqb}
 use Rattle.std.proofs.lemmas.Bool.Decides.{eqb_tells}
 use Rattle.std.specs.Prelude.{◌==◌, map, option_map, if◌then◌else◌}
@@ -13,11 +14,13 @@ use Rattle.ps_mem.specs.References.{StandsAs}
 use Rattle.ps_mem.specs.Shows.{IsSound}
 use Rattle.ps_acts.specs.Lent.{IsShown}
 use Rattle.ps_contexts.specs.declared.members.Course.{Course}
-use Rattle.ps_contexts.specs.declared.members.Course.TheVariants.{Running, Unwinding, Again, Waiting, Retaking, Finished}
+use Rattle.ps_contexts.specs.declared.members.Course.TheVariants.{Running, Unwinding, Again, Waiting, Retaking}
+use Rattle.ps_contexts.specs.declared.members.Course.TheVariants.{Finished}
 use Rattle.ps_contexts.specs.declared.members.Member.{Member}
 use Rattle.ps_contexts.specs.Seats.{with_item}
 use Rattle.ps_contexts.specs.Worlds.{status_of, context_of, contexts_in}
-use Rattle.ps_contexts.specs.Desks.{Desk, lent_to, AllMembers, IsWorld, IsCourseHeld, IsGoodMember, IsSteady, member_left, notified_course, notified_members}
+use Rattle.ps_contexts.specs.Desks.{Desk, lent_to, AllMembers, IsWorld, IsCourseHeld, IsGoodMember, IsSteady}
+use Rattle.ps_contexts.specs.Desks.{member_left, notified_course, notified_members}
 use Rattle.ps_contexts.proofs.Going.{with_item_members, left_members, left-same}
 use Rattle.ps_contexts.proofs.Holding.{contexts_in-more, contexts_in-changed}
 

@@ -1,12 +1,14 @@
 -- The next identifier under which an item is left.
-use Rattle.std.proofs.Common.{◌≡◌, ◌≢◌, ℕ, zero, suc, ◌+◌, ◌<◌, ◌≤◌, List, [], ◌∷◌, length, get_or, None, IsSome, refl, sym, subst, ◌∙◌, arith, inl, inr, nat_cmp, Ok, Err}
+use Rattle.std.proofs.Common.{◌≡◌, ◌≢◌, ℕ, zero, suc, ◌+◌, ◌<◌, ◌≤◌, List, [], ◌∷◌, length, get_or, None, IsSome, refl}
+use Rattle.std.proofs.Common.{sym, subst, ◌∙◌, arith, inl, inr, nat_cmp, Ok, Err}
 use Rattle.std.proofs.lemmas.Bool.{cases_lt}
 use Rattle.std.proofs.lemmas.List.{get_or_default}
 use Rattle.std.specs.Prelude.{slice_get}
 use Rattle.std.specs.List.Sorted.{IsBinarySearchResult}
 use Rattle.std.proofs.lemmas.List.Sorted.{searched}
 use Rattle.ps_contexts.specs.Seats.{IsRising, listed, item_at, AreSeats}
-use Rattle.ps_contexts.proofs.Seated.{rising_above, rising_order, seated_found, seated_none, item_at-listed, search_found}
+use Rattle.ps_contexts.proofs.Seated.{rising_above, rising_order, seated_found, seated_none, item_at-listed}
+use Rattle.ps_contexts.proofs.Seated.{search_found}
 
 -- those before a place are at most this, those from it on above
 pub record IsCut (seats : List ℕ) (identifier place : ℕ) : Type 0 where

@@ -1,5 +1,6 @@
 -- The world after a context went on: from what is lent of a machine to all contexts.
-use Rattle.std.proofs.Common.{◌≡◌, ℕ, zero, suc, Bool, true, false, List, [], ◌∷◌, Option, Some, None, refl, sym, ap, ap₂, subst, ◌∙◌}
+use Rattle.std.proofs.Common.{◌≡◌, ℕ, zero, suc, Bool, true, false, List, [], ◌∷◌, Option, Some, None, refl, sym, ap}
+use Rattle.std.proofs.Common.{ap₂, subst, ◌∙◌}
 use Rattle.std.specs.Prelude.{◌&&◌, not, nat_eq, IfSome, option_map, slice_set, if◌then◌else◌}
 use Rattle.ps_language.specs.Contexts.{is_finished, left_of, contexts_with, with_context}
 use Rattle.ps_language.specs.Effect.{Scene}
@@ -9,11 +10,13 @@ use Rattle.ps_mem.specs.Heap.{birth_at}
 use Rattle.ps_acts.specs.Lent.{IsShown}
 use Rattle.ps_acts.specs.Acts.{Lasts}
 use Rattle.ps_contexts.specs.declared.members.Course.{Course}
-use Rattle.ps_contexts.specs.declared.members.Course.TheVariants.{Running, Unwinding, Again, Waiting, Retaking, Finished}
+use Rattle.ps_contexts.specs.declared.members.Course.TheVariants.{Running, Unwinding, Again, Waiting, Retaking}
+use Rattle.ps_contexts.specs.declared.members.Course.TheVariants.{Finished}
 use Rattle.ps_contexts.specs.declared.members.Member.{Member}
 use Rattle.ps_contexts.specs.Seats.{with_item}
 use Rattle.ps_contexts.specs.Worlds.{status_of, context_of, contexts_in}
-use Rattle.ps_contexts.specs.Desks.{Desk, lent_to, AllMembers, IsWorld, IsLentBy, IsGoodMember, IsSteady, GoesOn, has_finished, member_left}
+use Rattle.ps_contexts.specs.Desks.{Desk, lent_to, AllMembers, IsWorld, IsLentBy, IsGoodMember, IsSteady, GoesOn}
+use Rattle.ps_contexts.specs.Desks.{has_finished, member_left}
 use Rattle.ps_contexts.proofs.Holding.{contexts_in-changed}
 use Rattle.ps_contexts.proofs.Staying.{contexts-same, members_shown, members_good}
 

@@ -21,7 +21,8 @@ use Rattle.ps_contexts.specs.declared.members.Course.TheVariants.{Running}
 use Rattle.ps_contexts.specs.declared.members.Member.{Member}
 use Rattle.ps_contexts.specs.Seats.{item_at}
 use Rattle.ps_contexts.specs.Worlds.{status_of, context_of}
-use Rattle.ps_contexts.specs.Desks.{Desk, lent_to, IsWorld, IsLentBy, IsSteady, desk_turned, machine_reached, course_after, turned_member}
+use Rattle.ps_contexts.specs.Desks.{Desk, lent_to, IsWorld, IsLentBy, IsSteady, desk_turned, machine_reached}
+use Rattle.ps_contexts.specs.Desks.{course_after, turned_member}
 use Rattle.ps_contexts.proofs.Changing.{changed_desk, changed_world}
 use Rattle.ps_contexts.proofs.Settling.{settled_is}
 use Rattle.ps_contexts.proofs.Stepping.{context_there}

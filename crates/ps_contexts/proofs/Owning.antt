@@ -1,12 +1,14 @@
 -- Many own steps of one context are moves of the world.
-use Rattle.std.proofs.Common.{◌≡◌, ◌≢◌, ℕ, zero, suc, Bool, true, false, Option, Some, None, refl, sym, ap, subst, ◌∙◌, IsTrue}
+use Rattle.std.proofs.Common.{◌≡◌, ◌≢◌, ℕ, zero, suc, Bool, true, false, Option, Some, None, refl, sym, ap, subst, ◌∙◌}
+use Rattle.std.proofs.Common.{IsTrue}
 use Rattle.std.specs.Option.{option_map_or}
 use Rattle.std.specs.Prelude.{◌&&◌, not, nat_eq, if◌then◌else◌}
 use Rattle.ps_language.specs.Contexts.{is_finished, left_of, context_at, with_context}
 use Rattle.ps_language.specs.Locks.{is_ready_as, is_ready}
 use Rattle.ps_language.specs.Machines.{may_end}
 use Rattle.ps_language.specs.Step.{machine_of, with_machine, Stepped, after_own, step}
-use Rattle.ps_language.specs.World.{Status, running, unwinding, again, waiting, retaking, finished, Context, Machine, World}
+use Rattle.ps_language.specs.World.{Status, running, unwinding, again, waiting, retaking, finished, Context, Machine}
+use Rattle.ps_language.specs.World.{World}
 use Rattle.ps_language.specs.Worlds.{after_moves, all_ready}
 use Rattle.ps_mem.specs.Heap.{birth_at}
 use Rattle.ps_mem.specs.Keeps.{Keeps}

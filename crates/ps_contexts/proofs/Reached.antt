@@ -1,10 +1,13 @@
 -- What is reachable in a world stands in the memory that shows it, and has at most its words.
-use Rattle.std.proofs.Common.{◌≡◌, ℕ, ◌-◌, ◌≤◌, List, [], ◌∷◌, ◌++◌, length, drop, Option, Some, None, option_map, refl, sym, ap, ◌∙◌, subst}
+use Rattle.std.proofs.Common.{◌≡◌, ℕ, ◌-◌, ◌≤◌, List, [], ◌∷◌, ◌++◌, length, drop, Option, Some, None, option_map, refl}
+use Rattle.std.proofs.Common.{sym, ap, ◌∙◌, subst}
 use Rattle.std.specs.List.{AllByRecursion, Contains}
 use Rattle.std.proofs.lemmas.List.Elements.{All-contains, All-from_recursion}
 use Rattle.ps_language.specs.declared.kinds.Kind.TheVariants as kinds
 use Rattle.ps_language.specs.Contexts.{context_at}
-use Rattle.ps_language.specs.Live.{references_of, references_of_source, references_of_frame, references_of_frames, references_of_status, references_of_context, references_of_contexts, references_at, roots, IsReachable, is_root, is_named, Live}
+use Rattle.ps_language.specs.Live.{references_of, references_of_source, references_of_frame, references_of_frames}
+use Rattle.ps_language.specs.Live.{references_of_status, references_of_context, references_of_contexts, references_at}
+use Rattle.ps_language.specs.Live.{roots, IsReachable, is_root, is_named, Live}
 use Rattle.ps_language.specs.World.{Context, World}
 use Rattle.ps_language.specs.Worlds.{systemdict, userdict, system_value, user_value}
 use Rattle.ps_mem.specs.Heap.{birth_at, standing_words}
@@ -19,10 +22,12 @@ use Rattle.ps_ops.specs.Does.{values_in}
 use Rattle.ps_control.specs.declared.frames.Source.{Source}
 use Rattle.ps_control.specs.declared.frames.Source.TheVariants.{Program, Text as TextOf}
 use Rattle.ps_control.specs.declared.frames.Frame.{Frame}
-use Rattle.ps_control.specs.declared.frames.Frame.TheVariants.{Text, Procedure, Pending, Repeat, Loop, For, Forall, Stopped, Monitor, Bind}
+use Rattle.ps_control.specs.declared.frames.Frame.TheVariants.{Text, Procedure, Pending, Repeat, Loop, For, Forall}
+use Rattle.ps_control.specs.declared.frames.Frame.TheVariants.{Stopped, Monitor, Bind}
 use Rattle.ps_control.specs.Frames.{source_of, frame_of, frames_in, IsSourceAt, IsFrame, AreFrames}
 use Rattle.ps_contexts.specs.declared.members.Course.{Course}
-use Rattle.ps_contexts.specs.declared.members.Course.TheVariants.{Running, Unwinding, Again, Waiting, Retaking, Finished}
+use Rattle.ps_contexts.specs.declared.members.Course.TheVariants.{Running, Unwinding, Again, Waiting, Retaking}
+use Rattle.ps_contexts.specs.declared.members.Course.TheVariants.{Finished}
 use Rattle.ps_contexts.specs.declared.members.Member.{Member}
 use Rattle.ps_contexts.specs.Seats.{item_at}
 use Rattle.ps_contexts.specs.Worlds.{status_of, context_of, contexts_in}

@@ -1,5 +1,8 @@
 -- Items under rising identifiers: what is found, and what is left after a change.
-use Rattle.std.proofs.Common.{◌≡◌, ◌≢◌, ℕ, zero, suc, ◌+◌, ◌<◌, ◌≤◌, Bool, true, false, cond, List, [], ◌∷◌, ◌++◌, length, map, take, drop, get_or, set, slice_get, remove, ◌==◌, Option, Some, None, IsSome, option_and_then, option_map, refl, sym, ap, ap₂, ◌∙◌, subst, arith, le_refl, length-set, get_or-set_same, get_or-set_other, inl, inr, nat_cmp, Ok, Err}
+use Rattle.std.proofs.Common.{◌≡◌, ◌≢◌, ℕ, zero, suc, ◌+◌, ◌<◌, ◌≤◌, Bool, true, false, cond, List, [], ◌∷◌, ◌++◌}
+use Rattle.std.proofs.Common.{length, map, take, drop, get_or, set, slice_get, remove, ◌==◌, Option, Some, None, IsSome}
+use Rattle.std.proofs.Common.{option_and_then, option_map, refl, sym, ap, ap₂, ◌∙◌, subst, arith, le_refl, length-set}
+use Rattle.std.proofs.Common.{get_or-set_same, get_or-set_other, inl, inr, nat_cmp, Ok, Err}
 use Rattle.std.specs.List.{range_with_len}
 use Rattle.std.proofs.lemmas.Bool.{eq-eqb, ne_eqb, cases_lt, true≢false}
 use Rattle.std.proofs.lemmas.Bool.Decides.{eqb_tells}
@@ -8,7 +11,8 @@ use Rattle.std.specs.List.Sorted.{IsBinarySearchResult}
 use Rattle.std.proofs.lemmas.List.Sorted.{searched}
 use Rattle.std.proofs.lemmas.List.{length_push}
 use Rattle.std.proofs.lemmas.List.Edits.{length-remove}
-use Rattle.std.proofs.lemmas.List.FromFn.{length-map-range_with_len, get_or-map-range_with_len, map-range_with_len_more, fill_by_all}
+use Rattle.std.proofs.lemmas.List.FromFn.{length-map-range_with_len, get_or-map-range_with_len, map-range_with_len_more}
+use Rattle.std.proofs.lemmas.List.FromFn.{fill_by_all}
 use Rattle.ps_contexts.specs.Seats.{IsRising, seated, listed, item_at, with_item, count_left, items_left, AreSeats}
 
 -- ---- rising numbers

@@ -5,7 +5,8 @@ use Rattle.ps_language.specs.Value.{Store}
 use Rattle.ps_language.specs.World as world
 use Rattle.ps_mem.specs.Heap.{birth_at}
 use Rattle.ps_mem.specs.Shows.{Shows}
-use Rattle.ps_mem.proofs.KeepsLemmas.{birth_at-kept, stands-kept, AreValues-kept, AreWithin-kept, values_of-kept, known_values}
+use Rattle.ps_mem.proofs.KeepsLemmas.{birth_at-kept, stands-kept, AreValues-kept, AreWithin-kept, values_of-kept}
+use Rattle.ps_mem.proofs.KeepsLemmas.{known_values}
 use Rattle.ps_ops.specs.Does.{values_in}
 use Rattle.ps_control.specs.Frames.{AreFrames}
 use Rattle.ps_acts.specs.declared.lent.Context.{Context}
@@ -14,7 +15,8 @@ use Rattle.ps_acts.specs.Acts.{Lasts, IsLeft, over}
 use Rattle.ps_acts.proofs.Lifts.{changed_good, changed_left}
 use Rattle.ps_acts.proofs.Forming.{formed_good, formed_left}
 use Rattle.ps_contexts.specs.declared.members.Course.{Course}
-use Rattle.ps_contexts.specs.declared.members.Course.TheVariants.{Running, Unwinding, Again, Waiting, Retaking, Finished}
+use Rattle.ps_contexts.specs.declared.members.Course.TheVariants.{Running, Unwinding, Again, Waiting, Retaking}
+use Rattle.ps_contexts.specs.declared.members.Course.TheVariants.{Finished}
 use Rattle.ps_contexts.specs.declared.members.Member.{Member}
 use Rattle.ps_contexts.specs.Worlds.{status_of, context_of, contexts_in}
 use Rattle.ps_contexts.specs.Desks.{Desk, lent_to, AllMembers, IsCourseHeld, IsGoodMember, GoesOn}

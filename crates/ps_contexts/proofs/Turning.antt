@@ -1,5 +1,6 @@
 -- The world after a turn of one context.
-use Rattle.std.proofs.Common.{◌≡◌, ℕ, zero, suc, ◌+◌, Bool, true, false, List, [], ◌∷◌, Option, Some, None, Ok, Err, refl, sym, ap, subst, ◌∙◌, arith}
+use Rattle.std.proofs.Common.{◌≡◌, ℕ, zero, suc, ◌+◌, Bool, true, false, List, [], ◌∷◌, Option, Some, None, Ok, Err}
+use Rattle.std.proofs.Common.{refl, sym, ap, subst, ◌∙◌, arith}
 use Rattle.std.proofs.lemmas.Bool.{ne_eqb}
 use Rattle.std.specs.Prelude.{◌||◌, not, nat_eq, option_and_then, slice_get}
 use Rattle.ps_language.specs.Machines.{with_status, with_scene, after_turn}
@@ -25,7 +26,9 @@ use Rattle.ps_contexts.specs.declared.members.Course.{Course}
 use Rattle.ps_contexts.specs.declared.members.Member.{Member}
 use Rattle.ps_contexts.specs.Seats.{item_at}
 use Rattle.ps_contexts.specs.Worlds.{status_of, context_of}
-use Rattle.ps_contexts.specs.Desks.{Desk, lent_to, returned, desk_of, desk_after, desk_turned, desk_unmade, AllMembers, HasFrame, AreFramed, IsOwn, IsWorld, IsLentBy, IsCourseHeld, IsGoodMember, IsSteady, GoesOn, machine_reached, member_left, course_after, tells, turned_member}
+use Rattle.ps_contexts.specs.Desks.{Desk, lent_to, returned, desk_of, desk_after, desk_turned, desk_unmade, AllMembers}
+use Rattle.ps_contexts.specs.Desks.{HasFrame, AreFramed, IsOwn, IsWorld, IsLentBy, IsCourseHeld, IsGoodMember, IsSteady}
+use Rattle.ps_contexts.specs.Desks.{GoesOn, machine_reached, member_left, course_after, tells, turned_member}
 use Rattle.ps_contexts.proofs.Going.{with_item_members, goes_steady, goes_world, left_members}
 use Rattle.ps_contexts.proofs.Places.{with_item-same}
 use Rattle.ps_contexts.proofs.Settling.{status_lent, settled_is}

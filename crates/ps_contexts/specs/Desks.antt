@@ -1,5 +1,8 @@
 -- All contexts over a memory with what they share, and when these are a world's (PLRM2, 3.4, 7.1).
-use Rattle.std.specs.Prelude.{◌≡◌, ◌≢◌, ℕ, ◌+◌, ◌-◌, nat_lt, option_and_then, ◌==◌, ◌&&◌, ◌||◌, Bool, true, false, not, nat_eq, Option, Some, None, IfSome, option_map, List, [], ◌∷◌, ◌++◌, length, map, AllPairs, vec_capacity, if◌then◌else◌}
+use Rattle.std.specs.Prelude.{◌≡◌, ◌≢◌, ℕ, ◌+◌, ◌-◌, nat_lt, option_and_then, ◌==◌, ◌&&◌, ◌||◌}
+use Rattle.std.specs.Prelude.{Bool, true, false, not, nat_eq, Option, Some, None, IfSome}
+use Rattle.std.specs.Prelude.{option_map, List, [], ◌∷◌, ◌++◌, length, map, AllPairs, vec_capacity}
+use Rattle.std.specs.Prelude.{if◌then◌else◌}
 use Rattle.std.specs.List.{AllByRecursion}
 use Rattle.std.specs.Option.{option_map_or}
 use Rattle.ps_language.specs.declared.kinds.Kind.TheVariants.{Lock, Condition}
@@ -22,7 +25,8 @@ use Rattle.ps_acts.specs.Lent.{Lent, scene_of, IsEmpty, IsShown, IsGood}
 use Rattle.ps_turns.specs.declared.turned.Turned.{Turned}
 use Rattle.ps_turns.specs.declared.turned.Turned.TheVariants.{Goes, Calls, Breaks, Ends}
 use Rattle.ps_contexts.specs.declared.members.Course.{Course}
-use Rattle.ps_contexts.specs.declared.members.Course.TheVariants.{Running, Unwinding, Again, Waiting, Retaking, Finished}
+use Rattle.ps_contexts.specs.declared.members.Course.TheVariants.{Running, Unwinding, Again}
+use Rattle.ps_contexts.specs.declared.members.Course.TheVariants.{Waiting, Retaking, Finished}
 use Rattle.ps_contexts.specs.declared.members.Member.{Member}
 use Rattle.ps_contexts.specs.Seats.{item_at, with_item}
 use Rattle.ps_contexts.specs.Worlds.{contexts_in}

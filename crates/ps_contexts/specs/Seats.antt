@@ -1,6 +1,8 @@
 -- Items under rising identifiers, and the list that they stand for: the item of identifier n is at
 -- place n - 1, and nothing is left of one that is gone (PLRM2, 7.1).
-use Rattle.std.specs.Prelude.{◌≡◌, ℕ, zero, suc, ◌+◌, ◌<◌, ◌≤◌, ◌==◌, Option, Some, None, IsSome, List, [], ◌∷◌, length, map, slice_get, slice_set, if◌then◌else◌, option_and_then}
+use Rattle.std.specs.Prelude.{◌≡◌, ℕ, zero, suc, ◌+◌, ◌<◌, ◌≤◌, ◌==◌, Option, Some, None, IsSome}
+use Rattle.std.specs.Prelude.{List, [], ◌∷◌, length, map, slice_get, slice_set, if◌then◌else◌}
+use Rattle.std.specs.Prelude.{option_and_then}
 use Rattle.std.specs.List.{range_with_len}
 use Rattle.ps_language.specs.Limits.{context_limit, identifier_limit}
 

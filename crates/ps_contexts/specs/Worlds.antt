@@ -6,7 +6,8 @@ use Rattle.ps_ops.specs.Does.{values_in}
 use Rattle.ps_control.specs.Frames.{frames_in}
 use Rattle.ps_control.specs.Turns.{cause_of}
 use Rattle.ps_contexts.specs.declared.members.Course.{Course}
-use Rattle.ps_contexts.specs.declared.members.Course.TheVariants.{Running, Unwinding, Again, Waiting, Retaking, Finished}
+use Rattle.ps_contexts.specs.declared.members.Course.TheVariants.{Running, Unwinding, Again}
+use Rattle.ps_contexts.specs.declared.members.Course.TheVariants.{Waiting, Retaking, Finished}
 use Rattle.ps_contexts.specs.declared.members.Member.{Member}
 
 -- by the places of its locks and conditions

@@ -6,7 +6,8 @@ ghost use Rattle.ps_language.specs.Worlds as worlds;
 ghost use Rattle.ps_mem.specs.Heap.{Heap};
 ghost use Rattle.ps_contexts.specs.Seats.{count_left, item_at};
 ghost use Rattle.ps_contexts.specs.Worlds.{contexts_in};
-ghost use Rattle.ps_contexts.specs.Desks.{course_after, named_member, notified_members, seat_in, tells, turned_members};
+ghost use Rattle.ps_contexts.specs.Desks.{course_after, named_member, notified_members, seat_in};
+ghost use Rattle.ps_contexts.specs.Desks.{tells, turned_members};
 
 use crate::members::{Course, Member, Notified};
 use crate::table::{CONTEXT_LIMIT, IDENTIFIER_LIMIT, Table};

@@ -1,6 +1,7 @@
 //! What is done over a memory by one context, in the world of all (PLRM2, 7.1).
 
-ghost use Rattle.std.specs.Prelude.{◌≡◌, ℕ, ℤ, Bool, suc, true, not, nat_eq, Option, option_map, Some, Ok, Err, ◌++◌, ◌∷◌, [], None};
+ghost use Rattle.std.specs.Prelude.{◌≡◌, ℕ, ℤ, Bool, suc, true, not, nat_eq, Option, option_map};
+ghost use Rattle.std.specs.Prelude.{Some, Ok, Err, ◌++◌, ◌∷◌, [], None};
 ghost use Rattle.ps_language.specs.declared.kinds.Kind.TheVariants.{Condition};
 ghost use Rattle.ps_language.specs.Contexts.{named_context, with_context, without_context};
 ghost use Rattle.ps_language.specs.Locks.{with_notified};
@@ -25,7 +26,10 @@ ghost use Rattle.ps_contexts.specs.declared.members.Course.TheVariants.{Running}
 ghost use Rattle.ps_contexts.specs.declared.members.Member.{Member as AMember};
 ghost use Rattle.ps_contexts.specs.Seats.{item_at, with_item};
 ghost use Rattle.ps_contexts.specs.Worlds.{status_of, context_of};
-ghost use Rattle.ps_contexts.specs.Desks.{Desk, lent_to, desk_after, desk_of, desk_turned, desk_unmade, IsWorld, IsLentBy, IsCourseHeld, IsSteady, machine_reached, member_left, named_member, turned_member, notified_members, returned};
+ghost use Rattle.ps_contexts.specs.Desks.{Desk, lent_to, desk_after, desk_of, desk_turned};
+ghost use Rattle.ps_contexts.specs.Desks.{desk_unmade, IsWorld, IsLentBy, IsCourseHeld, IsSteady};
+ghost use Rattle.ps_contexts.specs.Desks.{machine_reached, member_left, named_member};
+ghost use Rattle.ps_contexts.specs.Desks.{turned_member, notified_members, returned};
 ghost use Rattle.ps_contexts.specs.Moves.{OwnSteps, plain_moves};
 
 /// The desk of all contexts is a world's, and goes on being one.

@@ -1,6 +1,7 @@
 //! A context of a world, how far it is, and what the table of contexts is in the definitions.
 
-ghost use Rattle.std.specs.Prelude.{◌≡◌, ℕ, ◌++◌, [], ◌∷◌, List, Option, Some, None, length, option_map};
+ghost use Rattle.std.specs.Prelude.{◌≡◌, ℕ, ◌++◌, [], ◌∷◌, List, Option, Some, None, length};
+ghost use Rattle.std.specs.Prelude.{option_map};
 ghost use Rattle.ps_language.specs.Contexts as contexts;
 ghost use Rattle.ps_language.specs.World as world;
 ghost use Rattle.ps_mem.specs.Heap.{Heap};

@@ -9,7 +9,14 @@ ghost use Rattle.std.specs.Prelude.{◌≡◌, ◌+◌, ◌<◌, ◌^◌, IfOk, 
 ghost use Rattle.ps_core_parts.specs.Bounds.{Bounded, CanStep, IsSlot};
 ghost use Rattle.ps_core_parts.specs.Conditions as conditions;
 ghost use Rattle.ps_core_parts.specs.Conditions.{Permitted, BothMay};
-ghost use Rattle.ps_core_parts.specs.declared.events.Event.TheVariants.{TakeLoad, HandOver, ClearLoad, ClearStore, HeaderStore, FieldStore, RecordStore, EpochStore, ReplicaHeaderStore, ReplicaFieldStore, ForwardStore, HeadStore, CycleStore};
+ghost use Rattle.ps_core_parts.specs.declared.events.Event.TheVariants.{TakeLoad, HandOver};
+ghost use Rattle.ps_core_parts.specs.declared.events.Event.TheVariants.{ClearLoad, ClearStore};
+ghost use Rattle.ps_core_parts.specs.declared.events.Event.TheVariants.{HeaderStore, FieldStore};
+ghost use Rattle.ps_core_parts.specs.declared.events.Event.TheVariants.{RecordStore, EpochStore};
+ghost use Rattle.ps_core_parts.specs.declared.events.Event.TheVariants.{ReplicaHeaderStore};
+ghost use Rattle.ps_core_parts.specs.declared.events.Event.TheVariants.{ReplicaFieldStore};
+ghost use Rattle.ps_core_parts.specs.declared.events.Event.TheVariants.{ForwardStore, HeadStore};
+ghost use Rattle.ps_core_parts.specs.declared.events.Event.TheVariants.{CycleStore};
 ghost use Rattle.ps_core_parts.specs.Objects as objects;
 ghost use Rattle.ps_core_parts.specs.Steps as steps;
 ghost use Rattle.ps_record.specs.Format as layout;
@@ -97,8 +104,8 @@ impl Machine {
         same_logs(self.gc.taken(), self.vm.logs())
     }
 
-    /// Whether the word that a load finds is the one that it carries, or zero where it carries none,
-    /// and whether a flip finds all logs drained.
+    /// Whether the word that a load finds is the one that it carries, or zero where it carries
+    /// none, and whether a flip finds all logs drained.
     fn both(&self, event: &Event) -> bool
         requires bounded { Bounded self.now }
         requires may { conditions.GcMay self.now.gc event.now }

@@ -5,10 +5,15 @@
 #![tactic(auto)]
 
 ghost use Rattle.std.specs.Bool.{Decides};
-ghost use Rattle.std.specs.Prelude.{◌≡◌, ◌<◌, ◌++◌, if◌then◌else◌, ◌^◌, IfOk, OnOk, MatchOption, None, [], length};
+ghost use Rattle.std.specs.Prelude.{◌≡◌, ◌<◌, ◌++◌, if◌then◌else◌, ◌^◌, IfOk, OnOk, MatchOption};
+ghost use Rattle.std.specs.Prelude.{None, [], length};
 ghost use Rattle.std.specs.Option.{option_map};
 ghost use Rattle.ps_core_parts.specs.Bounds.{GcBounded, IsSlot, any_vm, target_of};
-ghost use Rattle.ps_core_parts.specs.declared.events.Event.TheVariants.{GcLoad, TakeLoad, CopyLoad, ReplicaHeaderStore, ReplicaFieldStore, ForwardStore, HeadStore, CycleStore};
+ghost use Rattle.ps_core_parts.specs.declared.events.Event.TheVariants.{GcLoad, TakeLoad, CopyLoad};
+ghost use Rattle.ps_core_parts.specs.declared.events.Event.TheVariants.{ReplicaHeaderStore};
+ghost use Rattle.ps_core_parts.specs.declared.events.Event.TheVariants.{ReplicaFieldStore};
+ghost use Rattle.ps_core_parts.specs.declared.events.Event.TheVariants.{ForwardStore, HeadStore};
+ghost use Rattle.ps_core_parts.specs.declared.events.Event.TheVariants.{CycleStore};
 ghost use Rattle.ps_core_parts.specs.Conditions as conditions;
 ghost use Rattle.ps_core_parts.specs.Conditions.{GcMay};
 ghost use Rattle.ps_core_parts.specs.Objects as objects;

@@ -5,9 +5,11 @@
 #![tactic(auto)]
 
 ghost use Rattle.std.specs.Bool.{Decides};
-ghost use Rattle.std.specs.Prelude.{◌≡◌, ◌+◌, ◌^◌, ◌<◌, ◌++◌, ◌∷◌, false, slice_index, slice_set, IfOk, OnOk, MatchBool, [], length, true};
+ghost use Rattle.std.specs.Prelude.{◌≡◌, ◌+◌, ◌^◌, ◌<◌, ◌++◌, ◌∷◌, false, slice_index, slice_set};
+ghost use Rattle.std.specs.Prelude.{IfOk, OnOk, MatchBool, [], length, true};
 ghost use Rattle.ps_core_parts.specs.Bounds.{AllLow, VmBounded, any_gc};
-ghost use Rattle.ps_core_parts.specs.declared.events.Event.TheVariants.{CycleStore, EpochStore, HeaderStore};
+ghost use Rattle.ps_core_parts.specs.declared.events.Event.TheVariants.{CycleStore, EpochStore};
+ghost use Rattle.ps_core_parts.specs.declared.events.Event.TheVariants.{HeaderStore};
 ghost use Rattle.ps_core_parts.specs.Conditions as conditions;
 ghost use Rattle.ps_core_parts.specs.Conditions.{VmMay, HasRoom, HasNumber};
 ghost use Rattle.ps_core_parts.specs.Objects as objects;

@@ -1,5 +1,6 @@
 -- What putting the pairs of one dictionary into another leaves, and what it lacks.
-use Rattle.std.proofs.Common.{◌≡◌, ◌≢◌, ℕ, ◌-◌, ◌≤◌, ◌<◌, arith, true, false, List, [], ◌∷◌, drop, length, Option, Some, None, Ok, Err, refl, sym, ap, subst, ◌∙◌, inl, inr, append-nil}
+use Rattle.std.proofs.Common.{◌≡◌, ◌≢◌, ℕ, ◌-◌, ◌≤◌, ◌<◌, arith, true, false, List, [], ◌∷◌, drop, length, Option, Some}
+use Rattle.std.proofs.Common.{None, Ok, Err, refl, sym, ap, subst, ◌∙◌, inl, inr, append-nil}
 use Rattle.std.specs.Prelude.{IsTrue, ◌&&◌, slice_get, vec_capacity}
 use Rattle.std.proofs.lemmas.List.{length-set}
 use Rattle.ps_language.specs.declared.access.Access.{Access}

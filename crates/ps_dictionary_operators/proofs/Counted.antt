@@ -1,5 +1,7 @@
 -- The names that keys form, counted; and what stands above the mark, tested.
-use Rattle.std.proofs.Common.{◌≡◌, ℕ, zero, suc, ◌+◌, ◌-◌, ◌*◌, ◌≤◌, ◌++◌, ◌||◌, arith, Bool, true, false, List, [], ◌∷◌, drop, take, length, slice_get, Option, Some, None, true≢false, is_some, refl, sym, ap, subst, ◌∙◌, ◌⊎◌, inl, inr, append_assoc, length-append, bytes_eq}
+use Rattle.std.proofs.Common.{◌≡◌, ℕ, zero, suc, ◌+◌, ◌-◌, ◌*◌, ◌≤◌, ◌++◌, ◌||◌, arith, Bool, true, false, List, []}
+use Rattle.std.proofs.Common.{◌∷◌, drop, take, length, slice_get, Option, Some, None, true≢false, is_some, refl, sym}
+use Rattle.std.proofs.Common.{ap, subst, ◌∙◌, ◌⊎◌, inl, inr, append_assoc, length-append, bytes_eq}
 use Rattle.std.specs.Prelude.{fold, not, nat_le, option_map, if◌then◌else◌}
 use Rattle.std.specs.List.{list_all, list_any, flat_map}
 use Rattle.std.proofs.lemmas.Bool.Decides.{nat_tests}
@@ -9,7 +11,9 @@ use Rattle.ps_language.specs.Dictionaries.{fits_key, form, meet, texts_of_key, t
 use Rattle.ps_language.specs.Equality.{key_of}
 use Rattle.ps_language.specs.Limits.{names_limit}
 use Rattle.ps_language.specs.RowsDictionaries.{keys_among, pairs_among}
-use Rattle.ps_language.specs.Value.{What, null_value, mark_value, integer_value, boolean_value, name_value, operator_value, array_value, string_value, dictionary_value, lock_value, condition_value, Value, Store}
+use Rattle.ps_language.specs.Value.{What, null_value, mark_value, integer_value, boolean_value, name_value}
+use Rattle.ps_language.specs.Value.{operator_value, array_value, string_value, dictionary_value, lock_value}
+use Rattle.ps_language.specs.Value.{condition_value, Value, Store}
 use Rattle.ps_word.specs.declared.words.Word.{Word}
 use Rattle.ps_mem.specs.Heap.{Heap, birth_at}
 use Rattle.ps_mem.specs.Meaning.{value_of}

@@ -1,5 +1,6 @@
 -- What the operators that put a pair come to, before it is put.
-use Rattle.std.proofs.Common.{◌≡◌, ◌≢◌, ℕ, true, false, List, [], ◌∷◌, drop, map, Option, Some, None, Ok, Err, Result, refl, sym, ap, ◌∙◌, AllPairs}
+use Rattle.std.proofs.Common.{◌≡◌, ◌≢◌, ℕ, true, false, List, [], ◌∷◌, drop, map, Option, Some, None, Ok, Err, Result}
+use Rattle.std.proofs.Common.{refl, sym, ap, ◌∙◌, AllPairs}
 use Rattle.std.specs.Prelude.{option_map}
 use Rattle.ps_language.specs.declared.errors.ErrorName.{ErrorName}
 use Rattle.ps_language.specs.declared.errors.ErrorName.TheVariants.{TypeCheck, InvalidAccess}

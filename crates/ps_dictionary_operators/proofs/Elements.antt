@@ -1,5 +1,7 @@
 -- Keys among the values above a mark.
-use Rattle.std.proofs.Common.{◌≡◌, ℕ, zero, suc, ◌+◌, ◌*◌, ◌≤◌, ◌++◌, arith, Bool, true, false, List, [], ◌∷◌, drop, length, slice_get, Some, Ok, Err, true≢false, refl, sym, ap, subst, ◌∙◌, ◌⊎◌, inl, inr, length-append, bytes_eq}
+use Rattle.std.proofs.Common.{◌≡◌, ℕ, zero, suc, ◌+◌, ◌*◌, ◌≤◌, ◌++◌, arith, Bool, true, false, List, [], ◌∷◌, drop}
+use Rattle.std.proofs.Common.{length, slice_get, Some, Ok, Err, true≢false, refl, sym, ap, subst, ◌∙◌, ◌⊎◌, inl, inr}
+use Rattle.std.proofs.Common.{length-append, bytes_eq}
 use Rattle.std.specs.Prelude.{fold, ◌&&◌, if◌then◌else◌}
 use Rattle.std.specs.List.{AllByRecursion, list_all, list_any, flat_map}
 use Rattle.arrayvec.specs.ArrayVec.{ArrayVec}

@@ -1,9 +1,12 @@
 -- What `>>` comes to.
-use Rattle.std.proofs.Common.{◌≡◌, ◌≢◌, ℕ, ◌+◌, ◌-◌, ◌≤◌, ◌++◌, arith, inl, inr, AllPairs, length-append, Bool, true, false, List, [], ◌∷◌, drop, take, length, Option, Some, None, Err, refl, sym, ap, subst, ◌∙◌, append-nil}
+use Rattle.std.proofs.Common.{◌≡◌, ◌≢◌, ℕ, ◌+◌, ◌-◌, ◌≤◌, ◌++◌, arith, inl, inr, AllPairs, length-append, Bool, true}
+use Rattle.std.proofs.Common.{false, List, [], ◌∷◌, drop, take, length, Option, Some, None, Err, refl, sym, ap, subst}
+use Rattle.std.proofs.Common.{◌∙◌, append-nil}
 use Rattle.std.specs.Prelude.{nat_le, reverse}
 use Rattle.std.proofs.lemmas.Bool.Decides.{nat_tests}
 use Rattle.ps_language.specs.declared.errors.ErrorName.{ErrorName}
-use Rattle.ps_language.specs.declared.errors.ErrorName.TheVariants.{InvalidAccess, LimitCheck, RangeCheck, TypeCheck, VmError}
+use Rattle.ps_language.specs.declared.errors.ErrorName.TheVariants.{InvalidAccess, LimitCheck, RangeCheck, TypeCheck}
+use Rattle.ps_language.specs.declared.errors.ErrorName.TheVariants.{VmError}
 use Rattle.ps_language.specs.Access.{empty_dictionary}
 use Rattle.ps_language.specs.Acts.{naming_effect}
 use Rattle.ps_language.specs.Dictionaries.{put_pairs}

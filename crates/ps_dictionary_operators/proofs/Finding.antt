@@ -1,12 +1,16 @@
 -- What the operators that look for a key find.
-use Rattle.std.proofs.Common.{◌≡◌, ◌≢◌, ℕ, Bool, true, false, List, ◌∷◌, drop, Option, Some, None, refl, sym, ap, ◌∙◌, is_some, AllPairs, Ok, Err, Result, subst, length, ◌+◌, ◌<◌, ◌≤◌, suc, arith}
+use Rattle.std.proofs.Common.{◌≡◌, ◌≢◌, ℕ, Bool, true, false, List, ◌∷◌, drop, Option, Some, None, refl, sym, ap, ◌∙◌}
+use Rattle.std.proofs.Common.{is_some, AllPairs, Ok, Err, Result, subst, length, ◌+◌, ◌<◌, ◌≤◌, suc, arith}
 use Rattle.std.specs.Prelude.{option_map, IsSome, nat_le}
 use Rattle.std.proofs.lemmas.List.{length-map}
 use Rattle.std.proofs.lemmas.Bool.Decides.{nat_tests}
 use Rattle.ps_language.specs.declared.access.Access.{Access}
 use Rattle.ps_language.specs.declared.errors.ErrorName.{ErrorName}
-use Rattle.ps_language.specs.declared.errors.ErrorName.TheVariants.{TypeCheck, InvalidAccess, LimitCheck, StackOverflow, Undefined}
-use Rattle.ps_language.specs.Value.{What, null_value, mark_value, integer_value, boolean_value, name_value, operator_value, array_value, string_value, dictionary_value, lock_value, condition_value, Value, Store}
+use Rattle.ps_language.specs.declared.errors.ErrorName.TheVariants.{TypeCheck, InvalidAccess, LimitCheck, StackOverflow}
+use Rattle.ps_language.specs.declared.errors.ErrorName.TheVariants.{Undefined}
+use Rattle.ps_language.specs.Value.{What, null_value, mark_value, integer_value, boolean_value, name_value}
+use Rattle.ps_language.specs.Value.{operator_value, array_value, string_value, dictionary_value, lock_value}
+use Rattle.ps_language.specs.Value.{condition_value, Value, Store}
 use Rattle.ps_language.specs.Access.{is_readable, dictionary_at, may_read_text}
 use Rattle.ps_language.specs.Equality.{key_of}
 use Rattle.ps_language.specs.Readers.{boolean, leaving, is_null, as_dictionary, dictionary_in}
@@ -16,7 +20,8 @@ use Rattle.ps_language.specs.Acts.{naming_effect}
 use Rattle.ps_language.specs.Outcome.{leaves, given, given_that, and_then, unchanged, unnamed}
 use Rattle.ps_language.specs.Objects.{changing}
 use Rattle.ps_language.specs.Rows.{naming_row, looking_row}
-use Rattle.ps_language.specs.RowsDictionaries.{forming, known_row, get_row, get_by, get_value, load_row, where_row, where_result}
+use Rattle.ps_language.specs.RowsDictionaries.{forming, known_row, get_row, get_by, get_value, load_row, where_row}
+use Rattle.ps_language.specs.RowsDictionaries.{where_result}
 use Rattle.ps_stacks.specs.Tops.{first_of, first_two_of}
 use Rattle.ps_word.specs.declared.words.Word.{Word}
 use Rattle.ps_word.specs.Format.{content_in}

@@ -26,7 +26,8 @@ use Rattle.ps_acts.proofs.Forming.{formed_left}
 use Rattle.ps_keys.specs.declared.keys.Key.TheVariants.{Met}
 use Rattle.ps_keys.specs.Keys.{IsKeyOf}
 use Rattle.ps_keys.proofs.Formed.{key_forms}
-use Rattle.ps_dictionary_operators.specs.Puts.{putting, putting_asks, putting_key, putting_key_asks, putting_where_writable}
+use Rattle.ps_dictionary_operators.specs.Puts.{putting, putting_asks, putting_key, putting_key_asks}
+use Rattle.ps_dictionary_operators.specs.Puts.{putting_where_writable}
 
 module _ (l : Lent) (a : ℕ) (k x w : Word) (count : ℕ) (more names : List (List ℕ))
     (are : names ≡ l.names ++ more)

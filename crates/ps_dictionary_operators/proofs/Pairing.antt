@@ -1,5 +1,7 @@
 -- The dictionary of what stands above the mark, made or not.
-use Rattle.std.proofs.Common.{◌≡◌, ◌≢◌, ℕ, ◌+◌, ◌-◌, ◌*◌, ◌/◌, ◌≤◌, ◌++◌, arith, inl, inr, AllPairs, length-append, Bool, true, false, List, [], ◌∷◌, drop, take, length, map, Option, Some, None, Ok, Err, refl, sym, ap, subst, ◌∙◌, append-nil}
+use Rattle.std.proofs.Common.{◌≡◌, ◌≢◌, ℕ, ◌+◌, ◌-◌, ◌*◌, ◌/◌, ◌≤◌, ◌++◌, arith, inl, inr, AllPairs, length-append}
+use Rattle.std.proofs.Common.{Bool, true, false, List, [], ◌∷◌, drop, take, length, map, Option, Some, None, Ok, Err}
+use Rattle.std.proofs.Common.{refl, sym, ap, subst, ◌∙◌, append-nil}
 use Rattle.std.specs.Prelude.{fold, not, reverse, unwrap_or}
 use Rattle.std.specs.List.{list_all}
 use Rattle.std.proofs.lemmas.List.{drop-map, length-map, length-reverse, length-take-le}

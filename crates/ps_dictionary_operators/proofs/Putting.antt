@@ -1,5 +1,6 @@
 -- What a put leaves, and what it lacks.
-use Rattle.std.proofs.Common.{◌≡◌, ◌≢◌, ℕ, zero, suc, ◌-◌, ◌≤◌, ◌<◌, arith, Bool, true, false, [], drop, length, Option, Some, None, Ok, Err, refl, sym, ap, subst, ◌∙◌, append-nil}
+use Rattle.std.proofs.Common.{◌≡◌, ◌≢◌, ℕ, zero, suc, ◌-◌, ◌≤◌, ◌<◌, arith, Bool, true, false, [], drop, length, Option}
+use Rattle.std.proofs.Common.{Some, None, Ok, Err, refl, sym, ap, subst, ◌∙◌, append-nil}
 use Rattle.std.specs.Prelude.{IsTrue, not, ◌&&◌, ◌==◌}
 use Rattle.std.proofs.lemmas.Bool.Decides.{nat_tests}
 use Rattle.std.proofs.lemmas.List.{drop-map, length-set}
@@ -202,7 +203,8 @@ module _ (l : Lent) (good : IsGood l) (a : ℕ) (k x : Word) (count : ℕ) (plan
           lack_reason _ trial.slot l (record l { grants = new }) (records_of plan) (words_of plan)
           records_are words_are births_same reason
 
-    pub lacking_acts : (IsTrue trial.refused → words_of plan ≡ 0) → (grants : Grants) → KeepsLogsWithin 0 l.grants grants trial.slot
+    pub lacking_acts : (IsTrue trial.refused → words_of plan ≡ 0) → (grants : Grants)
+        → KeepsLogsWithin 0 l.grants grants trial.slot
         → (reason : Reason)
         → IsLack (records_of plan) (words_of plan) trial.slot l.heap l.grants grants reason
         → Acts (putting_asks (birth_at l.heap) a k) (putting (birth_at l.heap) a k x count) trial
@@ -219,7 +221,8 @@ module _ (l : Lent) (good : IsGood l) (a : ℕ) (k x : Word) (count : ℕ) (plan
           why = lack_is store shown grants reason why;
         }
 
-    pub put_acts : (IsTrue trial.refused → words_of plan ≡ 0) → (new : Heap) (mid left : Grants) → IsSound new → (keeps : Keeps l.heap new)
+    pub put_acts : (IsTrue trial.refused → words_of plan ≡ 0) → (new : Heap) (mid left : Grants) → IsSound new
+        → (keeps : Keeps l.heap new)
         → KeepsLogsWithin 0 l.grants mid trial.slot
         → AfterChange mid left trial.slot (records_of plan) (words_of plan)
         → ((store : Store) → IsShown l store → (d : Dictionary)

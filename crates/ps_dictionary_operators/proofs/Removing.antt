@@ -1,5 +1,6 @@
 -- What taking a key out of a dictionary leaves, and what it lacks.
-use Rattle.std.proofs.Common.{◌≡◌, ℕ, ◌+◌, ◌≤◌, ◌<◌, arith, true, false, List, [], drop, Option, Some, None, Ok, Err, refl, sym, ap, subst, ◌∙◌, inr}
+use Rattle.std.proofs.Common.{◌≡◌, ℕ, ◌+◌, ◌≤◌, ◌<◌, arith, true, false, List, [], drop, Option, Some, None, Ok, Err}
+use Rattle.std.proofs.Common.{refl, sym, ap, subst, ◌∙◌, inr}
 use Rattle.std.proofs.lemmas.List.{drop-map}
 use Rattle.std.specs.Prelude.{◌==◌, Bool, if◌then◌else◌, slice_get, vec_capacity}
 use Rattle.ps_language.specs.declared.access.Access.{Access}

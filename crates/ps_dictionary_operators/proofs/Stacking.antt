@@ -1,16 +1,19 @@
 -- What the operators on the dictionary stack leave.
-use Rattle.std.proofs.Common.{◌≡◌, ℕ, ◌<◌, ◌-◌, ◌≤◌, arith, true, false, List, [], ◌∷◌, drop, length, None, Some, refl, sym, ap}
+use Rattle.std.proofs.Common.{◌≡◌, ℕ, ◌<◌, ◌-◌, ◌≤◌, arith, true, false, List, [], ◌∷◌, drop, length, None, Some, refl}
+use Rattle.std.proofs.Common.{sym, ap}
 use Rattle.std.specs.Prelude.{nat_lt, map}
 use Rattle.std.proofs.lemmas.Bool.Decides.{nat_tests}
 use Rattle.std.proofs.lemmas.List.{length-map, drop-map}
 use Rattle.ps_language.specs.declared.access.Access.{Access}
-use Rattle.ps_language.specs.declared.errors.ErrorName.TheVariants.{StackUnderflow, TypeCheck, InvalidAccess, DictStackOverflow, DictStackUnderflow}
+use Rattle.ps_language.specs.declared.errors.ErrorName.TheVariants.{StackUnderflow, TypeCheck, InvalidAccess}
+use Rattle.ps_language.specs.declared.errors.ErrorName.TheVariants.{DictStackOverflow, DictStackUnderflow}
 use Rattle.ps_language.specs.Value.{dictionary_value, Value, Store}
 use Rattle.ps_language.specs.Access.{is_readable, dictionary_at}
 use Rattle.ps_language.specs.Readers.{literal, natural, push}
 use Rattle.ps_language.specs.Effect.{raises}
 use Rattle.ps_language.specs.Rows.{around_row, stacking_row}
-use Rattle.ps_language.specs.RowsDictionaries.{begin_row, end_row, cleardictstack_row, currentdict_row, countdictstack_row, error_row}
+use Rattle.ps_language.specs.RowsDictionaries.{begin_row, end_row, cleardictstack_row, currentdict_row}
+use Rattle.ps_language.specs.RowsDictionaries.{countdictstack_row, error_row}
 use Rattle.ps_stacks.specs.Tops.{first_of}
 use Rattle.ps_word.specs.declared.words.Word.{Word}
 use Rattle.ps_word.specs.Format.{content_in}

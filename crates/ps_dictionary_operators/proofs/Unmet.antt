@@ -1,5 +1,7 @@
 -- A put of a key that is a string of which no name was met.
-use Rattle.std.proofs.Common.{◌≡◌, ◌≢◌, ℕ, ◌+◌, ◌-◌, ◌≤◌, ◌<◌, ◌++◌, arith, Bool, true, false, List, [], ◌∷◌, drop, take, length, Option, Some, None, Ok, Err, refl, sym, ap, subst, ◌∙◌, inr, AllPairs, append-nil, length-append}
+use Rattle.std.proofs.Common.{◌≡◌, ◌≢◌, ℕ, ◌+◌, ◌-◌, ◌≤◌, ◌<◌, ◌++◌, arith, Bool, true, false, List, [], ◌∷◌, drop}
+use Rattle.std.proofs.Common.{take, length, Option, Some, None, Ok, Err, refl, sym, ap, subst, ◌∙◌, inr, AllPairs}
+use Rattle.std.proofs.Common.{append-nil, length-append}
 use Rattle.std.specs.Prelude.{nat_lt, if◌then◌else◌}
 use Rattle.std.proofs.lemmas.Bool.Decides.{nat_tests}
 use Rattle.arrayvec.specs.ArrayVec.{ArrayVec}
@@ -40,7 +42,8 @@ use Rattle.ps_acts.specs.declared.lent.Trial.{Trial}
 use Rattle.ps_acts.specs.Lent.{Lent, scene_of, IsShown, IsGood}
 use Rattle.ps_acts.specs.Acts.{Asked, no_rooms, needs_of_refused, IsReason, effect_in, Acts}
 use Rattle.ps_acts.proofs.Acting.{FormsName, naming_acts, raised_acts}
-use Rattle.ps_acts.proofs.Forming.{formed_acts, formed_good, formed_left, unmade_acts, Lacks, refused_acts, unnoted_acts, cut_names}
+use Rattle.ps_acts.proofs.Forming.{formed_acts, formed_good, formed_left, unmade_acts, Lacks, refused_acts}
+use Rattle.ps_acts.proofs.Forming.{unnoted_acts, cut_names}
 use Rattle.ps_acts.proofs.Meeting.{at_least-same, logs-same}
 use Rattle.ps_keys.specs.declared.keys.Key.{Key}
 use Rattle.ps_keys.specs.declared.keys.Key.TheVariants.{Met, Unmet, TooLong}

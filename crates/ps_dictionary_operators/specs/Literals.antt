@@ -1,8 +1,10 @@
 -- What `>>` makes of the values above the mark, which are counted from the mark.
-use Rattle.std.specs.Prelude.{◌≡◌, ◌⊎◌, ◌+◌, ◌*◌, ◌/◌, ◌<◌, ℕ, Bool, false, List, [], length, fold, not}
+use Rattle.std.specs.Prelude.{◌≡◌, ◌⊎◌, ◌+◌, ◌*◌, ◌/◌, ◌<◌, ℕ, Bool, false, List, [], length, fold}
+use Rattle.std.specs.Prelude.{not}
 use Rattle.std.specs.List.{list_all, flat_map}
 use Rattle.std.specs.Str.{bytes_eq}
-use Rattle.ps_language.specs.declared.errors.ErrorName.TheVariants.{InvalidAccess, LimitCheck, RangeCheck, TypeCheck}
+use Rattle.ps_language.specs.declared.errors.ErrorName.TheVariants.{InvalidAccess, LimitCheck}
+use Rattle.ps_language.specs.declared.errors.ErrorName.TheVariants.{RangeCheck, TypeCheck}
 use Rattle.ps_language.specs.Access.{empty_dictionary, may_read_text}
 use Rattle.ps_language.specs.Dictionaries.{form, fits_key, meet, put_pairs, texts_of_key}
 use Rattle.ps_language.specs.Limits.{names_limit}

@@ -1,6 +1,7 @@
 -- What putting a pair into a dictionary does, and what it may lack.
 use Rattle.std.specs.Prelude.{◌≡◌, ◌≤◌, ℕ, false, IsTrue, Some, List, drop, take}
-use Rattle.ps_language.specs.declared.errors.ErrorName.TheVariants.{InvalidAccess, LimitCheck, VmError}
+use Rattle.ps_language.specs.declared.errors.ErrorName.TheVariants.{InvalidAccess, LimitCheck}
+use Rattle.ps_language.specs.declared.errors.ErrorName.TheVariants.{VmError}
 use Rattle.ps_language.specs.Access.{dictionary_at, is_writable, with_dictionary}
 use Rattle.ps_language.specs.Dictionaries.{holding, put_pair}
 use Rattle.ps_language.specs.Effect.{Scene}

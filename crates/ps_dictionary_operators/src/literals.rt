@@ -1,6 +1,8 @@
 //! The operator that makes a dictionary of what stands above a mark (PLRM2, 8 '>>').
 
-ghost use Rattle.std.specs.Prelude.{◌≡◌, ◌≢◌, ◌≤◌, ◌<◌, ◌+◌, ◌*◌, ◌/◌, ℕ, List, [], length, map, not, true, Some, None, false, reverse, take, drop, nat_le, if◌then◌else◌, OnOk, IfErr, AllPairs, ◌++◌, vec_capacity};
+ghost use Rattle.std.specs.Prelude.{◌≡◌, ◌≢◌, ◌≤◌, ◌<◌, ◌+◌, ◌*◌, ◌/◌, ℕ, List, [], length, map};
+ghost use Rattle.std.specs.Prelude.{not, true, Some, None, false, reverse, take, drop, nat_le};
+ghost use Rattle.std.specs.Prelude.{if◌then◌else◌, OnOk, IfErr, AllPairs, ◌++◌, vec_capacity};
 ghost use Rattle.std.specs.List.{list_all, list_any};
 ghost use Rattle.std.specs.Str.{bytes_eq};
 ghost use Rattle.ps_language.specs.Access.{may_read_text};
@@ -22,7 +24,9 @@ ghost use Rattle.ps_ops.specs.Does.{KeepsLogsWithin, values_in};
 ghost use Rattle.ps_acts.specs.Acts.{Acts};
 ghost use Rattle.ps_acts.specs.Lent.{lent, IsGood};
 ghost use Rattle.ps_dictionary_operators.specs.Asks.{end_dict_asks};
-ghost use Rattle.ps_dictionary_operators.specs.Literals.{IsNamesFault, LacksPairs, LeavesAs, is_unmet_as, making_pairs, met_among, tested};
+ghost use Rattle.ps_dictionary_operators.specs.Literals.{IsNamesFault, LacksPairs, LeavesAs};
+ghost use Rattle.ps_dictionary_operators.specs.Literals.{is_unmet_as, making_pairs, met_among};
+ghost use Rattle.ps_dictionary_operators.specs.Literals.{tested};
 
 use crate::makes::dictionary_word;
 use crate::puts::refuse;

@@ -1,7 +1,8 @@
 //! The operators that put a key with its value into a dictionary (PLRM2, 8 'Operators':
 //! Dictionary).
 
-ghost use Rattle.std.specs.Prelude.{◌≡◌, ◌≢◌, ◌<◌, ◌≤◌, ℕ, IsTrue, List, None, length, OnOk, IfErr, true, false};
+ghost use Rattle.std.specs.Prelude.{◌≡◌, ◌≢◌, ◌<◌, ◌≤◌, ℕ, IsTrue, List, None, length, OnOk, IfErr};
+ghost use Rattle.std.specs.Prelude.{true, false};
 ghost use Rattle.ps_language.specs.Limits.{capacity_limit};
 ghost use Rattle.ps_language.specs.Value.{Store};
 ghost use Rattle.ps_mem.specs.Heap.{birth_at};
@@ -13,7 +14,9 @@ ghost use Rattle.ps_ops.specs.Does.{KeepsLogsWithin};
 ghost use Rattle.ps_acts.specs.Acts.{Acts};
 ghost use Rattle.ps_acts.specs.Lent.{lent, IsGood, IsShown};
 ghost use Rattle.ps_keys.specs.Keys.{IsKeyOf, word_in};
-ghost use Rattle.ps_dictionary_operators.specs.Puts.{IsLack, IsRefusal, putting, putting_asks, putting_key, putting_key_asks, putting_where_writable};
+ghost use Rattle.ps_dictionary_operators.specs.Puts.{IsLack, IsRefusal, putting, putting_asks};
+ghost use Rattle.ps_dictionary_operators.specs.Puts.{putting_key, putting_key_asks};
+ghost use Rattle.ps_dictionary_operators.specs.Puts.{putting_where_writable};
 
 use ps_acts::breaks::Break;
 use ps_acts::lent::{Context, Shared, Trial};

@@ -1,5 +1,6 @@
 -- What an operator did to operands alone.
-use Rattle.std.proofs.Common.{◌≡◌, ◌⊎◌, ℕ, Bool, true, false, true≢false, List, [], ◌∷◌, length, Some, None, Result, Ok, Err, refl, sym, ap, subst, inl, inr}
+use Rattle.std.proofs.Common.{◌≡◌, ◌⊎◌, ℕ, Bool, true, false, true≢false, List, [], ◌∷◌, length, Some, None, Result, Ok}
+use Rattle.std.proofs.Common.{Err, refl, sym, ap, subst, inl, inr}
 use Rattle.std.specs.Prelude.{ℤ, Option, is_some}
 use Rattle.std.specs.Result.{is_ok}
 use Rattle.ps_language.specs.declared.errors.ErrorName.{ErrorName}
@@ -14,7 +15,9 @@ use Rattle.ps_language.specs.Value.{Value, Store}
 use Rattle.ps_language.specs.Effect.{Scene}
 use Rattle.ps_stacks.specs.Tops.{first_of}
 use Rattle.ps_word.specs.declared.values.Content.{Content}
-use Rattle.ps_word.specs.declared.values.Content.TheVariants.{Null, Integer, Boolean, Mark, Name, Operator as OperatorContent, Array, Text, Dictionary, Lock, Condition, Body}
+use Rattle.ps_word.specs.declared.values.Content.TheVariants.{Null, Integer, Boolean, Mark, Name}
+use Rattle.ps_word.specs.declared.values.Content.TheVariants.{Operator as OperatorContent, Array, Text, Dictionary}
+use Rattle.ps_word.specs.declared.values.Content.TheVariants.{Lock, Condition, Body}
 use Rattle.ps_word.specs.declared.words.Word.{Word}
 use Rattle.ps_word.specs.Format.{content_in}
 use Rattle.ps_word.specs.Readers.{as_dictionary, as_integer}

@@ -1,14 +1,19 @@
 -- Operators that take no memory, by their rows.
 use Rattle.std.proofs.Common.{◌≡◌, List, refl}
 use Rattle.ps_language.specs.declared.operators.Operator.{Operator}
-use Rattle.ps_language.specs.declared.operators.Operator.TheVariants.{Pop, Exch, Dup, Index, Roll, Clear, Count, Mark, ClearToMark, CountToMark, Add, Sub, Mul, Idiv, Mod, Neg, Abs, Eq, Ne, Gt, Ge, Lt, Le, And, Or, Xor, Not, Bitshift}
+use Rattle.ps_language.specs.declared.operators.Operator.TheVariants.{Pop, Exch, Dup, Index, Roll, Clear, Count, Mark}
+use Rattle.ps_language.specs.declared.operators.Operator.TheVariants.{ClearToMark, CountToMark, Add, Sub, Mul, Idiv}
+use Rattle.ps_language.specs.declared.operators.Operator.TheVariants.{Mod, Neg, Abs, Eq, Ne, Gt, Ge, Lt, Le, And, Or}
+use Rattle.ps_language.specs.declared.operators.Operator.TheVariants.{Xor, Not, Bitshift}
 use Rattle.ps_language.specs.Acts.{effect_of, operands_effect}
 use Rattle.ps_language.specs.Effect.{Scene, Effect, makes, unwinds, raises, calls}
 use Rattle.ps_language.specs.Outcome.{Outcome, leaves, fails}
 use Rattle.ps_language.specs.Rows.{operand_row, reading_row}
-use Rattle.ps_language.specs.RowsArithmetic.{add_row, sub_row, mul_row, idiv_row, mod_row, neg_row, abs_row, bitshift_row, and_row, or_row, xor_row, not_row}
+use Rattle.ps_language.specs.RowsArithmetic.{add_row, sub_row, mul_row, idiv_row, mod_row, neg_row, abs_row}
+use Rattle.ps_language.specs.RowsArithmetic.{bitshift_row, and_row, or_row, xor_row, not_row}
 use Rattle.ps_language.specs.RowsRelations.{eq_row, ne_row, gt_row, ge_row, lt_row, le_row}
-use Rattle.ps_language.specs.RowsStack.{pop_row, exch_row, dup_row, index_row, roll_row, clear_row, count_row, mark_row, cleartomark_row, counttomark_row}
+use Rattle.ps_language.specs.RowsStack.{pop_row, exch_row, dup_row, index_row, roll_row, clear_row, count_row, mark_row}
+use Rattle.ps_language.specs.RowsStack.{cleartomark_row, counttomark_row}
 use Rattle.ps_language.specs.Value.{Value, Store}
 use Rattle.ps_acts.specs.Acts.{nothing_asked, no_rooms}
 use Rattle.ps_values.specs.Frugal.{IsOnOperands, IsFrugal, AreFrugal}

@@ -1,5 +1,6 @@
 -- What an operator came to, as a step over every store that is shown.
-use Rattle.std.proofs.Common.{◌≡◌, ℕ, arith, true, true≢false, List, [], ◌++◌, length, take, Ok, Err, refl, sym, ap, subst, ◌∙◌, append-nil}
+use Rattle.std.proofs.Common.{◌≡◌, ℕ, arith, true, true≢false, List, [], ◌++◌, length, take, Ok, Err, refl, sym, ap}
+use Rattle.std.proofs.Common.{subst, ◌∙◌, append-nil}
 use Rattle.std.specs.Prelude.{Result, is_some, unwrap_or}
 use Rattle.ps_language.specs.declared.errors.ErrorName.{ErrorName}
 use Rattle.ps_language.specs.declared.errors.ErrorName.TheVariants.{Undefined}
@@ -8,7 +9,8 @@ use Rattle.ps_language.specs.Value.{Store}
 use Rattle.ps_language.specs.World.{running}
 use Rattle.ps_language.specs.Effect.{Around, Scene, Effect, calls}
 use Rattle.ps_language.specs.Outcome.{fails}
-use Rattle.ps_language.specs.Rows.{Row, operand_row, reading_row, changing_row, naming_row, looking_row, stacking_row, printing_row, around_row, scene_row, world_row}
+use Rattle.ps_language.specs.Rows.{Row, operand_row, reading_row, changing_row, naming_row, looking_row, stacking_row}
+use Rattle.ps_language.specs.Rows.{printing_row, around_row, scene_row, world_row}
 use Rattle.ps_language.specs.Acts.{effect_of}
 use Rattle.ps_language.specs.StepValues.{effect_turn, operated}
 use Rattle.ps_language.specs.Machines.{with_scene, leaves_to_world, after_turn}

@@ -1,5 +1,6 @@
 -- What an operator came to, as a step.
-use Rattle.std.proofs.Common.{◌≡◌, ℕ, zero, suc, ◌≤◌, arith, Bool, true, false, IsTrue, List, ◌++◌, length, Ok, Err, refl, sym, ap, subst, ◌∙◌, inl, inr}
+use Rattle.std.proofs.Common.{◌≡◌, ℕ, zero, suc, ◌≤◌, arith, Bool, true, false, IsTrue, List, ◌++◌, length, Ok, Err}
+use Rattle.std.proofs.Common.{refl, sym, ap, subst, ◌∙◌, inl, inr}
 use Rattle.std.specs.Prelude.{Result}
 use Rattle.ps_language.specs.declared.errors.ErrorName.{ErrorName}
 use Rattle.ps_language.specs.declared.errors.ErrorName.TheVariants.{VmError}
@@ -20,11 +21,13 @@ use Rattle.ps_acts.specs.declared.breaks.Break.{Break}
 use Rattle.ps_acts.specs.declared.breaks.Break.TheVariants.{Unwinds, Raises, NotMade}
 use Rattle.ps_acts.specs.declared.lent.Trial.{Trial}
 use Rattle.ps_acts.specs.Lent.{Lent, Rooms, rooms_of, scene_of, IsShown}
-use Rattle.ps_acts.specs.Acts.{Asked, Needs, no_rooms, LacksRooms, needs_of_refused, needs_as, lacks, names_formed, IsReason, Lasts, IsLeft, IsSame, IsRefused, Stays, ActsAs}
+use Rattle.ps_acts.specs.Acts.{Asked, Needs, no_rooms, LacksRooms, needs_of_refused, needs_as, lacks, names_formed}
+use Rattle.ps_acts.specs.Acts.{IsReason, Lasts, IsLeft, IsSame, IsRefused, Stays, ActsAs}
 use Rattle.ps_acts.proofs.Meeting.{lasts-same, at_least-same, logs_then, AreNeedsWithin, needs_within-same, reason_more}
 use Rattle.ps_turns.specs.declared.turned.Turned.{Turned}
 use Rattle.ps_turns.specs.declared.turned.Turned.TheVariants.{Goes, Calls, Breaks, Ends}
-use Rattle.ps_turns.specs.Turns.{LeavesHeap, IsTurned, TurnsBy, error_needs, none_asked, break_needs, break_turn, operator_error, nothing_more, turn_needs, needs_in}
+use Rattle.ps_turns.specs.Turns.{LeavesHeap, IsTurned, TurnsBy, error_needs, none_asked, break_needs, break_turn}
+use Rattle.ps_turns.specs.Turns.{operator_error, nothing_more, turn_needs, needs_in}
 use Rattle.ps_dispatch.specs.Operators.{asked_of}
 use Rattle.ps_dispatch.specs.Turns.{asked_by}
 

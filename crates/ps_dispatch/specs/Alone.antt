@@ -15,7 +15,8 @@ use Rattle.ps_values.specs.declared.under.Under.{Under}
 use Rattle.ps_values.specs.declared.under.Under.TheVariants as variants
 use Rattle.ps_dispatch.specs.Operators.{asked_of, row_now}
 
--- whatever else is lent and however it is tried it acts and raises no error, once the frame is pushed
+-- whatever else is lent and however it is tried it acts and raises no error, once the frame is
+-- pushed
 -- of the procedure that it enters, if that has room; or nothing has changed
 abbrev pub ActsAhead : Operator → Ahead → (old new : List Word) → Type 0
 ActsAhead operator came old new = OnLeft came (new ≡ old)
@@ -28,7 +29,8 @@ ActsAhead operator came old new = OnLeft came (new ≡ old)
 abbrev pub ActsAlone : Operator → (acts : Bool) → (old new : List Word) → Type 0
 ActsAlone operator acts old new = ActsAhead operator (done_ahead acts) old new
 
--- in an ordinary step it acts and raises no error, as it would under any more frames; or nothing was
+-- in an ordinary step it acts and raises no error, as it would under any more frames; or nothing
+-- was
 -- done; or nothing has changed
 abbrev pub ActsUnder : Operator → (slot : ℕ) → Under → (old new : Lent) → Type 0
 ActsUnder operator slot variants.Done old new =

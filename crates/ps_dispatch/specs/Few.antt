@@ -3,7 +3,10 @@ use Rattle.std.proofs.Common.{ℕ, ◌+◌, ◌<◌, arith, Bool, true, false, L
 use Rattle.std.specs.Prelude.{min, ◌==◌, Option, Some, None, length, if◌then◌else◌}
 use Rattle.std.proofs.lemmas.Bool.Decides.{nat_tests}
 use Rattle.ps_language.specs.declared.operators.Operator.{Operator}
-use Rattle.ps_language.specs.declared.operators.Operator.TheVariants.{Put, Copy, PutInterval, Astore, Search, EndDict, Def, Store as StoreKey, Undef, NoAccess, ReadOnly, Cvs}
+use Rattle.ps_language.specs.declared.operators.Operator.TheVariants.{Put, Copy, PutInterval}
+use Rattle.ps_language.specs.declared.operators.Operator.TheVariants.{Astore, Search, EndDict, Def}
+use Rattle.ps_language.specs.declared.operators.Operator.TheVariants.{Store as StoreKey, Undef}
+use Rattle.ps_language.specs.declared.operators.Operator.TheVariants.{NoAccess, ReadOnly, Cvs}
 use Rattle.ps_language.specs.Access.{dictionary_at}
 use Rattle.ps_language.specs.Acts.{effect_of}
 use Rattle.ps_ops.specs.ArrayRows.{topmost_count}
@@ -15,7 +18,8 @@ use Rattle.ps_language.specs.Readers.{as_dictionary}
 use Rattle.ps_language.specs.RowsDictionaries.{storing_place}
 use Rattle.ps_language.specs.RowsStack.{split_at_mark}
 use Rattle.ps_language.specs.Texts.{plain_text}
-use Rattle.ps_language.specs.Value.{Value, What, Store, Dictionary, integer_value, array_value, string_value, dictionary_value}
+use Rattle.ps_language.specs.Value.{Value, What, Store, Dictionary, integer_value, array_value}
+use Rattle.ps_language.specs.Value.{string_value, dictionary_value}
 use Rattle.ps_dict.specs.declared.copies.MergePlan.{MergePlan}
 use Rattle.ps_dict.specs.declared.copies.MergePlan.TheVariants as merges
 use Rattle.ps_dict.specs.declared.plans.PutPlan.{PutPlan}
@@ -26,11 +30,14 @@ use Rattle.ps_dict.specs.Puts.{planned, records_of as put_records}
 use Rattle.ps_ops.specs.Does.{most_records}
 use Rattle.ps_acts.specs.Acts.{Asked, IsFew, AreFew}
 use Rattle.ps_dictionary_operators.specs.Asks as dictionaries
-use Rattle.ps_dictionary_operators.specs.Asks.{put_asked, asked_into, put_asked_by, def_asked_by, asked_where, store_asked_by, removal_asked, undef_asked, undef_asked_by, end_dict_asked}
+use Rattle.ps_dictionary_operators.specs.Asks.{put_asked, asked_into, put_asked_by, def_asked_by}
+use Rattle.ps_dictionary_operators.specs.Asks.{asked_where, store_asked_by, removal_asked}
+use Rattle.ps_dictionary_operators.specs.Asks.{undef_asked, undef_asked_by, end_dict_asked}
 use Rattle.ps_sequence_operators.specs.declared.pairs.Sequence.{Sequence}
 use Rattle.ps_sequence_operators.specs.declared.pairs.Sequence.TheVariants.{Arrays, Strings}
 use Rattle.ps_sequence_operators.specs.Asks as sequences
-use Rattle.ps_sequence_operators.specs.Asks.{asked_for, asked_in, asked_first, reduced_in, reduced_first, search_asked}
+use Rattle.ps_sequence_operators.specs.Asks.{asked_for, asked_in, asked_first, reduced_in}
+use Rattle.ps_sequence_operators.specs.Asks.{reduced_first, search_asked}
 use Rattle.ps_conversion_operators.specs.Asks.{cvs_asked}
 use Rattle.ps_values.proofs.Few.{none_few, either_few}
 use Rattle.ps_dispatch.specs.Joins.{is_third_dictionary, is_first_dictionary}

@@ -5,7 +5,8 @@ use Rattle.ps_language.specs.Effect.{Scene}
 use Rattle.ps_language.specs.Readers.{as_dictionary}
 use Rattle.ps_language.specs.Value.{Value}
 use Rattle.ps_acts.specs.Acts.{Asked, stores}
-use Rattle.ps_dictionary_operators.specs.Asks.{copy_asks as dictionary_copy_asks, put_asks as dictionary_put_asks}
+use Rattle.ps_dictionary_operators.specs.Asks.{copy_asks as dictionary_copy_asks}
+use Rattle.ps_dictionary_operators.specs.Asks.{put_asks as dictionary_put_asks}
 use Rattle.ps_sequence_operators.specs.Asks.{copy_asks as sequence_copy_asks}
 
 -- whether the third operand is a dictionary

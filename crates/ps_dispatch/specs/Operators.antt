@@ -1,7 +1,10 @@
 -- The row of each operator, and what it asks for that the language does not say.
 use Rattle.std.specs.Prelude.{Bool, not}
 use Rattle.ps_language.specs.declared.operators.Operator.{Operator}
-use Rattle.ps_language.specs.declared.operators.Operator.TheVariants.{Put, Copy, PutInterval, Astore, Search, EndDict, Def, Store as StoreKey, Undef, NoAccess, ReadOnly, Cvs}
+use Rattle.ps_language.specs.declared.operators.Operator.TheVariants.{Put, Copy, PutInterval}
+use Rattle.ps_language.specs.declared.operators.Operator.TheVariants.{Astore, Search, EndDict, Def}
+use Rattle.ps_language.specs.declared.operators.Operator.TheVariants.{Store as StoreKey, Undef}
+use Rattle.ps_language.specs.declared.operators.Operator.TheVariants.{NoAccess, ReadOnly, Cvs}
 use Rattle.ps_language.specs.Effect.{Scene}
 use Rattle.ps_language.specs.Scan.{scan}
 use Rattle.ps_language.specs.Rows.{Row, row_of}

@@ -1,5 +1,5 @@
-//! Operators on operands alone, and those that enter a procedure, where they raise no error (PLRM2, 8
-//! 'Operators').
+//! Operators on operands alone, and those that enter a procedure, where they raise no error (PLRM2,
+//! 8 'Operators').
 
 ghost use Rattle.std.specs.Prelude.{◌≡◌, IsTrue};
 ghost use Rattle.ps_word.specs.declared.values.Part.{Part as ThePart};
@@ -11,8 +11,8 @@ use ps_operands::{Operands, arithmetic, logic, stack_operators};
 use ps_relation_operators::equality::equality_quickly;
 use ps_relation_operators::orders::{Relation, order_quickly};
 
-/// `copy` of so many operands, where it raises no error. Else nothing has changed, and the answer is
-/// no, as it is where an object is copied.
+/// `copy` of so many operands, where it raises no error. Else nothing has changed, and the answer
+/// is no, as it is where an object is copied.
 #[inline]
 fn copy_quickly(operands: &mut Operands) -> bool
     ensures { ActsAlone Operator.Copy result operands.old operands.new }
@@ -27,8 +27,8 @@ fn copy_quickly(operands: &mut Operands) -> bool
 }
 
 /// An operator on operands alone acts, where it raises no error, and so does one that enters a
-/// procedure, up to the frame of that, where one may be entered. Else nothing has changed, as by every
-/// other operator.
+/// procedure, up to the frame of that, where one may be entered. Else nothing has changed, as by
+/// every other operator.
 #[tactic(auto, using(crate::proofs::Acted::none_entered))]
 #[inline(always)]
 pub fn operate_ahead(operator: Operator, operands: &mut Operands, may_enter: bool) -> Ahead

@@ -1,5 +1,5 @@
-//! Operators that neither see nor change frames, whatever frames are above those that stand (PLRM2, 8
-//! 'Operators').
+//! Operators that neither see nor change frames, whatever frames are above those that stand (PLRM2,
+//! 8 'Operators').
 
 ghost use Rattle.std.specs.Prelude.{◌≡◌, ◌<◌};
 ghost use Rattle.ps_acts.specs.Lent.{lent, IsGood};

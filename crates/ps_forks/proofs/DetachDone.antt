@@ -20,7 +20,8 @@ use Rattle.ps_contexts.specs.declared.members.Course.TheVariants.{Running}
 use Rattle.ps_contexts.specs.declared.members.Member.{Member}
 use Rattle.ps_contexts.specs.Seats.{item_at, with_item}
 use Rattle.ps_contexts.specs.Worlds.{context_of}
-use Rattle.ps_contexts.specs.Desks.{Desk, lent_to, desk_unmade, has_finished, member_left, HasFrame, AreFramed, IsGoodMember, IsWorld, IsSteady}
+use Rattle.ps_contexts.specs.Desks.{Desk, lent_to, desk_unmade, has_finished, member_left, HasFrame, AreFramed}
+use Rattle.ps_contexts.specs.Desks.{IsGoodMember, IsWorld, IsSteady}
 use Rattle.ps_contexts.proofs.Changing.{changed_desk, changed_steady, changed_world}
 use Rattle.ps_contexts.proofs.Going.{left_members}
 use Rattle.ps_contexts.proofs.Places.{item_at-apart, item_at-with_item, with_item-twice}

@@ -1,5 +1,6 @@
 -- A context is begun by an operator of its caller.
-use Rattle.std.proofs.Common.{◌≡◌, ℕ, zero, suc, ◌+◌, ◌<◌, arith, ℤ, Bool, true, false, List, [], ◌∷◌, ◌++◌, length, Option, Some, None, Ok, Err, refl, sym, ap, subst, ◌∙◌}
+use Rattle.std.proofs.Common.{◌≡◌, ℕ, zero, suc, ◌+◌, ◌<◌, arith, ℤ, Bool, true, false, List, [], ◌∷◌, ◌++◌, length}
+use Rattle.std.proofs.Common.{Option, Some, None, Ok, Err, refl, sym, ap, subst, ◌∙◌}
 use Rattle.std.proofs.lemmas.Bool.{lt-ltb}
 use Rattle.std.proofs.lemmas.List.{length-append, length-set}
 use Rattle.std.specs.Prelude.{IsSome, OnSome, nat_lt, option_and_then, option_map, if◌then◌else◌}
@@ -36,7 +37,8 @@ use Rattle.ps_contexts.specs.declared.members.Course.TheVariants.{Running}
 use Rattle.ps_contexts.specs.declared.members.Member.{Member}
 use Rattle.ps_contexts.specs.Seats.{item_at}
 use Rattle.ps_contexts.specs.Worlds.{status_of, context_of, contexts_in}
-use Rattle.ps_contexts.specs.Desks.{Desk, lent_to, desk_unmade, course_after, has_seat, seat_in, IsCourseHeld, IsWorld, IsSteady}
+use Rattle.ps_contexts.specs.Desks.{Desk, lent_to, desk_unmade, course_after, has_seat, seat_in, IsCourseHeld, IsWorld}
+use Rattle.ps_contexts.specs.Desks.{IsSteady}
 use Rattle.ps_contexts.proofs.Changing.{more_desk, more_steady, more_world}
 use Rattle.ps_contexts.proofs.Holding.{contexts_in-length}
 use Rattle.ps_contexts.proofs.Places.{with_item-same}

@@ -1,5 +1,6 @@
 -- A finished context ends, and its operands go over to the caller of an operator.
-use Rattle.std.proofs.Common.{◌≡◌, ℕ, ◌-◌, ◌≤◌, arith, ℤ, Bool, true, false, List, [], ◌∷◌, ◌++◌, drop, length, Option, Some, None, Ok, Err, inl, inr, refl, sym, ap, subst, ◌∙◌}
+use Rattle.std.proofs.Common.{◌≡◌, ℕ, ◌-◌, ◌≤◌, arith, ℤ, Bool, true, false, List, [], ◌∷◌, ◌++◌, drop, length, Option}
+use Rattle.std.proofs.Common.{Some, None, Ok, Err, inl, inr, refl, sym, ap, subst, ◌∙◌}
 use Rattle.std.proofs.lemmas.Bool.{ne_eqb}
 use Rattle.std.proofs.lemmas.Bool.Decides.{nat_tests}
 use Rattle.std.specs.Prelude.{Result, not, nat_le}
@@ -44,7 +45,8 @@ use Rattle.ps_context_operators.specs.Done.{ActsWhere}
 use Rattle.ps_context_operators.specs.Rows.{join_part, join_caller}
 use Rattle.ps_callers.specs.Done.{IsLeftAs, outcome_of, DoesBy}
 use Rattle.ps_callers.proofs.Ending.{runs_by}
-use Rattle.ps_callers.proofs.Parts.{IsPlain, nothing_few, plain_by, part_is, part_steady, part_runs, part_framed, made_by}
+use Rattle.ps_callers.proofs.Parts.{IsPlain, nothing_few, plain_by, part_is, part_steady, part_runs, part_framed}
+use Rattle.ps_callers.proofs.Parts.{made_by}
 use Rattle.ps_forks.specs.Joined.{HandsOver, JoinsTo}
 use Rattle.ps_forks.specs.Waits.{WaitsBy}
 use Rattle.ps_forks.proofs.JoinFound.{counted, join_there, join_part_is, reads_here}

@@ -1,5 +1,6 @@
 -- What `join` finds of the context that it names (PLRM2, 7.1, 8 'join').
-use Rattle.std.specs.Prelude.{◌≡◌, ◌≢◌, ◌+◌, ◌≤◌, ℕ, ℤ, true, List, Option, Some, Result, Ok, Err, length}
+use Rattle.std.specs.Prelude.{◌≡◌, ◌≢◌, ◌+◌, ◌≤◌, ℕ, ℤ, true, List, Option, Some, Result, Ok, Err}
+use Rattle.std.specs.Prelude.{length}
 use Rattle.ps_language.specs.declared.errors.ErrorName.{ErrorName}
 use Rattle.ps_language.specs.Contexts.{join_row}
 use Rattle.ps_language.specs.Effect.{Deed, waits}

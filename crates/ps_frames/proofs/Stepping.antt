@@ -139,7 +139,8 @@ module _ (l : Lent) (good : IsGood l) (over : Part) (at depth : ℕ)
     bind_stored heap grants keeps sound logs shows =
         stored_on l good _ (later_good l good over at depth (drop 1 l.frames) top bindings words
         all within) heap grants scratch l.printed l.room keeps sound empty least (omega arith)
-        (bind_asks over at) running_turn trial Goes tt (logs_more _ _ l.grants grants trial.slot (one_or_none bindings.changed) logs)
+        (bind_asks over at) running_turn trial Goes tt
+        (logs_more _ _ l.grants grants trial.slot (one_or_none bindings.changed) logs)
         λ s shown. record {
           later = with_part_elements s (part_of (birth_at l.heap) over) at
               (values_in l.heap l.names words);

@@ -173,7 +173,8 @@ abbrev pub GoesAhead : Asks → Ahead → (old new : Lent) → Type 0
 GoesAhead asks came old new = OnDone came ((trial : Trial)
     → Turns (frame_asks asks) running_turn trial (Ok Goes) old (with_entered came new))
 
--- the ordinary turn of a procedure above the frames goes on, of which what is left is above them; or
+-- the ordinary turn of a procedure above the frames goes on, of which what is left is above them;
+-- or
 -- nothing was done; or nothing has changed
 abbrev pub DoesUnder : Asks → Part → (slot : ℕ) → Under → (old new : Lent) → Type 0
 DoesUnder asks rest slot under.Done old new =

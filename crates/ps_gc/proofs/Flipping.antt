@@ -1,5 +1,6 @@
 -- Logs that are closed and drained, roots that are handed over, and the flip.
-use Rattle.std.proofs.Common.{◌≡◌, ℕ, ◌+◌, ◌*◌, ◌%◌, ◌<◌, ◌≤◌, true, false, nat_eq, List, [], ◌∷◌, ◌++◌, length, refl, sym, ap, ◌∙◌, inl, inr, subst, arith, length-append, Bool, suc, replicate}
+use Rattle.std.proofs.Common.{◌≡◌, ℕ, ◌+◌, ◌*◌, ◌%◌, ◌<◌, ◌≤◌, true, false, nat_eq, List, [], ◌∷◌, ◌++◌, length, refl}
+use Rattle.std.proofs.Common.{sym, ap, ◌∙◌, inl, inr, subst, arith, length-append, Bool, suc, replicate}
 use Rattle.std.specs.Prelude.{if◌then◌else◌}
 use Rattle.std.specs.List.{list_all}
 use Rattle.std.proofs.lemmas.List.{ext_get_or, get_or-replicate, length-map}
@@ -16,7 +17,8 @@ use Rattle.ps_core_parts.specs.Conditions.{AllClosed, VmMay, GcMay, Permitted}
 use Rattle.ps_core_parts.specs.Steps.{State, is_open, knows_open, other_base, vm_after, gc_after}
 use Rattle.ps_core_laws.specs.Laws.{IsBeginningOf}
 use Rattle.ps_core_laws.specs.Runs.{run}
-use Rattle.ps_core_laws.proofs.HeapTests.{bool_cases, and_parts, and_both, or_left, or_right, eq_true, number_is, same_number}
+use Rattle.ps_core_laws.proofs.HeapTests.{bool_cases, and_parts, and_both, or_left, or_right, eq_true, number_is}
+use Rattle.ps_core_laws.proofs.HeapTests.{same_number}
 use Rattle.ps_core_laws.proofs.Kept.{good}
 use Rattle.ps_core_laws.proofs.Lookups.{among-append}
 use Rattle.ps_core_laws.proofs.KeptFacts.{kept}

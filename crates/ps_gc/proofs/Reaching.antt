@@ -1,5 +1,6 @@
 -- What the machine's roots reach is what they reach in the memory of the mutator's part.
-use Rattle.std.proofs.Common.{◌≡◌, ◌≢◌, ℕ, zero, suc, ◌<◌, ◌≤◌, Bool, true, false, nat_eq, List, [], ◌∷◌, length, map, Some, None, Option, option_map, refl, sym, ap, ◌∙◌, subst, inl, inr, arith}
+use Rattle.std.proofs.Common.{◌≡◌, ◌≢◌, ℕ, zero, suc, ◌<◌, ◌≤◌, Bool, true, false, nat_eq, List, [], ◌∷◌, length, map}
+use Rattle.std.proofs.Common.{Some, None, Option, option_map, refl, sym, ap, ◌∙◌, subst, inl, inr, arith}
 use Rattle.std.specs.Prelude.{slice_index, not, ◌&&◌, ◌||◌, ◌++◌}
 use Rattle.std.specs.List.{Contains}
 use Rattle.ps_language.specs.declared.kinds.Kind.TheVariants.{Text, Body}

@@ -1,5 +1,7 @@
 -- The replica at the scan's place, what its headers tell, and the place after it.
-use Rattle.std.proofs.Common.{◌≡◌, ◌≢◌, ◌^◌, ℕ, zero, suc, ◌+◌, ◌-◌, ◌<◌, ◌≤◌, Bool, true, false, nat_eq, nat_lt, List, [], ◌∷◌, ◌++◌, length, Some, None, Option, refl, sym, ap, ◌∙◌, inl, inr, subst, arith, is_some, replicate}
+use Rattle.std.proofs.Common.{◌≡◌, ◌≢◌, ◌^◌, ℕ, zero, suc, ◌+◌, ◌-◌, ◌<◌, ◌≤◌, Bool, true, false, nat_eq, nat_lt, List}
+use Rattle.std.proofs.Common.{[], ◌∷◌, ◌++◌, length, Some, None, Option, refl, sym, ap, ◌∙◌, inl, inr, subst, arith}
+use Rattle.std.proofs.Common.{is_some, replicate}
 use Rattle.std.specs.Prelude.{slice_index_or}
 use Rattle.std.proofs.Math.Logic.{∥∥₁_elim}
 use Rattle.std.proofs.Props.{props}
@@ -13,11 +15,13 @@ use Rattle.ps_core_parts.specs.Objects.{among, pair_of, pair_to, end_of, all_tru
 use Rattle.ps_core_parts.specs.Steps.{State, table_size, other_base, gc_after, forwarding}
 use Rattle.ps_core_laws.specs.Laws.{AreSingle}
 use Rattle.ps_core_laws.specs.Runs.{run}
-use Rattle.ps_core_laws.proofs.HeapTests.{bool_cases, and_both, at_number, number_not, same_number, lt_true, lt_is, lt_not}
+use Rattle.ps_core_laws.proofs.HeapTests.{bool_cases, and_both, at_number, number_not, same_number, lt_true, lt_is}
+use Rattle.ps_core_laws.proofs.HeapTests.{lt_not}
 use Rattle.ps_core_laws.proofs.Lookups.{pair_of-to, pair_to-replica, all_filled_at}
 use Rattle.ps_table.specs.Shown.{GcRuns, GcFinds}
 use Rattle.ps_table.proofs.Flipping.{look_stays}
-use Rattle.ps_table.proofs.Originals.{Lawful, lawful, original, object_inside, replica_inside, replica_header, replica_back, other_unknown, epoch_is}
+use Rattle.ps_table.proofs.Originals.{Lawful, lawful, original, object_inside, replica_inside, replica_header}
+use Rattle.ps_table.proofs.Originals.{replica_back, other_unknown, epoch_is}
 use Rattle.ps_gc.specs.declared.to_space.ToSpace.{ToSpace}
 use Rattle.ps_gc.specs.Keeps.{marks, Copies, IsAtField}
 use Rattle.ps_gc.proofs.Replicating.{ends_before}

@@ -1,14 +1,17 @@
 -- The events that a call of the collector makes, the oldest first, and what they make of its part.
-use Rattle.std.specs.Prelude.{◌≡◌, ◌==◌, ◌&&◌, ℕ, ◌+◌, Bool, true, false, nat_le, nat_lt, List, [], ◌∷◌, length, Some, None, is_some, slice_index_or, if◌then◌else◌}
+use Rattle.std.specs.Prelude.{◌≡◌, ◌==◌, ◌&&◌, ℕ, ◌+◌, Bool, true, false, nat_le, nat_lt, List, []}
+use Rattle.std.specs.Prelude.{◌∷◌, length, Some, None, is_some, slice_index_or, if◌then◌else◌}
 use Rattle.ps_word.specs.Format.{address_in}
 use Rattle.ps_word.specs.Readers.{is_reference}
 use Rattle.ps_record.specs.declared.Record.{Record}
 use Rattle.ps_record.specs.Format.{read_record}
 use Rattle.ps_core_parts.specs.declared.events.Event.{Event}
-use Rattle.ps_core_parts.specs.declared.events.Event.TheVariants.{GcLoad, TakeLoad, ReplicaHeaderStore, ForwardStore}
+use Rattle.ps_core_parts.specs.declared.events.Event.TheVariants.{GcLoad, TakeLoad}
+use Rattle.ps_core_parts.specs.declared.events.Event.TheVariants.{ReplicaHeaderStore, ForwardStore}
 use Rattle.ps_core_parts.specs.declared.events.Gc.{Gc}
 use Rattle.ps_core_parts.specs.declared.events.Pair.{Pair}
-use Rattle.ps_core_parts.specs.Objects.{among, pair_of, log_of, closes, with_load, with_copy, renamed, word_has_replica, end_of_replicas}
+use Rattle.ps_core_parts.specs.Objects.{among, pair_of, log_of, closes, with_load, with_copy}
+use Rattle.ps_core_parts.specs.Objects.{renamed, word_has_replica, end_of_replicas}
 use Rattle.ps_core_parts.specs.Steps.{other_base, forwarding, new_pair, seen_word, with_record}
 use Rattle.ps_table.specs.declared.plays.View.{View}
 use Rattle.ps_table.specs.Shown.{gc_did}

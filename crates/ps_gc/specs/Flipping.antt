@@ -7,7 +7,8 @@ use Rattle.ps_core_parts.specs.Objects.{all_filled, values_have_replicas}
 use Rattle.ps_gc.specs.declared.flips.Flip.{Flip}
 use Rattle.ps_gc.specs.declared.flips.Flip.TheVariants.{Done, NotReady}
 use Rattle.ps_gc.specs.declared.flips.Unready.{Unready}
-use Rattle.ps_gc.specs.declared.flips.Unready.TheVariants.{LogOpen, Undrained, Unscanned, RootNotCopied}
+use Rattle.ps_gc.specs.declared.flips.Unready.TheVariants.{LogOpen, Undrained, Unscanned}
+use Rattle.ps_gc.specs.declared.flips.Unready.TheVariants.{RootNotCopied}
 
 -- all logs are closed, and all that was logged is taken
 abbrev pub AreDrained : Vm → Gc → Type 0

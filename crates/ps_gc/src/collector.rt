@@ -2,18 +2,22 @@
 //!
 //! Between two calls its part is that of some run of the machine; nothing is half taken or being
 //! copied; and its numbers are the part's (`Copies`, `Takes`).
-ghost use Rattle.std.specs.Prelude.{◌≡◌, ◌<◌, ◌+◌, ℕ, true, false, not, None, Some, List, length, slice_index_or};
+ghost use Rattle.std.specs.Prelude.{◌≡◌, ◌<◌, ◌+◌, ℕ, true, false, not, None, Some, List, length};
+ghost use Rattle.std.specs.Prelude.{slice_index_or};
 ghost use Rattle.ps_core_parts.specs.declared.events.Event.{Event};
 ghost use Rattle.ps_core_parts.specs.declared.events.Event.TheVariants.{GcLoad, ReplicaHeaderStore};
 ghost use Rattle.ps_core_parts.specs.declared.events.Pair.{Pair};
-ghost use Rattle.ps_core_parts.specs.Objects.{pair_of, log_of, closes, is_close, all_filled, renamed_value, value_has_replica, values_have_replicas};
+ghost use Rattle.ps_core_parts.specs.Objects.{pair_of, log_of, closes, is_close, all_filled};
+ghost use Rattle.ps_core_parts.specs.Objects.{renamed_value, value_has_replica};
+ghost use Rattle.ps_core_parts.specs.Objects.{values_have_replicas};
 ghost use Rattle.ps_core_parts.specs.Steps.{start, knows_open};
 ghost use Rattle.ps_core_laws.specs.Kept.{ends_closed};
 ghost use Rattle.ps_core_laws.specs.Runs.{IsSpace};
 ghost use Rattle.ps_parts_memory.specs.Stores.{numbers};
 ghost use Rattle.ps_table.specs.Events.{gc_did_all};
 ghost use Rattle.ps_table.specs.Shown.{gc_did};
-ghost use Rattle.ps_gc.specs.Events.{word_replicated, Adds, IsKnown, AreKnown, Copied, DrainedOf, is_drained, FindsNothing, is_free, other_word};
+ghost use Rattle.ps_gc.specs.Events.{word_replicated, Adds, IsKnown, AreKnown, Copied, DrainedOf};
+ghost use Rattle.ps_gc.specs.Events.{is_drained, FindsNothing, is_free, other_word};
 ghost use Rattle.ps_record.specs.declared.Record.{Record};
 ghost use Rattle.ps_gc.specs.Ending.{FindsNext, Scans};
 ghost use Rattle.ps_gc.specs.Keeps.{Copies, GoesOnward, IsAtField, Takes};

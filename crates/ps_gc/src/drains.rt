@@ -1,5 +1,6 @@
 //! Records that are taken from the logs: the fields that they name are copied before.
-ghost use Rattle.std.specs.Prelude.{◌≡◌, ◌+◌, ◌<◌, ◌≤◌, ℕ, true, false, None, Some, List, length, slice_index_or};
+ghost use Rattle.std.specs.Prelude.{◌≡◌, ◌+◌, ◌<◌, ◌≤◌, ℕ, true, false, None, Some, List, length};
+ghost use Rattle.std.specs.Prelude.{slice_index_or};
 ghost use Rattle.ps_record.specs.declared.Record.TheVariants.{Place};
 ghost use Rattle.ps_core_parts.specs.declared.events.Event.{Event};
 ghost use Rattle.ps_core_parts.specs.declared.events.Event.TheVariants.{HeadStore};

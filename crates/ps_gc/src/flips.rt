@@ -1,5 +1,6 @@
 //! The flip, which comes only where all is ready for it, and the roots that are handed over.
-ghost use Rattle.std.specs.Prelude.{◌≡◌, ◌≤◌, ◌+◌, ◌<◌, ◌↔◌, ℕ, IsTrue, true, false, length, slice_index};
+ghost use Rattle.std.specs.Prelude.{◌≡◌, ◌≤◌, ◌+◌, ◌<◌, ◌↔◌, ℕ, IsTrue, true, false, length};
+ghost use Rattle.std.specs.Prelude.{slice_index};
 ghost use Rattle.ps_record.specs.Format.{slots};
 ghost use Rattle.ps_core_parts.specs.declared.events.Event.TheVariants.{CycleStore, HandOver};
 ghost use Rattle.ps_core_parts.specs.Conditions.{AllClosed};

@@ -5,7 +5,8 @@ ghost use Rattle.ps_core_parts.specs.declared.events.Pair.{Pair};
 ghost use Rattle.ps_core_parts.specs.Objects.{among, pair_of, renamed_value, value_has_replica};
 ghost use Rattle.ps_core_parts.specs.Steps.{knows_open};
 ghost use Rattle.ps_table.specs.Events.{gc_did_all};
-ghost use Rattle.ps_gc.specs.Events.{replica_made, object_replicated, word_replicated, with_replica, Adds, IsKnown};
+ghost use Rattle.ps_gc.specs.Events.{replica_made, object_replicated, word_replicated};
+ghost use Rattle.ps_gc.specs.Events.{with_replica, Adds, IsKnown};
 ghost use Rattle.ps_gc.specs.Keeps.{Copies, IsAtField, GoesOn, Stays};
 
 use crate::to_space::ToSpace;

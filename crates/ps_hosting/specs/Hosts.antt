@@ -8,6 +8,7 @@ use Rattle.ps_acts.specs.Acts.{Asked}
 use Rattle.ps_mem.specs.Bounded.{bounded_space}
 use Rattle.ps_mem.specs.Heap.{Space}
 use Rattle.ps_mem.specs.Plain.{plain_space}
+use Rattle.ps_start.specs.declared.start.TheConstants.{ANY_OUTPUT}
 use Rattle.ps_vault.specs.declared.reports.Config.{Config}
 use Rattle.ps_vault.specs.declared.reports.Outcome.{Outcome}
 use Rattle.ps_vault.specs.declared.reports.Outcome.TheVariants.{Finished, Faulted, AllWaiting, StepsOut, Memory}
@@ -19,9 +20,9 @@ use Rattle.ps_hosting.specs.declared.numbers.Settings.{Settings}
 use Rattle.ps_hosting.specs.declared.numbers.Counts.{Counts}
 use Rattle.ps_hosting.specs.declared.numbers.HostEntry.{HostEntry}
 
--- the most bytes that may be printed: no memory has as many where a host asks for no bound
+-- the most bytes that may be printed, where 0 asks for no bound
 abbrev pub most_output : ℕ → ℕ
-most_output output = if output == 0 then 2 ^ 64 - 1 else output
+most_output output = if output == 0 then ANY_OUTPUT else output
 
 -- the numbers of a run that a host asks for; its own thread is the one worker
 abbrev pub config_in : Settings → Config
@@ -105,7 +106,8 @@ abbrev pub IsHandedOut : Result Report Refusal → (old new : Rooms) → (code :
 IsHandedOut (Ok report) old new code = IsHanded report old new code
 IsHandedOut (Err refusal) old new code = (new ≡ old) × (code ≡ code_of_refusal refusal)
 
--- a run of a program by these settings, with a budget of so many steps, which prints no more than it
+-- a run of a program by these settings, with a budget of so many steps, which prints no more than
+-- it
 -- may. Asks: what a step asks for that the language doesn't say
 abbrev pub IsRunFor : (asks : Status → Around → Scene → Asked) → (program : List ℕ) → Settings
     → (steps : ℕ) → Report → Type 0
@@ -113,7 +115,8 @@ IsRunFor asks program settings steps report =
     IsRunIn asks (space_in settings) program steps report
     × (length report.printed.items ≤ most_output settings.output)
 
--- what is made where a host asks for a run of a program: a number is out of its range, or there is no
+-- what is made where a host asks for a run of a program: a number is out of its range, or there is
+-- no
 -- room to start with; or it is such a run
 abbrev pub IsMade : (asks : Status → Around → Scene → Asked) → (program : List ℕ) → Settings
     → Result Report Refusal → Type 0

@@ -70,9 +70,10 @@ fn goes_on_from(given: &[Entry], report: &Report) -> bool
     begins(given, made) || report.outcome.is_memory() && begins(made, given)
 }
 
-/// Goes on from a schedule: a run of the program by these settings, of the steps that were given and
-/// so many more, which begins with them. So what a run that was cut printed is the beginning of what
-/// this one prints. Where memory was wanted on the way the report has the given steps that were made.
+/// Goes on from a schedule: a run of the program by these settings, of the steps that were given
+/// and so many more, which begins with them. So what a run that was cut printed is the beginning of
+/// what this one prints. Where memory was wanted on the way the report has the given steps that
+/// were made.
 ///
 /// The refusal is `OtherSchedule` where the schedule isn't that of a run by these settings, or is
 /// that of one that was over before.
@@ -106,8 +107,8 @@ pub fn go_on_for<S: Interpret + Drop, D: Deeds + Drop>(
 
 /// Follows a schedule, over memory that is never collected. Of the settings the keys and the bound
 /// on the output count. Where a growth was refused, or more was to be printed than may be, the
-/// report's outcome is `Memory`, and it has the steps that were made; else it has the given schedule.
-/// The only refusal is for want of room.
+/// report's outcome is `Memory`, and it has the steps that were made; else it has the given
+/// schedule. The only refusal is for want of room.
 pub fn replay_for<S: Interpret + Drop, D: Deeds + Drop>(
     alloc: Global,
     makers: Makers<S, D>,
@@ -134,8 +135,8 @@ pub fn replay_for<S: Interpret + Drop, D: Deeds + Drop>(
     }
 }
 
-/// The report of a run by these settings, in a space that is collected or over memory that grows. Its
-/// first turns are of the contexts that a schedule has, as long as each is ready.
+/// The report of a run by these settings, in a space that is collected or over memory that grows.
+/// Its first turns are of the contexts that a schedule has, as long as each is ready.
 fn make<S: Interpret + Drop, D: Deeds + Drop>(
     alloc: Global,
     makers: Makers<S, D>,

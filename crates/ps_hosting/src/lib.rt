@@ -2,14 +2,14 @@
 //! its schedule and its counts out.
 //!
 //! Why so:
-//! - All that crosses is numbers, since no handle, callback or cell may. So a call keeps nothing, and
-//!   any number of a host's threads may call at once.
+//! - All that crosses is numbers, since no handle, callback or cell may. So a call keeps nothing,
+//!   and any number of a host's threads may call at once.
 //! - Who makes the steps is a parameter. The exports name the language's, and cite these contracts.
 //! - A host's flag may be any number, so no byte of a host's is a value that no type has.
-//! - A call that goes on makes the run anew, since nothing is kept. It looks at the schedule that it
-//!   made, and not at how it came to it, so its answer is that of the steps alone.
-//! - Codes below 16 are the statuses of `dpsrun`, and tell how a run ended; behind the others no run
-//!   stands, and nothing was written.
+//! - A call that goes on makes the run anew, since nothing is kept. It looks at the schedule that
+//!   it made, and not at how it came to it, so its answer is that of the steps alone.
+//! - Codes below 16 are the statuses of `dpsrun`, and tell how a run ended; behind the others no
+//!   run stands, and nothing was written.
 #![tactic(auto)]
 
 mod handing;

@@ -6,7 +6,7 @@ ghost use Rattle.ps_hosting.specs.Hosts as hosts;
 use crate::hosting::Refusal;
 use crate::keys::Keys;
 use ps_language::schedules::Entry;
-use ps_vault::{Config, Outcome};
+use ps_vault::{ANY_OUTPUT, Config, Outcome};
 
 /// What a host asks for.
 #[repr(C)]
@@ -78,7 +78,7 @@ pub(crate) fn most_output(settings: &Settings) -> u64
     ensures { result ≡ hosts.most_output settings.now.output }
 {
     if settings.output == 0 {
-        Config::ANY_OUTPUT
+        ANY_OUTPUT
     } else {
         settings.output
     }

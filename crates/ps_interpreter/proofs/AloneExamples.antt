@@ -5,7 +5,8 @@ use Rattle.ps_language.specs.declared.schedules.Entry.{Entry}
 use Rattle.ps_language.specs.Schedules.{moves}
 use Rattle.ps_language.proofs.Evaluation.{evaluation}
 use Rattle.ps_start.specs.Starts.{first_machine}
-use Rattle.ps_interpreter.specs.Alone.{alone_step, is_alone_ready, after_alone_move, after_alone_moves, alone_machine, alone_printed, all_alone_ready}
+use Rattle.ps_interpreter.specs.Alone.{alone_step, is_alone_ready, after_alone_move, after_alone_moves, alone_machine}
+use Rattle.ps_interpreter.specs.Alone.{alone_printed, all_alone_ready}
 use Rattle.ps_interpreter.specs.Owns.{are_own}
 
 -- so many steps of the first context, of which the last may be refused

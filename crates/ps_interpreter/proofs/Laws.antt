@@ -7,7 +7,8 @@ use Rattle.ps_language.specs.Schedules.{Move, moves, added}
 use Rattle.ps_language.specs.World.{Machine}
 use Rattle.ps_language.proofs.ScheduleLaws.{moves-append, moves-added}
 use Rattle.ps_start.specs.Starts.{first_machine}
-use Rattle.ps_interpreter.specs.Alone.{alone_step, is_alone_ready, after_alone_move, after_alone_moves, alone_machine, all_alone_ready, IsAloneProper}
+use Rattle.ps_interpreter.specs.Alone.{alone_step, is_alone_ready, after_alone_move, after_alone_moves, alone_machine}
+use Rattle.ps_interpreter.specs.Alone.{all_alone_ready, IsAloneProper}
 
 -- ---- steps
 

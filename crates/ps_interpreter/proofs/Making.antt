@@ -1,5 +1,6 @@
 -- Many ordinary steps.
-use Rattle.std.proofs.Common.{◌≡◌, ◌≢◌, ℕ, ◌+◌, ◌++◌, true, false, Option, Some, None, List, [], ◌∷◌, refl, sym, ◌∙◌, ap, subst, IsTrue, Ok, Err}
+use Rattle.std.proofs.Common.{◌≡◌, ◌≢◌, ℕ, ◌+◌, ◌++◌, true, false, Option, Some, None, List, [], ◌∷◌, refl, sym, ◌∙◌}
+use Rattle.std.proofs.Common.{ap, subst, IsTrue, Ok, Err}
 use Rattle.std.specs.Prelude.{Result}
 use Rattle.std.proofs.lemmas.List.{replicate-append-replicate, replicate_more}
 use Rattle.ps_language.specs.Effect.{Around, Scene}
@@ -25,7 +26,8 @@ use Rattle.ps_interpreter.specs.Needs.{alone_needs, IsHeldUp}
 use Rattle.ps_interpreter.specs.Steps.{Steps}
 use Rattle.ps_interpreter.specs.OwnSteps.{HasRun}
 use Rattle.ps_interpreter.proofs.Running.{made_by}
-use Rattle.ps_interpreter.proofs.Laws.{ready_move, first_ready, after_alone_moves-append, all_alone_ready-append, and_true, after_more, ready_more}
+use Rattle.ps_interpreter.proofs.Laws.{ready_move, first_ready, after_alone_moves-append, all_alone_ready-append}
+use Rattle.ps_interpreter.proofs.Laws.{and_true, after_more, ready_more}
 
 -- ---- whether there is another step
 

@@ -1,12 +1,14 @@
 -- The world of a context that is alone, over steps that are its own.
-use Rattle.std.proofs.Common.{◌≡◌, ℕ, ℤ, zero, suc, Bool, true, false, not, ◌&&◌, Option, Some, List, [], ◌∷◌, refl, sym, ◌∙◌, ap, arith, subst}
+use Rattle.std.proofs.Common.{◌≡◌, ℕ, ℤ, zero, suc, Bool, true, false, not, ◌&&◌, Option, Some, List, [], ◌∷◌, refl}
+use Rattle.std.proofs.Common.{sym, ◌∙◌, ap, arith, subst}
 use Rattle.std.specs.Prelude.{◌==◌, ◌||◌, if◌then◌else◌}
 use Rattle.std.proofs.lemmas.Bool.{true≢false}
 use Rattle.std.proofs.lemmas.Bool.Decides.{nat_tests}
 use Rattle.ps_language.specs.declared.schedules.Entry.{Entry}
 use Rattle.ps_language.specs.Contexts.{context_at, with_context, left_of}
 use Rattle.ps_language.specs.Locks.{is_ready_as, is_ready}
-use Rattle.ps_language.specs.Machines.{may_end, is_empty, told_by, with_line, with_status, settled, Reached, reaches, leaves_to_world, after_turn, turn_as, own_step, around_of, scene_of}
+use Rattle.ps_language.specs.Machines.{may_end, is_empty, told_by, with_line, with_status, settled, Reached, reaches}
+use Rattle.ps_language.specs.Machines.{leaves_to_world, after_turn, turn_as, own_step, around_of, scene_of}
 use Rattle.ps_language.specs.Access.{dictionary_at}
 use Rattle.ps_language.specs.Objects.{lacks_room}
 use Rattle.ps_language.specs.Schedules.{Move, moves}
@@ -14,11 +16,13 @@ use Rattle.ps_language.specs.Step.{Stepped, plainly, after_own, moved_as, steppe
 use Rattle.ps_language.specs.StepErrors.{has_new_error}
 use Rattle.ps_language.specs.StepValues.{Turn, goes, tries, breaks, errs, asks as leaves_to}
 use Rattle.ps_language.specs.Value.{Dictionary}
-use Rattle.ps_language.specs.World.{for_stop, for_exit, for_quit, Status, running, unwinding, again, waiting, retaking, finished, Context, Machine, World}
+use Rattle.ps_language.specs.World.{for_stop, for_exit, for_quit, Status, running, unwinding, again, waiting, retaking}
+use Rattle.ps_language.specs.World.{finished, Context, Machine, World}
 use Rattle.ps_language.specs.Worlds.{starting_world, after_move, after_moves, world, printed, all_ready}
 use Rattle.ps_language.proofs.WorldLaws.{step-unready}
 use Rattle.ps_start.specs.Starts.{first_machine}
-use Rattle.ps_interpreter.specs.Alone.{alone_reached, alone_step, is_alone_ready, after_alone_move, after_alone_moves, alone_machine, alone_printed, all_alone_ready}
+use Rattle.ps_interpreter.specs.Alone.{alone_reached, alone_step, is_alone_ready, after_alone_move, after_alone_moves}
+use Rattle.ps_interpreter.specs.Alone.{alone_machine, alone_printed, all_alone_ready}
 use Rattle.ps_interpreter.specs.Owns.{alone_world, is_own, are_own}
 use Rattle.ps_interpreter.proofs.Laws.{unready_move, ready_move}
 

@@ -1,9 +1,11 @@
 -- Own steps of a running context, one after another.
-use Rattle.std.proofs.Common.{◌≡◌, ◌≢◌, ℕ, zero, suc, ◌+◌, Bool, true, false, Option, Some, None, List, [], ◌∷◌, map, refl, sym, ◌∙◌, ap, subst, IsTrue, Ok, arith}
+use Rattle.std.proofs.Common.{◌≡◌, ◌≢◌, ℕ, zero, suc, ◌+◌, Bool, true, false, Option, Some, None, List, [], ◌∷◌, map}
+use Rattle.std.proofs.Common.{refl, sym, ◌∙◌, ap, subst, IsTrue, Ok, arith}
 use Rattle.std.specs.Prelude.{option_and_then}
 use Rattle.std.proofs.lemmas.List.{replicate_more}
 use Rattle.ps_language.specs.Effect.{Around, Scene}
-use Rattle.ps_language.specs.Machines.{may_end, is_empty, settled, Reached, reaches, leaves_to_world, after_turn, own_step}
+use Rattle.ps_language.specs.Machines.{may_end, is_empty, settled, Reached, reaches, leaves_to_world, after_turn}
+use Rattle.ps_language.specs.Machines.{own_step}
 use Rattle.ps_language.specs.Schedules.{plain_move}
 use Rattle.ps_language.specs.Value.{Store}
 use Rattle.ps_language.specs.World.{Status, running, unwinding, Machine}

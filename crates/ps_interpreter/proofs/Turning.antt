@@ -1,5 +1,6 @@
 -- A step by the topmost frame's turn.
-use Rattle.std.proofs.Common.{◌≡◌, inl, inr, ℕ, ◌≤◌, Bool, true, List, length, refl, sym, ap, subst, ◌∙◌, Ok, Err, Option, Some, None, arith}
+use Rattle.std.proofs.Common.{◌≡◌, inl, inr, ℕ, ◌≤◌, Bool, true, List, length, refl, sym, ap, subst, ◌∙◌, Ok, Err}
+use Rattle.std.proofs.Common.{Option, Some, None, arith}
 use Rattle.std.specs.Prelude.{Result}
 use Rattle.ps_language.specs.declared.operators.Operator.{Operator}
 use Rattle.ps_language.specs.Effect.{Around, Scene}
@@ -22,7 +23,8 @@ use Rattle.ps_turns.specs.declared.turned.Turned.TheVariants.{Calls}
 use Rattle.ps_turns.specs.Turns.{Turns, IsTurned, calling_of, turn_needs, needs_in, lines_after}
 use Rattle.ps_interpreter.specs.declared.courses.Course.TheVariants.{Calling}
 use Rattle.ps_interpreter.specs.Alone.{alone_reached, alone_step}
-use Rattle.ps_interpreter.specs.Courses.{Held, held, course_in, has_steps, course_after, IsLentBy, IsCalling, IsAtBy, HasFrame, IsSteady}
+use Rattle.ps_interpreter.specs.Courses.{Held, held, course_in, has_steps, course_after, IsLentBy, IsCalling, IsAtBy}
+use Rattle.ps_interpreter.specs.Courses.{HasFrame, IsSteady}
 use Rattle.ps_interpreter.specs.Interprets.{status_in, own_turn, asks_in}
 use Rattle.ps_interpreter.specs.Needs.{alone_turn_needs, machine_turn, alone_needs}
 use Rattle.ps_interpreter.specs.Steps.{StepsTo, StepsFrom, Steps}

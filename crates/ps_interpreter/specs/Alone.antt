@@ -3,7 +3,8 @@
 use Rattle.std.specs.Prelude.{ℕ, ◌&&◌, ◌==◌, Bool, true, IsTrue, List, [], ◌∷◌, if◌then◌else◌}
 use Rattle.ps_language.specs.declared.errors.ErrorName.TheVariants.{Undefined}
 use Rattle.ps_language.specs.declared.schedules.Entry.{Entry}
-use Rattle.ps_language.specs.Machines.{failed, may_end, settled, Reached, reaches, leaves_to_world, own_step}
+use Rattle.ps_language.specs.Machines.{failed, may_end, settled, Reached, reaches, leaves_to_world}
+use Rattle.ps_language.specs.Machines.{own_step}
 use Rattle.ps_language.specs.Schedules.{Move, moves}
 use Rattle.ps_language.specs.StepValues.{command_of}
 use Rattle.ps_language.specs.World.{Machine}

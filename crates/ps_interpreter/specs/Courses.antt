@@ -13,7 +13,8 @@ use Rattle.ps_turns.specs.declared.turned.Turned.{Turned}
 use Rattle.ps_turns.specs.declared.turned.Turned.TheVariants.{Goes, Calls, Breaks, Ends}
 use Rattle.ps_turns.specs.Turns.{calling_of}
 use Rattle.ps_interpreter.specs.declared.courses.Course.{Course}
-use Rattle.ps_interpreter.specs.declared.courses.Course.TheVariants.{Running, Unwinding, Calling, Finished}
+use Rattle.ps_interpreter.specs.declared.courses.Course.TheVariants.{Running, Unwinding, Calling}
+use Rattle.ps_interpreter.specs.declared.courses.Course.TheVariants.{Finished}
 
 -- what is lent, how far the context is, and how many lines of errors were printed
 pub record Held : Type 0 where

@@ -1,5 +1,6 @@
 -- When many ordinary steps of a context by itself went as the definitions say (PLRM2, 3.5).
-use Rattle.std.specs.Prelude.{◌≡◌, ◌≢◌, ℕ, true, false, IsTrue, Option, Some, None, Result, List, [], replicate}
+use Rattle.std.specs.Prelude.{◌≡◌, ◌≢◌, ℕ, true, false, IsTrue, Option, Some, None, Result, List}
+use Rattle.std.specs.Prelude.{[], replicate}
 use Rattle.ps_language.specs.Effect.{Around, Scene}
 use Rattle.ps_language.specs.Schedules.{Move, plain_move}
 use Rattle.ps_language.specs.World.{Status, Machine}

@@ -1,5 +1,6 @@
 -- Ordinary steps of a running context, none of which leaves an operator to the world (PLRM2, 3.5).
-use Rattle.std.specs.Prelude.{◌≡◌, ℕ, zero, suc, false, Option, Some, None, option_and_then, List, [], ◌∷◌, if◌then◌else◌}
+use Rattle.std.specs.Prelude.{◌≡◌, ℕ, zero, suc, false, Option, Some, None, option_and_then, List}
+use Rattle.std.specs.Prelude.{[], ◌∷◌, if◌then◌else◌}
 use Rattle.ps_language.specs.Machines.{may_end, Reached, reaches, leaves_to_world, own_step}
 use Rattle.ps_language.specs.World.{Status, running, finished, Machine}
 use Rattle.ps_mem.specs.Keeps.{Keeps}
@@ -29,8 +30,10 @@ abbrev pub status_with : List Frame → Status
 status_with [] = finished
 status_with (frame ∷ frames) = running
 
--- what a machine came to by so many own steps: what is lent is that of the next machine, which is in
--- this status, and whose context is detached as it was; no string is shorter, and no line of an error
+-- what a machine came to by so many own steps: what is lent is that of the next machine, which is
+-- in
+-- this status, and whose context is detached as it was; no string is shorter, and no line of an
+-- error
 -- was printed
 pub record ComesAs (program : List ℕ) (made : ℕ) (machine : Machine) (status : Status) (new : Lent)
     : Type 0 where
@@ -40,7 +43,8 @@ pub record ComesAs (program : List ℕ) (made : ℕ) (machine : Machine) (status
   pub lasts : Lasts machine.store next.store
   pub detached : next.context.is_detached ≡ machine.context.is_detached
 
--- so many own steps were made, behind which the status is this, from every machine whose is what was
+-- so many own steps were made, behind which the status is this, from every machine whose is what
+-- was
 -- lent
 pub record HasCome (made : ℕ) (status : Status) (old new : Lent) : Type 0 where
   pub comes : (machine : Machine)

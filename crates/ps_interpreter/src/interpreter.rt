@@ -1,6 +1,7 @@
 //! A context with what it prints, how far it is, and its steps (PLRM2, 3.5, 3.10).
 
-ghost use Rattle.std.specs.Prelude.{◌≡◌, ◌<◌, ◌≤◌, length, false, true, Option, IsSome, IsNone, OnErr, IfOk, IfErr};
+ghost use Rattle.std.specs.Prelude.{◌≡◌, ◌<◌, ◌≤◌, length, false, true, Option, IsSome, IsNone};
+ghost use Rattle.std.specs.Prelude.{OnErr, IfOk, IfErr};
 ghost use Rattle.ps_language.specs.Effect.{Around, Scene};
 ghost use Rattle.ps_language.specs.World.{Status};
 ghost use Rattle.ps_mem.specs.Heap.{SameLogs};

@@ -1,10 +1,10 @@
 //! Rows of layouts: what stands in a word, bit by bit, as `{:?}` writes it.
 //!
-//! `as-value WORD TEXT`, `as-header WORD TEXT`, `as-forward WORD TEXT`: what a word of memory is, if it
-//! is that; the word is again what the value is packed into. `as-record NUMBER WORD TEXT`: what a word
-//! is as the record of this number of a log. The word is again what that is packed into, and it is no
-//! record a lap later.
-//! `ring SLOT NUMBER PLACE`: where in the table a record stands. `lap NUMBER BIT`: its lap bit.
+//! `as-value WORD TEXT`, `as-header WORD TEXT`, `as-forward WORD TEXT`: what a word of memory is,
+//! if it is that; the word is again what the value is packed into. `as-record NUMBER WORD TEXT`:
+//! what a word is as the record of this number of a log. The word is again what that is packed
+//! into, and it is no record a lap later. `ring SLOT NUMBER PLACE`: where in the table a record
+//! stands. `lap NUMBER BIT`: its lap bit.
 
 use crate::machine::number_of;
 use ps_record::{PackedRecord, Record, lap_of, ring_place};
@@ -70,8 +70,8 @@ fn is_record(
     Ok(is_same && is_shown(alloc, &record, text)?)
 }
 
-/// Whether the row of this name, with this number and what stands behind it, is so; none where it is
-/// the row of no layout.
+/// Whether the row of this name, with this number and what stands behind it, is so; none where it
+/// is the row of no layout.
 pub fn layout_row(
     alloc: Global,
     name: &str,

@@ -1,5 +1,5 @@
-//! Rows of the collector's machine: an event with its numbers and how it is answered, `made`, `not-now`
-//! or `memory`; `word INDEX WORD`, a word of the table; or `run`, a new run.
+//! Rows of the collector's machine: an event with its numbers and how it is answered, `made`,
+//! `not-now` or `memory`; `word INDEX WORD`, a word of the table; or `run`, a new run.
 
 use crate::events::event_of;
 use ps_core::{Core, Refused};

@@ -1,7 +1,7 @@
-//! Rows of single layers, which no program of the language shows: tokens of texts, words, records and
-//! names, dictionaries, and runs of the collector's machine. Prints which rows differ from what they
-//! say, and how many there are. With words behind its name it tells how long a layer takes: `scan`, of
-//! the input as one text; `dictionary SIZE STEP ROUNDS`, of puts and look-ups.
+//! Rows of single layers, which no program of the language shows: tokens of texts, words, records
+//! and names, dictionaries, and runs of the collector's machine. Prints which rows differ from what
+//! they say, and how many there are. With words behind its name it tells how long a layer takes:
+//! `scan`, of the input as one text; `dictionary SIZE STEP ROUNDS`, of puts and look-ups.
 //!
 //! Why so:
 //! - Rows are input of a program and no constants in tests: tables of constants are costly to

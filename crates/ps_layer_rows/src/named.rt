@@ -1,7 +1,7 @@
-//! Rows of names: `first-names` and `no-names` begin anew, with the names that are met at the start or
-//! with none; `meet NUMBER TEXT`: a text is met and has this number then; `find NUMBER TEXT`: it has
-//! this number, `-` where it was not met; `text NUMBER TEXT`: the text of a number; `names COUNT`: how
-//! many were met; `forget COUNT`: all but so many are forgotten.
+//! Rows of names: `first-names` and `no-names` begin anew, with the names that are met at the start
+//! or with none; `meet NUMBER TEXT`: a text is met and has this number then; `find NUMBER TEXT`: it
+//! has this number, `-` where it was not met; `text NUMBER TEXT`: the text of a number; `names
+//! COUNT`: how many were met; `forget COUNT`: all but so many are forgotten.
 
 use ps_names::{NameId, Names};
 use std::alloc::{AllocError, Global};

@@ -1,5 +1,5 @@
-//! Rows of dictionaries: `dictionary SIZE STEP CAPACITY`, made by puts of so many multiples of a step;
-//! each is found, and the capacity is this.
+//! Rows of dictionaries: `dictionary SIZE STEP CAPACITY`, made by puts of so many multiples of a
+//! step; each is found, and the capacity is this.
 
 ghost use Rattle.std.specs.Prelude.{◌≡◌};
 ghost use Rattle.ps_mem.specs.References.{StandsAs};
@@ -100,8 +100,8 @@ pub struct Filled {
     pub capacity: u32,
 }
 
-/// Makes a dictionary from no capacity on, by puts of so many multiples of a step, and looks each up.
-/// With rounds the times go to standard error. Nothing: memory is wanted.
+/// Makes a dictionary from no capacity on, by puts of so many multiples of a step, and looks each
+/// up. With rounds the times go to standard error. Nothing: memory is wanted.
 pub fn measure(rt: &HostRuntime, size: i32, step: i32, rounds: u16) -> Result<Option<Filled>> {
     let mut memory = PlainMemory::new(rt.alloc());
     if memory.need(8, 1).is_err() {
@@ -126,7 +126,8 @@ pub fn measure(rt: &HostRuntime, size: i32, step: i32, rounds: u16) -> Result<Op
     }))
 }
 
-/// Whether a dictionary of so many multiples of a step has this capacity, and each was put and found.
+/// Whether a dictionary of so many multiples of a step has this capacity, and each was put and
+/// found.
 pub fn is_filled(rt: &HostRuntime, row: &str) -> Result<bool> {
     let mut numbers: Vec<i32> = Vec::new(rt.alloc());
     for text in row.split_whitespace() {

@@ -1,12 +1,13 @@
-//! Rows of texts: `tokens TOKENS` and, behind a tab each, fields `TIMES:TEXT` that make the text. `\` and
-//! two hexadecimal digits are a byte.
+//! Rows of texts: `tokens TOKENS` and, behind a tab each, fields `TIMES:TEXT` that make the text.
+//! `\` and two hexadecimal digits are a byte.
 
 use crate::shown::{show_next, show_size};
 use anyhow::Result;
 use std::alloc::{AllocError, Global};
 use std::io;
 
-/// More bytes than a text has whose tokens are all shown; of a longer one it is the size of the first.
+/// More bytes than a text has whose tokens are all shown; of a longer one it is the size of the
+/// first.
 const LONG: usize = 1000;
 
 /// The bytes that a field writes.

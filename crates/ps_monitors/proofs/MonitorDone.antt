@@ -1,7 +1,9 @@
 -- A caller enters a procedure under a lock, or is to try again.
-use Rattle.std.proofs.Common.{◌≡◌, ℕ, ◌≤◌, arith, ℤ, Bool, true, false, List, [], ◌∷◌, ◌++◌, length, Option, Some, None, Ok, Err, refl, sym, ap, subst, ◌∙◌, inl, inr}
+use Rattle.std.proofs.Common.{◌≡◌, ℕ, ◌≤◌, arith, ℤ, Bool, true, false, List, [], ◌∷◌, ◌++◌, length, Option, Some, None}
+use Rattle.std.proofs.Common.{Ok, Err, refl, sym, ap, subst, ◌∙◌, inl, inr}
 use Rattle.std.specs.Prelude.{not, unwrap_or, if◌then◌else◌}
-use Rattle.ps_language.specs.declared.errors.ErrorName.TheVariants.{ExecStackOverflow, InvalidAccess, InvalidContext, TypeCheck}
+use Rattle.ps_language.specs.declared.errors.ErrorName.TheVariants.{ExecStackOverflow, InvalidAccess, InvalidContext}
+use Rattle.ps_language.specs.declared.errors.ErrorName.TheVariants.{TypeCheck}
 use Rattle.ps_language.specs.declared.operators.Operator.TheVariants.{Monitor}
 use Rattle.ps_language.proofs.AskedLemmas.{made-same}
 use Rattle.ps_language.specs.Access.{is_executable}

@@ -1,5 +1,6 @@
 -- A condition is notified by an operator of its caller.
-use Rattle.std.proofs.Common.{◌≡◌, ℕ, zero, suc, ℤ, Bool, true, false, List, [], ◌∷◌, Option, Some, None, Ok, Err, refl, sym, ap, subst, ◌∙◌}
+use Rattle.std.proofs.Common.{◌≡◌, ℕ, zero, suc, ℤ, Bool, true, false, List, [], ◌∷◌, Option, Some, None, Ok, Err, refl}
+use Rattle.std.proofs.Common.{sym, ap, subst, ◌∙◌}
 use Rattle.std.specs.Prelude.{◌==◌, option_map, option_and_then, slice_get, slice_set, if◌then◌else◌}
 use Rattle.ps_language.specs.declared.kinds.Kind.TheVariants.{Condition as ConditionKind}
 use Rattle.ps_language.specs.declared.errors.ErrorName.TheVariants.{TypeCheck}
@@ -21,11 +22,13 @@ use Rattle.ps_acts.specs.declared.lent.Trial.{Trial}
 use Rattle.ps_acts.specs.Acts.{Acts, nothing_asked, effect_in}
 use Rattle.ps_acts.specs.Lent.{Lent, scene_of}
 use Rattle.ps_contexts.specs.declared.members.Course.{Course}
-use Rattle.ps_contexts.specs.declared.members.Course.TheVariants.{Running, Unwinding, Again, Waiting, Retaking, Finished}
+use Rattle.ps_contexts.specs.declared.members.Course.TheVariants.{Running, Unwinding, Again, Waiting, Retaking}
+use Rattle.ps_contexts.specs.declared.members.Course.TheVariants.{Finished}
 use Rattle.ps_contexts.specs.declared.members.Member.{Member}
 use Rattle.ps_contexts.specs.Seats.{item_at, with_item}
 use Rattle.ps_contexts.specs.Worlds.{context_of}
-use Rattle.ps_contexts.specs.Desks.{Desk, lent_to, desk_unmade, notified_course, notified_member, notified_members, HasFrame, AreFramed, IsSteady}
+use Rattle.ps_contexts.specs.Desks.{Desk, lent_to, desk_unmade, notified_course, notified_member, notified_members}
+use Rattle.ps_contexts.specs.Desks.{HasFrame, AreFramed, IsSteady}
 use Rattle.ps_contexts.proofs.Changing.{notified_desk, notified_steady, notified_world}
 use Rattle.ps_world.specs.declared.notes.Note.TheVariants.{Nothing}
 use Rattle.ps_world.specs.Calls.{RunsAt, AreFramedBut, call_by}

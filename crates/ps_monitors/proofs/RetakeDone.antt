@@ -1,5 +1,6 @@
 -- A lock is taken again, or is not.
-use Rattle.std.proofs.Common.{◌≡◌, ℕ, zero, suc, ◌≤◌, arith, List, [], ◌∷◌, Option, Some, Ok, Err, refl, sym, ap, subst, ◌∙◌}
+use Rattle.std.proofs.Common.{◌≡◌, ℕ, zero, suc, ◌≤◌, arith, List, [], ◌∷◌, Option, Some, Ok, Err, refl, sym, ap, subst}
+use Rattle.std.proofs.Common.{◌∙◌}
 use Rattle.ps_language.specs.declared.kinds.Kind.TheVariants.{Lock as LockKind}
 use Rattle.ps_language.specs.Machines.{settled}
 use Rattle.ps_language.specs.Owners.{with_owner}
@@ -25,7 +26,8 @@ use Rattle.ps_contexts.specs.declared.members.Course.TheVariants.{Retaking}
 use Rattle.ps_contexts.specs.declared.members.Member.{Member}
 use Rattle.ps_contexts.specs.Seats.{item_at}
 use Rattle.ps_contexts.specs.Worlds.{status_of, context_of}
-use Rattle.ps_contexts.specs.Desks.{Desk, lent_to, desk_after, course_after, IsCourseHeld, IsGoodMember, IsLentBy, IsWorld, IsSteady, GoesOn, turned_member}
+use Rattle.ps_contexts.specs.Desks.{Desk, lent_to, desk_after, course_after, IsCourseHeld, IsGoodMember, IsLentBy}
+use Rattle.ps_contexts.specs.Desks.{IsWorld, IsSteady, GoesOn, turned_member}
 use Rattle.ps_contexts.proofs.Staying.{members_good}
 use Rattle.ps_contexts.proofs.Stepping.{context_there}
 use Rattle.ps_contexts.proofs.Turning.{member_at, frame_after, goes_by, went_steady, went_settled, regranted}

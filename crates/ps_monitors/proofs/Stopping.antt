@@ -19,7 +19,8 @@ use Rattle.ps_contexts.specs.declared.members.Course.TheVariants.{Running}
 use Rattle.ps_contexts.specs.declared.members.Member.{Member}
 use Rattle.ps_contexts.specs.Seats.{item_at, with_item}
 use Rattle.ps_contexts.specs.Worlds.{status_of, context_of}
-use Rattle.ps_contexts.specs.Desks.{Desk, lent_to, returned, desk_unmade, has_finished, member_left, HasFrame, AreFramed, IsCourseHeld, IsGoodMember, IsWorld, IsSteady}
+use Rattle.ps_contexts.specs.Desks.{Desk, lent_to, returned, desk_unmade, has_finished, member_left, HasFrame}
+use Rattle.ps_contexts.specs.Desks.{AreFramed, IsCourseHeld, IsGoodMember, IsWorld, IsSteady}
 use Rattle.ps_contexts.proofs.Changing.{changed_desk, changed_steady}
 use Rattle.ps_contexts.proofs.Going.{with_item_members}
 use Rattle.ps_contexts.proofs.Lifting.{course_world}

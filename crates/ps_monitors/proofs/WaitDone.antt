@@ -1,5 +1,6 @@
 -- A caller frees its lock, and waits for a condition.
-use Rattle.std.proofs.Common.{◌≡◌, ℕ, arith, ℤ, true, List, [], ◌∷◌, Option, Some, None, Ok, Err, refl, sym, ap, subst, ◌∙◌}
+use Rattle.std.proofs.Common.{◌≡◌, ℕ, arith, ℤ, true, List, [], ◌∷◌, Option, Some, None, Ok, Err, refl, sym, ap, subst}
+use Rattle.std.proofs.Common.{◌∙◌}
 use Rattle.std.specs.Prelude.{not, option_map, option_and_then}
 use Rattle.ps_language.specs.declared.kinds.Kind.TheVariants.{Lock as LockKind, Condition as ConditionKind}
 use Rattle.ps_language.specs.declared.errors.ErrorName.TheVariants.{InvalidContext, TypeCheck, VmError}

@@ -8,7 +8,9 @@ use Rattle.ps_language.specs.Equality.{key_of, same_key}
 use Rattle.ps_language.specs.Outcome.{leaves, fails, given_that}
 use Rattle.ps_language.specs.Readers.{integer_in, string_in, as_integer, as_string}
 use Rattle.ps_language.specs.RowsRelations.{compared, comparison}
-use Rattle.ps_language.specs.Value.{Part, What, null_value, mark_value, integer_value, boolean_value, name_value, operator_value, array_value, string_value, dictionary_value, lock_value, condition_value, Value, Store}
+use Rattle.ps_language.specs.Value.{Part, What, null_value, mark_value, integer_value, boolean_value, name_value}
+use Rattle.ps_language.specs.Value.{operator_value, array_value, string_value, dictionary_value, lock_value}
+use Rattle.ps_language.specs.Value.{condition_value, Value, Store}
 use Rattle.ps_relation_operators.specs.Relations.{equality, order}
 
 -- ---- what a value is

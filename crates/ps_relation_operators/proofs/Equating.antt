@@ -1,5 +1,6 @@
 -- When two values are equal, by the words that stand for them.
-use Rattle.std.proofs.Common.{◌≡◌, ◌≢◌, ℕ, ◌+◌, ◌≤◌, length, Bool, true, false, ◌&&◌, List, Some, None, refl, sym, ap, ◌∙◌, AllPairs}
+use Rattle.std.proofs.Common.{◌≡◌, ◌≢◌, ℕ, ◌+◌, ◌≤◌, length, Bool, true, false, ◌&&◌, List, Some, None, refl, sym, ap}
+use Rattle.std.proofs.Common.{◌∙◌, AllPairs}
 use Rattle.std.specs.Bool.{◌==◌}
 use Rattle.std.specs.Prelude.{option_map}
 use Rattle.std.specs.declared.cmp.Ordering.{Ordering}

@@ -6,7 +6,9 @@ use Rattle.std.proofs.lemmas.Bool.Decides.{same_from_decides}
 use Rattle.std.proofs.lemmas.Cmp.{nat_eq_equiv, int_eq_equiv}
 use Rattle.std.proofs.lemmas.Slice.Eq.{bytes_eq-Decides}
 use Rattle.ps_language.specs.declared.operators.Operator.{Operator}
-use Rattle.ps_language.specs.Value.{Part, What, null_value, mark_value, integer_value, boolean_value, name_value, operator_value, array_value, string_value, dictionary_value, lock_value, condition_value, Value}
+use Rattle.ps_language.specs.Value.{Part, What, null_value, mark_value, integer_value, boolean_value, name_value}
+use Rattle.ps_language.specs.Value.{operator_value, array_value, string_value, dictionary_value, lock_value}
+use Rattle.ps_language.specs.Value.{condition_value, Value}
 use Rattle.ps_language.specs.Equality.{same_truth, same_operator, same_part, same_what, same_key}
 
 same_truth-turned : (a b : Bool) → same_truth a b ≡ same_truth b a

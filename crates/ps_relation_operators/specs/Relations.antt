@@ -8,7 +8,8 @@ use Rattle.ps_language.specs.declared.errors.ErrorName.TheVariants.{InvalidAcces
 use Rattle.ps_language.specs.Access.{may_read_text}
 use Rattle.ps_language.specs.Equality.{are_equal}
 use Rattle.ps_language.specs.Outcome.{Outcome, leaves, given, given_that}
-use Rattle.ps_language.specs.RowsRelations.{comparison, eq_row, ne_row, gt_row, ge_row, lt_row, le_row}
+use Rattle.ps_language.specs.RowsRelations.{comparison, eq_row, ne_row, gt_row, ge_row, lt_row}
+use Rattle.ps_language.specs.RowsRelations.{le_row}
 use Rattle.ps_language.specs.Value.{Value, Store}
 use Rattle.ps_word.specs.declared.words.Word.{Word}
 use Rattle.ps_mem.specs.Heap.{Heap, birth_at}
@@ -16,7 +17,9 @@ use Rattle.ps_mem.specs.Meaning.{value_of}
 use Rattle.ps_mem.specs.Shows.{IsWithin, Shows}
 use Rattle.ps_operands.specs.Does.{outcome_of}
 use Rattle.ps_relation_operators.specs.declared.orders.Relation.{Relation}
-use Rattle.ps_relation_operators.specs.declared.orders.Relation.TheVariants.{Greater, GreaterOrEqual, Less, LessOrEqual}
+use Rattle.ps_relation_operators.specs.declared.orders.Relation.TheVariants.{Greater}
+use Rattle.ps_relation_operators.specs.declared.orders.Relation.TheVariants.{GreaterOrEqual, Less}
+use Rattle.ps_relation_operators.specs.declared.orders.Relation.TheVariants.{LessOrEqual}
 
 -- ---- what is found of two values
 

@@ -1,7 +1,8 @@
 //! Equality of two values (PLRM2, 8 'eq'): of a string by its characters, as a name has them, and
 //! of everything else as keys are.
 
-ghost use Rattle.std.specs.Prelude.{◌≡◌, ◌≢◌, ℕ, List, None, Ok, true, false, AllPairs, IfOk, IfErr, is_ok};
+ghost use Rattle.std.specs.Prelude.{◌≡◌, ◌≢◌, ℕ, List, None, Ok, true, false, AllPairs, IfOk};
+ghost use Rattle.std.specs.Prelude.{IfErr, is_ok};
 ghost use Rattle.ps_language.specs.Access.{may_read_text};
 ghost use Rattle.ps_language.specs.Equality as language;
 ghost use Rattle.ps_language.specs.Rows.{reading_row};

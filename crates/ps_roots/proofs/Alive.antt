@@ -1,11 +1,16 @@
 -- What the roots of contexts reach in their memory lives in the world that is shown.
-use Rattle.std.proofs.Common.{◌≡◌, ◌≢◌, ℕ, true, false, List, [], ◌∷◌, ◌++◌, length, Option, Some, None, slice_get, refl, sym, ap, ◌∙◌, subst, is_some, inl, inr}
+use Rattle.std.proofs.Common.{◌≡◌, ◌≢◌, ℕ, true, false, List, [], ◌∷◌, ◌++◌, length, Option, Some, None, slice_get}
+use Rattle.std.proofs.Common.{refl, sym, ap, ◌∙◌, subst, is_some, inl, inr}
 use Rattle.std.specs.Prelude.{flat_map}
 use Rattle.std.specs.List.{AllByRecursion, Contains}
-use Rattle.std.proofs.lemmas.List.Elements.{All-contains, All-from_recursion, recursion_from_All, All-contains_itself, All-weaker}
+use Rattle.std.proofs.lemmas.List.Elements.{All-contains, All-from_recursion, recursion_from_All, All-contains_itself}
+use Rattle.std.proofs.lemmas.List.Elements.{All-weaker}
 use Rattle.ps_language.specs.declared.kinds.Kind.{Kind}
 use Rattle.ps_language.specs.declared.kinds.Kind.TheVariants as kinds
-use Rattle.ps_language.specs.Live.{references_in, references_of, references_of_source, references_of_frame, references_of_frames, references_of_status, references_of_context, references_of_contexts, references_of_object, references_of_option, references_at, roots, IsReachable, is_root, is_named}
+use Rattle.ps_language.specs.Live.{references_in, references_of, references_of_source, references_of_frame}
+use Rattle.ps_language.specs.Live.{references_of_frames, references_of_status, references_of_context}
+use Rattle.ps_language.specs.Live.{references_of_contexts, references_of_object, references_of_option, references_at}
+use Rattle.ps_language.specs.Live.{roots, IsReachable, is_root, is_named}
 use Rattle.ps_language.specs.Value.{Dictionary as DictionaryValue, Object, dictionary_object}
 use Rattle.ps_language.specs.World.{World}
 use Rattle.ps_word.specs.declared.words.Word.{Word}
@@ -19,7 +24,8 @@ use Rattle.ps_word.proofs.Places.{address_of-at}
 use Rattle.ps_mem.specs.Heap.{Standing, birth_of, object_at, birth_at}
 use Rattle.ps_mem.specs.Meaning.{what_of, value_of}
 use Rattle.ps_mem.specs.References.{StandsAs, IsKnownContent}
-use Rattle.ps_mem.specs.Shows.{AreFields, ShowsDictionary, IsOwner, IsValue, IsShown, shown_array, shown_text, shown_dictionary, shown_lock, shown_condition}
+use Rattle.ps_mem.specs.Shows.{AreFields, ShowsDictionary, IsOwner, IsValue, IsShown, shown_array, shown_text}
+use Rattle.ps_mem.specs.Shows.{shown_dictionary, shown_lock, shown_condition}
 use Rattle.ps_mem.specs.Stands.{IsAddressed}
 use Rattle.ps_mem.proofs.ShowsLemmas.{array_values, body_values}
 use Rattle.ps_ops.specs.Does.{values_in}
@@ -29,15 +35,18 @@ use Rattle.ps_control.specs.declared.frames.Frame.{Frame}
 use Rattle.ps_control.specs.declared.frames.Frame.TheVariants as frames
 use Rattle.ps_control.specs.Frames.{source_of, frame_of, frames_in, IsHeld, IsSourceAt, IsFrame, AreFrames}
 use Rattle.ps_contexts.specs.declared.members.Course.{Course}
-use Rattle.ps_contexts.specs.declared.members.Course.TheVariants.{Running, Unwinding, Again, Waiting, Retaking, Finished}
+use Rattle.ps_contexts.specs.declared.members.Course.TheVariants.{Running, Unwinding, Again, Waiting, Retaking}
+use Rattle.ps_contexts.specs.declared.members.Course.TheVariants.{Finished}
 use Rattle.ps_contexts.specs.declared.members.Member.{Member}
 use Rattle.ps_contexts.specs.Worlds.{status_of, context_of, contexts_in}
 use Rattle.ps_contexts.specs.Desks.{Desk, AllMembers, IsWorld, IsCourseHeld, IsGoodMember, IsSteady}
-use Rattle.ps_roots.specs.Roots.{literal, roots_of_source, roots_of_frame, roots_of_course, roots_of_context, roots_of_member, roots_in}
+use Rattle.ps_roots.specs.Roots.{literal, roots_of_source, roots_of_frame, roots_of_course, roots_of_context}
+use Rattle.ps_roots.specs.Roots.{roots_of_member, roots_in}
 use Rattle.ps_roots.proofs.Literals.{content-literal, value-literal, address-stands}
 use Rattle.ps_roots.proofs.Framing.{both, fore, rear, array-form, text-form}
 use Rattle.ps_flips.specs.Reached.{IsReached, by_root, by_field}
-use Rattle.ps_roots.proofs.Named.{Names, AllName, natural-names, NamesWhole, kind_cases, value-names, values-name, body-names}
+use Rattle.ps_roots.proofs.Named.{Names, AllName, natural-names, NamesWhole, kind_cases, value-names, values-name}
+use Rattle.ps_roots.proofs.Named.{body-names}
 
 module _ (d : Desk) (addressed : IsAddressed d.heap) (Q : ℕ → Type 0) where
   abbrev Whole : ℕ → Type 0

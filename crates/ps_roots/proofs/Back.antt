@@ -1,5 +1,6 @@
 -- The roots of contexts that are written back name what the renamed roots name.
-use Rattle.std.proofs.Common.{◌≡◌, ℕ, zero, suc, ◌<◌, ◌^◌, true, List, [], ◌∷◌, ◌++◌, map, Option, Some, None, is_some, refl, ap, ◌∙◌, subst, arith}
+use Rattle.std.proofs.Common.{◌≡◌, ℕ, zero, suc, ◌<◌, ◌^◌, true, List, [], ◌∷◌, ◌++◌, map, Option, Some, None, is_some}
+use Rattle.std.proofs.Common.{refl, ap, ◌∙◌, subst, arith}
 use Rattle.std.specs.Prelude.{flat_map}
 use Rattle.std.specs.List.{AllByRecursion, Contains}
 use Rattle.ps_word.specs.declared.words.Word.{Word}
@@ -16,12 +17,15 @@ use Rattle.ps_control.specs.declared.frames.Frame.{Frame}
 use Rattle.ps_control.specs.declared.frames.Frame.TheVariants as frames
 use Rattle.ps_acts.specs.declared.lent.Context.{Context}
 use Rattle.ps_contexts.specs.declared.members.Course.{Course}
-use Rattle.ps_contexts.specs.declared.members.Course.TheVariants.{Running, Unwinding, Again, Waiting, Retaking, Finished}
+use Rattle.ps_contexts.specs.declared.members.Course.TheVariants.{Running, Unwinding, Again, Waiting, Retaking}
+use Rattle.ps_contexts.specs.declared.members.Course.TheVariants.{Finished}
 use Rattle.ps_contexts.specs.declared.members.Member.{Member}
 use Rattle.ps_contexts.specs.Desks.{AllMembers}
 use Rattle.ps_roots.specs.Formats.{IsSourceInFormat, IsFrameInFormat, IsMemberInFormat}
-use Rattle.ps_roots.specs.Roots.{literal, roots_of_source, roots_of_frame, roots_of_course, roots_of_context, roots_of_member, roots_in}
-use Rattle.ps_roots.specs.Renamed.{Renaming, renamed_address, renamed_array, renamed_text, renamed_source, renamed_frame, renamed_course, renamed_context, renamed_member, renamed_members}
+use Rattle.ps_roots.specs.Roots.{literal, roots_of_source, roots_of_frame, roots_of_course, roots_of_context}
+use Rattle.ps_roots.specs.Roots.{roots_of_member, roots_in}
+use Rattle.ps_roots.specs.Renamed.{Renaming, renamed_address, renamed_array, renamed_text, renamed_source}
+use Rattle.ps_roots.specs.Renamed.{renamed_frame, renamed_course, renamed_context, renamed_member, renamed_members}
 use Rattle.ps_roots.proofs.Literals.{content-literal}
 use Rattle.ps_flips.specs.Reached.{IsReached, by_root, by_field, AreReached}
 

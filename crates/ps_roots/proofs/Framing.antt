@@ -20,7 +20,8 @@ use Rattle.ps_control.specs.declared.frames.Source.{Source}
 use Rattle.ps_control.specs.declared.frames.Source.TheVariants.{Program, Text as TextOf}
 use Rattle.ps_control.specs.declared.frames.Frame.{Frame}
 use Rattle.ps_control.specs.declared.frames.Frame.TheVariants as frames
-use Rattle.ps_control.specs.Frames.{IsHeld, IsHeldText, source_of, frame_of, frames_in, IsSourceAt, IsFrame, AreFrames, IsSourceWithin, IsFrameWithin, AreFramesWithin}
+use Rattle.ps_control.specs.Frames.{IsHeld, IsHeldText, source_of, frame_of, frames_in, IsSourceAt, IsFrame, AreFrames}
+use Rattle.ps_control.specs.Frames.{IsSourceWithin, IsFrameWithin, AreFramesWithin}
 use Rattle.ps_roots.specs.Formats.{IsSourceInFormat, IsFrameInFormat}
 use Rattle.ps_roots.specs.Roots.{literal, roots_of_source, roots_of_frame}
 use Rattle.ps_roots.specs.Renamed.{renamed_array, renamed_text, renamed_source, renamed_frame, renamed_address}

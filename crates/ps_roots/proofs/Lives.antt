@@ -1,5 +1,7 @@
 -- Where nothing stands but what the roots reach, the words that stand are those of what lives.
-use Rattle.std.proofs.Common.{◌≡◌, ◌≢◌, ℕ, zero, suc, ◌+◌, ◌-◌, ◌<◌, ◌^◌, Bool, true, false, IsTrue, List, [], ◌∷◌, length, drop, Option, Some, None, slice_get, refl, sym, ap, ◌∙◌, subst, subst₂, inl, inr, ◌⊎◌, arith}
+use Rattle.std.proofs.Common.{◌≡◌, ◌≢◌, ℕ, zero, suc, ◌+◌, ◌-◌, ◌<◌, ◌^◌, Bool, true, false, IsTrue, List, [], ◌∷◌}
+use Rattle.std.proofs.Common.{length, drop, Option, Some, None, slice_get, refl, sym, ap, ◌∙◌, subst, subst₂, inl, inr}
+use Rattle.std.proofs.Common.{◌⊎◌, arith}
 use Rattle.std.specs.Prelude.{◌==◌, ◌&&◌, ◌||◌}
 use Rattle.std.proofs.lemmas.Bool.Decides.{eqb_tells}
 use native.Mathlib.Decide.{ℕ_discrete}
@@ -19,7 +21,8 @@ use Rattle.ps_word.specs.Format.{value_in}
 use Rattle.ps_mem.specs.Heap.{Heap, Standing, IsKind, object_at, birth_at, standing_words}
 use Rattle.ps_mem.specs.Meaning.{value_of}
 use Rattle.ps_mem.specs.References.{words_for}
-use Rattle.ps_mem.specs.Shows.{DictionaryFields, ShowsDictionary, IsShown, shown_array, shown_text, shown_dictionary, shown_lock, shown_condition}
+use Rattle.ps_mem.specs.Shows.{DictionaryFields, ShowsDictionary, IsShown, shown_array, shown_text, shown_dictionary}
+use Rattle.ps_mem.specs.Shows.{shown_lock, shown_condition}
 use Rattle.ps_mem.specs.Stands.{IsAddressed, IsStanding}
 use Rattle.ps_mem.specs.Strings.{words_from}
 use Rattle.ps_mem.proofs.StandsLemmas.{address-below}

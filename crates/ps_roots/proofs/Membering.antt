@@ -1,5 +1,6 @@
 -- Contexts whose roots are led to the replicas.
-use Rattle.std.proofs.Common.{◌≡◌, ℕ, zero, suc, ◌<◌, ◌^◌, Bool, List, [], ◌∷◌, ◌++◌, length, map, Option, Some, None, option_map, refl, sym, ap, ap₂, ◌∙◌, subst, arith}
+use Rattle.std.proofs.Common.{◌≡◌, ℕ, zero, suc, ◌<◌, ◌^◌, Bool, List, [], ◌∷◌, ◌++◌, length, map, Option, Some, None}
+use Rattle.std.proofs.Common.{option_map, refl, sym, ap, ap₂, ◌∙◌, subst, arith}
 use Rattle.std.specs.Prelude.{flat_map}
 use Rattle.std.proofs.lemmas.List.{map-set}
 use Rattle.std.proofs.lemmas.Option.{slice_get-map}
@@ -20,7 +21,8 @@ use Rattle.ps_control.specs.declared.frames.Frame.{Frame}
 use Rattle.ps_acts.specs.declared.lent.Context.{Context}
 use Rattle.ps_acts.specs.Lent.{IsErrorDictionary, IsShown, IsGood}
 use Rattle.ps_contexts.specs.declared.members.Course.{Course}
-use Rattle.ps_contexts.specs.declared.members.Course.TheVariants.{Running, Unwinding, Again, Waiting, Retaking, Finished}
+use Rattle.ps_contexts.specs.declared.members.Course.TheVariants.{Running, Unwinding, Again, Waiting, Retaking}
+use Rattle.ps_contexts.specs.declared.members.Course.TheVariants.{Finished}
 use Rattle.ps_contexts.specs.declared.members.Member.{Member}
 use Rattle.ps_contexts.specs.Seats.{item_at, with_item}
 use Rattle.ps_contexts.specs.Worlds.{status_of, context_of, contexts_in}
@@ -28,9 +30,11 @@ use Rattle.ps_contexts.specs.Desks.{Desk, lent_to, AllMembers, IsCourseHeld, IsG
 use Rattle.ps_world.specs.Calls.{RunsAt, AreFramedBut}
 use Rattle.ps_roots.specs.Formats.{IsCourseInFormat, AreInFormat}
 use Rattle.ps_roots.specs.Roots.{literal, roots_of_frame, roots_of_course, roots_of_context, roots_of_member, roots_in}
-use Rattle.ps_roots.specs.Renamed.{Renaming, renamed_address, renamed_frame, renamed_course, renamed_context, renamed_member, renamed_members, moved_desk}
+use Rattle.ps_roots.specs.Renamed.{Renaming, renamed_address, renamed_frame, renamed_course, renamed_context}
+use Rattle.ps_roots.specs.Renamed.{renamed_member, renamed_members, moved_desk}
 use Rattle.ps_roots.proofs.Literals.{value-literal, address-stands, address-led, birth-led, known-led}
-use Rattle.ps_roots.proofs.Framing.{both, fore, rear, frames-values, frames-format, frames-led, frames-same, frames-within, lock-led, lock-same}
+use Rattle.ps_roots.proofs.Framing.{both, fore, rear, frames-values, frames-format, frames-led, frames-same}
+use Rattle.ps_roots.proofs.Framing.{frames-within, lock-led, lock-same}
 
 -- ---- the roots are values
 

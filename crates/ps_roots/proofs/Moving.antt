@@ -20,7 +20,8 @@ use Rattle.ps_world.specs.Held.{Held, held, IsAtBy, AreFramedBy}
 use Rattle.ps_roots.specs.Roots.{roots_in}
 use Rattle.ps_roots.specs.Renamed.{Renaming, renamed_members, moved_desk}
 use Rattle.ps_roots.specs.Moved.{KeepsWorlds}
-use Rattle.ps_roots.proofs.Membering.{members-values, members-led, members-shown, contexts-same, all_framed-renamed, framed_but-renamed, runs-renamed}
+use Rattle.ps_roots.proofs.Membering.{members-values, members-led, members-shown, contexts-same, all_framed-renamed}
+use Rattle.ps_roots.proofs.Membering.{framed_but-renamed, runs-renamed}
 
 -- ---- a move
 

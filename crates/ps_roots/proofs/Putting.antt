@@ -1,7 +1,9 @@
 -- Roots that are written one after the other.
-use Rattle.std.proofs.Common.{◌≡◌, ℕ, zero, suc, ◌+◌, ◌-◌, ◌<◌, ◌≤◌, List, [], ◌∷◌, ◌++◌, length, map, get_or, take, drop, Option, Some, None, option_map, refl, sym, ap, ap₂, ◌∙◌, subst, arith, append_assoc}
+use Rattle.std.proofs.Common.{◌≡◌, ℕ, zero, suc, ◌+◌, ◌-◌, ◌<◌, ◌≤◌, List, [], ◌∷◌, ◌++◌, length, map, get_or, take}
+use Rattle.std.proofs.Common.{drop, Option, Some, None, option_map, refl, sym, ap, ap₂, ◌∙◌, subst, arith, append_assoc}
 use Rattle.std.specs.Prelude.{flat_map}
-use Rattle.std.proofs.lemmas.List.{append-nil, map-append, drop_at, drop-drop, take_at, take_rest, length-map, length-append, length-drop, length-set}
+use Rattle.std.proofs.lemmas.List.{append-nil, map-append, drop_at, drop-drop, take_at, take_rest, length-map}
+use Rattle.std.proofs.lemmas.List.{length-append, length-drop, length-set}
 use Rattle.ps_word.specs.declared.words.Word.{Word}
 use Rattle.ps_stacks.specs.Tops.{first_of}
 use Rattle.ps_control.specs.declared.frames.Frame.{Frame}

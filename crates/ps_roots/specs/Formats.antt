@@ -5,9 +5,12 @@ use Rattle.ps_word.specs.Format.{IsAddress, IsPart}
 use Rattle.ps_control.specs.declared.frames.Source.{Source}
 use Rattle.ps_control.specs.declared.frames.Source.TheVariants.{Program, Text as TextOf}
 use Rattle.ps_control.specs.declared.frames.Frame.{Frame}
-use Rattle.ps_control.specs.declared.frames.Frame.TheVariants.{Text, Procedure, Pending, Repeat, Loop, For, Forall, Stopped, Monitor, Bind}
+use Rattle.ps_control.specs.declared.frames.Frame.TheVariants.{Text, Procedure, Pending, Repeat}
+use Rattle.ps_control.specs.declared.frames.Frame.TheVariants.{Loop, For, Forall, Stopped, Monitor}
+use Rattle.ps_control.specs.declared.frames.Frame.TheVariants.{Bind}
 use Rattle.ps_contexts.specs.declared.members.Course.{Course}
-use Rattle.ps_contexts.specs.declared.members.Course.TheVariants.{Running, Unwinding, Again, Waiting, Retaking, Finished}
+use Rattle.ps_contexts.specs.declared.members.Course.TheVariants.{Running, Unwinding, Again}
+use Rattle.ps_contexts.specs.declared.members.Course.TheVariants.{Waiting, Retaking, Finished}
 use Rattle.ps_contexts.specs.declared.members.Member.{Member}
 use Rattle.ps_contexts.specs.Desks.{AllMembers}
 

@@ -3,7 +3,8 @@ use Rattle.std.specs.Prelude.{◌≡◌, ℕ, List, ◌++◌, Option, map, optio
 use Rattle.ps_word.specs.declared.words.Word.{Word}
 use Rattle.ps_word.specs.declared.values.Part.{Part}
 use Rattle.ps_word.specs.declared.values.Content.{Content}
-use Rattle.ps_word.specs.declared.values.Content.TheVariants.{Array, Text, Dictionary, Lock, Condition}
+use Rattle.ps_word.specs.declared.values.Content.TheVariants.{Array, Text, Dictionary, Lock}
+use Rattle.ps_word.specs.declared.values.Content.TheVariants.{Condition}
 use Rattle.ps_word.specs.Format.{address_in}
 use Rattle.ps_mem.specs.Heap.{Heap, Grants}
 use Rattle.ps_flips.specs.Moves.{Forwarding, moved_word}
@@ -13,7 +14,8 @@ use Rattle.ps_control.specs.declared.frames.Frame.{Frame}
 use Rattle.ps_control.specs.declared.frames.Frame.TheVariants as frames
 use Rattle.ps_acts.specs.declared.lent.Context.{Context}
 use Rattle.ps_contexts.specs.declared.members.Course.{Course}
-use Rattle.ps_contexts.specs.declared.members.Course.TheVariants.{Running, Unwinding, Again, Waiting, Retaking, Finished}
+use Rattle.ps_contexts.specs.declared.members.Course.TheVariants.{Running, Unwinding, Again}
+use Rattle.ps_contexts.specs.declared.members.Course.TheVariants.{Waiting, Retaking, Finished}
 use Rattle.ps_contexts.specs.declared.members.Member.{Member}
 use Rattle.ps_contexts.specs.Desks.{Desk}
 use Rattle.ps_roots.specs.Roots.{literal}

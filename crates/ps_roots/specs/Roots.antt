@@ -3,7 +3,8 @@ use Rattle.std.specs.Prelude.{List, [], ◌∷◌, ◌++◌, Option, flat_map, f
 use Rattle.std.specs.Option.{option_map_or}
 use Rattle.ps_word.specs.declared.words.Word.{Word}
 use Rattle.ps_word.specs.declared.values.Content.{Content}
-use Rattle.ps_word.specs.declared.values.Content.TheVariants.{Array, Text, Dictionary, Lock, Condition}
+use Rattle.ps_word.specs.declared.values.Content.TheVariants.{Array, Text, Dictionary, Lock}
+use Rattle.ps_word.specs.declared.values.Content.TheVariants.{Condition}
 use Rattle.ps_word.specs.Format.{packed}
 use Rattle.ps_mem.specs.Objects.{word_of}
 use Rattle.ps_control.specs.declared.frames.Source.{Source}
@@ -12,7 +13,8 @@ use Rattle.ps_control.specs.declared.frames.Frame.{Frame}
 use Rattle.ps_control.specs.declared.frames.Frame.TheVariants as frames
 use Rattle.ps_acts.specs.declared.lent.Context.{Context}
 use Rattle.ps_contexts.specs.declared.members.Course.{Course}
-use Rattle.ps_contexts.specs.declared.members.Course.TheVariants.{Running, Unwinding, Again, Waiting, Retaking, Finished}
+use Rattle.ps_contexts.specs.declared.members.Course.TheVariants.{Running, Unwinding, Again}
+use Rattle.ps_contexts.specs.declared.members.Course.TheVariants.{Waiting, Retaking, Finished}
 use Rattle.ps_contexts.specs.declared.members.Member.{Member}
 
 -- the literal word of a content

@@ -178,8 +178,8 @@ pub fn whole_cycle<M: LoggedMemory, C: Collects<M>>(
     true
 }
 
-/// Ends the open cycle, if there is one, and makes a whole one more, if cycles are left: what is used
-/// then is what lives. None is open then.
+/// Ends the open cycle, if there is one, and makes a whole one more, if cycles are left: what is
+/// used then is what lives. None is open then.
 pub fn stop_all<M: LoggedMemory, C: Collects<M>>(
     memory: &mut M,
     collector: &mut C,

@@ -3,8 +3,10 @@
 ghost use Rattle.std.specs.Prelude.{◌≡◌, ◌+◌, ◌≤◌, [], ◌∷◌, ◌++◌, flat_map, vec_len, vec_capacity};
 ghost use Rattle.std.specs.List.{AllByRecursion};
 ghost use Rattle.ps_word.specs.Format.{IsContent};
-ghost use Rattle.ps_roots.specs.Formats.{AreInFormat, IsCourseInFormat, IsFrameInFormat, IsMemberInFormat};
-ghost use Rattle.ps_roots.specs.Roots.{literal, roots_in, roots_of_course, roots_of_frame, roots_of_member};
+ghost use Rattle.ps_roots.specs.Formats.{AreInFormat, IsCourseInFormat, IsFrameInFormat};
+ghost use Rattle.ps_roots.specs.Formats.{IsMemberInFormat};
+ghost use Rattle.ps_roots.specs.Roots.{literal, roots_in, roots_of_course, roots_of_frame};
+ghost use Rattle.ps_roots.specs.Roots.{roots_of_member};
 
 use ps_contexts::contexts::Contexts;
 use ps_contexts::members::{Course, Member};

@@ -2,8 +2,10 @@
 
 ghost use Rattle.std.specs.Prelude.{◌≡◌, ◌+◌, ◌≤◌, flat_map, length, map, take};
 ghost use Rattle.ps_word.specs.Format.{address_in};
-ghost use Rattle.ps_roots.specs.Renamed.{BeginWith, Renaming, renamed_context, renamed_course, renamed_frame, renamed_member, renamed_members};
-ghost use Rattle.ps_roots.specs.Roots.{roots_in, roots_of_context, roots_of_course, roots_of_frame, roots_of_member};
+ghost use Rattle.ps_roots.specs.Renamed.{BeginWith, Renaming, renamed_context, renamed_course};
+ghost use Rattle.ps_roots.specs.Renamed.{renamed_frame, renamed_member, renamed_members};
+ghost use Rattle.ps_roots.specs.Roots.{roots_in, roots_of_context, roots_of_course, roots_of_frame};
+ghost use Rattle.ps_roots.specs.Roots.{roots_of_member};
 
 use ps_acts::lent::Context;
 use ps_contexts::contexts::Contexts;

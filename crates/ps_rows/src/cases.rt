@@ -3,7 +3,7 @@
 
 use crate::rows::{bytes_of, number_of};
 use ps_run::ReadFault;
-use ps_vault::{Config, Entry};
+use ps_vault::{ANY_OUTPUT, Config, Entry};
 use std::alloc::{AllocError, Global};
 
 /// What is called.
@@ -88,7 +88,7 @@ fn config_of(numbers: &[u32]) -> Option<Config> {
         workers: *workers,
         quantum: *quantum,
         steps: *steps,
-        output: Config::ANY_OUTPUT,
+        output: ANY_OUTPUT,
     })
 }
 

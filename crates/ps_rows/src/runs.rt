@@ -4,7 +4,7 @@ use crate::driven::{ALL_WRITES, MEMORY, driven};
 use crate::fakes::{Files, deeds_in, steps_in};
 use crate::rows::Verdict;
 use ps_run::ReadFault;
-use ps_vault::{Config, Outcome, Report, RunFault, Setup, replay, run_plain};
+use ps_vault::{ANY_OUTPUT, Config, Outcome, Report, RunFault, Setup, replay, run_plain};
 use std::alloc::Global;
 use std::hash::RandomState;
 use std::sync::Wait;
@@ -16,7 +16,7 @@ pub const CONFIG: Config = Config {
     workers: 4,
     quantum: 100,
     steps: 1000000,
-    output: Config::ANY_OUTPUT,
+    output: ANY_OUTPUT,
 };
 
 /// The words of a command line.

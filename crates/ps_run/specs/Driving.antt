@@ -15,6 +15,7 @@ use Rattle.ps_options.specs.declared.options.Options.{Options}
 use Rattle.ps_options.specs.CommandLine.{IsNumber, IsFlag, IsOptional, AreNumbers, file_in, named_in}
 use Rattle.ps_schedules.specs.Texts.{AreEntries, IsBadAt, text_of}
 use Rattle.clap.specs.Words.{Text}
+use Rattle.ps_start.specs.declared.start.TheConstants.{ANY_OUTPUT}
 use Rattle.ps_vault.specs.declared.reports.Config.{Config}
 use Rattle.ps_vault.specs.declared.reports.Outcome.{Outcome}
 use Rattle.ps_vault.specs.declared.reports.Report.{Report}
@@ -100,9 +101,9 @@ pub record Asked : Type 0 where
   pub explored : Option ℕ
   pub output : Option ℕ
 
--- no memory has more bytes than there may be without a bound
+-- the most bytes that may be printed
 abbrev pub most_output : Option ℕ → ℕ
-most_output asked = unwrap_or asked (2 ^ 64 - 1)
+most_output asked = unwrap_or asked ANY_OUTPUT
 
 abbrev pub AreAsked : List Text → Asked → Type 0
 AreAsked words asked = IsNumber (codes "space") words asked.space
@@ -234,7 +235,8 @@ pub record Outputs : Type 0 where
 abbrev pub unwritten_line : Text → List ℕ
 unwritten_line name = codes "dpsrun: cannot write " ++ (name ++ codes "\n")
 
--- what standard error has where the record that is named isn't made: a beginning of one line, and no
+-- what standard error has where the record that is named isn't made: a beginning of one line, and
+-- no
 -- counts. Its file was not written, or memory was wanted for its text
 abbrev pub TellsUnwritten : Option Text → Status → (err_old err_new : Option (List ℕ)) → Type 0
 TellsUnwritten (Some name) status.Usage err_old err_new =

@@ -17,7 +17,7 @@ use clap::Error;
 use clap::error::ErrorKind;
 use ps_interpreter::interprets::Interpret;
 use ps_options::{Options, no_text, parse};
-use ps_vault::{Config, Entry, Report, RunFault, Setup, replay, run_plain};
+use ps_vault::{ANY_OUTPUT, Config, Entry, Report, RunFault, Setup, replay, run_plain};
 use ps_workers::Job;
 use ps_world::deeds::Deeds;
 use std::alloc::Global;
@@ -250,7 +250,7 @@ pub(crate) fn config_of(options: &Options<'_>) -> Config
         steps: options.steps,
         output: match options.output {
             Some(most) => u64::from(most),
-            None => Config::ANY_OUTPUT,
+            None => ANY_OUTPUT,
         },
     }
 }

@@ -3,7 +3,8 @@
 //!
 //! It keeps that the roots that are still to be replicated are known to it, whether it knows of an
 //! open cycle, and that its table is the one of its name.
-ghost use Rattle.std.specs.Prelude.{◌≡◌, ◌<◌, ◌+◌, ◌-◌, ◌++◌, ◌∷◌, ◌&&◌, ◌↔◌, ℕ, IsTrue, true, false, not, nat_lt, []};
+ghost use Rattle.std.specs.Prelude.{◌≡◌, ◌<◌, ◌+◌, ◌-◌, ◌++◌, ◌∷◌, ◌&&◌, ◌↔◌, ℕ, IsTrue, true};
+ghost use Rattle.std.specs.Prelude.{false, not, nat_lt, []};
 ghost use Rattle.ps_record.specs.Format.{slots};
 ghost use Rattle.ps_core_parts.specs.declared.events.Event.TheVariants.{ReplicaHeaderStore};
 ghost use Rattle.ps_core_parts.specs.Objects.{all_filled, value_has_replica};
@@ -85,8 +86,8 @@ impl<J: Naming> Copier<J> {
 
     /// One action: a root gets a replica, a field is copied, or a log is looked at. False: no root
     /// was left, each log was looked at in a row and none had a record, and no field is unfilled.
-    /// Where it knows of no open cycle, a word of the space that was left is cleared. False: none is
-    /// left.
+    /// Where it knows of no open cycle, a word of the space that was left is cleared. False: none
+    /// is left.
     fn act_once(&mut self) -> bool
         ensures filled { result ≡ false → self.old.in_cycle ≡ true
             → all_filled self.new.collector.gc.seat.me.0.gc.pairs ≡ true }

@@ -1,6 +1,6 @@
 //! The first context over an empty memory, with what it shares (PLRM2, 3.7, 7.1).
 
-ghost use Rattle.std.specs.Prelude.{◌≡◌, ◌≤◌, ◌<◌, ◌^◌, ◌-◌, [], ◌∷◌, false, IfOk, IfErr, OnErr, vec_capacity};
+ghost use Rattle.std.specs.Prelude.{◌≡◌, ◌≤◌, ◌<◌, ◌^◌, [], ◌∷◌, false, IfOk, IfErr, OnErr, vec_capacity};
 ghost use Rattle.ps_language.specs.Worlds.{first_names};
 ghost use Rattle.ps_mem.specs.Heap.{SameLogs};
 ghost use Rattle.ps_acts.specs.Lent.{lent, IsEmpty};
@@ -27,6 +27,9 @@ pub const FIRST_WORDS: u32 = 528;
 /// How many birth numbers.
 pub const FIRST_BIRTHS: u32 = 3;
 
+/// The bound on printed bytes of a run without one: no memory has as many.
+pub const ANY_OUTPUT: u64 = u64::MAX;
+
 /// What a run is set up with beside its program.
 #[derive(Clone, Copy)]
 pub struct Setup {
@@ -37,13 +40,13 @@ pub struct Setup {
 }
 
 impl Setup {
-    /// These keys, and no bound on what is printed: no memory has as many bytes.
+    /// These keys, and no bound on what is printed.
     pub fn unbounded(keys: RandomState) -> Setup
-        ensures { result.output ≡ 2 ^ 64 - 1 }
+        ensures { result.output ≡ ANY_OUTPUT }
     {
         Setup {
             keys,
-            output: u64::MAX,
+            output: ANY_OUTPUT,
         }
     }
 }

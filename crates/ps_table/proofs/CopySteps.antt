@@ -1,5 +1,6 @@
 -- One word of a copy: its load and its store, in rising and in falling order.
-use Rattle.std.proofs.Common.{◌≡◌, ℕ, zero, suc, ◌+◌, ◌-◌, ◌<◌, ◌≤◌, List, [], ◌∷◌, length, take, drop, Some, refl, sym, ap, ◌∙◌, subst, arith}
+use Rattle.std.proofs.Common.{◌≡◌, ℕ, zero, suc, ◌+◌, ◌-◌, ◌<◌, ◌≤◌, List, [], ◌∷◌, length, take, drop, Some, refl, sym}
+use Rattle.std.proofs.Common.{ap, ◌∙◌, subst, arith}
 use Rattle.std.specs.Prelude.{slice_get}
 use Rattle.std.specs.Option.{option_map}
 use Rattle.std.proofs.lemmas.Option.{slice_get_within, slice_get-map}
@@ -12,7 +13,8 @@ use Rattle.ps_core_parts.specs.Steps.{field_stored, table_size}
 use Rattle.ps_core_laws.proofs.Lists.{get_some}
 use Rattle.ps_parts_memory.specs.Memory.{heap_of}
 use Rattle.ps_parts_memory.specs.Shown.{VmRuns, VmFinds}
-use Rattle.ps_parts_memory.specs.Stores.{number_of, numbers, fields_stored, MayStoreFields, fields_stored_down, MayStoreFieldsDown}
+use Rattle.ps_parts_memory.specs.Stores.{number_of, numbers, fields_stored, MayStoreFields, fields_stored_down}
+use Rattle.ps_parts_memory.specs.Stores.{MayStoreFieldsDown}
 use Rattle.ps_parts_memory.specs.Laws.{StaysAfterLoad, words_copied, word_at, CanCopy, CopiesWords}
 use Rattle.ps_parts_memory.proofs.Copied.{copies}
 use Rattle.ps_parts_memory.proofs.Loads.{field_loads}

@@ -1,5 +1,6 @@
 -- The flip: roots that are renamed, and the numbers of the mutator's seat after it.
-use Rattle.std.proofs.Common.{◌≡◌, ◌↔◌, ◌^◌, ℕ, ◌+◌, ◌-◌, ◌*◌, ◌<◌, ◌≤◌, true, false, List, [], ◌∷◌, ◌++◌, Some, None, Option, refl, sym, ap, ◌∙◌, inl, inr, subst, arith, is_some}
+use Rattle.std.proofs.Common.{◌≡◌, ◌↔◌, ◌^◌, ℕ, ◌+◌, ◌-◌, ◌*◌, ◌<◌, ◌≤◌, true, false, List, [], ◌∷◌, ◌++◌, Some, None}
+use Rattle.std.proofs.Common.{Option, refl, sym, ap, ◌∙◌, inl, inr, subst, arith, is_some}
 use Rattle.std.specs.Prelude.{nat_le, nat_eq, replicate, slice_index}
 use Rattle.std.proofs.lemmas.List.{get_or-replicate}
 use Rattle.ps_word.specs.Format.{address_in}
@@ -12,7 +13,8 @@ use Rattle.ps_core_parts.specs.declared.events.Pair.{Pair}
 use Rattle.ps_core_parts.specs.declared.events.Vm.{Vm}
 use Rattle.ps_core_parts.specs.declared.events.Gc.{Gc}
 use Rattle.ps_core_parts.specs.Objects.{among, pair_of, redirected, renamed_value, value_has_replica, end_of_replicas}
-use Rattle.ps_core_parts.specs.Steps.{State, table_size, space_base, other_base, gc_after, vm_after, forwarding, replica_of}
+use Rattle.ps_core_parts.specs.Steps.{State, table_size, space_base, other_base, gc_after, vm_after, forwarding}
+use Rattle.ps_core_parts.specs.Steps.{replica_of}
 use Rattle.ps_core_parts.specs.Conditions.{VmMay}
 use Rattle.ps_core_laws.specs.Runs.{run}
 use Rattle.ps_core_laws.proofs.Bases.{bases}
@@ -24,7 +26,8 @@ use Rattle.ps_table.specs.declared.plays.View.{View}
 use Rattle.ps_table.specs.Events.{gc_did_all, root_look}
 use Rattle.ps_table.specs.Mirrored.{Mirrors}
 use Rattle.ps_table.specs.Shown.{GcFinds, gc_did}
-use Rattle.ps_table.proofs.Originals.{Lawful, lawful, SecondTells, original, object_inside, original_inside, replica_inside, second_unknown, second_tells}
+use Rattle.ps_table.proofs.Originals.{Lawful, lawful, SecondTells, original, object_inside, original_inside}
+use Rattle.ps_table.proofs.Originals.{replica_inside, second_unknown, second_tells}
 
 -- ---- lists of events
 

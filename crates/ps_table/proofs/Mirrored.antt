@@ -1,5 +1,6 @@
 -- The numbers that the mutator's seat keeps, after each of its events.
-use Rattle.std.proofs.Common.{◌≡◌, ◌≢◌, ℕ, ◌+◌, ◌<◌, Bool, true, false, List, [], ◌∷◌, length, Some, None, Option, refl, sym, ap, ◌∙◌, inl, inr, subst, arith, length-set}
+use Rattle.std.proofs.Common.{◌≡◌, ◌≢◌, ℕ, ◌+◌, ◌<◌, Bool, true, false, List, [], ◌∷◌, length, Some, None, Option, refl}
+use Rattle.std.proofs.Common.{sym, ap, ◌∙◌, inl, inr, subst, arith, length-set}
 use Rattle.std.specs.Prelude.{slice_index, slice_index_or, slice_set, nat_le, replicate}
 use Rattle.std.specs.Option.{option_map}
 use Rattle.std.proofs.lemmas.Bool.{cases_eq}
@@ -16,7 +17,8 @@ use Rattle.ps_core_parts.specs.declared.events.Object.{Object}
 use Rattle.ps_core_parts.specs.declared.events.Vm.{Vm}
 use Rattle.ps_core_parts.specs.declared.events.Gc.{Gc}
 use Rattle.ps_core_parts.specs.Objects.{among, object_at, log_of, stored}
-use Rattle.ps_core_parts.specs.Steps.{start, space_base, vm_after, field_stored, next_birth_after, table_size, with_record}
+use Rattle.ps_core_parts.specs.Steps.{start, space_base, vm_after, field_stored, next_birth_after, table_size}
+use Rattle.ps_core_parts.specs.Steps.{with_record}
 use Rattle.ps_core_laws.proofs.HeapTests.{bool_cases, le_true, le_is, eq_true, number_not}
 use Rattle.ps_core_laws.proofs.Headed.{stored_objects}
 use Rattle.ps_core_laws.proofs.Lookups.{object_at-with_field}

@@ -5,7 +5,8 @@ use Rattle.std.proofs.lemmas.List.{set-get_or}
 use Rattle.ps_record.specs.declared.Record.{Record}
 use Rattle.ps_record.specs.Format.{ring_place, packed}
 use Rattle.ps_core_parts.specs.declared.events.Event.{Event}
-use Rattle.ps_core_parts.specs.declared.events.Event.TheVariants.{VmLoad, ClearLoad, ClearStore, HeaderStore, FieldStore, RecordStore, EpochStore}
+use Rattle.ps_core_parts.specs.declared.events.Event.TheVariants.{VmLoad, ClearLoad, ClearStore, HeaderStore}
+use Rattle.ps_core_parts.specs.declared.events.Event.TheVariants.{FieldStore, RecordStore, EpochStore}
 use Rattle.ps_core_parts.specs.declared.events.Vm.{Vm}
 use Rattle.ps_core_parts.specs.Objects.{log_of}
 use Rattle.ps_core_parts.specs.Steps.{State, table_size, next_word, words_after}

@@ -1,5 +1,6 @@
 -- The second header of what stands, read as a forwarding word.
-use Rattle.std.proofs.Common.{◌≡◌, ◌≢◌, ◌↔◌, ◌^◌, ℕ, ◌+◌, ◌<◌, true, false, nat_eq, Some, None, Option, refl, sym, ap, ◌∙◌, subst, arith, is_some, inl, inr}
+use Rattle.std.proofs.Common.{◌≡◌, ◌≢◌, ◌↔◌, ◌^◌, ℕ, ◌+◌, ◌<◌, true, false, nat_eq, Some, None, Option, refl, sym, ap}
+use Rattle.std.proofs.Common.{◌∙◌, subst, arith, is_some, inl, inr}
 use Rattle.std.specs.Prelude.{slice_index}
 use native.Mathlib.Decide.{ℕ_discrete}
 use Rattle.ps_word.specs.Headers.{cycle_in, forward_address_in, forward_packed, IsForward}
@@ -17,7 +18,8 @@ use Rattle.ps_core_parts.specs.Steps.{State, gc_after, forwarding, is_open}
 use Rattle.ps_core_laws.specs.Runs.{run}
 use Rattle.ps_core_laws.proofs.HeapTests.{bool_cases, clash, eq_true, number_is, number_not}
 use Rattle.ps_table.specs.Shown.{GcFinds, BothFind}
-use Rattle.ps_table.proofs.Originals.{Lawful, lawful, SecondTells, original, known_object, object_inside, replica_inside, second_unknown, second_tells}
+use Rattle.ps_table.proofs.Originals.{Lawful, lawful, SecondTells, original, known_object, object_inside}
+use Rattle.ps_table.proofs.Originals.{replica_inside, second_unknown, second_tells}
 use Rattle.ps_table.proofs.Flipping.{look_stays}
 
 pub cycle_there : (cycle a : ℕ) → a < 2 ^ 24 → cycle_in (forwarding cycle a) ≡ cycle

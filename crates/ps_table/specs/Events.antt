@@ -1,11 +1,14 @@
 -- The events that a call of a seat makes, the oldest first.
-use Rattle.std.specs.Prelude.{ℕ, ◌≡◌, ◌≤◌, ◌+◌, Bool, true, false, List, [], ◌∷◌, ◌++◌, length, ◌==◌, if◌then◌else◌}
+use Rattle.std.specs.Prelude.{ℕ, ◌≡◌, ◌≤◌, ◌+◌, Bool, true, false, List, [], ◌∷◌, ◌++◌, length}
+use Rattle.std.specs.Prelude.{◌==◌, if◌then◌else◌}
 use Rattle.std.specs.List.{list_all}
 use Rattle.ps_word.specs.Format.{address_in}
 use Rattle.ps_record.specs.Format.{head_place}
 use Rattle.ps_word.specs.Readers.{is_reference}
 use Rattle.ps_core_parts.specs.declared.events.Event.{Event}
-use Rattle.ps_core_parts.specs.declared.events.Event.TheVariants.{VmLoad, GcLoad, ClearStore, HeaderStore, FieldStore, CycleStore}
+use Rattle.ps_core_parts.specs.declared.events.Event.TheVariants.{VmLoad, GcLoad, ClearStore}
+use Rattle.ps_core_parts.specs.declared.events.Event.TheVariants.{HeaderStore, FieldStore}
+use Rattle.ps_core_parts.specs.declared.events.Event.TheVariants.{CycleStore}
 use Rattle.ps_core_parts.specs.declared.events.Gc.{Gc}
 use Rattle.ps_core_parts.specs.Objects.{pair_of}
 use Rattle.ps_core_parts.specs.Steps.{forwarding, replica_of}

@@ -36,7 +36,8 @@ pub record IsAt (noted_by : TableId) (space : ℕ) (items : List ℕ) (s : Seat 
   pub shown : ShowWords space items s.me.0
 
 -- a step of a play came to this word, which stands at the place then
-abbrev pub DoesPlay : (space : ℕ) → (then : table.Step (Unit {0}) → SeatState → ℕ → SeatState → Type 0)
+abbrev pub DoesPlay : (space : ℕ)
+    → (then : table.Step (Unit {0}) → SeatState → ℕ → SeatState → Type 0)
     → (place first word : ℕ) → (items : List ℕ) → (m m' : SeatState) → Type 0
 DoesPlay space then place first word items m m' =
     then (table.step 0 place first 0 none) m word m' × (m'.1 ≡ [])

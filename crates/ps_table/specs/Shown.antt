@@ -1,6 +1,7 @@
 -- The rule of the table: some interleaving of the seats' own events is a run, its state has the
 -- words, and the parts that the seats know are that state's.
-use Rattle.std.specs.Prelude.{◌≡◌, ℕ, ◌-◌, ◌/◌, ◌==◌, Bool, true, false, List, [], ◌∷◌, Option, Some, None, is_some, slice_index, if◌then◌else◌}
+use Rattle.std.specs.Prelude.{◌≡◌, ℕ, ◌-◌, ◌/◌, ◌==◌, Bool, true, false, List, [], ◌∷◌, Option}
+use Rattle.std.specs.Prelude.{Some, None, is_some, slice_index, if◌then◌else◌}
 use Rattle.std.specs.List.{filter}
 use Rattle.std.specs.Option.{option_map}
 use mathlib.Core.Option.{some}
@@ -9,7 +10,13 @@ use Rattle.atomic_table.specs.Table as table
 use Rattle.ps_record.specs.Format.{control_words, ring_length, record_in}
 use Rattle.ps_word.specs.Headers.{forward_address_in}
 use Rattle.ps_core_parts.specs.declared.events.Event.{Event}
-use Rattle.ps_core_parts.specs.declared.events.Event.TheVariants.{VmLoad, GcLoad, TakeLoad, CopyLoad, HandOver, ClearLoad, ClearStore, HeaderStore, FieldStore, RecordStore, EpochStore, ReplicaHeaderStore, ReplicaFieldStore, ForwardStore, HeadStore, CycleStore}
+use Rattle.ps_core_parts.specs.declared.events.Event.TheVariants.{VmLoad, GcLoad, TakeLoad}
+use Rattle.ps_core_parts.specs.declared.events.Event.TheVariants.{CopyLoad, HandOver, ClearLoad}
+use Rattle.ps_core_parts.specs.declared.events.Event.TheVariants.{ClearStore, HeaderStore}
+use Rattle.ps_core_parts.specs.declared.events.Event.TheVariants.{FieldStore, RecordStore}
+use Rattle.ps_core_parts.specs.declared.events.Event.TheVariants.{EpochStore, ReplicaHeaderStore}
+use Rattle.ps_core_parts.specs.declared.events.Event.TheVariants.{ReplicaFieldStore, ForwardStore}
+use Rattle.ps_core_parts.specs.declared.events.Event.TheVariants.{HeadStore, CycleStore}
 use Rattle.ps_core_parts.specs.declared.events.Vm.{Vm}
 use Rattle.ps_core_parts.specs.declared.events.Gc.{Gc}
 use Rattle.ps_core_parts.specs.Steps.{start, vm_after, gc_after}

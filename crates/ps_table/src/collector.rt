@@ -1,11 +1,15 @@
 //! The collector's seat.
 //!
 //! Its part is that of some run of the machine, whatever the mutator's seat did meanwhile.
-ghost use Rattle.std.specs.Prelude.{◌≡◌, ◌<◌, ◌+◌, ◌^◌, ℕ, true, [], ◌∷◌, length, IfOk, Some, slice_get};
+ghost use Rattle.std.specs.Prelude.{◌≡◌, ◌<◌, ◌+◌, ◌^◌, ℕ, true, [], ◌∷◌, length, IfOk, Some};
+ghost use Rattle.std.specs.Prelude.{slice_get};
 ghost use Rattle.ps_record.specs.Format.{slots, ring_place, read_record};
 ghost use Rattle.ps_core_parts.specs.declared.events.Half.{Half};
 ghost use Rattle.ps_core_parts.specs.declared.events.Carried.{Carried};
-ghost use Rattle.ps_core_parts.specs.declared.events.Event.TheVariants.{GcLoad, TakeLoad, CopyLoad, ReplicaHeaderStore, ReplicaFieldStore, ForwardStore, HeadStore};
+ghost use Rattle.ps_core_parts.specs.declared.events.Event.TheVariants.{GcLoad, TakeLoad, CopyLoad};
+ghost use Rattle.ps_core_parts.specs.declared.events.Event.TheVariants.{ReplicaHeaderStore};
+ghost use Rattle.ps_core_parts.specs.declared.events.Event.TheVariants.{ReplicaFieldStore};
+ghost use Rattle.ps_core_parts.specs.declared.events.Event.TheVariants.{ForwardStore, HeadStore};
 ghost use Rattle.ps_core_parts.specs.Objects.{log_of, pair_of};
 ghost use Rattle.ps_core_parts.specs.Conditions.{GcMay};
 ghost use Rattle.ps_core_parts.specs.Steps.{table_size, knows_open, replica_of, word_stored};

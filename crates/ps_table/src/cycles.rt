@@ -1,12 +1,14 @@
 //! Cycles that the mutator's seat opens and logs that it closes, at any words.
-ghost use Rattle.std.specs.Prelude.{not, nat_lt, ◌&&◌, ◌≡◌, ◌≢◌, ◌<◌, ◌≤◌, ◌+◌, ◌↔◌, ℕ, true, false, IsTrue, length};
+ghost use Rattle.std.specs.Prelude.{not, nat_lt, ◌&&◌, ◌≡◌, ◌≢◌, ◌<◌, ◌≤◌, ◌+◌, ◌↔◌, ℕ, true};
+ghost use Rattle.std.specs.Prelude.{false, IsTrue, length};
 ghost use Rattle.ps_word.specs.Headers.{cycle_limit};
 ghost use Rattle.ps_record.specs.Format.{head_place, ring_length};
 ghost use Rattle.ps_mem.specs.Heap.{IsLogBounded};
 ghost use Rattle.ps_core_parts.specs.Conditions.{HasRoom};
 ghost use Rattle.ps_core_parts.specs.Objects.{log_of};
 ghost use Rattle.ps_core_parts.specs.Steps.{is_open};
-ghost use Rattle.ps_core_parts.specs.declared.events.Event.TheVariants.{VmLoad, RecordStore, EpochStore};
+ghost use Rattle.ps_core_parts.specs.declared.events.Event.TheVariants.{VmLoad, RecordStore};
+ghost use Rattle.ps_core_parts.specs.declared.events.Event.TheVariants.{EpochStore};
 ghost use Rattle.ps_parts_memory.specs.Memory.{heap_of, grants_of, is_shut};
 ghost use Rattle.ps_parts_memory.specs.Laws.{AfterOpen, AfterClose, CanClose};
 ghost use Rattle.ps_table.specs.Shown.{BothRun, vm_did};

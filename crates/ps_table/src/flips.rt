@@ -3,7 +3,8 @@
 ghost use Rattle.std.specs.Prelude.{◌≡◌, ◌+◌, true, map};
 ghost use Rattle.ps_core_parts.specs.declared.events.Event.TheVariants.{CycleStore};
 ghost use Rattle.ps_core_parts.specs.Conditions.{VmMay, GcMay};
-ghost use Rattle.ps_core_parts.specs.Objects.{end_of_replicas, renamed_value, value_has_replica, values_have_replicas};
+ghost use Rattle.ps_core_parts.specs.Objects.{end_of_replicas, renamed_value, value_has_replica};
+ghost use Rattle.ps_core_parts.specs.Objects.{values_have_replicas};
 ghost use Rattle.ps_core_parts.specs.Steps.{other_base, vm_after, gc_after};
 ghost use Rattle.ps_parts_memory.specs.Stores.{numbers};
 ghost use Rattle.ps_table.specs.Events.{gc_did_all, root_look, root_looks};

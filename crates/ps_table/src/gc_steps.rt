@@ -1,7 +1,8 @@
 //! The steps of the collector's seat whose events its operands don't name.
 ghost use Rattle.std.specs.Prelude.{◌≡◌, ◌<◌, ◌+◌, true, Some};
 ghost use Rattle.ps_core_parts.specs.declared.events.Carried.{Carried};
-ghost use Rattle.ps_core_parts.specs.declared.events.Event.TheVariants.{CopyLoad, ReplicaFieldStore};
+ghost use Rattle.ps_core_parts.specs.declared.events.Event.TheVariants.{CopyLoad};
+ghost use Rattle.ps_core_parts.specs.declared.events.Event.TheVariants.{ReplicaFieldStore};
 ghost use Rattle.ps_core_parts.specs.Conditions.{GcMay};
 ghost use Rattle.ps_core_parts.specs.Objects.{pair_of};
 ghost use Rattle.ps_core_parts.specs.Steps.{table_size, replica_of, word_stored};

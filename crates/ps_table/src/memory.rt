@@ -1,10 +1,14 @@
 //! The mutator's seat as a memory. Each call's clauses are the memory's; beside them its seat stays
 //! at its table.
-ghost use Rattle.std.specs.Prelude.{[], ◌∷◌, ◌≡◌, ◌≢◌, ◌<◌, ◌≤◌, ◌+◌, ◌-◌, ◌^◌, ◌↔◌, ℕ, None, Some, Err, length, slice_get, slice_range, IsTrue, IsSome, IfSome, IsOk, IsErr, OnOk, OnErr};
+ghost use Rattle.std.specs.Prelude.{[], ◌∷◌, ◌≡◌, ◌≢◌, ◌<◌, ◌≤◌, ◌+◌, ◌-◌, ◌^◌, ◌↔◌, ℕ, None, Some};
+ghost use Rattle.std.specs.Prelude.{Err, length, slice_get, slice_range, IsTrue, IsSome, IfSome};
+ghost use Rattle.std.specs.Prelude.{IsOk, IsErr, OnOk, OnErr};
 ghost use Rattle.ps_word.specs.Headers.{birth_limit};
 ghost use Rattle.ps_record.specs.Format.{head_place};
 ghost use Rattle.ps_mem.specs.Stands.{IsAddressed};
-ghost use Rattle.ps_mem.specs.Heap.{AfterNew, AfterStore, IsKind, IsLogBounded, birth_at, fields_at, has_room, made, made_body, object_at, records_put, standing_words, stored};
+ghost use Rattle.ps_mem.specs.Heap.{AfterNew, AfterStore, IsKind, IsLogBounded, birth_at};
+ghost use Rattle.ps_mem.specs.Heap.{fields_at, has_room, made, made_body, object_at, records_put};
+ghost use Rattle.ps_mem.specs.Heap.{standing_words, stored};
 ghost use Rattle.ps_mem.specs.References.{NamesStanding};
 ghost use Rattle.ps_core_parts.specs.declared.events.Event.TheVariants.{VmLoad};
 ghost use Rattle.ps_parts_memory.specs.Memory.{heap_of, grants_of};

@@ -32,7 +32,8 @@ pub struct Mirror {
 }
 
 impl Mirror {
-    ghost use Rattle.std.specs.Prelude.{◌≡◌, ◌≢◌, ◌<◌, ◌≤◌, ◌+◌, ◌↔◌, ℕ, true, false, Err, length, IsTrue, IsOk, IsErr, OnOk};
+    ghost use Rattle.std.specs.Prelude.{◌≡◌, ◌≢◌, ◌<◌, ◌≤◌, ◌+◌, ◌↔◌, ℕ, true, false, Err, length};
+    ghost use Rattle.std.specs.Prelude.{IsTrue, IsOk, IsErr, OnOk};
     ghost use Rattle.ps_mem.specs.Heap.{has_room, standing_words};
     ghost use Rattle.ps_mem.specs.Stands.{IsAddressed};
     ghost use Rattle.ps_core_parts.specs.Conditions.{HasRoom};

@@ -2,14 +2,16 @@
 //!
 //! Between two calls its part is that of some run of the machine, no object is being made, nothing
 //! is written that isn't logged, and the numbers that it keeps are the part's (`Sits`).
-ghost use Rattle.std.specs.Prelude.{[], ◌∷◌, not, nat_lt, ◌&&◌, ◌≡◌, ◌<◌, ◌+◌, ℕ, true, false, length};
+ghost use Rattle.std.specs.Prelude.{[], ◌∷◌, not, nat_lt, ◌&&◌, ◌≡◌, ◌<◌, ◌+◌, ℕ, true, false};
+ghost use Rattle.std.specs.Prelude.{length};
 ghost use Rattle.std.specs.Arc.{arc_value};
 ghost use Rattle.ps_word.specs.Headers.{cycle_limit};
 ghost use Rattle.ps_record.specs.Format.{head_place};
 ghost use Rattle.ps_core_parts.specs.Conditions.{HasRoom};
 ghost use Rattle.ps_core_parts.specs.Objects.{log_of, values_stand};
 ghost use Rattle.ps_core_parts.specs.Steps.{start, table_size, is_open};
-ghost use Rattle.ps_core_parts.specs.declared.events.Event.TheVariants.{VmLoad, RecordStore, EpochStore, HandOver};
+ghost use Rattle.ps_core_parts.specs.declared.events.Event.TheVariants.{VmLoad, RecordStore};
+ghost use Rattle.ps_core_parts.specs.declared.events.Event.TheVariants.{EpochStore, HandOver};
 ghost use Rattle.ps_core_laws.specs.Runs.{IsSpace};
 ghost use Rattle.ps_parts_memory.specs.Memory.{heap_of, grants_of, is_shut};
 ghost use Rattle.ps_parts_memory.specs.Laws.{AfterOpen, AfterClose};

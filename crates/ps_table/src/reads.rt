@@ -1,5 +1,6 @@
 //! Loads by the mutator's seat, at any words.
-ghost use Rattle.std.specs.Prelude.{◌∷◌, slice_set, slice_get, ◌≡◌, ◌-◌, ◌<◌, ◌≤◌, true, Some, length, IsSome, IfSome};
+ghost use Rattle.std.specs.Prelude.{◌∷◌, slice_set, slice_get, ◌≡◌, ◌-◌, ◌<◌, ◌≤◌, true, Some};
+ghost use Rattle.std.specs.Prelude.{length, IsSome, IfSome};
 ghost use Rattle.ps_word.specs.Headers.{kind_in, fields_in, birth_in, birth_limit};
 ghost use Rattle.ps_record.specs.Format.{head_place};
 ghost use Rattle.ps_mem.specs.Heap.{fields_at, object_at};

@@ -1,6 +1,8 @@
 //! The steps of the mutator's seat, each an event of a run.
 ghost use Rattle.std.specs.Prelude.{◌≡◌, ◌<◌, ◌+◌, true, length};
-ghost use Rattle.ps_core_parts.specs.declared.events.Event.TheVariants.{VmLoad, ClearStore, HeaderStore, FieldStore, RecordStore, EpochStore};
+ghost use Rattle.ps_core_parts.specs.declared.events.Event.TheVariants.{VmLoad, ClearStore};
+ghost use Rattle.ps_core_parts.specs.declared.events.Event.TheVariants.{HeaderStore, FieldStore};
+ghost use Rattle.ps_core_parts.specs.declared.events.Event.TheVariants.{RecordStore, EpochStore};
 ghost use Rattle.ps_core_parts.specs.Conditions.{CanClear, VmMay};
 ghost use Rattle.ps_core_parts.specs.Objects.{log_of};
 ghost use Rattle.ps_core_parts.specs.Steps.{table_size};

@@ -1,5 +1,6 @@
 //! Stores by the mutator's seat into standing objects, at any words, with the record that one owes.
-ghost use Rattle.std.specs.Prelude.{[], ◌∷◌, ◌≡◌, ◌<◌, ◌≤◌, ◌+◌, ◌^◌, true, length, slice_index, slice_range, IsTrue, if◌then◌else◌};
+ghost use Rattle.std.specs.Prelude.{[], ◌∷◌, ◌≡◌, ◌<◌, ◌≤◌, ◌+◌, ◌^◌, true, length, slice_index};
+ghost use Rattle.std.specs.Prelude.{slice_range, IsTrue, if◌then◌else◌};
 ghost use Rattle.ps_record.specs.Format.{slots};
 ghost use Rattle.ps_mem.specs.Heap.{AfterStore, fields_at, records_put, stored};
 ghost use Rattle.ps_mem.specs.References.{NamesStanding};

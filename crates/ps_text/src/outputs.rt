@@ -79,6 +79,13 @@ impl Output {
         }
     }
 
+    /// The bytes that were printed so far.
+    pub fn as_slice(&self) -> &[u8]
+        ensures { result.now ≡ self.now.bytes }
+    {
+        self.bytes.as_slice()
+    }
+
     /// The printed bytes, at the end.
     pub fn into_bytes(self) -> Vec<u8>
         ensures bytes { result.items ≡ self.bytes }

@@ -1,5 +1,6 @@
 -- The objects that a procedure adds to a store, and their room.
-use Rattle.std.proofs.Common.{◌≡◌, ◌∙◌, sym, ap, refl, ℕ, ◌+◌, List, [], ◌∷◌, ◌++◌, length, append_assoc, arith, length-append}
+use Rattle.std.proofs.Common.{◌≡◌, ◌∙◌, sym, ap, refl, ℕ, ◌+◌, List, [], ◌∷◌, ◌++◌, length, append_assoc, arith}
+use Rattle.std.proofs.Common.{length-append}
 use Rattle.std.specs.Prelude.{sum_by}
 use Rattle.std.proofs.lemmas.List.Sums.{sum_by-append, sum_by-cons, sum_by_push}
 use Rattle.std.proofs.lemmas.List.{append-nil, length_push}
@@ -7,7 +8,8 @@ use Rattle.ps_language.specs.Value.{Value, Object, array_object, string_object, 
 use Rattle.ps_language.specs.Objects.{size_of, made_between}
 use Rattle.ps_language.specs.StepTokens.{Made, elements_made}
 use Rattle.ps_language.specs.StepValues.{LookedUp}
-use Rattle.ps_language.specs.Token.{Tokens, number_token, literal_name_token, executable_name_token, immediate_name_token, string_token, procedure_token, no_tokens, more_tokens}
+use Rattle.ps_language.specs.Token.{Tokens, number_token, literal_name_token, executable_name_token}
+use Rattle.ps_language.specs.Token.{immediate_name_token, string_token, procedure_token, no_tokens, more_tokens}
 use Rattle.ps_language.proofs.AskedLemmas.{made-same}
 use Rattle.ps_tokens.specs.Made.{whole_made}
 use Rattle.ps_tokens.specs.Procedures.{element_words, element_births, procedure_words, procedure_births}

@@ -17,7 +17,8 @@ use Rattle.ps_acts.specs.declared.lent.Scratch.{Scratch}
 use Rattle.ps_acts.specs.declared.lent.Trial.{Trial}
 use Rattle.ps_acts.specs.Lent.{Lent, rooms_of, IsEmpty, scene_of, IsShown, IsGood}
 use Rattle.ps_acts.specs.Acts.{Asked, IsReason, IsAtLeast}
-use Rattle.ps_acts.proofs.Meeting.{keeps-same, logs-same, logs_more, stays_as, at_least-same, AreNeedsWithin, reason_more}
+use Rattle.ps_acts.proofs.Meeting.{keeps-same, logs-same, logs_more, stays_as, at_least-same, AreNeedsWithin}
+use Rattle.ps_acts.proofs.Meeting.{reason_more}
 use Rattle.ps_turns.specs.declared.turned.Turned.{Turned}
 use Rattle.ps_turns.specs.Turns.{TurnsBy, Turns, TurnsWith, turn_needs, error_needs, needs_in, error_turn, nothing_more}
 use Rattle.ps_turns.proofs.Composing.{turns_shown}

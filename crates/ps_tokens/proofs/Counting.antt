@@ -1,5 +1,7 @@
 -- How many names there are once others are met, by the new ones found.
-use Rattle.std.proofs.Common.{◌≡◌, ℕ, ◌+◌, ◌≤◌, ◌++◌, ◌⊎◌, arith, Bool, true, false, not, List, [], ◌∷◌, length, Option, Some, None, refl, sym, ap, subst, ◌∙◌, inl, inr, append-nil, append_assoc, length-append, bytes_eq}
+use Rattle.std.proofs.Common.{◌≡◌, ℕ, ◌+◌, ◌≤◌, ◌++◌, ◌⊎◌, arith, Bool, true, false, not, List, [], ◌∷◌, length, Option}
+use Rattle.std.proofs.Common.{Some, None, refl, sym, ap, subst, ◌∙◌, inl, inr, append-nil, append_assoc, length-append}
+use Rattle.std.proofs.Common.{bytes_eq}
 use Rattle.std.specs.Prelude.{fold, if◌then◌else◌}
 use Rattle.std.specs.List.{IsDistinct, list_any}
 use Rattle.std.proofs.lemmas.Bool.{true≢false, and_parts, and_from, cases_Bool, not_from_false, false_from_ne_true}
@@ -10,7 +12,8 @@ use Rattle.std.proofs.lemmas.Slice.Eq.{bytes_eq-Decides}
 use Rattle.ps_language.specs.Dictionaries.{meet}
 use Rattle.ps_names.specs.Names.{AreNames}
 use Rattle.ps_tokens.specs.Fitting.{IsAmong, IsLeast, is_before, is_behind, is_new}
-use Rattle.ps_tokens.proofs.Least.{among_cases, among_itself, among_left, among_one, among_right, before_more, neither_before, not_before_itself}
+use Rattle.ps_tokens.proofs.Least.{among_cases, among_itself, among_left, among_one, among_right, before_more}
+use Rattle.ps_tokens.proofs.Least.{neither_before, not_before_itself}
 
 -- ---- the names that are met
 

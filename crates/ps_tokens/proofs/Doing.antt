@@ -1,15 +1,19 @@
 -- What the tokens of names and numbers come to.
-use Rattle.std.proofs.Common.{◌≡◌, ℕ, ◌<◌, ◌≤◌, ◌++◌, ◌-◌, arith, Bool, true, false, List, [], ◌∷◌, length, Some, None, refl, sym, ap, ◌∙◌, inl, inr, Err}
+use Rattle.std.proofs.Common.{◌≡◌, ℕ, ◌<◌, ◌≤◌, ◌++◌, ◌-◌, arith, Bool, true, false, List, [], ◌∷◌, length, Some, None}
+use Rattle.std.proofs.Common.{refl, sym, ap, ◌∙◌, inl, inr, Err}
 use Rattle.std.specs.Prelude.{ℤ, not, if◌then◌else◌, Result}
 use Rattle.std.proofs.lemmas.List.{length_push}
-use Rattle.ps_language.specs.declared.errors.ErrorName.TheVariants.{StackOverflow, LimitCheck, VmError, Undefined, InvalidAccess}
+use Rattle.ps_language.specs.declared.errors.ErrorName.TheVariants.{StackOverflow, LimitCheck, VmError, Undefined}
+use Rattle.ps_language.specs.declared.errors.ErrorName.TheVariants.{InvalidAccess}
 use Rattle.ps_language.specs.Dictionaries.{form, meet}
 use Rattle.ps_language.specs.Effect.{Scene}
 use Rattle.ps_language.specs.Objects.{lacks_room}
 use Rattle.ps_language.specs.Outcome.{leaves, given_that}
 use Rattle.ps_language.specs.Readers.{integer, null, executable_name, is_full}
 use Rattle.ps_language.specs.StepTokens.{token_done}
-use Rattle.ps_language.specs.StepValues.{Turn, goes, tries, breaks, errs, asks as leaves_to, after, leads, LookedUp, known, unknown, unreadable, looked_up, after_look_up, pushed, executed, done, is_procedure, is_executable_name}
+use Rattle.ps_language.specs.StepValues.{Turn, goes, tries, breaks, errs, asks as leaves_to, after, leads, LookedUp}
+use Rattle.ps_language.specs.StepValues.{known, unknown, unreadable, looked_up, after_look_up, pushed, executed, done}
+use Rattle.ps_language.specs.StepValues.{is_procedure, is_executable_name}
 use Rattle.ps_language.specs.Token.{number_token}
 use Rattle.ps_language.specs.Value.{Value, Store}
 use Rattle.ps_word.specs.declared.words.Word.{Word}

@@ -1,5 +1,6 @@
 -- The tokens of a run of kinds, one by one.
-use Rattle.std.proofs.Common.{◌≡◌, ◌∙◌, sym, ap, ℕ, suc, ◌+◌, ◌<◌, ◌≤◌, List, length, drop, map, get_or, Vec, Global, add-one}
+use Rattle.std.proofs.Common.{◌≡◌, ◌∙◌, sym, ap, ℕ, suc, ◌+◌, ◌<◌, ◌≤◌, List, length, drop, map, get_or, Vec, Global}
+use Rattle.std.proofs.Common.{add-one}
 use Rattle.std.proofs.Math.Seq.{drop-cons}
 use Rattle.std.proofs.lemmas.List.{drop_all, length-map}
 use Rattle.ps_language.specs.Token.{procedure_token, no_tokens, more_tokens}

@@ -1,5 +1,6 @@
 -- What a procedure whose names are met comes to.
-use Rattle.std.proofs.Common.{◌≡◌, ℕ, ◌-◌, ◌<◌, ◌++◌, arith, true, false, List, [], ◌∷◌, length, Err, refl, sym, ap, subst, ◌∙◌, inr, length-append, vec_capacity}
+use Rattle.std.proofs.Common.{◌≡◌, ℕ, ◌-◌, ◌<◌, ◌++◌, arith, true, false, List, [], ◌∷◌, length, Err, refl, sym, ap}
+use Rattle.std.proofs.Common.{subst, ◌∙◌, inr, length-append, vec_capacity}
 use Rattle.ps_language.specs.Effect.{Scene}
 use Rattle.ps_language.specs.Objects.{made_between}
 use Rattle.ps_language.specs.Readers.{null}

@@ -3,7 +3,8 @@ use Rattle.std.proofs.Common.{◌≡◌, ℕ, ◌++◌, arith, List, [], ◌∷�
 use Rattle.ps_language.specs.declared.access.Access.{Access}
 use Rattle.ps_language.specs.declared.errors.ErrorName.TheVariants.{InvalidAccess}
 use Rattle.ps_language.specs.declared.kinds.Kind.{Kind}
-use Rattle.ps_language.specs.Access.{access_in, access_of, dictionary_at, dictionary_object_in, is_readable, may_read, permits}
+use Rattle.ps_language.specs.Access.{access_in, access_of, dictionary_at, dictionary_object_in, is_readable, may_read}
+use Rattle.ps_language.specs.Access.{permits}
 use Rattle.ps_language.specs.Dictionaries.{find, found_in, look_up, pairs_in, pairs_of}
 use Rattle.ps_language.specs.Outcome.{given_that}
 use Rattle.ps_language.specs.Readers.{as_dictionary, dictionary_in, executable_name}
@@ -11,7 +12,8 @@ use Rattle.ps_language.specs.StepValues.{looked_up, seen}
 use Rattle.ps_language.specs.Value.{Object, Value, Store}
 use Rattle.ps_word.specs.declared.words.Word.{Word}
 use Rattle.ps_word.specs.declared.values.Content.{Content}
-use Rattle.ps_word.specs.declared.values.Content.TheVariants.{Null, Integer, Boolean, Mark, Name, Operator, Array, Text, Dictionary, Lock, Condition, Body}
+use Rattle.ps_word.specs.declared.values.Content.TheVariants.{Null, Integer, Boolean, Mark, Name, Operator, Array, Text}
+use Rattle.ps_word.specs.declared.values.Content.TheVariants.{Dictionary, Lock, Condition, Body}
 use Rattle.ps_word.specs.Format.{content_in}
 use Rattle.ps_mem.specs.Heap.{Heap, birth_at, birth_of}
 use Rattle.ps_mem.specs.Keeps.{Keeps}

@@ -1,5 +1,6 @@
 -- The room of elements, one by one, and why it is not to be had.
-use Rattle.std.proofs.Common.{◌≡◌, ◌∙◌, ◌<◌, ◌≤◌, arith, refl, sym, ap, ℕ, List, Vec, Global, Option, Some, None, Result, Ok, Err, true, false}
+use Rattle.std.proofs.Common.{◌≡◌, ◌∙◌, ◌<◌, ◌≤◌, arith, refl, sym, ap, ℕ, List, Vec, Global, Option, Some, None}
+use Rattle.std.proofs.Common.{Result, Ok, Err, true, false}
 use Rattle.std.specs.Prelude.{◌^◌, nat_lt, IfSome, IfNone, OnOk, OnErr}
 use Rattle.std.proofs.lemmas.Bool.Decides.{nat_tests}
 use Rattle.std.specs.Result.{is_err}

@@ -1,5 +1,6 @@
 -- A token that is a string comes to an error, or to a new string.
-use Rattle.std.proofs.Common.{◌≡◌, ℕ, ◌+◌, ◌/◌, ◌≤◌, ◌<◌, ◌++◌, arith, true, false, List, [], ◌∷◌, length, refl, sym, ap, ◌∙◌, length-append}
+use Rattle.std.proofs.Common.{◌≡◌, ℕ, ◌+◌, ◌/◌, ◌≤◌, ◌<◌, ◌++◌, arith, true, false, List, [], ◌∷◌, length, refl, sym}
+use Rattle.std.proofs.Common.{ap, ◌∙◌, length-append}
 use Rattle.ps_language.specs.declared.errors.ErrorName.TheVariants.{StackOverflow}
 use Rattle.ps_language.specs.Access.{bytes, bytes_in}
 use Rattle.ps_language.specs.Effect.{Scene}

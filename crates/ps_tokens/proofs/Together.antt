@@ -4,7 +4,8 @@ use Rattle.std.proofs.lemmas.List.{append-nil, map-append, length-map}
 use Rattle.ps_language.specs.Readers.{executable, whole}
 use Rattle.ps_language.specs.StepTokens.{Made, with_values, procedure_made, elements_made}
 use Rattle.ps_language.specs.StepValues.{LookedUp}
-use Rattle.ps_language.specs.Token.{Token, Tokens, number_token, literal_name_token, executable_name_token, immediate_name_token, string_token, procedure_token, no_tokens, more_tokens}
+use Rattle.ps_language.specs.Token.{Token, Tokens, number_token, literal_name_token, executable_name_token}
+use Rattle.ps_language.specs.Token.{immediate_name_token, string_token, procedure_token, no_tokens, more_tokens}
 use Rattle.ps_language.specs.Value.{Object, Value, Store, array_value, array_object}
 use Rattle.ps_word.specs.declared.words.Word.{Word}
 use Rattle.ps_word.specs.declared.values.Part.{Part}
@@ -12,7 +13,8 @@ use Rattle.ps_mem.specs.Heap.{Heap, birth_at}
 use Rattle.ps_mem.specs.Keeps.{Keeps, Extends}
 use Rattle.ps_mem.specs.Meaning.{value_of, part_of}
 use Rattle.ps_mem.specs.Shows.{IsValue, AreValues, IsSound, IsWithin, AreWithin, Shows}
-use Rattle.ps_mem.proofs.KeepsLemmas.{Keeps-Extends, Extends-same, Extends-then, AreValues-kept, AreWithin-kept, values_of-kept, known_values}
+use Rattle.ps_mem.proofs.KeepsLemmas.{Keeps-Extends, Extends-same, Extends-then, AreValues-kept, AreWithin-kept}
+use Rattle.ps_mem.proofs.KeepsLemmas.{values_of-kept, known_values}
 use Rattle.ps_mem.proofs.NewShows.{longer}
 use Rattle.ps_ops.specs.Does.{values_in}
 use Rattle.ps_ops.proofs.Held.{all_append}

@@ -1,5 +1,6 @@
 -- What the elements of a procedure come to: the first one, and then the others.
-use Rattle.std.proofs.Common.{◌≡◌, ℕ, ◌+◌, ◌≤◌, ◌++◌, arith, Bool, true, false, List, [], ◌∷◌, length, Option, Some, None, refl, sym, ap, ◌∙◌, append-nil, length-append, bytes_eq}
+use Rattle.std.proofs.Common.{◌≡◌, ℕ, ◌+◌, ◌≤◌, ◌++◌, arith, Bool, true, false, List, [], ◌∷◌, length, Option, Some}
+use Rattle.std.proofs.Common.{None, refl, sym, ap, ◌∙◌, append-nil, length-append, bytes_eq}
 use Rattle.std.specs.Prelude.{fold, if◌then◌else◌, is_some, option_map}
 use Rattle.std.specs.List.{AllByRecursion, list_any}
 use Rattle.std.proofs.lemmas.List.Sums.{fold-append}
@@ -7,7 +8,8 @@ use Rattle.ps_language.specs.declared.errors.ErrorName.{ErrorName}
 use Rattle.ps_language.specs.Dictionaries.{meet}
 use Rattle.ps_language.specs.StepTokens.{names_in, Missing, missing_name, missing_or, missing_in}
 use Rattle.ps_language.specs.StepValues.{LookedUp, known, unknown, unreadable}
-use Rattle.ps_language.specs.Token.{Token, Tokens, number_token, literal_name_token, executable_name_token, immediate_name_token, string_token, procedure_token, no_tokens, more_tokens}
+use Rattle.ps_language.specs.Token.{Token, Tokens, number_token, literal_name_token, executable_name_token}
+use Rattle.ps_language.specs.Token.{immediate_name_token, string_token, procedure_token, no_tokens, more_tokens}
 use Rattle.ps_tokens.specs.Missing.{error_of}
 use Rattle.ps_tokens.specs.Procedures.{element_words}
 

@@ -2,7 +2,8 @@
 use Rattle.std.specs.Prelude.{◌≡◌, ℕ, Bool, true, Some, List, [], ◌∷◌, slice_get}
 use Rattle.std.specs.List.{AllByRecursion, list_any}
 use Rattle.std.specs.Str.{bytes_eq}
-use Rattle.ps_language.specs.StepTokens.{Made, elements_made, look_in, made_turn, named, names_in, procedure_made}
+use Rattle.ps_language.specs.StepTokens.{Made, elements_made, look_in, made_turn, named, names_in}
+use Rattle.ps_language.specs.StepTokens.{procedure_made}
 use Rattle.ps_language.specs.StepValues.{LookedUp, Turn}
 use Rattle.ps_language.specs.Token.{Token, Tokens, no_tokens, more_tokens}
 use Rattle.ps_language.specs.Value.{Store}

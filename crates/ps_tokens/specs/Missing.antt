@@ -4,7 +4,8 @@ use Rattle.ps_language.specs.declared.errors.ErrorName.{ErrorName}
 use Rattle.ps_language.specs.declared.errors.ErrorName.TheVariants.{InvalidAccess, Undefined}
 use Rattle.ps_language.specs.Readers.{executable_name}
 use Rattle.ps_language.specs.StepTokens.{Missing, named}
-use Rattle.ps_language.specs.StepValues.{Turn, LookedUp, known, unknown, unreadable, looked_up, errs}
+use Rattle.ps_language.specs.StepValues.{Turn, LookedUp, known, unknown, unreadable, looked_up}
+use Rattle.ps_language.specs.StepValues.{errs}
 use Rattle.ps_language.specs.Value.{Store}
 use Rattle.ps_word.specs.declared.words.Word.{Word}
 use Rattle.ps_word.specs.declared.values.Content.TheVariants.{Name}

@@ -1,7 +1,8 @@
 -- Names of tokens, by what is done with them (PLRM2, 3.5, 3.11).
 use Rattle.std.specs.Prelude.{◌≡◌, ℕ, Bool, true, false, List}
 use Rattle.ps_language.specs.StepValues.{Turn, after_look_up, done, looked_up}
-use Rattle.ps_language.specs.Token.{Token, literal_name_token, executable_name_token, immediate_name_token}
+use Rattle.ps_language.specs.Token.{Token, literal_name_token, executable_name_token}
+use Rattle.ps_language.specs.Token.{immediate_name_token}
 use Rattle.ps_language.specs.Value.{name_value, Value, Store}
 use Rattle.ps_word.specs.declared.words.Word.{Word}
 use Rattle.ps_word.specs.declared.values.Content.TheVariants.{Name}

@@ -2,7 +2,9 @@
 -- in.
 use Rattle.std.specs.Prelude.{◌≡◌, ℕ, ◌+◌, ◌/◌, ◌^◌, ◌++◌, nat_lt, List, length, map, if◌then◌else◌}
 use Rattle.ps_language.specs.StepValues.{Turn, tries}
-use Rattle.ps_language.specs.Token.{Token, Tokens, number_token, literal_name_token, executable_name_token, immediate_name_token, string_token, procedure_token, no_tokens, more_tokens}
+use Rattle.ps_language.specs.Token.{Token, Tokens, number_token, literal_name_token}
+use Rattle.ps_language.specs.Token.{executable_name_token, immediate_name_token, string_token}
+use Rattle.ps_language.specs.Token.{procedure_token, no_tokens, more_tokens}
 use Rattle.ps_acts.specs.Acts.{Asked, no_rooms}
 use Rattle.ps_scan.specs.declared.tokens.TokenKind.{TokenKind}
 use Rattle.ps_scan.specs.Shown.{elements_in, token_of}

@@ -2,7 +2,9 @@
 use Rattle.std.specs.Prelude.{◌≤◌, length}
 use Rattle.ps_language.specs.Limits.{name_limit, sequence_limit}
 use Rattle.ps_language.specs.Reading.{token_count}
-use Rattle.ps_language.specs.Token.{Token, Tokens, number_token, literal_name_token, executable_name_token, immediate_name_token, string_token, procedure_token, no_tokens, more_tokens}
+use Rattle.ps_language.specs.Token.{Token, Tokens, number_token, literal_name_token}
+use Rattle.ps_language.specs.Token.{executable_name_token, immediate_name_token, string_token}
+use Rattle.ps_language.specs.Token.{procedure_token, no_tokens, more_tokens}
 
 abbrev mutual
   -- the text of a name, the bytes of a string and the elements of a procedure, and all within it

@@ -5,7 +5,8 @@ use Rattle.ps_language.specs.Effect.{Around, Scene}
 use Rattle.ps_language.specs.Readers.{executable_name}
 use Rattle.ps_language.specs.StepTokens.{look_in, token_done}
 use Rattle.ps_language.specs.StepValues.{Turn, LookedUp, known}
-use Rattle.ps_language.specs.Token.{Token, Tokens, executable_name_token, immediate_name_token, procedure_token}
+use Rattle.ps_language.specs.Token.{Token, Tokens, executable_name_token, immediate_name_token}
+use Rattle.ps_language.specs.Token.{procedure_token}
 use Rattle.ps_language.specs.Value.{Store}
 use Rattle.ps_acts.specs.Acts.{Asked}
 use Rattle.ps_acts.specs.Lent.{Lent, scene_of, around_of}

@@ -1,6 +1,7 @@
 //! The names of a procedure, in the order of its text (PLRM2, 3.2.2).
 
-ghost use Rattle.std.specs.Prelude.{◌≡◌, ℕ, ◌<◌, ◌≤◌, ◌++◌, List, fold, length, OnErr, OnOk, IsErrOf};
+ghost use Rattle.std.specs.Prelude.{◌≡◌, ℕ, ◌<◌, ◌≤◌, ◌++◌, List, fold, length, OnErr, OnOk};
+ghost use Rattle.std.specs.Prelude.{IsErrOf};
 ghost use Rattle.ps_language.specs.Dictionaries.{meet};
 ghost use Rattle.ps_language.specs.Limits.{name_limit, names_limit};
 ghost use Rattle.ps_language.specs.StepTokens.{names_in};

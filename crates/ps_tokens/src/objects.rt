@@ -12,7 +12,8 @@ ghost use Rattle.ps_mem.specs.Shows.{AreValues, AreWithin, IsSound, IsValue, IsW
 ghost use Rattle.ps_scan.specs.Shown.{token_of};
 ghost use Rattle.ps_tokens.specs.Made.{AreMet, IsMade, IsMetWord, one_made, whole_made};
 ghost use Rattle.ps_tokens.specs.Missing.{look_by};
-ghost use Rattle.ps_tokens.specs.Procedures.{procedure_births, procedure_words, token_births, token_in, token_words, tokens_in};
+ghost use Rattle.ps_tokens.specs.Procedures.{procedure_births, procedure_words, token_births};
+ghost use Rattle.ps_tokens.specs.Procedures.{token_in, token_words, tokens_in};
 ghost use Rattle.ps_tokens.specs.Short.{IsShort};
 
 use crate::names::name_word;

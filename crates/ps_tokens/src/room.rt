@@ -2,7 +2,8 @@
 
 ghost use Rattle.std.specs.Prelude.{◌≡◌, ◌≤◌, ◌^◌, ◌+◌, ◌/◌, ℕ, List, IfSome, IfNone};
 ghost use Rattle.ps_scan.specs.Shown.{token_of};
-ghost use Rattle.ps_tokens.specs.Procedures.{procedure_births, procedure_words, token_births, token_words, tokens_in};
+ghost use Rattle.ps_tokens.specs.Procedures.{procedure_births, procedure_words, token_births};
+ghost use Rattle.ps_tokens.specs.Procedures.{token_words, tokens_in};
 
 use ps_scan::TokenKind;
 

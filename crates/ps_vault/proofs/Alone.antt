@@ -10,7 +10,7 @@ use Rattle.ps_language.specs.Worlds.{after_moves}
 use Rattle.ps_language.proofs.WorldLaws.{after_moves-append}
 use Rattle.ps_world.specs.Steps.{AllFrom}
 use Rattle.ps_vault.specs.declared.turns.Turn.{Turn}
-use Rattle.ps_vault.specs.Order.{IsAlone, AddsSteps, KeepsTurn, NoneEnds, IsOfOne, AllOfOne, OnlyLastMayEnd, EndsTurn, IsOver, AddsWhole, no_whole, whole_more, AddsTurns}
+use Rattle.ps_vault.specs.Order.{IsAlone, AddsSteps, KeepsTurn, NoneEnds, IsOfOne, AllOfOne, OnlyLastMayEnd, EndsTurn, IsOver, AddsWhole, no_whole, whole_more, AddsTurns, IsTurnEnd}
 use Rattle.ps_vault.proofs.Ordering.{adds_length, adds_more, adds_none, adds_all_more, all_from-split, only_last_more, only_last_of}
 
 module _ (quantum : ℕ) (start : World) (context : ℕ) (old : List Move) where
@@ -313,7 +313,8 @@ module _ (quantum : ℕ) (start : World) (context : ℕ) (old : List Move) where
   module _ (most : ℕ) (turn : Turn) (new : List Move) where
     pub turns_begun : (count : ℕ) → Begun count new → (turn.held ≡ true → count < quantum)
         → (turn.held ≡ false → 1 ≤ count)
-        → (turn.held ≡ false → turn.made < most → IsOver quantum start context count new)
+        → (turn.held ≡ false → IsTurnEnd quantum most turn.made
+        → IsOver quantum start context count new)
         → AddsTurns quantum most start context turn old new
     turns_begun count begun less some over = record {
       whole = begun.whole;

@@ -3,6 +3,7 @@ pub mod Alone
 pub mod Beginning
 pub mod Behind
 pub mod Collected
+pub mod Cutting
 pub mod Endings
 pub mod Following
 pub mod Keeping
@@ -10,8 +11,10 @@ pub mod Living
 pub mod NextStep
 pub mod Notes
 pub mod Ordering
+pub mod Parts
 pub mod Readiness
 pub mod Reasons
+pub mod Screening
 pub mod Showing
 pub mod Turning
 pub mod Warrants

@@ -13,7 +13,7 @@ use Rattle.ps_language.proofs.ScheduleLaws.{moves-added}
 use Rattle.ps_language.proofs.WorldLaws.{after_moves-append}
 use Rattle.ps_world.specs.Steps.{AllFrom}
 use Rattle.ps_vault.specs.declared.turns.Turn.{Turn}
-use Rattle.ps_vault.specs.Order.{IsNoneAbove, IsLeastAbove, IsNext, IsAlone, AddsSteps, KeepsTurn, AddsAll, NoneEnds, OnlyLastMayEnd, AddsTurn, AreTurns, no_turn, one_more, IsDue, AddsWhole, no_whole, whole_more, AddsTurns, HasTurn, InOrder}
+use Rattle.ps_vault.specs.Order.{IsNoneAbove, IsLeastAbove, IsNext, IsAlone, AddsSteps, KeepsTurn, AddsAll, NoneEnds, OnlyLastMayEnd, AddsTurn, AreTurns, no_turn, one_more, IsDue, AddsWhole, no_whole, whole_more, AddsTurns, IsTurnEnd, HasTurn, InOrder}
 use Rattle.ps_vault.specs.Stories.{Story, world_at}
 use Rattle.ps_vault.specs.Turns.{added_times}
 use Rattle.ps_vault.proofs.Following.{times_moves}
@@ -276,10 +276,10 @@ module _ (quantum : ℕ) (start : World) where
         (goes.only_last some)
 
     -- the last one is over
-    pub turns_over : turn.held ≡ false → turn.made < most → Passing context new
-    turns_over free less = record {
+    pub turns_over : turn.held ≡ false → IsTurnEnd quantum most turn.made → Passing context new
+    turns_over free ends = record {
       last = context;
-      turns = one_more due_last.turns (last_turn (goes.some free)) (goes.over free less);
+      turns = one_more due_last.turns (last_turn (goes.some free)) (goes.over free ends);
       above = inl refl;
     }
 

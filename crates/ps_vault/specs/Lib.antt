@@ -3,6 +3,7 @@ pub mod Endings
 pub mod Holds
 pub mod Order
 pub mod Reports
+pub mod Screens
 pub mod Stories
 pub mod Turns
 pub mod Warrants

@@ -1,5 +1,5 @@
 -- In which order a run gives turns to contexts: in passes by rising identifier (PLRM2, 7.1).
-use Rattle.std.specs.Prelude.{◌≡◌, ◌≢◌, ℕ, ℤ, ◌<◌, ◌≤◌, true, false, Option, Some, None, List, [], ◌∷◌, ◌++◌, map, replicate, ◌⊎◌}
+use Rattle.std.specs.Prelude.{◌≡◌, ◌≢◌, ℕ, ℤ, ◌%◌, ◌<◌, ◌≤◌, true, false, Option, Some, None, List, [], ◌∷◌, ◌++◌, map, replicate, ◌⊎◌}
 use Rattle.ps_language.specs.Contexts.{context_at}
 use Rattle.ps_language.specs.Effect.{Note, turn_ends, wishes}
 use Rattle.ps_language.specs.Locks.{is_ready}
@@ -158,8 +158,13 @@ pub data AddsWhole (quantum : ℕ) (start : World) (context : ℕ) (old : List M
       → AddsSteps context quantum mid new → NoneEnds start mid new
       → IsAlone context (after_moves start new) → AddsWhole quantum start context old new
 
+-- fewer steps were made than were asked for, or those of whole turns
+abbrev pub IsTurnEnd : (quantum most made : ℕ) → Type 0
+IsTurnEnd quantum most made = (made < most) ⊎ (made % quantum ≡ 0)
+
 -- Such turns, and so many steps of one more: none but the last ended it. Where the next one was
--- held up, it goes on; else it is over, or as many steps were made as were asked for
+-- held up, it goes on; else it is over, or as many steps were made as were asked for, which are not
+-- those of whole turns
 pub record AddsTurns (quantum most : ℕ) (start : World) (context : ℕ) (turn : Turn)
     (old new : List Move) : Type 0 where
   pub whole : List Move
@@ -170,7 +175,8 @@ pub record AddsTurns (quantum most : ℕ) (start : World) (context : ℕ) (turn 
   pub only_last : 1 ≤ count → OnlyLastMayEnd start whole new
   pub goes_on : turn.held ≡ true → (count < quantum) × NoneEnds start whole new
   pub some : turn.held ≡ false → 1 ≤ count
-  pub over : turn.held ≡ false → turn.made < most → IsOver quantum start context count new
+  pub over : turn.held ≡ false → IsTurnEnd quantum most turn.made
+      → IsOver quantum start context count new
 
 -- behind all steps from the start it is the turn of this context: it is the next one, or has begun
 -- its turn and had fewer steps than a turn may have, none of which ended it

@@ -92,7 +92,8 @@ module _ (asks : Status → Around → Scene → Asked) (grows : Bool) where
 
 -- a run of the program with a budget of steps, in a memory of this space: its bytes are those that
 -- the definitions print under its schedule, which is proper and of the longest entries, and the
--- outcome is that of its world; what its steps are shown is of that space, and they are refused only
+-- outcome is that of its world; what its steps are shown is of that space, and they are refused
+-- only
 -- where it has no room for them. The schedule had room from the start, and can have its numbers
 pub record IsRunIn (asks : Status → Around → Scene → Asked) (space : Space) (program : List ℕ)
     (steps : ℕ) (report : Report) : Type 0 where
@@ -183,3 +184,15 @@ pub record IsReplayOf (asks : Status → Around → Scene → Asked) (program : 
   pub ends : EndsAs (worlds.world program report.schedule.items) (not (is_memory report.outcome))
       (MayWantNext asks program given report.schedule.items) report.outcome
   pub uncollected : IsUncollected report
+
+-- ---- a run that was cut, where its output failed
+
+-- it holds of this budget, or, where the run was cut, of one that isn't greater
+abbrev pub WithBudget : (cut : Bool) → (steps : ℕ) → (Run : ℕ → Type 0) → Type 0
+WithBudget cut steps Run =
+    (budget : ℕ) × (budget ≤ steps) × (cut ≡ false → budget ≡ steps) × Run budget
+
+-- it holds of this schedule, or, where the run was cut, of a beginning of it
+abbrev pub UnderPart : (cut : Bool) → (given : List Entry) → (Run : List Entry → Type 0) → Type 0
+UnderPart cut given Run = (part : List Entry) × Begins part given × IsCutOf given part
+    × (cut ≡ false → part ≡ given) × Run part

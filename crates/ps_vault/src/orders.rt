@@ -13,7 +13,7 @@ use crate::turns::Turn;
 use crate::vaults::Vault;
 use ps_interpreter::interprets::Interpret;
 use ps_mem::Memory;
-use ps_mem::plain::PlainMemory;
+use ps_mem::marked::plain_with_marks;
 use ps_start::start::Setup;
 use ps_world::deeds::Deeds;
 use std::alloc::{AllocError, Global};
@@ -118,7 +118,7 @@ pub fn run_in_order<S: Interpret + Drop, D: Deeds + Drop, O: TurnOrder>(
     ensures run { IfOk result (IsRunOf S.asks program.now steps) }
     ensures bounded { IfOk result (λ report. length report.printed.items ≤ setup.output) }
 {
-    let memory = PlainMemory::new(alloc);
+    let memory = plain_with_marks(alloc);
     let mut vault = Vault::new(
         alloc,
         memory,

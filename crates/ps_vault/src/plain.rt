@@ -1,21 +1,23 @@
 //! A run under a schedule of its own.
 
-ghost use Rattle.std.specs.Prelude.{◌≡◌, ◌<◌, ◌≤◌, ℕ, ◌↔◌, true, false, Err, IfOk, length, vec_capacity};
+ghost use Rattle.std.specs.Prelude.{◌≡◌, ◌<◌, ◌≤◌, ℕ, ◌↔◌, true, false, if◌then◌else◌, Err, IfOk, OnErr, length, vec_capacity};
 ghost use Rattle.ps_language.specs.Schedules.{count_of, moves};
 ghost use Rattle.ps_language.specs.Worlds.{starting_world, world};
 ghost use Rattle.ps_mem.specs.Plain.{plain_space};
 ghost use Rattle.ps_vault.specs.Order.{HasTurn, InOrder, IsNoneAbove};
 ghost use Rattle.ps_vault.specs.declared.reports.TheConstants.{FIRST_ENTRIES};
-ghost use Rattle.ps_vault.specs.Reports.{are_ordinary, is_memory, IsOneStarved, IsRunOf, IsStarved, IsWithin};
+ghost use Rattle.ps_vault.specs.Reports.{are_ordinary, is_memory, IsOneStarved, IsRunOf, IsStarved, IsWithin, WithBudget};
+ghost use Rattle.ps_vault.specs.Screens.{HasShown};
 ghost use Rattle.ps_vault.specs.Stories.{AreWarranted, world_at};
 
 use crate::reports::{Config, FIRST_ENTRIES, Outcome, Report, RunFault};
+use crate::screens::{NoViewer, Screen, Viewer};
 use crate::turns::Turn;
 use crate::vaults::Vault;
 use ps_flips::collected::Counts;
 use ps_interpreter::interprets::Interpret;
 use ps_mem::Memory;
-use ps_mem::plain::PlainMemory;
+use ps_mem::marked::plain_with_marks;
 use ps_start::start::Setup;
 use ps_world::deeds::Deeds;
 use std::alloc::Global;
@@ -50,10 +52,54 @@ pub fn run_plain<S: Interpret + Drop, D: Deeds + Drop>(
     ensures flips { IfOk result (λ report. report.flips ≡ 0) }
     ensures taken { IfOk result (λ report. report.taken ≡ 0) }
 {
+    let mut screen = Screen::new(NoViewer);
+    run_plain_shown(alloc, interpret, deeds, program, config, keys, &mut screen)
+}
+
+/// The budget of a run: so many steps, or, where its viewer failed, those that were made.
+fn budget_of(run: Turn, failed: bool, steps: u32) -> u32
+    ensures { result ≡ (if failed then run.made else steps) }
+{
+    if failed {
+        return run.made;
+    }
+    steps
+}
+
+/// As `run_plain`, but that who watches is shown what is printed behind each turn. Where that fails
+/// the run is cut: it is one with the steps that were made as its budget.
+pub fn run_plain_shown<S: Interpret + Drop, D: Deeds + Drop, V: Viewer + Drop>(
+    alloc: Global,
+    interpret: S,
+    deeds: D,
+    program: &[u8],
+    config: Config,
+    keys: RandomState,
+    screen: &mut Screen<V>,
+) -> Result<Report, RunFault>
+    requires nothing { screen.old.shown ≡ 0 }
+    requires going { screen.old.failed ≡ false }
+    ensures config { (result ≡ Err RunFault.Config) ↔ ¬ IsWithin config }
+    ensures run { IfOk result (λ report. WithBudget screen.new.failed config.steps
+        (λ budget. IsRunOf S.asks program.now budget report)) }
+    ensures shown { IfOk result
+        (λ report. HasShown screen.old.seen screen.new report.printed.items) }
+    ensures unshown { OnErr result (screen.new ≡ screen.old) }
+    ensures still { screen.old.watching ≡ false → screen.new ≡ screen.old }
+    ensures bounded { IfOk result (λ report. length report.printed.items ≤ config.output) }
+    ensures order { IfOk result (λ report. InOrder config.quantum
+        (starting_world program.now) (moves report.schedule.items)) }
+    ensures starved { IfOk result (λ report. is_memory report.outcome ≡ true → (context : ℕ)
+        × HasTurn config.quantum (starting_world program.now) context (moves report.schedule.items)
+        × IsStarved S.asks true context false (world program.now report.schedule.items)
+        (vec_capacity report.schedule) report.schedule.items) }
+    ensures flips { IfOk result (λ report. report.flips ≡ 0) }
+    ensures taken { IfOk result (λ report. report.taken ≡ 0) }
+{
     if !config.is_within() {
         return Err(RunFault::Config);
     }
-    let memory = PlainMemory::new(alloc);
+    let memory = plain_with_marks(alloc);
     let Ok(mut vault) = Vault::new(
         alloc,
         memory,
@@ -68,8 +114,9 @@ pub fn run_plain<S: Interpret + Drop, D: Deeds + Drop>(
     ) else {
         return Err(RunFault::Memory);
     };
-    let run = vault.run(config.steps, config.quantum);
-    Ok(vault.into_run(run, config.steps))
+    let run = vault.run(config.steps, config.quantum, screen);
+    let budget = budget_of(run, screen.has_failed(), config.steps);
+    Ok(vault.into_run(run, budget))
 }
 
 impl<M: Memory + Drop, S: Interpret + Drop, D: Deeds + Drop> Vault<'_, M, S, D> {

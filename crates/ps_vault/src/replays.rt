@@ -1,36 +1,46 @@
 //! A run under a given schedule (PLRM2, 3.5, 7.1).
 
-ghost use Rattle.std.specs.Prelude.{◌≡◌, ◌≢◌, ◌+◌, ◌<◌, ◌≤◌, ◌++◌, ◌&&◌, ◌==◌, ℕ, List, vec_len, vec_capacity, length, true, false, not, replicate, IfOk, Err};
+ghost use Rattle.std.specs.Prelude.{◌≡◌, ◌≢◌, ◌+◌, ◌<◌, ◌≤◌, ◌++◌, ◌&&◌, ◌==◌, ℕ, List, vec_len, vec_capacity, length, true, false, not, replicate, IfOk, OnErr, Err};
 ghost use Rattle.ps_language.specs.declared.schedules.Entry.{Entry as EntryOf};
 ghost use Rattle.ps_language.specs.Locks as locks;
 ghost use Rattle.ps_language.specs.Schedules.{last_move, plain_move, moves_of, moves, count_of, Begins};
 ghost use Rattle.ps_language.specs.Worlds as worlds;
 ghost use Rattle.ps_language.specs.Worlds.{after_moves};
-ghost use Rattle.ps_vault.specs.Reports.{EndsAs, IsCutOf, MayWant, MayWantNext, entry_of, is_memory};
+ghost use Rattle.ps_vault.specs.Reports.{EndsAs, IsCutOf, IsReplayOf, MayWant, MayWantNext, UnderPart, entry_of, is_memory};
+ghost use Rattle.ps_vault.specs.Screens.{HasShown, ShowsOn};
 ghost use Rattle.ps_vault.specs.Stories.{world_at};
 ghost use Rattle.ps_vault.specs.Turns.{added_times};
 
 use crate::reports::{Outcome, Report, RunFault};
 use crate::schedules::{is_ordinary, push_within};
+use crate::screens::{NoViewer, Screen, Viewer};
 use crate::turns::Turn;
 use crate::vaults::{Told, Vault};
 use ps_interpreter::interprets::Interpret;
 use ps_language::schedules::Entry;
+use ps_mem::marked::{Marked, plain_with_marks};
 use ps_mem::plain::PlainMemory;
 use ps_start::start::Setup;
 use ps_world::deeds::Deeds;
 use std::alloc::Global;
 
+/// The most steps of a context before a viewer is shown what they printed.
+const UNSEEN_STEPS: u32 = 65536;
+
 /// Makes ordinary steps of a context, at most so many, as long as it is ready, whether or not its
 /// turn would end; a `vmstatus` in them is shown zeros. Fewer, and none held up: the context isn't
-/// ready. Held up: fewer, and the next may want memory, whatever room the schedule has.
-fn steps<S: Interpret + Drop, D: Deeds + Drop>(
-    vault: &mut Vault<PlainMemory, S, D>,
+/// ready, or the viewer could not be shown what was printed. Held up: fewer, and the next may want
+/// memory, whatever room the schedule has.
+fn steps<S: Interpret + Drop, D: Deeds + Drop, V: Viewer + Drop>(
+    vault: &mut Vault<Marked<PlainMemory>, S, D>,
     context: u32,
     most: u32,
+    screen: &mut Screen<V>,
 ) -> Turn
     requires calling { vault.old.caller ≡ None }
     requires room { length vault.old.schedule + 3 ≤ vault.old.capacity }
+    requires fits { screen.old.shown ≤ length (world_at vault.old).printed }
+    requires going { screen.old.failed ≡ false }
     ensures program { vault.new.program ≡ vault.old.program }
     ensures most { vault.new.most ≡ vault.old.most }
     ensures within { result.made ≤ most }
@@ -41,31 +51,43 @@ fn steps<S: Interpret + Drop, D: Deeds + Drop>(
         ≡ after_moves (world_at vault.old) (replicate result.made (plain_move context)) }
     ensures capacity { vault.old.capacity ≤ vault.new.capacity }
     ensures calling_on { result.held ≡ false → vault.new.caller ≡ None }
-    ensures unready { result.held ≡ false → result.made < most
+    ensures unready { result.held ≡ false → result.made < most → screen.new.failed ≡ false
         → locks.is_ready (world_at vault.new) context ≡ false }
     ensures fewer { result.held ≡ true → result.made < most }
     ensures starved { result.held ≡ true → MayWant S.asks true context false (world_at vault.new) }
+    ensures fits { screen.new.shown ≤ length (world_at vault.new).printed }
+    ensures shown { ShowsOn screen.old (world_at vault.old).printed screen.new
+        (world_at vault.new).printed }
+    ensures cut { screen.new.failed ≡ true → result.held ≡ false }
+    ensures still { screen.old.watching ≡ false → screen.new ≡ screen.old }
 {
     let mut made = 0;
     while made < most && vault.is_ready(context) {
-        let advanced = vault.advance(context, most - made, false);
+        let advanced = vault.advance(context, UNSEEN_STEPS.min(most - made), false);
         made += advanced.made;
         match advanced.told {
             Told::Goes | Told::TurnEnds => {}
             Told::HeldUp(_) => return Turn { made, held: true },
         }
+        if !vault.show_printed(screen) {
+            return Turn { made, held: false };
+        }
     }
     Turn { made, held: false }
 }
 
-/// Makes the steps of an entry that are all ordinary ones, as far as memory goes, and tells how
-/// many were made; those of a context that isn't ready are counted and change nothing.
-fn follow_ordinary<S: Interpret + Drop, D: Deeds + Drop>(
-    vault: &mut Vault<PlainMemory, S, D>,
+/// Makes the steps of an entry that are all ordinary ones, as far as memory goes and the viewer can
+/// be shown what is printed, and tells how many were made; those of a context that isn't ready are
+/// counted and change nothing.
+fn follow_ordinary<S: Interpret + Drop, D: Deeds + Drop, V: Viewer + Drop>(
+    vault: &mut Vault<Marked<PlainMemory>, S, D>,
     entry: Entry,
+    screen: &mut Screen<V>,
 ) -> u32
     requires calling { vault.old.caller ≡ None }
     requires room { length vault.old.schedule + 3 ≤ vault.old.capacity }
+    requires fits { screen.old.shown ≤ length (world_at vault.old).printed }
+    requires going { screen.old.failed ≡ false }
     requires ordinary { last_move entry ≡ plain_move entry.context }
     ensures program { vault.new.program ≡ vault.old.program }
     ensures most { vault.new.most ≡ vault.old.most }
@@ -78,25 +100,33 @@ fn follow_ordinary<S: Interpret + Drop, D: Deeds + Drop>(
     ensures part { result < entry.steps
         → world_at vault.new ≡ after_moves (world_at vault.old)
         (replicate result (plain_move entry.context)) }
-    ensures starved { result < entry.steps
+    ensures starved { result < entry.steps → screen.new.failed ≡ false
         → MayWant S.asks true entry.context false (world_at vault.new) }
+    ensures fits { screen.new.shown ≤ length (world_at vault.new).printed }
+    ensures shown { ShowsOn screen.old (world_at vault.old).printed screen.new
+        (world_at vault.new).printed }
+    ensures cut { screen.new.failed ≡ true → vault.new.caller ≡ None }
+    ensures still { screen.old.watching ≡ false → screen.new ≡ screen.old }
 {
-    let turn = steps(vault, entry.context, entry.steps);
-    if turn.held {
+    let turn = steps(vault, entry.context, entry.steps, screen);
+    if turn.held || screen.has_failed() {
         return turn.made;
     }
     entry.steps
 }
 
 /// Makes the steps of an entry, of which the last may be refused and may show a pair, as far as
-/// memory goes, and tells how many were made; a step of a context that isn't ready is counted and
-/// changes nothing, nor do those behind it in the entry.
-fn follow_entry<S: Interpret + Drop, D: Deeds + Drop>(
-    vault: &mut Vault<PlainMemory, S, D>,
+/// memory goes and the viewer can be shown what is printed, and tells how many were made; a step of
+/// a context that isn't ready is counted and changes nothing, nor do those behind it in the entry.
+fn follow_entry<S: Interpret + Drop, D: Deeds + Drop, V: Viewer + Drop>(
+    vault: &mut Vault<Marked<PlainMemory>, S, D>,
     entry: Entry,
+    screen: &mut Screen<V>,
 ) -> u32
     requires calling { vault.old.caller ≡ None }
     requires room { length vault.old.schedule + 3 ≤ vault.old.capacity }
+    requires fits { screen.old.shown ≤ length (world_at vault.old).printed }
+    requires going { screen.old.failed ≡ false }
     ensures program { vault.new.program ≡ vault.old.program }
     ensures most { vault.new.most ≡ vault.old.most }
     ensures longer { length vault.new.schedule ≤ length vault.old.schedule + 2 }
@@ -108,18 +138,24 @@ fn follow_entry<S: Interpret + Drop, D: Deeds + Drop>(
     ensures part { result < entry.steps
         → world_at vault.new ≡ after_moves (world_at vault.old)
         (replicate result (plain_move entry.context)) }
-    ensures starved { result < entry.steps → MayWant S.asks true entry.context
+    ensures starved { result < entry.steps → screen.new.failed ≡ false
+        → MayWant S.asks true entry.context
         (entry.refused && (result + 1 == entry.steps)) (world_at vault.new) }
+    ensures fits { screen.new.shown ≤ length (world_at vault.new).printed }
+    ensures shown { ShowsOn screen.old (world_at vault.old).printed screen.new
+        (world_at vault.new).printed }
+    ensures cut { screen.new.failed ≡ true → vault.new.caller ≡ None }
+    ensures still { screen.old.watching ≡ false → screen.new ≡ screen.old }
 {
     if is_ordinary(&entry) {
-        return follow_ordinary(vault, entry);
+        return follow_ordinary(vault, entry, screen);
     }
     if entry.steps == 0 || !vault.is_ready(entry.context) {
         return entry.steps;
     }
     let ordinary = entry.steps - 1;
-    let before = steps(vault, entry.context, ordinary);
-    if before.held {
+    let before = steps(vault, entry.context, ordinary, screen);
+    if before.held || screen.has_failed() {
         return before.made;
     }
     if !vault.is_ready(entry.context) {
@@ -164,28 +200,84 @@ pub fn replay<S: Interpret + Drop, D: Deeds + Drop>(
     ensures flips { IfOk result (λ report. report.flips ≡ 0) }
     ensures taken { IfOk result (λ report. report.taken ≡ 0) }
 {
+    let mut screen = Screen::new(NoViewer);
+    replay_shown(
+        alloc,
+        interpret,
+        deeds,
+        program,
+        schedule,
+        setup,
+        &mut screen,
+    )
+}
+
+/// As `replay`, but that who watches is shown what is printed, behind each entry and now and then in
+/// a long one. Where that fails the run is cut: it follows the steps that were made.
+pub fn replay_shown<S: Interpret + Drop, D: Deeds + Drop, V: Viewer + Drop>(
+    alloc: Global,
+    interpret: S,
+    deeds: D,
+    program: &[u8],
+    schedule: &[Entry],
+    setup: Setup,
+    screen: &mut Screen<V>,
+) -> Result<Report, RunFault>
+    requires nothing { screen.old.shown ≡ 0 }
+    requires going { screen.old.failed ≡ false }
+    ensures fault { result ≢ Err RunFault.Config }
+    ensures run { IfOk result (λ report. UnderPart screen.new.failed schedule.now
+        (λ part. IsReplayOf S.asks program.now part report)) }
+    ensures shown { IfOk result
+        (λ report. HasShown screen.old.seen screen.new report.printed.items) }
+    ensures unshown { OnErr result (screen.new ≡ screen.old) }
+    ensures still { screen.old.watching ≡ false → screen.new ≡ screen.old }
+    ensures bounded { IfOk result (λ report. length report.printed.items ≤ setup.output) }
+{
     let Some(twice) = schedule.len().checked_mul(2) else {
         return Err(RunFault::Memory);
     };
     let Some(entries) = twice.checked_add(1) else {
         return Err(RunFault::Memory);
     };
-    let memory = PlainMemory::new(alloc);
+    let memory = plain_with_marks(alloc);
     let Ok(mut vault) = Vault::new(alloc, memory, interpret, deeds, program, setup, entries) else {
         return Err(RunFault::Memory);
     };
     for place in 0..schedule.len() {
         let entry = schedule[place];
-        let made = follow_entry(&mut vault, entry);
+        let made = follow_entry(&mut vault, entry, screen);
         if made < entry.steps {
+            let outcome = cut_outcome(&mut vault, screen.has_failed());
             let (printed, mut followed) = vault.into_followed(&schedule[..place]);
             push_part(&mut followed, entry.context, made);
-            return Ok(report_of(printed, followed, Outcome::Memory));
+            return Ok(report_of(printed, followed, outcome));
+        }
+        if screen.has_failed() {
+            let outcome = vault.outcome(true);
+            let (printed, followed) = vault.into_followed(&schedule[..place + 1]);
+            return Ok(report_of(printed, followed, outcome));
         }
     }
     let outcome = vault.outcome(true);
     let (printed, followed) = vault.into_followed(schedule);
     Ok(report_of(printed, followed, outcome))
+}
+
+/// How a run ended in an entry: for want of memory, or, where its viewer failed, as its world tells.
+fn cut_outcome<S: Interpret + Drop, D: Deeds + Drop>(
+    vault: &mut Vault<Marked<PlainMemory>, S, D>,
+    failed: bool,
+) -> Outcome
+    requires calling { failed ≡ true → vault.old.caller ≡ None }
+    ensures same { vault.new ≡ vault.old }
+    ensures ended { failed ≡ true → EndsAs (world_at vault.old) true ⊥ result }
+    ensures memory { is_memory result ≡ not failed }
+{
+    if failed {
+        return vault.outcome(true);
+    }
+    Outcome::Memory
 }
 
 /// Pushes an entry of so many ordinary steps, if there are any.

@@ -40,9 +40,6 @@ impl Config {
     /// The most steps of a turn.
     pub const MOST_QUANTUM: u32 = 65535;
 
-    /// No bound on what is printed: no memory has as many bytes.
-    pub const ANY_OUTPUT: u64 = u64::MAX;
-
     /// Whether each number is in its range.
     pub fn is_within(&self) -> bool
         ensures { IsTrue result ↔ IsWithin self.now }

@@ -15,7 +15,7 @@ use crate::vaults::Vault;
 use ps_interpreter::interprets::Interpret;
 use ps_language::schedules::Entry;
 use ps_mem::Memory;
-use ps_mem::plain::PlainMemory;
+use ps_mem::marked::plain_with_marks;
 use ps_start::start::Setup;
 use ps_world::deeds::Deeds;
 use std::alloc::Global;
@@ -39,7 +39,7 @@ pub fn run_plain_behind<S: Interpret + Drop, D: Deeds + Drop>(
     if !config.is_within() {
         return Err(RunFault::Config);
     }
-    let memory = PlainMemory::new(alloc);
+    let memory = plain_with_marks(alloc);
     let Ok(mut vault) = Vault::new(
         alloc,
         memory,

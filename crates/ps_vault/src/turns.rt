@@ -1,14 +1,16 @@
 //! Turns of contexts, and which context is next (PLRM2, 7.1).
 
-ghost use Rattle.std.specs.Prelude.{◌≡◌, ℕ, ◌+◌, ◌%◌, ◌<◌, ◌≤◌, false, true, [], IfSome, IfNone};
+ghost use Rattle.std.specs.Prelude.{◌≡◌, ℕ, ◌+◌, ◌%◌, ◌<◌, ◌≤◌, false, true, [], length, IfSome, IfNone};
 ghost use Rattle.ps_language.specs.Locks as locks;
 ghost use Rattle.ps_language.specs.Schedules.{count_of, moves};
 ghost use Rattle.ps_language.specs.Worlds.{starting_world};
 ghost use Rattle.ps_vault.specs.Holds.{OnlyGrows};
 ghost use Rattle.ps_vault.specs.Order.{IsNoneAbove, IsLeastAbove, AddsTurns, HasTurn, InOrder};
 ghost use Rattle.ps_vault.specs.Reports.{are_ordinary, IsStarved, IsOneStarved};
+ghost use Rattle.ps_vault.specs.Screens.{ShowsOn};
 ghost use Rattle.ps_vault.specs.Stories.{AreWarranted, world_at};
 
+use crate::screens::{Screen, Viewer};
 use crate::vaults::{Told, Vault};
 use ps_interpreter::interprets::Interpret;
 use ps_mem::Memory;
@@ -110,9 +112,17 @@ impl<M: Memory + Drop, S: Interpret + Drop, D: Deeds + Drop> Vault<'_, M, S, D> 
 
     /// Runs contexts for at most so many steps: passes over them by rising identifier, also those
     /// that are made in the pass, with a turn of at most a quantum of steps for each that is ready.
-    pub fn run(&mut self, steps: u32, quantum: u32) -> Turn
+    /// Who watches is shown behind each turn what was printed; where that fails no more are made.
+    pub fn run<V: Viewer + Drop>(
+        &mut self,
+        steps: u32,
+        quantum: u32,
+        screen: &mut Screen<V>,
+    ) -> Turn
         requires calling { self.old.caller ≡ None }
         requires quantum { 1 ≤ quantum }
+        requires fits { screen.old.shown ≤ length (world_at self.old).printed }
+        requires going { screen.old.failed ≡ false }
         ensures program { self.new.program ≡ self.old.program }
         ensures most { self.new.most ≡ self.old.most }
         ensures within { result.made ≤ steps }
@@ -133,8 +143,12 @@ impl<M: Memory + Drop, S: Interpret + Drop, D: Deeds + Drop> Vault<'_, M, S, D> 
             × HasTurn quantum (starting_world self.old.program) context (moves self.new.schedule)
             × IsStarved S.asks true context false (world_at self.new) self.new.capacity
             self.new.schedule }
-        ensures ended { result.held ≡ false → result.made < steps
+        ensures ended { result.held ≡ false → result.made < steps → screen.new.failed ≡ false
             → IsNoneAbove (world_at self.new) 0 }
+        ensures shown { ShowsOn screen.old (world_at self.old).printed screen.new
+            (world_at self.new).printed }
+        ensures cut { screen.new.failed ≡ true → result.held ≡ false }
+        ensures still { screen.old.watching ≡ false → screen.new ≡ screen.old }
     {
         let mut made = 0;
         let mut after = 0;
@@ -146,10 +160,14 @@ impl<M: Memory + Drop, S: Interpret + Drop, D: Deeds + Drop> Vault<'_, M, S, D> 
                 after = 0;
                 continue;
             };
-            let turn = self.turns(next, quantum, steps - made);
+            let most = screen.most_unseen(quantum, steps - made);
+            let turn = self.turns(next, quantum, most);
             made += turn.made;
             if turn.held {
                 return Turn { made, held: true };
+            }
+            if !self.show_printed(screen) {
+                return Turn { made, held: false };
             }
             after = next;
         }

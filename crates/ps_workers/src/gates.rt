@@ -3,8 +3,9 @@
 ghost use Rattle.std.specs.Prelude.{◌≡◌};
 
 use ps_flips::collected::Counts;
-use ps_flips::sides::{Collects, LoggedMemory, Works};
+use ps_flips::sides::{Collects, LoggedMemory, Past};
 use ps_language::kinds::Kind;
+use ps_mem::marks::Mark;
 use ps_mem::{Memory, NeedFault, Permit};
 use ps_parts_memory::Closing;
 use ps_word::headers::Header;
@@ -106,6 +107,10 @@ impl<M: LoggedMemory + Drop, G: Gate> Memory for Gated<'_, M, G> {
     fn permit(&mut self, slot: u32, count: u32) -> Permit {
         self.memory.permit(slot, count)
     }
+
+    fn mark(&mut self, name: u16) -> Mark {
+        self.memory.mark(name)
+    }
 }
 
 impl<M: LoggedMemory + Drop, G: Gate> LoggedMemory for Gated<'_, M, G> {
@@ -128,10 +133,6 @@ impl<M: LoggedMemory + Drop, G: Gate> LoggedMemory for Gated<'_, M, G> {
     ghost bounded = { λ g. M.bounded g.memory };
 }
 
-/// The collector of a memory with a gate. It reaches past the gate.
-#[derive(Drop)]
-pub struct Past<C>(pub C);
-
 impl<'g, M: LoggedMemory + Drop, G: Gate, C: Collects<M>> Collects<Gated<'g, M, G>> for Past<C> {
     fn hand_over(&mut self, memory: &mut Gated<'g, M, G>, roots: &[Word]) {
         self.0.hand_over(&mut memory.memory, roots);
@@ -147,19 +148,5 @@ impl<'g, M: LoggedMemory + Drop, G: Gate, C: Collects<M>> Collects<Gated<'g, M, 
 
     fn end_cycle(&mut self, memory: &mut Gated<'g, M, G>, roots: &mut [Word]) -> bool {
         self.0.end_cycle(&mut memory.memory, roots)
-    }
-}
-
-impl<C: Works> Works for Past<C> {
-    fn act(&mut self) -> bool {
-        self.0.act()
-    }
-
-    fn copied(&self) -> u64 {
-        self.0.copied()
-    }
-
-    fn look_anew(&mut self) {
-        self.0.look_anew();
     }
 }

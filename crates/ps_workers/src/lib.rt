@@ -41,7 +41,8 @@ mod serial;
 mod serving;
 mod waits;
 
-pub use gates::{Gate, Gated, Nobody, Past};
+pub use gates::{Gate, Gated, Nobody};
+pub use ps_flips::sides::Past;
 pub use runs::{
     Job, run, run_alone, run_alone_behind, run_beside, run_gated, run_serial, run_serial_in,
 };

@@ -11,12 +11,12 @@ ghost use Rattle.ps_start.specs.Starts.{IsEmptyHeap};
 ghost use Rattle.ps_vault.specs.Reports.{IsRunIn, IsWithin};
 
 use crate::batons::Baton;
-use crate::gates::{Gate, Gated, Nobody, Past};
+use crate::gates::{Gate, Gated, Nobody};
 use crate::loops::{Desk, work_all, work_all_serially};
 use crate::serial::SerialBaton;
 use crate::serving::Lent;
 use ps_flips::collected::CollectedMemory;
-use ps_flips::sides::{Collects, LoggedMemory, Works};
+use ps_flips::sides::{Collects, LoggedMemory, Past, Works};
 use ps_gc::{CollectedSpace, Inside};
 use ps_interpreter::interprets::Interpret;
 use ps_mem::Memory;

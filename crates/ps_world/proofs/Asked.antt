@@ -1,5 +1,6 @@
 -- What a step may want of objects is what its unrefused step makes.
-use Rattle.std.proofs.Common.{◌≡◌, ℕ, suc, zero, ◌+◌, ◌-◌, ◌≤◌, Bool, true, false, List, length, Option, Some, None, [], ◌∷◌, ◌++◌, refl, sym, ap, subst, ◌∙◌, arith, zero-add}
+use Rattle.std.proofs.Common.{◌≡◌, ℕ, suc, zero, ◌+◌, ◌-◌, ◌≤◌, Bool, true, false, List, length, Option, Some, None, []}
+use Rattle.std.proofs.Common.{◌∷◌, ◌++◌, refl, sym, ap, subst, ◌∙◌, arith, zero-add}
 use Rattle.std.proofs.lemmas.Bool.{true≢false}
 use Rattle.std.proofs.lemmas.List.{length-drop, length-set}
 use Rattle.std.specs.Prelude.{◌&&◌, ◌*◌, drop, fold, slice_get, slice_set, if◌then◌else◌}
@@ -10,14 +11,18 @@ use Rattle.ps_language.specs.Effect.{Around, Scene, Calling, Deed, does, waits}
 use Rattle.ps_language.specs.Keeping.{Stays, stays, Keeps}
 use Rattle.ps_language.specs.Live.{asked_words, asked_births}
 use Rattle.ps_language.specs.Locks.{is_ready_as, is_ready, retried}
-use Rattle.ps_language.specs.Machines.{around_of, scene_of, with_scene, with_status, settled, told_by, turn_as, may_end, is_empty, after_turn, own_step}
+use Rattle.ps_language.specs.Machines.{around_of, scene_of, with_scene, with_status, settled, told_by, turn_as, may_end}
+use Rattle.ps_language.specs.Machines.{is_empty, after_turn, own_step}
 use Rattle.ps_language.specs.Objects.{size_of, growth_of, made_between}
 use Rattle.ps_language.specs.Outcome.{Outcome, leaves, fails}
-use Rattle.ps_language.specs.Step.{machine_of, with_machine, Stepped, plainly, deed_given_room, after_deed, called, after_own, moved_as, stepped, step}
+use Rattle.ps_language.specs.Step.{machine_of, with_machine, Stepped, plainly, deed_given_room, after_deed, called}
+use Rattle.ps_language.specs.Step.{after_own, moved_as, stepped, step}
 use Rattle.ps_language.specs.StepErrors.{has_new_error, told}
 use Rattle.ps_language.specs.StepValues.{Turn, goes, tries, breaks, errs, asks}
-use Rattle.ps_language.specs.Value.{Dictionary, Object, array_object, string_object, dictionary_object, lock_object, condition_object, Store}
-use Rattle.ps_language.specs.World.{for_stop, for_exit, for_quit, Status, running, unwinding, again, waiting, retaking, finished, Context, Machine, World}
+use Rattle.ps_language.specs.Value.{Dictionary, Object, array_object, string_object, dictionary_object, lock_object}
+use Rattle.ps_language.specs.Value.{condition_object, Store}
+use Rattle.ps_language.specs.World.{for_stop, for_exit, for_quit, Status, running, unwinding, again, waiting, retaking}
+use Rattle.ps_language.specs.World.{finished, Context, Machine, World}
 use Rattle.ps_language.proofs.OperandsKept.{turn_as-keeps}
 use Rattle.ps_acts.specs.Acts.{Asked}
 use Rattle.ps_world.specs.Growth.{Growth, no_growth}

@@ -1,5 +1,6 @@
 -- The step behind many own ones.
-use Rattle.std.proofs.Common.{◌≡◌, ◌≢◌, ℕ, ℤ, Bool, true, Option, Some, None, Ok, Err, refl, sym, ap, subst, ◌∙◌, List, [], ◌∷◌}
+use Rattle.std.proofs.Common.{◌≡◌, ◌≢◌, ℕ, ℤ, Bool, true, Option, Some, None, Ok, Err, refl, sym, ap, subst, ◌∙◌, List}
+use Rattle.std.proofs.Common.{[], ◌∷◌}
 use Rattle.std.specs.Prelude.{Result, IsSome, IfSome, ◌&&◌, if◌then◌else◌}
 use Rattle.ps_language.specs.Effect.{Around, Scene}
 use Rattle.ps_language.specs.Locks.{is_ready}
@@ -23,7 +24,8 @@ use Rattle.ps_contexts.specs.declared.members.Member.{Member}
 use Rattle.ps_contexts.specs.Moves.{plain_moves}
 use Rattle.ps_contexts.specs.Seats.{item_at, with_item}
 use Rattle.ps_contexts.specs.Worlds.{status_of, context_of}
-use Rattle.ps_contexts.specs.Desks.{Desk, lent_to, returned, desk_of, desk_after, has_finished, IsWorld, member_left, course_after}
+use Rattle.ps_contexts.specs.Desks.{Desk, lent_to, returned, desk_of, desk_after, has_finished, IsWorld, member_left}
+use Rattle.ps_contexts.specs.Desks.{course_after}
 use Rattle.ps_contexts.proofs.Owning.{own_ready}
 use Rattle.ps_contexts.proofs.Places.{with_item-twice, item_at-with_item, one_there}
 use Rattle.ps_contexts.proofs.Settled.{turned_changed}

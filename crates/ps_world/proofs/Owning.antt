@@ -1,5 +1,6 @@
 -- The turn of one context, among all of them.
-use Rattle.std.proofs.Common.{◌≡◌, ℕ, ℤ, Bool, true, List, [], ◌∷◌, Option, Some, None, Ok, Err, refl, sym, ap, subst, ◌∙◌}
+use Rattle.std.proofs.Common.{◌≡◌, ℕ, ℤ, Bool, true, List, [], ◌∷◌, Option, Some, None, Ok, Err, refl, sym, ap, subst}
+use Rattle.std.proofs.Common.{◌∙◌}
 use Rattle.ps_language.specs.declared.operators.Operator.{Operator}
 use Rattle.ps_language.specs.Effect.{Around, Scene}
 use Rattle.ps_language.specs.Machines.{may_end, reaches, leaves_to_world, own_step}
@@ -23,11 +24,13 @@ use Rattle.ps_interpreter.proofs.Reached.{IsMade}
 use Rattle.ps_contexts.specs.declared.members.Member.{Member}
 use Rattle.ps_contexts.specs.Seats.{item_at, with_item}
 use Rattle.ps_contexts.specs.Worlds.{status_of, context_of}
-use Rattle.ps_contexts.specs.Desks.{Desk, lent_to, returned, IsWorld, IsSteady, HasFrame, AreFramed, machine_reached, member_left, course_after, turned_member, desk_turned, desk_unmade}
+use Rattle.ps_contexts.specs.Desks.{Desk, lent_to, returned, IsWorld, IsSteady, HasFrame, AreFramed, machine_reached}
+use Rattle.ps_contexts.specs.Desks.{member_left, course_after, turned_member, desk_turned, desk_unmade}
 use Rattle.ps_contexts.proofs.Going.{with_item_members, left_members}
 use Rattle.ps_contexts.proofs.Places.{item_at-with_item, with_item-same, with_item-twice}
 use Rattle.ps_contexts.proofs.Stepping.{context_there, own_step_is, turned_steps}
-use Rattle.ps_contexts.proofs.Turning.{member_at, turned_steady, turned_machine, turned_reaches, turned_world, unmade_steady, unmade_world}
+use Rattle.ps_contexts.proofs.Turning.{member_at, turned_steady, turned_machine, turned_reaches, turned_world}
+use Rattle.ps_contexts.proofs.Turning.{unmade_steady, unmade_world}
 use Rattle.ps_world.proofs.Calling.{none_left}
 use Rattle.ps_world.specs.declared.notes.Note.TheVariants.{Nothing}
 use Rattle.ps_world.specs.Calls.{AreFramedBut, IsSameDesk}

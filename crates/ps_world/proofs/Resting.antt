@@ -15,7 +15,8 @@ use Rattle.ps_acts.specs.declared.lent.Trial.{Trial}
 use Rattle.ps_acts.specs.Acts.{Asked}
 use Rattle.ps_acts.proofs.Meeting.{keeps-same, logs-same, logs_more}
 use Rattle.ps_contexts.specs.declared.members.Course.{Course}
-use Rattle.ps_contexts.specs.declared.members.Course.TheVariants.{Running, Unwinding, Again, Waiting, Retaking, Finished}
+use Rattle.ps_contexts.specs.declared.members.Course.TheVariants.{Running, Unwinding, Again, Waiting, Retaking}
+use Rattle.ps_contexts.specs.declared.members.Course.TheVariants.{Finished}
 use Rattle.ps_contexts.specs.Worlds.{status_of, context_of}
 use Rattle.ps_contexts.specs.Desks.{Desk, AreFramed, IsWorld}
 use Rattle.ps_contexts.proofs.Stepping.{context_there}

@@ -1,5 +1,6 @@
 -- Many own steps of one context are so many moves of the world.
-use Rattle.std.proofs.Common.{◌≡◌, ℕ, zero, suc, Bool, true, false, IsTrue, Option, Some, None, refl, sym, ap, subst, ◌∙◌, List, [], ◌∷◌}
+use Rattle.std.proofs.Common.{◌≡◌, ℕ, zero, suc, Bool, true, false, IsTrue, Option, Some, None, refl, sym, ap, subst}
+use Rattle.std.proofs.Common.{◌∙◌, List, [], ◌∷◌}
 use Rattle.std.specs.Prelude.{◌||◌, option_and_then}
 use Rattle.ps_language.specs.Contexts.{context_at, with_context}
 use Rattle.ps_language.specs.Effect.{nothing}
@@ -19,7 +20,8 @@ use Rattle.ps_contexts.specs.declared.members.Member.{Member}
 use Rattle.ps_contexts.specs.Moves.{OwnStep, OwnSteps, plain_moves}
 use Rattle.ps_contexts.specs.Seats.{item_at}
 use Rattle.ps_contexts.specs.Worlds.{status_of, context_of}
-use Rattle.ps_contexts.specs.Desks.{Desk, lent_to, returned, desk_after, HasFrame, AreFramed, IsWorld, IsLentBy, IsCourseHeld, IsSteady, course_after}
+use Rattle.ps_contexts.specs.Desks.{Desk, lent_to, returned, desk_after, HasFrame, AreFramed, IsWorld, IsLentBy}
+use Rattle.ps_contexts.specs.Desks.{IsCourseHeld, IsSteady, course_after}
 use Rattle.ps_contexts.proofs.Owning.{goes_left, own_move, own_moves, own_all_ready, put_apart, put_back, put_same}
 use Rattle.ps_contexts.proofs.Stepping.{stepped_own, context_there}
 use Rattle.ps_contexts.proofs.Turning.{went_steady, went_world, member_at}

@@ -1,12 +1,14 @@
 -- When a call of an operator that is left to the world went as the definitions say (PLRM2, 7.1).
-use Rattle.std.specs.Prelude.{◌≡◌, ◌<◌, ◌≤◌, ℕ, ℤ, nat_lt, Bool, false, IsTrue, Option, Some, None, OnOk, OnErr, Result, Ok, Err, List, length, drop}
+use Rattle.std.specs.Prelude.{◌≡◌, ◌<◌, ◌≤◌, ℕ, ℤ, nat_lt, Bool, false, IsTrue, Option, Some, None}
+use Rattle.std.specs.Prelude.{OnOk, OnErr, Result, Ok, Err, List, length, drop}
 use Rattle.ps_language.specs.declared.operators.Operator.{Operator}
 use Rattle.ps_language.specs.Contexts.{context_at}
 use Rattle.ps_language.specs.Effect.{Scene, Call, Deed, does, waits, Calling}
 use Rattle.ps_language.specs.Machines.{settled, scene_of}
 use Rattle.ps_language.specs.Objects.{made_between}
 use Rattle.ps_language.specs.Outcome.{Outcome, leaves, fails}
-use Rattle.ps_language.specs.Step.{machine_of, with_machine, Stepped, deed_given_room, called, retaken}
+use Rattle.ps_language.specs.Step.{machine_of, with_machine, Stepped, deed_given_room, called}
+use Rattle.ps_language.specs.Step.{retaken}
 use Rattle.ps_language.specs.StepValues.{command_of}
 use Rattle.ps_language.specs.World.{retaking, Context, World}
 use Rattle.ps_mem.specs.Heap.{Heap, Grants, has_room}

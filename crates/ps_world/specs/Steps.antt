@@ -1,5 +1,6 @@
 -- When steps of the contexts of a world went as the definitions say (PLRM2, 7.1).
-use Rattle.std.specs.Prelude.{◌≡◌, ◌≢◌, ℕ, ℤ, pos, min, max, ◌≤◌, true, false, IsTrue, Option, Some, None, IsSome, IfSome, Result, Ok, Err, OnErr, List, [], ◌∷◌}
+use Rattle.std.specs.Prelude.{◌≡◌, ◌≢◌, ℕ, ℤ, pos, min, max, ◌≤◌, true, false, IsTrue, Option, Some}
+use Rattle.std.specs.Prelude.{None, IsSome, IfSome, Result, Ok, Err, OnErr, List, [], ◌∷◌}
 use Rattle.ps_language.specs.Contexts.{context_at}
 use Rattle.ps_language.specs.Effect.{nothing, Around, Scene}
 use Rattle.ps_language.specs.Locks.{is_ready}

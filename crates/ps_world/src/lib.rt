@@ -8,9 +8,9 @@
 //!   beside them.
 //! - A call that can't be made is kept (`calling`), and the world is still the one before the step.
 //!   No other context steps before it is made, which is a premise of steps (`MayStep`).
-//! - `NeedSpace` comes only where the words and the birth numbers of a step don't fit. That these are
-//!   those that the language counts is a law by itself (`wanting_laws`), since the language knows of
-//!   no memory.
+//! - `NeedSpace` comes only where the words and the birth numbers of a step don't fit. That these
+//!   are those that the language counts is a law by itself (`wanting_laws`), since the language
+//!   knows of no memory.
 //! - `words_shown` shows a memory of no words as one of one word, since a line of a schedule has
 //!   numbers from 1 on.
 //! - A `vmstatus` whose call waits shows zeros: it raised an error whose note found no room, and

@@ -1,6 +1,7 @@
 //! Many steps of one context (PLRM2, 3.5, 7.1).
 
-ghost use Rattle.std.specs.Prelude.{◌≡◌, ◌<◌, ◌≤◌, Some, None, IsSome, IsNone, IfOk, IfSome, is_some, if◌then◌else◌};
+ghost use Rattle.std.specs.Prelude.{◌≡◌, ◌<◌, ◌≤◌, Some, None, IsSome, IsNone, IfOk, IfSome};
+ghost use Rattle.std.specs.Prelude.{is_some, if◌then◌else◌};
 ghost use Rattle.ps_contexts.specs.Seats.{item_at};
 ghost use Rattle.ps_world.specs.Calls.{over};
 ghost use Rattle.ps_world.specs.Held.{held, CourseAt, IsSteadyHeld, MayStep, course_in};

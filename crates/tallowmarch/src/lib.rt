@@ -44,8 +44,8 @@ fn makers(alloc: Global) -> Makers<Steps<Operators>, WorldOperators> {
 
 /// Runs a program, and hands out what it printed, its schedule and its counts. The result says how
 /// it ended: 0 where each context finished, 1 where an error was printed too, 3 where all contexts
-/// wait, 4 where the steps are used up, 5 where memory was wanted or more was to be printed than may
-/// be. With 16 a number is out of its range, and with 17 there was no room to start with: then
+/// wait, 4 where the steps are used up, 5 where memory was wanted or more was to be printed than
+/// may be. With 16 a number is out of its range, and with 17 there was no room to start with: then
 /// nothing is written.
 ///
 /// Of the bytes and of the entries as many are written as there is room for, from the first on.
@@ -68,11 +68,11 @@ pub extern "C" fn tallowmarch_run(
     hand_out(&made, printed, schedule, counts)
 }
 
-/// Goes on from a schedule that a run of the program by these settings was handed, and hands out the
-/// longer run: `steps` counts the steps behind the given ones. What was printed, and the schedule,
-/// are whole, from the start. The results are those of `tallowmarch_run`; with 5 memory may have been
-/// wanted before the end of the given steps, and with 18 the schedule isn't that of such a run: then
-/// nothing is written.
+/// Goes on from a schedule that a run of the program by these settings was handed, and hands out
+/// the longer run: `steps` counts the steps behind the given ones. What was printed, and the
+/// schedule, are whole, from the start. The results are those of `tallowmarch_run`; with 5 memory
+/// may have been wanted before the end of the given steps, and with 18 the schedule isn't that of
+/// such a run: then nothing is written.
 #[unsafe(no_mangle)]
 pub extern "C" fn tallowmarch_go_on(
     alloc: Global,
@@ -95,9 +95,9 @@ pub extern "C" fn tallowmarch_go_on(
 }
 
 /// Follows a schedule over memory that is never collected, and hands out what was printed, the
-/// steps that were made and their counts. Of the settings the keys and the bound on the output count.
-/// The results are those of `tallowmarch_run`, without 16: with 5 the schedule was followed as far as
-/// memory and that bound went.
+/// steps that were made and their counts. Of the settings the keys and the bound on the output
+/// count. The results are those of `tallowmarch_run`, without 16: with 5 the schedule was followed
+/// as far as memory and that bound went.
 #[unsafe(no_mangle)]
 pub extern "C" fn tallowmarch_replay(
     alloc: Global,

@@ -8,7 +8,8 @@ use Rattle.ps_acts.specs.Lent.{Lent, lent, IsGood}
 use Rattle.ps_frames.specs.Steps.{above, frames_after, part_behind, with_frames}
 use Rattle.ps_interpreter.specs.OwnSteps.{HasRun}
 use Rattle.ps_interpreter.proofs.Running.{run_none}
-use Rattle.ps_context.proofs.Ahead.{all_taken, done_above, done_to, element_first, entered_to, left_behind, none_taken, procedure_top, then_taken, turned_above}
+use Rattle.ps_context.proofs.Ahead.{all_taken, done_above, done_to, element_first, entered_to, left_behind, none_taken}
+use Rattle.ps_context.proofs.Ahead.{procedure_top, then_taken, turned_above}
 use Rattle.ps_context.proofs.Behind.{step_behind, told_behind}
 use Rattle.ps_context.proofs.procedures.run_entered.Goals as goal
 

@@ -11,7 +11,8 @@ use Rattle.ps_acts.specs.Lent.{Lent, lent}
 use Rattle.ps_acts.proofs.Acting.{raised_acts, wanting_acts}
 use Rattle.ps_acts.proofs.Meeting.{at_least-same}
 use Rattle.ps_context_operators.specs.Rows.{fork_caller}
-use Rattle.ps_context_operators.proofs.Forking.{fork_deep, fork_hidden, fork_seatless, fork_making, fork_refused, fork_wants, fork_acts, fork_begins, granted_logs, below_first}
+use Rattle.ps_context_operators.proofs.Forking.{fork_deep, fork_hidden, fork_seatless, fork_making, fork_refused}
+use Rattle.ps_context_operators.proofs.Forking.{fork_wants, fork_acts, fork_begins, granted_logs, below_first}
 use Rattle.ps_context_operators.proofs.forks.fork.Goals as goal
 
 pub returns-then-not-is_executable-clause-forks : goal.returns-then-not-is_executable-clause-forks

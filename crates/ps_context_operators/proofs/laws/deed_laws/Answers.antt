@@ -1,5 +1,7 @@
 -- Each deed by its caller's part.
-use Rattle.ps_context_operators.proofs.DeedLaws.{currentcontext_deed, vmstatus_deed, vmreclaim_deed, new_deed, monitor_deed, monitor_waits, wait_deed, notify_deed, fork_deed, join_deed, detach_deed}
+use Rattle.ps_context_operators.proofs.DeedLaws.{currentcontext_deed, vmstatus_deed, vmreclaim_deed, new_deed}
+use Rattle.ps_context_operators.proofs.DeedLaws.{monitor_deed, monitor_waits, wait_deed, notify_deed, fork_deed}
+use Rattle.ps_context_operators.proofs.DeedLaws.{join_deed, detach_deed}
 use Rattle.ps_context_operators.proofs.laws.deed_laws.Goals as goal
 
 pub returns-clause-currentcontext : goal.returns-clause-currentcontext

@@ -6,7 +6,8 @@ use Rattle.ps_mem.specs.Heap.{Heap, birth_at}
 use Rattle.ps_mem.specs.Keeps.{Extends}
 use Rattle.ps_mem.specs.References.{StandsAs}
 use Rattle.ps_mem.specs.Shows.{IsSound, Shows}
-use Rattle.ps_context_operators.proofs.Fresh.{one_birth, condition_stands, condition_extends, condition_sound, condition_shows}
+use Rattle.ps_context_operators.proofs.Fresh.{one_birth, condition_stands, condition_extends, condition_sound}
+use Rattle.ps_context_operators.proofs.Fresh.{condition_shows}
 use Rattle.ps_context_operators.proofs.locks.make_condition.Goals as goal
 
 pub returns-clause-known : goal.returns-clause-known

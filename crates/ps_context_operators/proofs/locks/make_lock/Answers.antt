@@ -3,7 +3,8 @@ use Rattle.std.proofs.Common.{◌<◌, [], ◌∷◌, length, sym, subst}
 use Rattle.ps_language.specs.declared.kinds.Kind.TheVariants.{Lock}
 use Rattle.ps_mem.specs.Heap.{Heap, fields_at}
 use Rattle.ps_mem.specs.References.{NamesStanding}
-use Rattle.ps_context_operators.proofs.Fresh.{one_reaches, zero_standing, lock_stands, lock_extends, lock_birth, lock_sound, lock_shows}
+use Rattle.ps_context_operators.proofs.Fresh.{one_reaches, zero_standing, lock_stands, lock_extends, lock_birth}
+use Rattle.ps_context_operators.proofs.Fresh.{lock_sound, lock_shows}
 use Rattle.ps_context_operators.proofs.locks.make_lock.Goals as goal
 
 pub fill-requires-clause-known : goal.fill-requires-clause-known

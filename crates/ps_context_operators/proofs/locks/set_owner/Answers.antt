@@ -6,7 +6,8 @@ use Rattle.ps_mem.specs.Keeps.{Keeps}
 use Rattle.ps_mem.specs.Shows.{IsSound, Shows}
 use Rattle.ps_mem.proofs.HeapLemmas.{birth_at-stored}
 use Rattle.ps_context_operators.specs.Singles.{owner_by}
-use Rattle.ps_context_operators.proofs.Locking.{natural_cast, lock_reaches, owner_standing, owned_sound, owned_keeps, owned_shows}
+use Rattle.ps_context_operators.proofs.Locking.{natural_cast, lock_reaches, owner_standing, owned_sound, owned_keeps}
+use Rattle.ps_context_operators.proofs.Locking.{owned_shows}
 use Rattle.ps_context_operators.proofs.locks.set_owner.Goals as goal
 
 pub store-requires-clause-known : goal.store-requires-clause-known

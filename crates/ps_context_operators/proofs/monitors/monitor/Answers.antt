@@ -11,7 +11,8 @@ use Rattle.ps_acts.proofs.Meeting.{at_least-same}
 use Rattle.ps_turns.proofs.Noting.{logs_asked, logs_changed}
 use Rattle.ps_context_operators.specs.Rows.{monitor_caller, monitor_asked, is_waiting}
 use Rattle.ps_context_operators.proofs.Owning.{is_owner-by, is_owner-other, is_free-by, is_free-other}
-use Rattle.ps_context_operators.proofs.Monitoring.{part_raises, monitor_own, monitor_waits, monitor_full, monitor_enters, waits_acts, enter_wants, enters_acts}
+use Rattle.ps_context_operators.proofs.Monitoring.{part_raises, monitor_own, monitor_waits, monitor_full}
+use Rattle.ps_context_operators.proofs.Monitoring.{monitor_enters, waits_acts, enter_wants, enters_acts}
 use Rattle.ps_context_operators.proofs.monitors.monitor.Goals as goal
 
 pub returns-then-owned_by-caller-clause-acts : goal.returns-then-owned_by-caller-clause-acts

@@ -4,7 +4,8 @@ use Rattle.ps_contexts.proofs.Lifting.{settled_world}
 use Rattle.ps_contexts.proofs.Named.{named_same}
 use Rattle.ps_contexts.proofs.Owning.{went_moves}
 use Rattle.ps_contexts.proofs.Stepping.{turned_steps}
-use Rattle.ps_contexts.proofs.Turning.{went_steady, turned_machine, turned_world, turned_steady, unmade_world, unmade_steady}
+use Rattle.ps_contexts.proofs.Turning.{went_steady, turned_machine, turned_world, turned_steady, unmade_world}
+use Rattle.ps_contexts.proofs.Turning.{unmade_steady}
 use Rattle.ps_contexts.proofs.laws.desk_laws.Goals as goal
 
 pub returns-clause-turn : goal.returns-clause-turn

@@ -1,4 +1,5 @@
-use Rattle.ps_contexts.proofs.Holding.{contexts_in-length, contexts_in-count, contexts_in-found, contexts_in-more, contexts_in-changed}
+use Rattle.ps_contexts.proofs.Holding.{contexts_in-length, contexts_in-count, contexts_in-found, contexts_in-more}
+use Rattle.ps_contexts.proofs.Holding.{contexts_in-changed}
 use Rattle.ps_contexts.proofs.members.table_laws.Goals as goal
 
 pub returns-clause-made : goal.returns-clause-made

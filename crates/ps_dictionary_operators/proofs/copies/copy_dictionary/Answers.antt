@@ -3,7 +3,8 @@ use Rattle.std.proofs.Common.{◌≤◌, arith, sym, ◌∙◌, inl, inr}
 use Rattle.std.specs.Prelude.{vec_capacity}
 use Rattle.ps_language.specs.declared.errors.ErrorName.TheVariants.{InvalidAccess, LimitCheck}
 use Rattle.ps_acts.proofs.Acting.{raised_acts}
-use Rattle.ps_dictionary_operators.proofs.Copying.{target_stands, source_stands, copy_hidden, copy_full, copy_refused, copy_roomless, copy_lacking, copy_acts}
+use Rattle.ps_dictionary_operators.proofs.Copying.{target_stands, source_stands, copy_hidden, copy_full, copy_refused}
+use Rattle.ps_dictionary_operators.proofs.Copying.{copy_roomless, copy_lacking, copy_acts}
 use Rattle.ps_dictionary_operators.proofs.copies.copy_dictionary.Goals as goal
 
 pub access-readable-requires-clause-known : goal.access-readable-requires-clause-known

@@ -6,7 +6,8 @@ use Rattle.ps_ops.proofs.Held.{first_of_two_held, second_held, rest_held}
 use Rattle.ps_types.proofs.Accesses.{dictionary_stands}
 use Rattle.ps_acts.proofs.Acting.{raised_acts}
 use Rattle.ps_acts.proofs.Stacked.{stacked_acts}
-use Rattle.ps_dictionary_operators.proofs.Finding.{get_null, get_unreadable, get_hidden, get_undefined, get_stacks, word_there}
+use Rattle.ps_dictionary_operators.proofs.Finding.{get_null, get_unreadable, get_hidden, get_undefined, get_stacks}
+use Rattle.ps_dictionary_operators.proofs.Finding.{word_there}
 use Rattle.ps_dictionary_operators.proofs.finds.get_from_dictionary.Goals as goal
 
 pub returns-then-is_null-clause-acts : goal.returns-then-is_null-clause-acts

@@ -1,5 +1,6 @@
 -- A pair more is put together.
-use Rattle.std.proofs.Common.{rules, ◌≡◌, ◌++◌, ◌∷◌, [], ◌*◌, ◌+◌, arith, sym, ap, subst, ◌∙◌, get_or, List, length, length-append}
+use Rattle.std.proofs.Common.{rules, ◌≡◌, ◌++◌, ◌∷◌, [], ◌*◌, ◌+◌, arith, sym, ap, subst, ◌∙◌, get_or, List, length}
+use Rattle.std.proofs.Common.{length-append}
 use Rattle.std.specs.Prelude.{unwrap_or}
 use Rattle.std.proofs.lemmas.Option.{slice_get-get_or}
 use Rattle.ps_word.specs.declared.words.Word.{Word}

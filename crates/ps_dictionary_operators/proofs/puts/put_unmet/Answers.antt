@@ -6,7 +6,8 @@ use Rattle.ps_dict.specs.declared.plans.PutPlan.TheVariants.{Full}
 use Rattle.ps_types.proofs.First.{name_held}
 use Rattle.ps_acts.specs.Lent.{lent}
 use Rattle.ps_acts.proofs.Acting.{raised_acts}
-use Rattle.ps_dictionary_operators.proofs.Unmet.{unmet_full, unmet_fault, unmet_good, unmet_put, unmet_unmade, unmet_refused, formed_as, plan_possible, inside_formed}
+use Rattle.ps_dictionary_operators.proofs.Unmet.{unmet_full, unmet_fault, unmet_good, unmet_put, unmet_unmade}
+use Rattle.ps_dictionary_operators.proofs.Unmet.{unmet_refused, formed_as, plan_possible, inside_formed}
 use Rattle.ps_dictionary_operators.proofs.puts.put_unmet.Goals as goal
 
 pub returns-then-length-ge-CAPACITY_LIMIT-clause-acts : goal.returns-then-length-ge-CAPACITY_LIMIT-clause-acts

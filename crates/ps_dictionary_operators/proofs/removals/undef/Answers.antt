@@ -10,7 +10,8 @@ use Rattle.ps_acts.proofs.Acting.{raised_acts}
 use Rattle.ps_acts.proofs.Alike.{effect_acts, asked_acts}
 use Rattle.ps_keys.proofs.Formed.{formed_name_acts, fault_acts}
 use Rattle.ps_dictionary_operators.proofs.Finding.{met_where}
-use Rattle.ps_dictionary_operators.proofs.Removing.{undef_wrong, undef_unreadable, undef_hidden, undef_removes, undef_asked_is, met_inside, undef_tail, undef_asks_nothing}
+use Rattle.ps_dictionary_operators.proofs.Removing.{undef_wrong, undef_unreadable, undef_hidden, undef_removes}
+use Rattle.ps_dictionary_operators.proofs.Removing.{undef_asked_is, met_inside, undef_tail, undef_asks_nothing}
 use Rattle.ps_dictionary_operators.proofs.removals.undef.Goals as goal
 
 pub returns-in_default-as_dictionary : goal.returns-in_default-as_dictionary

@@ -1,7 +1,8 @@
 -- The dictionary goes on top, or one of the errors.
 use Rattle.std.proofs.Common.{sym, ◌∙◌, arith}
 use Rattle.std.proofs.lemmas.Bool.Decides.{nat_tests}
-use Rattle.ps_language.specs.declared.errors.ErrorName.TheVariants.{StackUnderflow, TypeCheck, InvalidAccess, DictStackOverflow}
+use Rattle.ps_language.specs.declared.errors.ErrorName.TheVariants.{StackUnderflow, TypeCheck, InvalidAccess}
+use Rattle.ps_language.specs.declared.errors.ErrorName.TheVariants.{DictStackOverflow}
 use Rattle.ps_mem.specs.Shows.{IsValue}
 use Rattle.ps_ops.proofs.Held.{first_held, rest_held}
 use Rattle.ps_types.proofs.Accesses.{dictionary_stands}

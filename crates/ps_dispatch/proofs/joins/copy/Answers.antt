@@ -3,7 +3,8 @@ use Rattle.std.proofs.Common.{sym, ◌∙◌}
 use Rattle.ps_language.specs.declared.errors.ErrorName.TheVariants.{StackUnderflow, TypeCheck}
 use Rattle.ps_acts.proofs.Acting.{raised_acts}
 use Rattle.ps_acts.proofs.Alike.{asked_acts}
-use Rattle.ps_dispatch.proofs.Copied.{none_topmost, empty_asks, copy_other_asks, copy_pairs_asks, alone_raises, unlike_raises}
+use Rattle.ps_dispatch.proofs.Copied.{none_topmost, empty_asks, copy_other_asks, copy_pairs_asks, alone_raises}
+use Rattle.ps_dispatch.proofs.Copied.{unlike_raises}
 use Rattle.ps_dispatch.proofs.joins.copy.Goals as goal
 
 pub copy_sequence-requires-clause-topmost : goal.copy_sequence-requires-clause-topmost

@@ -15,7 +15,8 @@ returns-in-Err g c =
     let few = c.in-Err.ensures.full in
     let same = c.in-Err.ensures.err in
     bind_lacks l c.requires.good c.args.over c.args.at c.args.depth
-    (first_split _ _ (sym c.requires.top)) c.args.trial (record c.args.shared.now.scratch { words = c.reserve.new.self })
+    (first_split _ _ (sym c.requires.top)) c.args.trial
+    (record c.args.shared.now.scratch { words = c.reserve.new.self })
     (record {
       text = c.requires.good.empty.text;
       sought = c.requires.good.empty.sought;
@@ -29,7 +30,8 @@ returns-in-Err-stored g c =
     let l : Lent = lent (g.M.Memory.heap c.args.memory.now) (g.M.Memory.grants c.args.memory.now)
     c.args.context.now c.args.shared.now in
     let found = limits_ok c.bind_elements-bound.result
-    c.in-Ok-within_limits.bindings c.args.depth (length c.args.context.now.frames) (sym c.within_limits.ensures ∙ c.in-Ok-within_limits.is) in
+    c.in-Ok-within_limits.bindings c.args.depth (length c.args.context.now.frames) (sym c.within_limits.ensures
+    ∙ c.in-Ok-within_limits.is) in
     let room = c.reserve.ensures.capacity in
     let kept = c.bind_elements-bound.ensures.capacity in
     let left = c.clear.ensures.capacity in
@@ -72,7 +74,8 @@ returns-in-Ok-stored g c =
     let l : Lent = lent (g.M.Memory.heap c.args.memory.now) (g.M.Memory.grants c.args.memory.now)
     c.args.context.now c.args.shared.now in
     let found = limits_ok c.bind_elements-bound.result
-    c.in-Ok-within_limits.bindings c.args.depth (length c.args.context.now.frames) (sym c.within_limits.ensures ∙ c.in-Ok-within_limits.is) in
+    c.in-Ok-within_limits.bindings c.args.depth (length c.args.context.now.frames) (sym c.within_limits.ensures
+    ∙ c.in-Ok-within_limits.is) in
     let room = c.reserve.ensures.capacity in
     let kept = c.bind_elements-bound.ensures.capacity in
     let left = c.clear.ensures.capacity in
@@ -108,7 +111,8 @@ returns-in-Err-within_limits g c =
     let kept = c.bind_elements-bound.ensures.capacity in
     let left = c.clear-in-Err-within_limits.ensures.capacity in
     bind_raises l c.requires.good c.args.over c.args.at c.args.depth
-    (first_split _ _ (sym c.requires.top)) c.args.trial (record c.args.shared.now.scratch { words = c.clear-in-Err-within_limits.new.self })
+    (first_split _ _ (sym c.requires.top)) c.args.trial
+    (record c.args.shared.now.scratch { words = c.clear-in-Err-within_limits.new.self })
     (record {
       text = c.requires.good.empty.text;
       sought = c.requires.good.empty.sought;

@@ -1,4 +1,5 @@
-use Rattle.std.proofs.Common.{arith, ◌≡◌, ◌≢◌, ◌+◌, ◌<◌, ℕ, Bool, true, false, true≢false, [], ◌∷◌, ◌++◌, length, Some, refl, sym, ap, ◌∙◌, subst}
+use Rattle.std.proofs.Common.{arith, ◌≡◌, ◌≢◌, ◌+◌, ◌<◌, ℕ, Bool, true, false, true≢false, [], ◌∷◌, ◌++◌, length, Some}
+use Rattle.std.proofs.Common.{refl, sym, ap, ◌∙◌, subst}
 use Rattle.std.specs.Prelude.{slice_index_or}
 use Rattle.ps_core_parts.specs.declared.events.Event.TheVariants.{CopyLoad, ReplicaFieldStore}
 use Rattle.ps_core_parts.specs.declared.events.Gc.{Gc}
@@ -10,7 +11,8 @@ use Rattle.ps_table.proofs.Flipping.{gc_all-append}
 use Rattle.ps_table.proofs.GcFacts.{gc_knows}
 use Rattle.ps_gc.specs.declared.to_space.ToSpace.{ToSpace}
 use Rattle.ps_gc.specs.Keeps.{CopiesAre, Copies, IsAtField}
-use Rattle.ps_gc.proofs.Copying.{Led, at_two, copying_two, word_is, may_store, stored_part, copied_whole, copies_stored, field_stored, copies_scanned, filled_there}
+use Rattle.ps_gc.proofs.Copying.{Led, at_two, copying_two, word_is, may_store, stored_part, copied_whole, copies_stored}
+use Rattle.ps_gc.proofs.Copying.{field_stored, copies_scanned, filled_there}
 use Rattle.ps_gc.proofs.Replicating.{ends_before}
 use Rattle.ps_gc.proofs.copies.copy_field.Goals as goal
 

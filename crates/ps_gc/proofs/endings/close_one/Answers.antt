@@ -7,7 +7,8 @@ use Rattle.ps_table.specs.declared.plays.View.{View}
 use Rattle.ps_table.proofs.Kept.{keeps_vm, sits_on}
 use Rattle.ps_gc.specs.Events.{is_drained}
 use Rattle.ps_gc.specs.Keeps.{Copies, IsAtField, Takes}
-use Rattle.ps_gc.proofs.Ending.{close_stays, drains_but, full_takes, is_closed, looks_but, not_drained, one_free, stays_then}
+use Rattle.ps_gc.proofs.Ending.{close_stays, drains_but, full_takes, is_closed, looks_but, not_drained, one_free}
+use Rattle.ps_gc.proofs.Ending.{stays_then}
 use Rattle.ps_gc.proofs.Spaces.{taken_wide}
 use Rattle.ps_gc.proofs.endings.close_one.Goals as goal
 

@@ -9,7 +9,8 @@ use Rattle.ps_table.specs.Shown.{gc_did}
 use Rattle.ps_table.proofs.GcFacts.{gc_knows}
 use Rattle.ps_gc.specs.Events.{with_replica}
 use Rattle.ps_gc.specs.Keeps.{Copies, IsAtField, GoesOn}
-use Rattle.ps_gc.proofs.Replicating.{can_make, after_load, after_first, after_second, loaded, may_first, may_second, may_forward, forwarded, copies_made, field_made}
+use Rattle.ps_gc.proofs.Replicating.{can_make, after_load, after_first, after_second, loaded, may_first, may_second}
+use Rattle.ps_gc.proofs.Replicating.{may_forward, forwarded, copies_made, field_made}
 use Rattle.ps_gc.proofs.replicas.make_replica.Goals as goal
 
 pub load-header-requires : goal.load-header-requires

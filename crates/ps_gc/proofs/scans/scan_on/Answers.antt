@@ -9,7 +9,8 @@ use Rattle.ps_table.proofs.Flipping.{gc_all-append}
 use Rattle.ps_gc.specs.declared.to_space.ToSpace.{ToSpace}
 use Rattle.ps_gc.specs.Keeps.{Copies}
 use Rattle.ps_gc.proofs.Replicating.{ends_before}
-use Rattle.ps_gc.proofs.Scanning.{replica_at, replica_words, first_stays, header_found, place_inside, fields_told, moved_on, passes}
+use Rattle.ps_gc.proofs.Scanning.{replica_at, replica_words, first_stays, header_found, place_inside, fields_told}
+use Rattle.ps_gc.proofs.Scanning.{moved_on, passes}
 use Rattle.ps_gc.proofs.scans.scan_on.Goals as goal
 
 pub overflow_add-to : goal.overflow_add-to

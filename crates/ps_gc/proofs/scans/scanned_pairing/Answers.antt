@@ -9,7 +9,8 @@ use Rattle.ps_table.specs.Shown.{gc_did, GcFinds}
 use Rattle.ps_table.proofs.GcFacts.{gc_knows}
 use Rattle.ps_table.proofs.Seconds.{cycle_there, address_there}
 use Rattle.ps_gc.proofs.Replicating.{found_in}
-use Rattle.ps_gc.proofs.Scanning.{replica_at, replica_words, first_stays, second_stays, header_found, back_found, place_inside}
+use Rattle.ps_gc.proofs.Scanning.{replica_at, replica_words, first_stays, second_stays, header_found, back_found}
+use Rattle.ps_gc.proofs.Scanning.{place_inside}
 use Rattle.ps_gc.proofs.scans.scanned_pairing.Goals as goal
 
 pub load-header-requires : goal.load-header-requires

@@ -2,7 +2,8 @@
 use Rattle.std.proofs.Common.{◌∙◌, sym, ap}
 use Rattle.ps_language.specs.Outcome.{leaves}
 use Rattle.ps_mem.specs.Heap.{birth_at}
-use Rattle.ps_relation_operators.proofs.Equating.{readable_both, equal_turned, text_stands, text_inside, plain_equal, strings_equal}
+use Rattle.ps_relation_operators.proofs.Equating.{readable_both, equal_turned, text_stands, text_inside, plain_equal}
+use Rattle.ps_relation_operators.proofs.Equating.{strings_equal}
 use Rattle.ps_relation_operators.proofs.equality.are_equal.Goals as goal
 
 pub compare_bytes-requires-clause-left : goal.compare_bytes-requires-clause-left

@@ -5,8 +5,10 @@ use mir.Val.{SFits}
 use Rattle.ps_language.specs.Outcome.{leaves}
 use Rattle.ps_mem.specs.Heap.{birth_at}
 use Rattle.ps_mem.specs.Meaning.{part_of}
-use Rattle.ps_relation_operators.proofs.Comparing.{order_unordered, order_no_integer, order_no_string, order_integers, order_readable, order_hidden_first, order_hidden_second}
-use Rattle.ps_relation_operators.proofs.orders.compare.Goals.{then-not-is_readable-via-then-not-is_readable, then-not-is_readable-via-else-not-is_readable+then-not-is_readable-2}
+use Rattle.ps_relation_operators.proofs.Comparing.{order_unordered, order_no_integer, order_no_string, order_integers}
+use Rattle.ps_relation_operators.proofs.Comparing.{order_readable, order_hidden_first, order_hidden_second}
+use Rattle.ps_relation_operators.proofs.orders.compare.Goals.{then-not-is_readable-via-then-not-is_readable}
+use Rattle.ps_relation_operators.proofs.orders.compare.Goals.{then-not-is_readable-via-else-not-is_readable+then-not-is_readable-2}
 use Rattle.ps_relation_operators.proofs.orders.compare.Goals as goal
 
 pub returns-in_default-integer_of-clause-found : goal.returns-in_default-integer_of-clause-found

@@ -3,7 +3,8 @@ use Rattle.ps_word.specs.declared.words.Word.{Word}
 use Rattle.ps_contexts.specs.declared.members.Member.{Member}
 use Rattle.ps_roots.specs.Roots.{roots_of_member, roots_in}
 use Rattle.ps_roots.specs.Renamed.{BeginWith}
-use Rattle.ps_roots.proofs.Putting.{IsNext, begin_first, begin_past, begin_rest, next-roots, next-within, next-fewer, next-left, next-renamed, none-renamed, rest-length}
+use Rattle.ps_roots.proofs.Putting.{IsNext, begin_first, begin_past, begin_rest, next-roots, next-within, next-fewer}
+use Rattle.ps_roots.proofs.Putting.{next-left, next-renamed, none-renamed, rest-length}
 use Rattle.ps_roots.proofs.writing.write_members.Goals as goal
 use Rattle.ps_roots.proofs.writing.write_members.Goals.{After-get_mut}
 

@@ -6,7 +6,8 @@ use Rattle.ps_sequence_operators.proofs.ElementRows.{get_from_array, get_from_st
 use Rattle.ps_sequence_operators.proofs.elements.get_from_sequence.Goals as goal
 
 pub returns-then-is_string_at-clause-acts : goal.returns-then-is_string_at-clause-acts
-returns-then-is_string_at-clause-acts g c = λ trial. came_acts trial _ _ _ _ _ _ c.made.ensures (effect_acts trial _ _ _ _ _ _
+returns-then-is_string_at-clause-acts g c =
+    λ trial. came_acts trial _ _ _ _ _ _ c.made.ensures (effect_acts trial _ _ _ _ _ _
     (get_from_string _ (sym c.is_string_at.ensures ∙ c.if-is_string_at.true))
     (observes_acts _ c.requires.good trial _ _ _ _ _ c.get.ensures.heap c.get.ensures.grants
     c.get.ensures.does c.get.ensures.ready))

@@ -20,7 +20,8 @@ pub returns-then-not-is_readable-clause-acts : goal.returns-then-not-is_readable
 returns-then-not-is_readable-clause-acts g c = rw (c.measure.ensures.heap, c.measure.ensures.grants)
     (λ trial. raised_acts _ trial _ _ c.requires.good InvalidAccess
     (length_hidden _ _ c.in-Some.ensures _ (λ store shows. c.in-Some-measure.ensures.length store shows)
-    (λ store shows. c.in-Some-measure.ensures.access store shows ∙ sym c.is_readable.ensures ∙ c.if-not-is_readable.true)))
+    (λ store shows. c.in-Some-measure.ensures.access store shows ∙ sym c.is_readable.ensures
+    ∙ c.if-not-is_readable.true)))
 
 pub returns-clause-acts : goal.returns-clause-acts
 returns-clause-acts g c = rw (
@@ -33,6 +34,7 @@ returns-clause-acts g c = rw (
       rest_held (IsValue (g.M.Memory.heap c.args.memory.now)) _ c.requires.good.operands 1,
     )
     (length_left _ _ c.in-Some.ensures _ (λ store shows. c.in-Some-measure.ensures.length store shows)
-    (λ store shows. c.in-Some-measure.ensures.access store shows ∙ sym c.is_readable.ensures ∙ c.if-not-is_readable.false)
+    (λ store shows. c.in-Some-measure.ensures.access store shows ∙ sym c.is_readable.ensures
+    ∙ c.if-not-is_readable.false)
     trial _ c.integer.ensures.plain (λ births names. c.integer.ensures.value births names
     ∙ ap integer (to_z_pos w32 c.in-Some-measure.count c.in-Some-measure.ensures.few))))

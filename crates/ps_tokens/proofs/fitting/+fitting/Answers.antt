@@ -1,5 +1,6 @@
 -- The least of one element, and then of the others.
-use Rattle.std.proofs.Common.{◌≡◌, ◌+◌, ℕ, List, [], ◌∷◌, ◌++◌, Some, sym, ap, subst, ◌∙◌, append-nil, append_assoc, drop, arith, Bool, inl, inr}
+use Rattle.std.proofs.Common.{◌≡◌, ◌+◌, ℕ, List, [], ◌∷◌, ◌++◌, Some, sym, ap, subst, ◌∙◌, append-nil, append_assoc}
+use Rattle.std.proofs.Common.{drop, arith, Bool, inl, inr}
 use Rattle.std.specs.Prelude.{option_map}
 use Rattle.ps_language.specs.StepTokens.{names_in}
 use Rattle.ps_language.specs.Token.{Token, Tokens, no_tokens, more_tokens}

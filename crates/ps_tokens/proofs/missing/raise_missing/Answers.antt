@@ -15,7 +15,8 @@ use Rattle.ps_tokens.specs.Missing.{missing_turn}
 use Rattle.ps_tokens.proofs.Alike.{raised}
 use Rattle.ps_tokens.proofs.Formed.{turns_formed, unmade_formed}
 use Rattle.ps_tokens.proofs.MissingTurns.{missing_overflows, missing_as, missing_refused}
-use Rattle.ps_tokens.proofs.Naming.{added, meet_is, met_names, met_formed, new_formed, none_formed, name_means, name_within}
+use Rattle.ps_tokens.proofs.Naming.{added, meet_is, met_names, met_formed, new_formed, none_formed, name_means}
+use Rattle.ps_tokens.proofs.Naming.{name_within}
 use Rattle.ps_tokens.proofs.missing.raise_missing.Goals as goal
 
 pub raise-requires-clause-good : goal.raise-requires-clause-good

@@ -13,7 +13,8 @@ use Rattle.ps_tokens.specs.Tokens.{token_turn, token_asks}
 use Rattle.ps_tokens.proofs.Alike.{raised}
 use Rattle.ps_tokens.proofs.Doing.{name_overflows, met_as, met_asked, name_refused}
 use Rattle.ps_tokens.proofs.Formed.{turns_formed, unmade_formed}
-use Rattle.ps_tokens.proofs.Naming.{added, meet_is, met_names, met_formed, new_formed, none_formed, name_means, name_lent}
+use Rattle.ps_tokens.proofs.Naming.{added, meet_is, met_names, met_formed, new_formed, none_formed, name_means}
+use Rattle.ps_tokens.proofs.Naming.{name_lent}
 use Rattle.ps_tokens.proofs.names.do_name.Goals as goal
 
 pub do_met-requires-clause-good : goal.do_met-requires-clause-good

@@ -1,5 +1,7 @@
 -- The word of an element, and the elements put together.
-use Rattle.std.proofs.Common.{◌≡◌, ℕ, ◌+◌, ◌-◌, ◌*◌, ◌<◌, ◌≤◌, List, [], ◌∷◌, ◌++◌, length, take, drop, append-nil, append_assoc, length-append, vec_len, vec_capacity, true, false, refl, sym, ap, subst, ◌∙◌, arith, rules, w32}
+use Rattle.std.proofs.Common.{◌≡◌, ℕ, ◌+◌, ◌-◌, ◌*◌, ◌<◌, ◌≤◌, List, [], ◌∷◌, ◌++◌, length, take, drop, append-nil}
+use Rattle.std.proofs.Common.{append_assoc, length-append, vec_len, vec_capacity, true, false, refl, sym, ap, subst}
+use Rattle.std.proofs.Common.{◌∙◌, arith, rules, w32}
 use denote.Param.Weighed.{at_most}
 use mir.Val.{SFits}
 use Rattle.std.proofs.lemmas.List.{length_push, drop_at, take_all}
@@ -7,7 +9,8 @@ use Rattle.std.proofs.lemmas.Int.{to_z-of_z}
 use Rattle.ps_language.specs.Readers.{integer}
 use Rattle.ps_language.specs.StepTokens.{names_in}
 use Rattle.ps_language.specs.Token as language
-use Rattle.ps_language.specs.Token.{number_token, literal_name_token, executable_name_token, immediate_name_token, string_token, procedure_token, no_tokens, more_tokens}
+use Rattle.ps_language.specs.Token.{number_token, literal_name_token, executable_name_token, immediate_name_token}
+use Rattle.ps_language.specs.Token.{string_token, procedure_token, no_tokens, more_tokens}
 use Rattle.ps_language.specs.Value.{Value, array_object}
 use Rattle.ps_word.specs.declared.words.Word.{Word}
 use Rattle.ps_mem.specs.Heap.{birth_at}

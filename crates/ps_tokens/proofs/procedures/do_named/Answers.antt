@@ -11,7 +11,8 @@ use Rattle.ps_tokens.specs.Made.{formed_asks, formed_turn, named_asks, named_tur
 use Rattle.ps_tokens.specs.Procedures.{tokens_in}
 use Rattle.ps_tokens.proofs.Alike.{raised}
 use Rattle.ps_tokens.proofs.Formed.{turns_formed, unmade_formed}
-use Rattle.ps_tokens.proofs.ProcedureTurns.{all_formed, all_overflow, all_met, named_overflows, named_refused, formed_as, formed_asked}
+use Rattle.ps_tokens.proofs.ProcedureTurns.{all_formed, all_overflow, all_met, named_overflows, named_refused}
+use Rattle.ps_tokens.proofs.ProcedureTurns.{formed_as, formed_asked}
 use Rattle.ps_tokens.proofs.procedures.do_named.Goals as goal
 
 pub do_formed-requires-clause-good : goal.do_formed-requires-clause-good

@@ -10,7 +10,7 @@ use Rattle.ps_vault.proofs.orders.run_in_order.Goals as goal
 
 pub new-requires : goal.new-requires
 unfolding heap_in
-new-requires g c = record { empty = nothing_stands _ _ c.new-memory.ensures }
+new-requires g c = record { empty = nothing_stands _ _ c.plain_with_marks-memory.ensures }
 
 pub into_run-requires-clause-starved : goal.into_run-requires-clause-starved
 into_run-requires-clause-starved g c = c.run_by-run.ensures.starved (λ m. plain_grows _ _ _ _)

@@ -1,14 +1,18 @@
 -- Each round adds as many ordinary steps, which are at most one entry more.
-use Rattle.std.proofs.Common.{◌≡◌, ◌+◌, ◌≤◌, false, length, refl, sym, ◌∙◌, ap, subst, arith, rules}
+use Rattle.std.proofs.Common.{◌≡◌, ◌+◌, ◌≤◌, ℕ, List, false, length, refl, sym, ◌∙◌, ap, subst, arith, rules}
+use Rattle.std.specs.Prelude.{not}
+use Rattle.ps_language.specs.Keeping.{PrintsOn}
 use Rattle.ps_language.specs.Schedules.{plain_move}
+use Rattle.ps_vault.specs.Screens.{ShowsOn, Sight}
 use Rattle.ps_vault.specs.Stories.{Story, HasRoom, world_at}
 use Rattle.ps_vault.specs.Turns.{added_times}
 use Rattle.ps_vault.proofs.Beginning.{plain_grows}
 use Rattle.ps_vault.proofs.Following.{times_more, times_world, times_longer}
 use Rattle.ps_vault.proofs.Reasons.{may_want}
+use Rattle.ps_vault.proofs.Screening.{begins_adds, no_fewer, prints_on, shown_on}
 use Rattle.ps_vault.proofs.replays.steps.Given as givens
 use Rattle.ps_vault.proofs.replays.steps.Goals as goal
-use Rattle.ps_vault.proofs.replays.steps.Goals.{After-is_ready, After-advance-advanced}
+use Rattle.ps_vault.proofs.replays.steps.Goals.{After-is_ready, After-advance-advanced, After-show_printed}
 
 pub loop-made-init : goal.loop-made-init
 unfolding added_times
@@ -19,6 +23,10 @@ loop-made-init g c = record {
   added = refl;
   capacity = omega arith;
   calling = c.requires.calling;
+  fits = c.requires.fits;
+  going = c.requires.going;
+  still = λ unseen. refl;
+  shown = λ first has. has;
 }
 
 -- at the start of a round
@@ -69,6 +77,41 @@ capacity_on g c =
     let same = ap (λ (s : Story). s.capacity) c.is_ready.ensures.same in
     omega (arith, same, c.advance-advanced.ensures.capacity, c.loop-made.invariant.capacity)
 
+-- ---- what is shown
+
+prints_now : (g : givens.Over) (c : After-advance-advanced g)
+    → PrintsOn (world_at c.loop-made.vault).printed (world_at c.advance-advanced.new.self).printed
+prints_now g c =
+    subst (λ (s : Story). PrintsOn (world_at s).printed
+    (world_at c.advance-advanced.new.self).printed) c.is_ready.ensures.same
+    (prints_on c.is_ready.new.self c.advance-advanced.new.self c.advance-advanced.ensures.program
+    (begins_adds c.args.context c.advance-advanced.result.made c.is_ready.new.self.schedule
+    c.advance-advanced.new.self.schedule c.advance-advanced.ensures.takes))
+
+fits_now : (g : givens.Over) (c : After-advance-advanced g)
+    → c.loop-made.screen.shown ≤ length (world_at c.advance-advanced.new.self).printed
+fits_now g c = no_fewer c.loop-made.screen.shown (world_at c.loop-made.vault).printed
+    (world_at c.advance-advanced.new.self).printed (prints_now g c) c.loop-made.invariant.fits
+
+shown_now : (g : givens.Over) (c : After-advance-advanced g)
+    → ShowsOn c.args.screen.now (world_at c.args.vault.now).printed c.loop-made.screen
+    (world_at c.advance-advanced.new.self).printed
+shown_now g c = λ first has.
+    shown_on first c.loop-made.screen (world_at c.loop-made.vault).printed
+    (world_at c.advance-advanced.new.self).printed (prints_now g c)
+    (c.loop-made.invariant.shown first has)
+
+shown_more : (g : givens.Over) (c : After-show_printed g)
+    → ShowsOn c.args.screen.now (world_at c.args.vault.now).printed c.show_printed.new.screen
+    (world_at c.advance-advanced.new.self).printed
+shown_more g c = λ first has.
+    c.show_printed.ensures.shown first
+    (shown_now g (goal.at.After-show_printed g c).After-advance-advanced first has)
+
+pub show_printed-requires : goal.show_printed-requires
+show_printed-requires g c =
+    record { within = fits_now g (goal.at.show_printed-requires g c).After-advance-advanced }
+
 pub loop-made-preserved : goal.loop-made-preserved
 loop-made-preserved g c = record {
   within = within_on g (goal.at.loop-made-preserved g c).After-advance-advanced;
@@ -77,6 +120,11 @@ loop-made-preserved g c = record {
   added = added_on g (goal.at.loop-made-preserved g c).After-advance-advanced;
   capacity = capacity_on g (goal.at.loop-made-preserved g c).After-advance-advanced;
   calling = c.advance-advanced.ensures.calling_on (search rules);
+  fits = c.show_printed.ensures.within;
+  going = c.show_printed.ensures.going ∙ ap not c.if-not-show_printed.false;
+  still = λ unseen. let before = c.loop-made.invariant.still unseen in
+      c.show_printed.ensures.still (ap (λ (s : Sight). s.watching) before ∙ unseen) ∙ before;
+  shown = shown_more g (goal.at.loop-made-preserved g c).After-show_printed;
 }
 
 pub returns-in-HeldUp-clause-added : goal.returns-in-HeldUp-clause-added
@@ -99,6 +147,35 @@ returns-in-HeldUp-clause-world g c =
     (c.loop-made.made + c.advance-advanced.result.made) (plain_move c.args.context)
     (program_on g (goal.at.returns-in-HeldUp-clause-world g c).After-advance-advanced)
     (added_on g (goal.at.returns-in-HeldUp-clause-world g c).After-advance-advanced)
+
+pub returns-in-HeldUp-clause-fits : goal.returns-in-HeldUp-clause-fits
+returns-in-HeldUp-clause-fits g c =
+    fits_now g (goal.at.returns-in-HeldUp-clause-fits g c).After-advance-advanced
+
+pub returns-in-HeldUp-clause-shown : goal.returns-in-HeldUp-clause-shown
+returns-in-HeldUp-clause-shown g c =
+    shown_now g (goal.at.returns-in-HeldUp-clause-shown g c).After-advance-advanced
+
+-- ---- showing failed
+
+pub returns-then-not-show_printed-clause-added : goal.returns-then-not-show_printed-clause-added
+returns-then-not-show_printed-clause-added g c =
+    added_on g (goal.at.returns-then-not-show_printed-clause-added g c).After-advance-advanced
+
+pub returns-then-not-show_printed-clause-longer : goal.returns-then-not-show_printed-clause-longer
+returns-then-not-show_printed-clause-longer g c =
+    longer_on g (goal.at.returns-then-not-show_printed-clause-longer g c).After-advance-advanced
+
+pub returns-then-not-show_printed-clause-world : goal.returns-then-not-show_printed-clause-world
+returns-then-not-show_printed-clause-world g c =
+    times_world c.args.vault.now c.advance-advanced.new.self
+    (c.loop-made.made + c.advance-advanced.result.made) (plain_move c.args.context)
+    (program_on g (goal.at.returns-then-not-show_printed-clause-world g c).After-advance-advanced)
+    (added_on g (goal.at.returns-then-not-show_printed-clause-world g c).After-advance-advanced)
+
+pub returns-then-not-show_printed-clause-shown : goal.returns-then-not-show_printed-clause-shown
+returns-then-not-show_printed-clause-shown g c =
+    shown_more g (goal.at.returns-then-not-show_printed-clause-shown g c).After-show_printed
 
 pub returns-else-is_ready-clause-longer : goal.returns-else-is_ready-clause-longer
 returns-else-is_ready-clause-longer g c =

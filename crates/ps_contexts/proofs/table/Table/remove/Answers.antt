@@ -1,6 +1,7 @@
 use Rattle.std.proofs.Common.{None, sym, ap, ap₂, subst₂, ◌∙◌, arith}
 use Rattle.ps_contexts.specs.Seats.{item_at, with_item, listed, AreSeats}
-use Rattle.ps_contexts.proofs.Seated.{listed_found, listed_none, listed_remove, search_found, search_none, AreSeats-remove}
+use Rattle.ps_contexts.proofs.Seated.{listed_found, listed_none, listed_remove, search_found, search_none}
+use Rattle.ps_contexts.proofs.Seated.{AreSeats-remove}
 use Rattle.ps_contexts.proofs.table.Table.remove.Goals as goal
 
 pub invariant_of-self : goal.invariant_of-self

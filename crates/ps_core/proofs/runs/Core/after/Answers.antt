@@ -11,6 +11,8 @@ step-requires-clause-bounded c = subst Bounded (sym c.in_ok-next.ensures) (bound
 
 pub step-requires-clause-can : goal.step-requires-clause-can
 step-requires-clause-can c =
-    let is : run c.args.self.now.space c.args.self.now.events ≡ c.self.inside.machine = ap (λ (z : History). run z.space z.events) (sym c.self.view_is) ∙ c.self.invariant.2 in
+    let is : run c.args.self.now.space c.args.self.now.events ≡ c.self.inside.machine =
+    ap (λ (z : History). run z.space z.events) (sym c.self.view_is) ∙ c.self.invariant.2 in
     subst (λ (m : State). CanStep m c.args.event.now) (sym c.in_ok-next.ensures)
-    (can_run _ _ _ c.self.invariant c.args.event.now (subst (λ (m : State). Permitted m c.args.event.now) is c.requires))
+    (can_run _ _ _ c.self.invariant c.args.event.now
+    (subst (λ (m : State). Permitted m c.args.event.now) is c.requires))

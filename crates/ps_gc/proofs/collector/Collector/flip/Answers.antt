@@ -1,4 +1,5 @@
-use Rattle.std.proofs.Common.{arith, ◌≡◌, ◌+◌, ◌*◌, ◌%◌, ◌<◌, ℕ, List, [], ◌∷◌, false, length, suc, refl, Some, sym, ap, ◌∙◌, subst, replicate}
+use Rattle.std.proofs.Common.{arith, ◌≡◌, ◌+◌, ◌*◌, ◌%◌, ◌<◌, ℕ, List, [], ◌∷◌, false, length, suc, refl, Some, sym, ap}
+use Rattle.std.proofs.Common.{◌∙◌, subst, replicate}
 use Rattle.ps_word.specs.declared.words.Word.{Word}
 use Rattle.ps_core_parts.specs.declared.events.Event.{Event}
 use Rattle.ps_core_parts.specs.declared.events.Event.TheVariants.{CycleStore}

@@ -11,6 +11,7 @@ returns-clause-sits g c =
     let s = c.requires.sits in
     let does = c.hand-mirror.ensures.does in
     goes _ _ m n c.hand-mirror.new.seat.me (record n { fresh_from = n.end })
-    (record v { fresh = [] }) (ap (λ t. t.words) c.hand-mirror.ensures.same.1) s (ap (λ x. x.0.acts_vm) does.did ∙ s.acts)
+    (record v { fresh = [] }) (ap (λ t. t.words) c.hand-mirror.ensures.same.1) s (ap (λ x. x.0.acts_vm) does.did
+    ∙ s.acts)
     (ap (λ x. x.1) does.did) (ap (λ x. x.0.vm) does.did) refl ∣ does.vm_runs ∣₁
     (mirrors_handed v n s.mirrors (vm_facts v s.runs))

@@ -307,7 +307,8 @@ returns-in-Err-clause-shown g c = λ some.
 
 pub returns-in-Err-clause-space : goal.returns-in-Err-clause-space
 returns-in-Err-clause-space g c =
-    ap (λ (s : Space). s.size) (same_space_behind g.S.Interpret.asks c.args.context c.slot_of.result c.go_on-made.result.made
+    ap (λ (s : Space). s.size)
+    (same_space_behind g.S.Interpret.asks c.args.context c.slot_of.result c.go_on-made.result.made
     c.in-Some.next.shown _ _ c.self.inside.schedule.items c.self.invariant
     (ready_before g (goal.at.returns-in-Err-clause-space g c).After-go_on-made) (Err c.in-Err.reason)
     (rw (c.in-Some.is, c.in-Err.is) at c.go_on-made.ensures.makes))
@@ -315,7 +316,8 @@ returns-in-Err-clause-space g c =
 
 pub returns-in-Err-clause-flips : goal.returns-in-Err-clause-flips
 returns-in-Err-clause-flips g c =
-    ap (λ (s : Space). s.flips) (same_space_behind g.S.Interpret.asks c.args.context c.slot_of.result c.go_on-made.result.made
+    ap (λ (s : Space). s.flips)
+    (same_space_behind g.S.Interpret.asks c.args.context c.slot_of.result c.go_on-made.result.made
     c.in-Some.next.shown _ _ c.self.inside.schedule.items c.self.invariant
     (ready_before g (goal.at.returns-in-Err-clause-flips g c).After-go_on-made) (Err c.in-Err.reason)
     (rw (c.in-Some.is, c.in-Err.is) at c.go_on-made.ensures.makes))
@@ -401,7 +403,8 @@ returns-clause-shown g c = λ some.
 
 pub returns-clause-space : goal.returns-clause-space
 returns-clause-space g c =
-    ap (λ (s : Space). s.size) (same_space_behind g.S.Interpret.asks c.args.context c.slot_of.result c.go_on-made.result.made
+    ap (λ (s : Space). s.size)
+    (same_space_behind g.S.Interpret.asks c.args.context c.slot_of.result c.go_on-made.result.made
     c.in-Some.next.shown _ _ c.self.inside.schedule.items c.self.invariant
     (ready_before g (goal.at.returns-clause-space g c).After-go_on-made) (Ok c.in-Ok.told)
     (rw (c.in-Some.is, c.in-Ok.is) at c.go_on-made.ensures.makes))
@@ -409,7 +412,8 @@ returns-clause-space g c =
 
 pub returns-clause-flips : goal.returns-clause-flips
 returns-clause-flips g c =
-    ap (λ (s : Space). s.flips) (same_space_behind g.S.Interpret.asks c.args.context c.slot_of.result c.go_on-made.result.made
+    ap (λ (s : Space). s.flips)
+    (same_space_behind g.S.Interpret.asks c.args.context c.slot_of.result c.go_on-made.result.made
     c.in-Some.next.shown _ _ c.self.inside.schedule.items c.self.invariant
     (ready_before g (goal.at.returns-clause-flips g c).After-go_on-made) (Ok c.in-Ok.told)
     (rw (c.in-Some.is, c.in-Ok.is) at c.go_on-made.ensures.makes))

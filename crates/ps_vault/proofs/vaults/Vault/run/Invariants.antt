@@ -1,9 +1,10 @@
-use Rattle.std.proofs.Common.{◌≡◌, ◌<◌, ◌≤◌, ◌+◌, ◌-◌, ◌*◌, [], true, min, None}
+use Rattle.std.proofs.Common.{◌≡◌, ◌<◌, ◌≤◌, ◌+◌, ◌-◌, ◌*◌, [], true, false, length, min, None}
 use Rattle.ps_language.specs.Schedules.{count_of, moves}
 use Rattle.ps_language.specs.Worlds.{starting_world}
 use Rattle.ps_vault.specs.Order.{InOrder}
 use Rattle.ps_vault.specs.Reports.{are_ordinary}
-use Rattle.ps_vault.specs.Stories.{AreWarranted}
+use Rattle.ps_vault.specs.Screens.{ShowsOn}
+use Rattle.ps_vault.specs.Stories.{AreWarranted, world_at}
 use Rattle.ps_vault.proofs.Ordering.{Passing}
 use Rattle.ps_vault.proofs.vaults.Vault.run.Given as goal
 
@@ -24,6 +25,10 @@ invariant-loop-made g l = record {
       → Passing l.quantum (starting_world l.fn.self.program) l.after (moves l.self.schedule))
       × InOrder l.quantum (starting_world l.fn.self.program) (moves l.self.schedule);
   calling : l.self.caller ≡ None;
+  fits : l.screen.shown ≤ length (world_at l.self).printed;
+  going : l.screen.failed ≡ false;
+  still : l.fn.screen.watching ≡ false → l.screen ≡ l.fn.screen;
+  shown : ShowsOn l.fn.screen (world_at l.fn.self).printed l.screen (world_at l.self).printed;
 }
 
 -- a pass that begins anew makes no step, and then one does

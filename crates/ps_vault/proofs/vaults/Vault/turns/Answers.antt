@@ -250,7 +250,10 @@ returns-then-begun-eq0-clause-turns g c =
     turns_begun c.args.quantum start c.args.context (moves c.args.self.now.schedule) c.args.most _
     new (chunk g at goes).now (chunk g at goes).at (λ held. absurd (true≢false (sym held)))
     (λ free. (chunk g at goes).some some)
-    (λ free less. over_by g at goes some (omega arith))
+    (λ free ends. over_by g at goes some (elim ends [
+      | inl less ↦ omega arith
+      | inr none ↦ none
+    ]))
 
 -- ---- its context isn't ready
 

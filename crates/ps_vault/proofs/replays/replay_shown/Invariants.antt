@@ -1,7 +1,8 @@
-use Rattle.std.proofs.Common.{◌≡◌, ◌≤◌, ◌+◌, ◌-◌, ◌*◌, take, length, None}
+use Rattle.std.proofs.Common.{◌≡◌, ◌≤◌, ◌+◌, ◌-◌, ◌*◌, false, take, length, None}
 use Rattle.ps_language.specs.Worlds.{world}
+use Rattle.ps_vault.specs.Screens.{HasShown}
 use Rattle.ps_vault.specs.Stories.{world_at}
-use Rattle.ps_vault.proofs.replays.replay.Given as goal
+use Rattle.ps_vault.proofs.replays.replay_shown.Given as goal
 
 -- the entries so far were followed
 abbrev pub invariant-loop-place : goal.invariant-loop-place
@@ -12,5 +13,9 @@ invariant-loop-place g l = record {
   room : length l.schedule + 1 ≤ l.vault.capacity;
   spare : length l.vault.schedule + 2 * (length l.schedule - l.place) + 1
       ≤ l.vault.capacity;
+  fits : l.screen.shown ≤ length (world_at l.vault).printed;
+  going : l.screen.failed ≡ false;
+  still : l.fn.screen.watching ≡ false → l.screen ≡ l.fn.screen;
+  shown : HasShown l.fn.screen.seen l.screen (world_at l.vault).printed;
   at : world_at l.vault ≡ world l.program (take l.place l.schedule);
 }
