@@ -223,7 +223,7 @@ fn run<R: Threads + Wait + Sync>(rt: &HostRuntime, workers: &R) -> io::Result<u8
         operators: Operators,
         text: Vec::new(alloc),
     };
-    Ok(drive(
+    let (status, _) = drive(
         workers,
         alloc,
         steps,
@@ -231,9 +231,10 @@ fn run<R: Threads + Wait + Sync>(rt: &HostRuntime, workers: &R) -> io::Result<u8
         RandomState::new(rt)?,
         words.as_slice(),
         &mut files,
-        &mut Flushed::new(rt.stdout()),
+        Flushed::new(rt.stdout()),
         &mut rt.stderr(),
-    ))
+    );
+    Ok(status)
 }
 
 fn main(rt: HostRuntime) -> ExitCode {

@@ -47,7 +47,9 @@ with_limits app = with_rule
     (within (valued_rule (codes "output")) 0 4294967295)
 
 abbrev pub with_flags : App → App
-with_flags app = with_rule (with_rule app (flag_rule (codes "plain"))) (flag_rule (codes "stats"))
+with_flags app = with_rule
+    (with_rule (with_rule app (flag_rule (codes "plain"))) (flag_rule (codes "stats")))
+    (flag_rule (codes "stream"))
 
 -- the schedules: the files that have them, and how many are chosen by chance
 abbrev pub with_schedules : App → App
@@ -80,14 +82,17 @@ abbrev pub is_set : Option Text → Bool
 is_set None = false
 is_set (Some text) = bytes_eq text (codes "true")
 
--- a schedule is given, and something with which none can be
-abbrev pub excludes : (replay plain recorded explored : Option Text) → Bool
-excludes replay plain recorded explored =
+-- what is given beside what it can't be used with: a schedule beside anything else that says how
+-- the run is made or records it, or a stream beside many runs
+abbrev pub excludes : (replay plain recorded explored streamed : Option Text) → Bool
+excludes replay plain recorded explored streamed =
     is_some replay && (is_set plain || is_some recorded || is_some explored)
+    || is_set streamed && is_some explored
 
 abbrev pub is_excluded : List Text → Bool
 is_excluded words = excludes (named_in (codes "replay") words) (named_in (codes "plain") words)
     (named_in (codes "record") words) (named_in (codes "explore") words)
+    (named_in (codes "stream") words)
 
 -- a number in decimal, of any size
 abbrev pub is_number : Text → Bool
@@ -113,7 +118,7 @@ abbrev pub is_overwritten : List Text → Bool
 is_overwritten words = overwrites (named_in (codes "record") words)
     (named_in (codes "explore") words) (named_in (codes "FILE") words)
 
--- the faults of such words: those by the rules, or that a schedule is excluded, or that the program
+-- the faults of such words: those by the rules, or that one excludes another, or that the program
 -- would be written over
 abbrev pub faults_in : List Text → Kinds
 faults_in words = or_else (fault_of command_line words)

@@ -1,6 +1,6 @@
 //! The command line.
 
-ghost use Rattle.std.specs.Prelude.{◌≡◌, ◌≤◌, Some, true, false, codes, map, IfOk, IfSome};
+ghost use Rattle.std.specs.Prelude.{◌≡◌, ◌≤◌, Some, true, false, codes, is_some, map, IfOk, IfSome};
 ghost use Rattle.std.specs.Option.{option_map};
 ghost use Rattle.clap.specs.Values.{kind_of};
 ghost use Rattle.clap.specs.Words.{app_of, rule_of, with_rule, first_value, found_of, FailsBy};
@@ -14,9 +14,12 @@ use std::alloc::{AllocError, Global};
 /// The version of the program, which `--version` tells.
 pub const VERSION: &str = "0.1.0";
 
-/// What is told of a schedule that is given beside what excludes it.
-const EXCLUDED: &str = "the argument '--replay <FILE>' cannot be used with '--plain', \
+/// What is told of a schedule that is given beside what it can't be used with.
+const REPLAY_EXCLUDED: &str = "the argument '--replay <FILE>' cannot be used with '--plain', \
     '--record <FILE>' or '--explore <N>'";
+
+/// What is told of a stream that is asked for beside many runs.
+const STREAM_EXCLUDED: &str = "the argument '--stream' cannot be used with '--explore <N>'";
 
 /// What is told of a record that would take the place of the program.
 const OVERWRITTEN: &str = "the argument '--record <FILE>' would write over the program";
@@ -41,6 +44,8 @@ pub struct Options<'a> {
     pub stats: bool,
     /// Whether the run is over memory that is never collected.
     pub plain: bool,
+    /// Whether printed bytes are handed on while the run goes on. Then it is a single one.
+    pub stream: bool,
     /// How many schedules the program is run under, if they are chosen by chance: from 1 to 65,535.
     pub explore: Option<u32>,
     /// The name of the file that the schedule of the run is written to, if it is. Where schedules
@@ -104,6 +109,11 @@ fn with_flags<'a>(alloc: Global, command: Command<'a>) -> Result<Command<'a>, Al
             alloc,
             "stats",
             "tell flips, records taken and steps at the end",
+        ))?
+        .arg(flag(
+            alloc,
+            "stream",
+            "hand printed bytes on while the run goes on; not with --explore",
         ))
 }
 
@@ -195,17 +205,26 @@ fn is_set(matches: &ArgMatches<'_>, name: &str) -> bool
     }
 }
 
-/// Whether a schedule is given in the words of the matches, and something with which none can be.
-fn is_excluded(matches: &ArgMatches<'_>) -> bool
-    ensures { result ≡ spec.excludes (first_value (found_of matches.now) (codes "replay"))
+/// What is told where something is given in the words of the matches beside what it can't be used
+/// with.
+fn excluded(matches: &ArgMatches<'_>) -> Option<&'static str>
+    ensures { is_some result ≡ spec.excludes (first_value (found_of matches.now) (codes "replay"))
         (first_value (found_of matches.now) (codes "plain"))
         (first_value (found_of matches.now) (codes "record"))
-        (first_value (found_of matches.now) (codes "explore")) }
+        (first_value (found_of matches.now) (codes "explore"))
+        (first_value (found_of matches.now) (codes "stream")) }
 {
-    matches.get_str("replay").is_some()
-        && (is_set(matches, "plain")
-            || matches.get_str("record").is_some()
-            || matches.get_str("explore").is_some())
+    let explores = matches.get_str("explore").is_some();
+    let makes_otherwise = is_set(matches, "plain")
+        || matches.get_str("record").is_some()
+        || explores;
+    if matches.get_str("replay").is_some() && makes_otherwise {
+        return Some(REPLAY_EXCLUDED);
+    }
+    if is_set(matches, "stream") && explores {
+        return Some(STREAM_EXCLUDED);
+    }
+    None
 }
 
 /// Whether a text is a number in decimal, of any size.
@@ -263,8 +282,8 @@ pub fn no_text(alloc: Global) -> Result<Error, AllocError>
 
 /// Reads the words of a command line, without the program's name. The error is the first fault of
 /// the words by the rules of the command line; or that a schedule is given and `--plain`,
-/// `--record` or `--explore` stands there too; or that a record would be written over the program,
-/// as far as the names tell; or want of memory.
+/// `--record` or `--explore` stands there too, or `--stream` and `--explore`; or that a record would
+/// be written over the program, as far as the names tell; or want of memory.
 pub fn parse<'a>(alloc: Global, words: &'a [&'a str]) -> Result<Options<'a>, Error>
     ensures fault { FailsBy (spec.faults_in (map (λ word. word.now) words.entry.now)) result }
     ensures file { IfOk result
@@ -279,6 +298,8 @@ pub fn parse<'a>(alloc: Global, words: &'a [&'a str]) -> Result<Options<'a>, Err
         (map (λ word. word.now) words.entry.now) options.stats) }
     ensures plain { IfOk result (λ options. spec.IsFlag (codes "plain")
         (map (λ word. word.now) words.entry.now) options.plain) }
+    ensures stream { IfOk result (λ options. spec.IsFlag (codes "stream")
+        (map (λ word. word.now) words.entry.now) options.stream) }
     ensures numbers { IfOk result
         (λ options. spec.AreNumbers (map (λ word. word.now) words.entry.now) (record {
           space = options.space;
@@ -295,8 +316,8 @@ pub fn parse<'a>(alloc: Global, words: &'a [&'a str]) -> Result<Options<'a>, Err
 {
     let mut line = command(alloc)?;
     let matches = line.try_get_matches_from_mut(words)?;
-    if is_excluded(&matches) {
-        return Err(line.error(ErrorKind::ArgumentConflict, EXCLUDED)?);
+    if let Some(text) = excluded(&matches) {
+        return Err(line.error(ErrorKind::ArgumentConflict, text)?);
     }
     if is_overwritten(&matches) {
         return Err(line.error(ErrorKind::ArgumentConflict, OVERWRITTEN)?);
@@ -308,6 +329,7 @@ pub fn parse<'a>(alloc: Global, words: &'a [&'a str]) -> Result<Options<'a>, Err
         steps: matches.get_one::<u32>("steps").unwrap_or(1_000_000_000),
         stats: matches.get_flag("stats"),
         plain: matches.get_flag("plain"),
+        stream: matches.get_flag("stream"),
         explore: matches.get_one::<u32>("explore"),
         output: matches.get_one::<u32>("output"),
         record_file: matches.get_str("record"),

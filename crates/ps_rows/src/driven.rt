@@ -50,9 +50,8 @@ pub fn driven<R: Threads + Wait + Sync>(
 ) -> Result<Given, AllocError> {
     let mut output = Output::new(alloc, writes.out);
     output.bytes.reserve(room)?;
-    let mut out = Flushed::new(output);
     let mut err = Output::new(alloc, writes.err);
-    let status = drive(
+    let (status, out) = drive(
         rt,
         alloc,
         steps_in(alloc),
@@ -60,7 +59,7 @@ pub fn driven<R: Threads + Wait + Sync>(
         keys,
         words,
         files,
-        &mut out,
+        Flushed::new(output),
         &mut err,
     );
     let Output { bytes: printed, .. } = out.into_inner();

@@ -1,6 +1,6 @@
 -- What a command line comes to, for other words of what it asks.
 use Rattle.std.proofs.Common.{◌≡◌, ◌≢◌, ℕ, List, [], ◌∷◌, Bool, true, false, Option, Some, None, inl, inr, ap, subst}
-use Rattle.std.specs.Prelude.{codes, is_some}
+use Rattle.std.specs.Prelude.{◌⊎◌, codes, is_some}
 use Rattle.ps_options.specs.CommandLine.{IsOptional, named_in}
 use Rattle.ps_language.specs.Effect.{Around, Scene}
 use Rattle.ps_language.specs.World as world
@@ -12,7 +12,7 @@ use Rattle.clap.specs.Values.{kind_of}
 use Rattle.clap.specs.declared.error.Error.{Error}
 use Rattle.clap.specs.declared.error.kind.ErrorKind.TheVariants as kind
 use Rattle.ps_run.specs.declared.statuses.Status.{Status}
-use Rattle.ps_run.specs.Driving.{Asked, Contents, Names, Outputs, IsDriven, IsRecordName, IsWritten}
+use Rattle.ps_run.specs.Driving.{Asked, Contents, Names, Outputs, IsBegun, IsDriven, IsRecordName, IsWritten}
 
 pub driven_more : (asks : world.Status → Around → Scene → acts.Asked) (names other : Names)
     (A B : Asked → Type 0) (F G : Type 0) (told : Status) (outputs : Outputs) → names ≡ other
@@ -21,13 +21,28 @@ pub driven_more : (asks : world.Status → Around → Scene → acts.Asked) (nam
 driven_more asks names other A B F G told outputs same more fault driven =
     with_more (subst (λ (n : Names). IsDriven asks n A F told outputs) same driven)
   where
+    begun_more : (outputs.out_new ≡ outputs.out_old) ⊎ IsBegun asks other A outputs
+        → (outputs.out_new ≡ outputs.out_old) ⊎ IsBegun asks other B outputs
+    begun_more (inl same) = inl same
+    begun_more (inr begun) = inr (record {
+      asked = begun.asked;
+      is_asked = more begun.asked begun.is_asked;
+      is_single = begun.is_single;
+      is_streamed = begun.is_streamed;
+      program = begun.program;
+      is_program = begun.is_program;
+      schedule = begun.schedule;
+      part = begun.part;
+    })
+
     with_more : IsDriven asks other A F told outputs → IsDriven asks other B G told outputs
     with_more (inl usage) = inl (usage.0, usage.1, usage.2, fault usage.3)
-    with_more (inr (inl memory)) = inr (inl memory)
+    with_more (inr (inl memory)) = inr (inl (memory.0, begun_more memory.1, memory.2))
     with_more (inr (inr (inl run))) = inr (inr (inl (record {
       asked = run.asked;
       is_asked = more run.asked run.is_asked;
       is_single = run.is_single;
+      cut = run.cut;
       report = run.report;
       run = run.run;
       written = run.written;
@@ -38,8 +53,7 @@ driven_more asks names other A B F G told outputs same more fault driven =
       runs = runs.runs;
       are_many = runs.are_many;
       program = runs.program;
-      is_file = runs.is_file;
-      few = runs.few;
+      is_program = runs.is_program;
       endings = runs.endings;
       are = runs.are;
       entries = runs.entries;
@@ -66,12 +80,14 @@ record_named recorded other are_many many name same equal is =
     (subst (λ (r : Option Text). IsRecordName r are_many name) same is)
 
 -- what was written, where what stood before is told of what stood earlier
-pub written_from : (recorded : Option Text) (stats : Bool) (report : Report) (told : Status)
-    (outputs : Outputs) (err : Option (List ℕ)) (files : Contents) → outputs.err_old ≡ err
-    → outputs.files_old ≡ files → IsWritten recorded stats report told outputs
-    → IsWritten recorded stats report told (record outputs { err_old = err; files_old = files })
-written_from recorded stats report told outputs err files errs all written =
-    subst (IsWritten recorded stats report told)
+pub written_from : (cut : Bool) (recorded : Option Text) (stats : Bool) (report : Report)
+    (told : Status) (outputs : Outputs) (err : Option (List ℕ)) (files : Contents)
+    → outputs.err_old ≡ err → outputs.files_old ≡ files
+    → IsWritten cut recorded stats report told outputs
+    → IsWritten cut recorded stats report told
+    (record outputs { err_old = err; files_old = files })
+written_from cut recorded stats report told outputs err files errs all written =
+    subst (IsWritten cut recorded stats report told)
     (λ i. record outputs { err_old = errs i; files_old = all i }) written
 
 among_none : (k : _) (kinds : Kinds) → IsAmong k kinds → kinds ≡ [] → ⊥

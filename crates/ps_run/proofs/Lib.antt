@@ -3,3 +3,4 @@ pub mod Driven
 pub mod Ranges
 pub mod ManyRuns
 pub mod ReadParts
+pub mod Streamed

@@ -1,36 +1,10 @@
 -- What an output holds after writes.
-use Rattle.std.proofs.Common.{◌≡◌, ◌+◌, ◌-◌, ◌≤◌, ℕ, zero, suc, List, [], ◌∷◌, ◌++◌, Option, take, drop, length, refl, sym, ap, ◌∙◌, subst, arith, append_assoc, append-nil, take-append-drop, length-drop}
+use Rattle.std.proofs.Common.{◌≡◌, ◌+◌, ◌-◌, ◌≤◌, ℕ, zero, suc, List, [], ◌∷◌, ◌++◌, Option, take, drop, length, refl, sym, ap, ◌∙◌, subst, arith, take-append-drop, length-drop}
 use Rattle.std.specs.Prelude.{Result, Ok, Err, OnOk, IfOk}
 use Rattle.std.specs.Io.KnownBytes.{Appends, WriteAppends}
 use Rattle.std.proofs.KnownBytes.{Appends-trans}
-use Rattle.std.proofs.lemmas.List.{take_all}
-use Rattle.ps_run.specs.Driving.{AppendsPart}
-
--- ---- beginnings
-
--- bytes, and then a beginning of others
-pub part_behind : (a b c : Option (List ℕ)) (xs ys : List ℕ) → Appends a b xs → AppendsPart b c ys
-    → AppendsPart a c (xs ++ ys)
-part_behind a b c xs ys first second = record {
-  part = xs ++ second.part;
-  rest = second.rest;
-  is = ap (λ bytes. xs ++ bytes) second.is ∙ sym (append_assoc xs second.part second.rest);
-  written = Appends-trans a b c xs second.part first second.written;
-}
-
--- a beginning of bytes is one of those with others behind them
-pub part_before : (a b : Option (List ℕ)) (xs ys : List ℕ) → AppendsPart a b xs
-    → AppendsPart a b (xs ++ ys)
-part_before a b xs ys some = record {
-  part = some.part;
-  rest = some.rest ++ ys;
-  is = ap (λ bytes. bytes ++ ys) some.is ∙ append_assoc some.part some.rest ys;
-  written = some.written;
-}
-
--- all bytes are one
-pub part_whole : (a b : Option (List ℕ)) (xs : List ℕ) → Appends a b xs → AppendsPart a b xs
-part_whole a b xs all = record { part = xs; rest = []; is = sym (append-nil xs); written = all }
+use Rattle.ps_vault.specs.Screens.{AppendsPart}
+use Rattle.ps_vault.proofs.Parts.{rest_whole}
 
 -- what was taken of them
 pub part_taken : (a b : Option (List ℕ)) (bytes : List ℕ) (n : ℕ) → Appends a b (take n bytes)
@@ -63,11 +37,6 @@ taken_more : (a b c : Option (List ℕ)) (bytes : List ℕ) (m n : ℕ) → Appe
     → Appends b c (take n (drop m bytes)) → Appends a c (take (m + n) bytes)
 taken_more a b c bytes m n first second =
     subst (Appends a c) (sym (take_behind m n bytes)) (Appends-trans a b c _ _ first second)
-
--- what is left is taken whole
-rest_whole : (bytes : List ℕ) (m : ℕ) → take (length bytes - m) (drop m bytes) ≡ drop m bytes
-rest_whole bytes m = take_all (length bytes - m) (drop m bytes)
-    (let left = length-drop m bytes in omega (arith, left))
 
 pub taken_slice : (a b c : Option (List ℕ)) (bytes : List ℕ) (m n : ℕ) → Appends a b (take m bytes)
     → Appends b c (take n (take (length bytes - m) (drop m bytes)))

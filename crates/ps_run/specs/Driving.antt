@@ -22,7 +22,8 @@ use Rattle.ps_vault.specs.declared.reports.Report.{Report}
 use Rattle.ps_vault.specs.declared.reports.Outcome.TheVariants.{Finished, Faulted, AllWaiting, StepsOut, Memory}
 use Rattle.ps_vault.specs.Endings.{AreEndings}
 use Rattle.ps_vault.specs.Order.{InOrder}
-use Rattle.ps_vault.specs.Reports.{IsReplayOf, IsRunIn, IsUncollected, IsWithin, are_ordinary}
+use Rattle.ps_vault.specs.Reports.{IsReplayOf, IsRunIn, IsUncollected, IsWithin, UnderPart, WithBudget, are_ordinary}
+use Rattle.ps_vault.specs.Screens.{AppendsPart}
 use Rattle.ps_run.specs.declared.files.ReadFault.{ReadFault}
 use Rattle.ps_run.specs.declared.files.ReadFault.TheVariants as fault
 use Rattle.ps_run.specs.declared.statuses.Status.{Status}
@@ -61,13 +62,6 @@ unread _ = status.Usage
 
 -- ---- what is written
 
--- known bytes grow by a beginning of these
-pub record AppendsPart (old new : Option (List ℕ)) (bytes : List ℕ) : Type 0 where
-  pub part : List ℕ
-  pub rest : List ℕ
-  pub is : bytes ≡ part ++ rest
-  pub written : Appends old new part
-
 -- a line with a label and a number
 abbrev pub number_line : (label : List ℕ) → ℕ → List ℕ
 number_line label number = label ++ (decimal number ++ codes "\n")
@@ -90,13 +84,15 @@ abbrev pub most_program_bytes : ℕ
 most_program_bytes = 16777215
 
 -- what the words ask for of a run; plain: whether over memory that is never collected, whatever the
--- space; explored: under how many schedules, if they are chosen by chance; output: the most bytes
--- that it may print, if there is a bound
+-- space; streamed: whether printed bytes may go out while it goes on; explored: under how many
+-- schedules, if they are chosen by chance; output: the most bytes that it may print, if there is a
+-- bound
 pub record Asked : Type 0 where
   pub space : ℕ
   pub steps : ℕ
   pub quantum : ℕ
   pub plain : Bool
+  pub streamed : Bool
   pub stats : Bool
   pub explored : Option ℕ
   pub output : Option ℕ
@@ -109,7 +105,8 @@ abbrev pub AreAsked : List Text → Asked → Type 0
 AreAsked words asked = IsNumber (codes "space") words asked.space
     × IsNumber (codes "steps") words asked.steps
     × IsNumber (codes "quantum") words asked.quantum × IsFlag (codes "plain") words asked.plain
-    × IsFlag (codes "stats") words asked.stats × IsOptional (codes "explore") words asked.explored
+    × IsFlag (codes "stream") words asked.streamed × IsFlag (codes "stats") words asked.stats
+    × IsOptional (codes "explore") words asked.explored
     × IsOptional (codes "output") words asked.output
 
 -- the space of its memory
@@ -146,6 +143,7 @@ asked_of options = record {
   steps = options.steps;
   quantum = options.quantum;
   plain = options.plain;
+  streamed = options.stream;
   stats = options.stats;
   explored = options.explore;
   output = options.output;
@@ -202,23 +200,30 @@ module _ (asks : world.Status → Around → Scene → acts.Asked) (program : Li
     pub uncollected : IsUncollected report
 
   -- a run with a budget of steps, in a space that is collected or over plain memory, which grows;
-  -- or one under a schedule that is given
-  abbrev pub IsMade : Option (List Entry) → Asked → Report → Type 0
-  IsMade None asked report =
-      IsRecordable (space_of asked) asked.steps report
+  -- or one under a schedule that is given. Cut: with fewer steps, or under a beginning of it
+  abbrev pub IsMade : (cut : Bool) → Option (List Entry) → Asked → Report → Type 0
+  IsMade cut None asked report =
+      WithBudget cut asked.steps (λ budget. IsRecordable (space_of asked) budget report)
       × (asked.plain ≡ true → IsPlain asked.quantum report)
-  IsMade (Some given) asked report = IsReplayOf asks program given report
+  IsMade cut (Some given) asked report =
+      UnderPart cut given (λ part. IsReplayOf asks program part report)
 
--- a run of a file's bytes, under the schedule of another file where one is named
+-- a program is the bytes of a file, as far as they are known
+abbrev pub IsProgramIn : Contents → Text → List ℕ → Type 0
+IsProgramIn contents name program = IfSome (contents name) (λ bytes. program ≡ bytes)
+    × (length program ≤ most_program_bytes)
+
+-- a run of a file's bytes, under the schedule of another file where one is named. Cut: its output
+-- failed while it was streamed
 pub record IsFileRun (asks : world.Status → Around → Scene → acts.Asked) (contents : Contents)
-    (names : Names) (asked : Asked) (report : Report) : Type 0 where
+    (names : Names) (asked : Asked) (cut : Bool) (report : Report) : Type 0 where
   pub program : List ℕ
-  pub is_file : IfSome (contents names.file) (λ bytes. program ≡ bytes)
-  pub few : length program ≤ most_program_bytes
+  pub is_program : IsProgramIn contents names.file program
   pub given : Option (List Entry)
   pub is_given : IsGiven contents names.replayed given
-  pub run : IsMade asks program given asked report
+  pub run : IsMade asks program cut given asked report
   pub bounded : length report.printed.items ≤ most_output asked.output
+  pub streamed : cut ≡ true → asked.streamed ≡ true
 
 -- what outputs and files hold before and after, where it is known; flushed: whether the first
 -- output was flushed after its last write
@@ -251,16 +256,17 @@ IsUnrecorded recorded told outputs =
     TellsUnwritten recorded told outputs.err_old outputs.err_new
     × (told ≡ status.Memory → outputs.files_new ≡ outputs.files_old)
 
--- the output took a part alone of what was printed, and the status tells a fault; or it took all
--- and was flushed, and then the record was made where one is asked for, and the status is that of
--- the outcome
-abbrev pub IsWritten : (recorded : Option Text) → (stats : Bool) → Report → Status → Outputs
-    → Type 0
-IsWritten recorded stats report told outputs =
+-- the output took a part alone of what was printed, and the status tells a fault; or the run was
+-- not cut, and the output took all and was flushed, and then the record was made where one is asked
+-- for, and the status is that of the outcome
+abbrev pub IsWritten : (cut : Bool) → (recorded : Option Text) → (stats : Bool) → Report → Status
+    → Outputs → Type 0
+IsWritten cut recorded stats report told outputs =
     ((told ≡ status.Usage)
     × AppendsPart outputs.out_old outputs.out_new report.printed.items
     × (outputs.files_new ≡ outputs.files_old))
-    ⊎ (Appends outputs.out_old outputs.out_new report.printed.items × (outputs.flushed ≡ true)
+    ⊎ ((cut ≡ false) × Appends outputs.out_old outputs.out_new report.printed.items
+    × (outputs.flushed ≡ true)
     × (IsUnrecorded recorded told outputs
     ⊎ ((told ≡ status_of report.outcome)
     × IsRecorded outputs.files_new recorded report.schedule.items
@@ -343,9 +349,10 @@ module _ (asks : world.Status → Around → Scene → acts.Asked) (names : Name
     pub asked : Asked
     pub is_asked : IsAsked asked
     pub is_single : asked.explored ≡ None
+    pub cut : Bool
     pub report : Report
-    pub run : IsFileRun asks outputs.files_old names asked report
-    pub written : IsWritten names.recorded asked.stats report told outputs
+    pub run : IsFileRun asks outputs.files_old names asked cut report
+    pub written : IsWritten cut names.recorded asked.stats report told outputs
 
   -- many runs of a file's bytes, under schedules that can be read again, that were written
   pub record AreRunsWritten (told : Status) (outputs : Outputs) : Type 0 where
@@ -354,19 +361,30 @@ module _ (asks : world.Status → Around → Scene → acts.Asked) (names : Name
     pub runs : ℕ
     pub are_many : asked.explored ≡ Some runs
     pub program : List ℕ
-    pub is_file : IfSome (outputs.files_old names.file) (λ bytes. program ≡ bytes)
-    pub few : length program ≤ most_program_bytes
+    pub is_program : IsProgramIn outputs.files_old names.file program
     pub endings : List Report
     pub are : AreEndings asks program asked.steps (most_output asked.output) runs endings
     pub entries : All (λ ending. AreEntries ending.schedule.items) endings
     pub written : AreWritten names.recorded runs endings told outputs
 
-  -- a fault of the words or a file, or want of memory before the output: nothing is written; else a
-  -- run, or many. IsFault: of the words or a file
+  -- a run that is streamed has begun: the output has a beginning of what a file's program prints
+  -- under some schedule
+  pub record IsBegun (outputs : Outputs) : Type 0 where
+    pub asked : Asked
+    pub is_asked : IsAsked asked
+    pub is_single : asked.explored ≡ None
+    pub is_streamed : asked.streamed ≡ true
+    pub program : List ℕ
+    pub is_program : IsProgramIn outputs.files_old names.file program
+    pub schedule : List Entry
+    pub part : AppendsPart outputs.out_old outputs.out_new (worlds.printed program schedule)
+
+  -- a fault of the words or a file, or want of memory before the end of a run: nothing is written,
+  -- but what was streamed; else a run, or many. IsFault: of the words or a file
   abbrev pub IsDriven : (IsFault : Type 0) → (told : Status) → Outputs → Type 0
   IsDriven IsFault told outputs =
       ((told ≡ status.Usage) × (outputs.out_new ≡ outputs.out_old)
       × (outputs.files_new ≡ outputs.files_old) × IsFault)
-      ⊎ (((told ≡ status.Memory) × (outputs.out_new ≡ outputs.out_old)
+      ⊎ (((told ≡ status.Memory) × ((outputs.out_new ≡ outputs.out_old) ⊎ IsBegun outputs)
       × (outputs.files_new ≡ outputs.files_old))
       ⊎ (IsRunWritten told outputs ⊎ AreRunsWritten told outputs))

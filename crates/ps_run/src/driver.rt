@@ -1,23 +1,25 @@
 //! A run from the words of a command line to an exit status.
 
-ghost use Rattle.std.specs.Prelude.{◌≡◌, ◌≢◌, ◌≤◌, ◌⊎◌, [], is_some, length, ℕ, List, true, false, Some, Err, map, option_map, IfOk, IfSome, None, codes};
+ghost use Rattle.std.specs.Prelude.{◌≡◌, ◌≢◌, ◌⊎◌, [], is_some, ℕ, List, true, false, Some, map, IfSome, None, codes};
 ghost use Rattle.ps_options.specs.CommandLine.{faults_in, named_in};
 ghost use Rattle.clap.specs.Values.{kind_of};
 ghost use Rattle.ps_vault.specs.Reports.{IsWithin};
 ghost use Rattle.ps_run.specs.Driving as driving;
-ghost use Rattle.ps_run.specs.Driving.{AreAsked, AreOutOfRange, HasNoSchedule, IsDriven, IsMade, IsRecordName, IsTooLong, asked_of, config_in, most_output, names_in, names_of};
+ghost use Rattle.ps_run.specs.Driving.{AreAsked, AreOutOfRange, HasNoSchedule, IsDriven, IsRecordName, IsTooLong, asked_of, config_in, names_in, names_of};
 
 use crate::exploring::explore;
 use crate::files::FileSet;
 use crate::finishing::finish;
+use crate::making::{config_of, make};
 use crate::outputs::Flushing;
 use crate::reading::{read_given, read_program};
 use crate::statuses::{Status, end, number_of};
+use crate::streams::{output_of, screen_of};
 use clap::Error;
 use clap::error::ErrorKind;
 use ps_interpreter::interprets::Interpret;
 use ps_options::{Options, no_text, parse};
-use ps_vault::{ANY_OUTPUT, Config, Entry, Report, RunFault, Setup, replay, run_plain};
+use ps_vault::{RunFault, Watched};
 use ps_workers::Job;
 use ps_world::deeds::Deeds;
 use std::alloc::Global;
@@ -37,21 +39,26 @@ use std::thread::Threads;
 /// that schedule. Of many runs the first one's bytes are printed, each ending has a record, and
 /// `err` is told how many runs and endings there were.
 ///
-/// The result is the exit status: 0 where every context finished, 1 where an error was printed too,
-/// 2 for a fault of the command line, of a file or of the output, 3 where a context is left and all
-/// wait, 4 where the steps are used up, 5 for want of memory, before the run or in it. Of many runs
-/// it is 0 where all ended alike, and 1 where they did not. With 2 the
-/// output has a beginning of what was printed, which is nothing where the words or a file that is
-/// read were at fault, and all of it where the record can't be written. After a run whose output
-/// took everything the output is flushed. A write to `err` that fails changes nothing else. No file
-/// changes but that of the record.
+/// The result is the exit status and the output. The status is 0 where every context finished, 1
+/// where an error was printed too, 2 for a fault of the command line, of a file or of the output,
+/// 3 where a context is left and all wait, 4 where the steps are used up, 5 for want of memory,
+/// before the run or in it. Of many runs it is 0 where all ended alike, and 1 where they did not.
+/// With 2 the output has a beginning of what was printed, which is nothing where the words or a file
+/// that is read were at fault, and all of it where the record can't be written. After a run whose
+/// output took everything the output is flushed. A write to `err` that fails changes nothing else.
+/// No file changes but that of the record.
+///
+/// Where the words ask for a stream, the output may be handed printed bytes while the run goes on,
+/// and is flushed behind them. If it fails then, the run is cut: it ends with 2, and is one with
+/// fewer steps or under a beginning of the given schedule. If a run wants memory before it has a
+/// report, the output has a beginning of what the program prints under some schedule.
 ///
 /// The workers take locks and are waited for: all of this holds if the call returns.
 pub fn drive<
     S: Interpret + Clone + Drop + Send,
     D: Deeds + Clone + Drop + Send,
     F: FileSet,
-    W: Flushing,
+    W: Flushing + Drop + Send,
     X: Write,
     R: Threads + Wait + Sync,
 >(
@@ -62,11 +69,11 @@ pub fn drive<
     keys: RandomState,
     words: &[&str],
     files: &mut F,
-    out: &mut W,
+    mut out: W,
     err: &mut X,
-) -> u8
+) -> (u8, W)
     ensures fault { faults_in (map (λ word. word.now) words.now) ≢ []
-        → ((result ≡ 2) ⊎ (result ≡ 5)) × (W.contents out.new ≡ W.contents out.old)
+        → ((result.0 ≡ 2) ⊎ (result.0 ≡ 5)) × (W.contents result.1 ≡ W.contents out)
         × (files.new ≡ files.old) }
     ensures files { (name : List ℕ)
         → ¬ IsRecordName (named_in (codes "record") (map (λ word. word.now) words.now))
@@ -74,10 +81,10 @@ pub fn drive<
         → F.contents files.new name ≡ F.contents files.old name }
     ensures unread { F.last_fault files.old ≡ None
         → IfSome (F.last_fault files.new)
-        (λ fault. result ≡ driving.number_of (driving.unread fault)) }
+        (λ fault. result.0 ≡ driving.number_of (driving.unread fault)) }
     ensures unwritten { F.is_unwritten files.old ≡ false → F.is_unwritten files.new ≡ true
-        → result ≡ 2 }
-    ensures run { (told : Status) × (result ≡ driving.number_of told)
+        → result.0 ≡ 2 }
+    ensures run { (told : Status) × (result.0 ≡ driving.number_of told)
         × IsDriven S.asks (names_in (map (λ word. word.now) words.now))
         (AreAsked (map (λ word. word.now) words.now))
         ((faults_in (map (λ word. word.now) words.now) ≢ [])
@@ -88,23 +95,31 @@ pub fn drive<
         (X.contents err.new)
         ⊎ AreOutOfRange (map (λ word. word.now) words.now)))) told
         (record {
-          out_old = W.contents out.old;
-          out_new = W.contents out.new;
+          out_old = W.contents out;
+          out_new = W.contents result.1;
           err_old = X.contents err.old;
           err_new = X.contents err.new;
           files_old = F.contents files.old;
           files_new = F.contents files.new;
-          flushed = W.is_flushed out.new;
+          flushed = W.is_flushed result.1;
         }) }
 {
     match parse(alloc, words) {
         Ok(options) => match options.explore {
-            None => number_of(run(rt, alloc, interpret, deeds, keys, &options, files, out, err)),
-            Some(runs) => number_of(explore(
-                alloc, &interpret, &deeds, keys, &options, runs, files, out, err,
-            )),
+            None => {
+                let (status, out) = run(
+                    rt, alloc, interpret, deeds, keys, &options, files, out, err,
+                );
+                (number_of(status), out)
+            }
+            Some(runs) => {
+                let status = explore(
+                    alloc, &interpret, &deeds, keys, &options, runs, files, &mut out, err,
+                );
+                (number_of(status), out)
+            }
         },
-        Err(error) => number_of(refuse(&error, err)),
+        Err(error) => (number_of(refuse(&error, err)), out),
     }
 }
 
@@ -132,12 +147,12 @@ fn refuse<X: Write>(error: &Error, err: &mut X) -> Status
 }
 
 /// Reads the program, and the schedule where one is named, makes the steps and writes what they
-/// printed.
+/// printed. Gives the status and the output.
 fn run<
     S: Interpret + Drop + Send,
     D: Deeds + Drop + Send,
     F: FileSet,
-    W: Flushing,
+    W: Flushing + Drop + Send,
     X: Write,
     R: Threads + Wait + Sync,
 >(
@@ -148,109 +163,52 @@ fn run<
     keys: RandomState,
     options: &Options<'_>,
     files: &mut F,
-    out: &mut W,
+    out: W,
     err: &mut X,
-) -> Status
+) -> (Status, W)
     requires single { options.now.explore ≡ None }
     ensures files { (name : List ℕ) → ¬ IsRecordName (names_of options.now).recorded false name
         → F.contents files.new name ≡ F.contents files.old name }
     ensures unread { F.last_fault files.old ≡ None
-        → IfSome (F.last_fault files.new) (λ fault. result ≡ driving.unread fault) }
+        → IfSome (F.last_fault files.new) (λ fault. result.0 ≡ driving.unread fault) }
     ensures unwritten { F.is_unwritten files.old ≡ false → F.is_unwritten files.new ≡ true
-        → result ≡ Status.Usage }
+        → result.0 ≡ Status.Usage }
     ensures run { IsDriven S.asks (names_of options.now)
         (λ asked. asked ≡ asked_of options.now)
         (IsTooLong (F.contents files.old (names_of options.now).file)
         ⊎ (HasNoSchedule (F.contents files.old) (names_of options.now).replayed
         (X.contents err.old) (X.contents err.new)
         ⊎ ¬ IsWithin (config_in options.now)))
-        result (record {
-          out_old = W.contents out.old;
-          out_new = W.contents out.new;
+        result.0 (record {
+          out_old = W.contents out;
+          out_new = W.contents result.1;
           err_old = X.contents err.old;
           err_new = X.contents err.new;
           files_old = F.contents files.old;
           files_new = F.contents files.new;
-          flushed = W.is_flushed out.new;
+          flushed = W.is_flushed result.1;
         }) }
 {
     let program = match read_program(alloc, options.file, files, err) {
         Ok(program) => program,
-        Err(status) => return status,
+        Err(status) => return (status, out),
     };
     let given = match read_given(alloc, options, files, err) {
         Ok(given) => given,
-        Err(status) => return status,
+        Err(status) => return (status, out),
     };
-    match make(
-        rt,
-        alloc,
+    let job = Job {
         interpret,
         deeds,
-        program.as_slice(),
-        options,
-        given,
+        program: program.as_slice(),
+        config: config_of(options),
         keys,
-    ) {
-        Ok(report) => finish(alloc, &report, options, files, out, err),
-        Err(RunFault::Memory) => end(err, Status::Memory),
-        Err(RunFault::Config) => Status::Usage,
-    }
-}
-
-/// The report of a run of the program: under the schedule that is given, or with the budget that is
-/// asked for, over plain memory or in a space that is collected meanwhile.
-fn make<S: Interpret + Drop + Send, D: Deeds + Drop + Send, R: Threads + Wait + Sync>(
-    rt: &R,
-    alloc: Global,
-    interpret: S,
-    deeds: D,
-    program: &[u8],
-    options: &Options<'_>,
-    given: Option<Vec<Entry>>,
-    keys: RandomState,
-) -> Result<Report, RunFault>
-    ensures config { result ≡ Err RunFault.Config → ¬ IsWithin (config_in options.now) }
-    ensures made { IfOk result (IsMade S.asks program.now
-        (option_map (λ schedule. schedule.items) given) (asked_of options.now)) }
-    ensures bounded { IfOk result
-        (λ report. length report.printed.items ≤ most_output options.now.output) }
-{
-    let config = config_of(options);
-    match given {
-        Some(schedule) => {
-            let setup = Setup {
-                keys,
-                output: config.output,
-            };
-            replay(alloc, interpret, deeds, program, schedule.as_slice(), setup)
-        }
-        None if options.plain => run_plain(alloc, interpret, deeds, program, config, keys),
-        None => {
-            let job = Job {
-                interpret,
-                deeds,
-                program,
-                config,
-                keys,
-            };
-            ps_workers::run(rt, alloc, job)
-        }
-    }
-}
-
-/// The numbers of the run.
-pub(crate) fn config_of(options: &Options<'_>) -> Config
-    ensures { result ≡ config_in options.now }
-{
-    Config {
-        space: options.space,
-        workers: options.workers,
-        quantum: options.quantum,
-        steps: options.steps,
-        output: match options.output {
-            Some(most) => u64::from(most),
-            None => ANY_OUTPUT,
-        },
+    };
+    let screen = screen_of(out, options.stream);
+    let Watched { report, screen } = make(rt, alloc, job, options, given, screen);
+    match report {
+        Ok(report) => finish(alloc, &report, options, files, screen, err),
+        Err(RunFault::Memory) => (end(err, Status::Memory), output_of(screen)),
+        Err(RunFault::Config) => (Status::Usage, output_of(screen)),
     }
 }

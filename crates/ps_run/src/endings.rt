@@ -3,14 +3,15 @@
 
 ghost use Rattle.std.specs.Prelude.{◌≡◌, ◌≤◌, ◌<◌, ◌^◌, ℕ, Bool, false, true, List, Some, Err, length, IsSome, OnOk, OnErr, IfErr};
 ghost use Rattle.std.specs.Io.KnownBytes.{Appends};
+ghost use Rattle.ps_vault.specs.Screens.{AppendsPart};
 ghost use Rattle.ps_run.specs.Driving as driving;
-ghost use Rattle.ps_run.specs.Driving.{AppendsPart, AreRecorded, AreWritten, IsRecorded, IsRecordName, IsUnwritten, names_of, numbered};
+ghost use Rattle.ps_run.specs.Driving.{AreRecorded, AreWritten, IsRecorded, IsRecordName, IsUnwritten, names_of, numbered};
 
 use crate::files::FileSet;
 use crate::finishing::write_schedule;
 use crate::outputs::Flushing;
 use crate::statuses::{Status, end};
-use crate::writing::{write_number, write_part};
+use crate::writing::{hand_out, write_number};
 use ps_options::Options;
 use ps_vault::{Entry, Report};
 use std::alloc::Global;
@@ -45,7 +46,7 @@ pub(crate) fn finish_all<F: FileSet, W: Flushing, X: Write>(
           flushed = W.is_flushed out.new;
         }) }
 {
-    if write_part(out, endings[0].printed.as_slice()).is_err() || out.hand_on().is_err() {
+    if hand_out(out, endings[0].printed.as_slice()).is_err() {
         let _ = writeln!(err, "dpsrun: cannot write output");
         return Status::Usage;
     }

@@ -6,9 +6,9 @@ ghost use Rattle.ps_run.specs.Driving as driving;
 ghost use Rattle.ps_run.specs.Driving.{HasNoSchedule, IsDriven, IsRecordName, IsTooLong, asked_of, config_in, names_of};
 
 use crate::chances::Chances;
-use crate::driver::config_of;
 use crate::endings::finish_all;
 use crate::files::FileSet;
+use crate::making::config_of;
 use crate::outputs::Flushing;
 use crate::reading::read_program;
 use crate::statuses::{Status, end};

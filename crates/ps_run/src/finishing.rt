@@ -1,57 +1,63 @@
 //! What is written at the end of a run: the printed bytes, the record and the counts.
 
-ghost use Rattle.std.specs.Prelude.{◌≡◌, ◌≢◌, ◌++◌, ◌-◌, ◌^◌, ℕ, Bool, false, true, List, Some, Err, min, OnOk, OnErr, IfErr, IsSome};
+ghost use Rattle.std.specs.Prelude.{◌≡◌, ◌≢◌, ◌≤◌, ◌++◌, ◌-◌, ◌^◌, ℕ, Bool, false, true, List, Option, Some, Err, length, min, OnOk, OnErr, IfErr, IsSome};
 ghost use Rattle.std.specs.Io.KnownBytes.{Appends};
 ghost use Rattle.ps_language.specs.Schedules.{count_of};
+ghost use Rattle.ps_vault.specs.Screens.{AppendsPart, HasShown};
 ghost use Rattle.ps_run.specs.Driving as driving;
-ghost use Rattle.ps_run.specs.Driving.{AppendsPart, IsRecorded, IsRecordName, IsUnwritten, IsWritten, TellsUnwritten, names_of};
+ghost use Rattle.ps_run.specs.Driving.{IsRecorded, IsRecordName, IsUnwritten, IsWritten, TellsUnwritten, names_of};
 
 use crate::files::FileSet;
 use crate::outputs::Flushing;
 use crate::statuses::{Status, end, line_of, status_of};
+use crate::streams::{Stream, write_rest};
 use crate::writing::{write_number, write_part, write_unwritten};
 use ps_options::Options;
 use ps_schedules::{append_schedule, steps_of};
-use ps_vault::{Entry, Outcome, Report};
+use ps_vault::{Entry, Outcome, Report, Screen};
 use std::alloc::Global;
 use std::io::{self, Write};
 
-/// Writes the printed bytes, then the record and the counts where they are asked for, then the line
-/// that belongs to the status.
-pub(crate) fn finish<F: FileSet, W: Flushing, X: Write>(
+/// Writes what of the printed bytes was not shown, then the record and the counts where they are
+/// asked for, then the line that belongs to the status. Gives the output back. Where showing failed
+/// nothing of these is written.
+pub(crate) fn finish<F: FileSet, W: Flushing + Drop, X: Write>(
     alloc: Global,
     report: &Report,
     options: &Options<'_>,
     files: &mut F,
-    out: &mut W,
+    screen: Screen<Stream<W>>,
     err: &mut X,
-) -> Status
+) -> (Status, W)
+    requires within { screen.shown ≤ length report.now.printed.items }
     ensures others { (other : List ℕ) → ¬ IsRecordName (names_of options.now).recorded false other
         → F.contents files.new other ≡ F.contents files.old other }
     ensures reads { F.last_fault files.new ≡ F.last_fault files.old }
     ensures unwritten { F.is_unwritten files.old ≡ false → F.is_unwritten files.new ≡ true
-        → result ≡ Status.Usage }
-    ensures written { IsWritten (names_of options.now).recorded options.now.stats report.now
-        result (record {
-          out_old = W.contents out.old;
-          out_new = W.contents out.new;
+        → result.0 ≡ Status.Usage }
+    ensures written { (first : Option (List ℕ)) → HasShown first screen report.now.printed.items
+        → IsWritten screen.failed (names_of options.now).recorded options.now.stats report.now
+        result.0 (record {
+          out_old = first;
+          out_new = W.contents result.1;
           err_old = X.contents err.old;
           err_new = X.contents err.new;
           files_old = F.contents files.old;
           files_new = F.contents files.new;
-          flushed = W.is_flushed out.new;
+          flushed = W.is_flushed result.1;
         }) }
 {
-    if write_part(out, report.printed.as_slice()).is_err() || out.hand_on().is_err() {
+    let (written, out) = write_rest(screen, report.printed.as_slice());
+    if written.is_err() {
         let _ = writeln!(err, "dpsrun: cannot write output");
-        return Status::Usage;
+        return (Status::Usage, out);
     }
     if let Err(status) = record_schedule(alloc, options, report.schedule.as_slice(), files, err) {
-        return status;
+        return (status, out);
     }
     let status = status_of(report.outcome);
     let _ = tell(report, options.stats, status, err);
-    status
+    (status, out)
 }
 
 /// Writes the text of a schedule to the file that is named for it, if one is. Where it can't be

@@ -15,6 +15,9 @@
 //! - A file is opened and then read part by part (`FileSet::open`, `read_on`). So a schedule, which
 //!   may be far longer than a program, is judged line by line, and an endless file ends at its
 //!   first bad line.
+//! - The output goes through a run by value, inside a screen, and comes back with the status: a
+//!   struct holds no reference that writes. A run that isn't streamed is made with the same screen,
+//!   which is handed nothing before the end, so both are one code and one proof.
 //! - Chance stands here alone, as a generator with a fixed seed. An ending is what was printed with
 //!   the outcome (`AreEndings`); how often each came isn't counted.
 //! - A run that wants memory ends an exploration, since it tells of the machine and not of a
@@ -29,9 +32,11 @@ mod endings;
 mod exploring;
 mod files;
 mod finishing;
+mod making;
 mod outputs;
 mod reading;
 mod statuses;
+mod streams;
 mod writing;
 
 pub use driver::{drive, refuse_no_text};

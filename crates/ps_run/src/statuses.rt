@@ -1,8 +1,8 @@
 //! How the program ends: the exit status, and the line that belongs to it.
 
 ghost use Rattle.std.specs.Prelude.{◌≡◌};
+ghost use Rattle.ps_vault.specs.Screens.{AppendsPart};
 ghost use Rattle.ps_run.specs.Driving as driving;
-ghost use Rattle.ps_run.specs.Driving.{AppendsPart};
 
 use crate::writing::write_part;
 use ps_vault::Outcome;

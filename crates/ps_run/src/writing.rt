@@ -1,10 +1,12 @@
 //! Bytes written as far as an output takes them.
 
-ghost use Rattle.std.specs.Prelude.{◌≡◌, ◌++◌, OnOk, codes};
+ghost use Rattle.std.specs.Prelude.{◌≡◌, ◌++◌, true, OnOk, codes};
 ghost use Rattle.std.specs.Fmt.{decimal};
 ghost use Rattle.std.specs.Io.KnownBytes.{Appends};
-ghost use Rattle.ps_run.specs.Driving.{AppendsPart, number_line, unwritten_line};
+ghost use Rattle.ps_vault.specs.Screens.{AppendsPart};
+ghost use Rattle.ps_run.specs.Driving.{number_line, unwritten_line};
 
+use crate::outputs::Flushing;
 use itoa::Buffer;
 use std::io::{self, ErrorKind, Write};
 
@@ -26,6 +28,17 @@ pub fn write_part<W: Write>(out: &mut W, bytes: &[u8]) -> io::Result<()>
         }
     }
     Err(io::Error::from(ErrorKind::Interrupted))
+}
+
+/// Writes bytes and hands on all that is held back. Where that fails the output has a beginning of
+/// the bytes.
+pub(crate) fn hand_out<W: Flushing>(out: &mut W, bytes: &[u8]) -> io::Result<()>
+    ensures part { AppendsPart (W.contents out.old) (W.contents out.new) bytes.now }
+    ensures whole { OnOk result (Appends (W.contents out.old) (W.contents out.new) bytes.now) }
+    ensures flushed { OnOk result (W.is_flushed out.new ≡ true) }
+{
+    write_part(out, bytes)?;
+    out.hand_on()
 }
 
 /// Writes that the file of a name can't be written; where a write fails the output has a beginning

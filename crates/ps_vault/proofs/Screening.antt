@@ -1,6 +1,6 @@
 -- What is printed goes on, and what was shown of it is a beginning still.
-use Rattle.std.proofs.Common.{◌≡◌, ◌-◌, ◌<◌, ◌≤◌, ◌+◌, ◌%◌, ℕ, Bool, true, false, List, [], ◌∷◌, ◌++◌, Option, Some, None, min, length, take, drop, refl, sym, ap, ◌∙◌, subst, arith, inl, inr, append_assoc, append-nil, length-append}
-use Rattle.std.specs.Prelude.{◌⊎◌, if◌then◌else◌}
+use Rattle.std.proofs.Common.{◌≡◌, ◌<◌, ◌≤◌, ◌+◌, ◌%◌, ℕ, Bool, true, false, List, [], ◌∷◌, ◌++◌, Option, Some, None, min, length, take, refl, sym, ap, ◌∙◌, subst, arith, inl, inr, append_assoc, append-nil, length-append}
+use Rattle.std.specs.Prelude.{if◌then◌else◌}
 use Rattle.std.specs.Io.KnownBytes.{Appends}
 use Rattle.std.proofs.Math.Nat.{mod_self}
 use Rattle.std.proofs.lemmas.Bool.{cases_lt, true≢false}
@@ -13,7 +13,7 @@ use Rattle.ps_language.proofs.PrintedSteps.{printed-begins}
 use Rattle.ps_language.proofs.ScheduleLaws.{moves-added}
 use Rattle.ps_vault.specs.declared.turns.Turn.{Turn}
 use Rattle.ps_vault.specs.Order.{AddsSteps, AddsTurns, AddsWhole, no_whole, whole_more, IsTurnEnd}
-use Rattle.ps_vault.specs.Screens.{AppendsPart, AreSeen, HasShown, Sight}
+use Rattle.ps_vault.specs.Screens.{AreSeen, HasShown, Sight}
 use Rattle.ps_vault.specs.Stories.{Story, world_at}
 use Rattle.ps_vault.proofs.Cutting.{begins-whole}
 

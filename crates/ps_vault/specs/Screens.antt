@@ -1,6 +1,8 @@
 -- What is shown of the bytes that a run prints.
 use Rattle.std.specs.Prelude.{◌≡◌, ◌≤◌, ◌++◌, ℕ, Bool, true, false, List, Option, length, take}
 use Rattle.std.specs.Io.KnownBytes.{Appends}
+use Rattle.ps_language.specs.declared.schedules.Entry.{Entry}
+use Rattle.ps_language.specs.Worlds.{printed}
 
 -- known bytes grow by a beginning of these
 pub record AppendsPart (old new : Option (List ℕ)) (bytes : List ℕ) : Type 0 where
@@ -31,3 +33,8 @@ pub record HasShown (first : Option (List ℕ)) (sight : Sight) (printed : List 
 abbrev pub ShowsOn : (old : Sight) → (before : List ℕ) → (new : Sight) → (after : List ℕ) → Type 0
 ShowsOn old before new after =
     (first : Option (List ℕ)) → HasShown first old before → HasShown first new after
+
+-- what was shown is of what a program prints under a schedule
+abbrev pub HasShownSome : (program : List ℕ) → (first : Option (List ℕ)) → Sight → Type 0
+HasShownSome program first sight =
+    (schedule : List Entry) × HasShown first sight (printed program schedule)

@@ -1,10 +1,12 @@
 //! Who is shown what a run prints, as it comes.
 
 ghost use Rattle.std.specs.Prelude.{◌≡◌, ◌≤◌, ℕ, Bool, true, false, List, Option, None, length, drop, min, not, OnOk, IfSome, IfNone, if◌then◌else◌};
+ghost use Rattle.std.specs.Result.{is_err};
 ghost use Rattle.std.specs.Io.KnownBytes.{Appends};
 ghost use Rattle.ps_vault.specs.Screens.{AppendsPart, ShowsOn};
 ghost use Rattle.ps_vault.specs.Stories.{world_at};
 
+use crate::reports::{Report, RunFault};
 use crate::vaults::Vault;
 use ps_interpreter::interprets::Interpret;
 use ps_mem::Memory;
@@ -17,7 +19,7 @@ use thiserror::Error;
 #[error("not all bytes could be shown")]
 pub struct Unseen;
 
-/// Who is shown printed bytes.
+/// Who is shown printed bytes, until it can't be shown all of them.
 pub trait Viewer {
     /// The bytes that it was shown, as far as they are known.
     ghost seen: { Self → Option (List ℕ) };
@@ -25,15 +27,24 @@ pub trait Viewer {
     /// Whether it wants to see them while a run goes on.
     ghost watching: { Self → Bool };
 
+    /// Whether it could not be shown all bytes.
+    ghost failed: { Self → Bool };
+
     /// Whether it wants to see them while a run goes on.
     fn watches(&self) -> bool
         ensures { result ≡ watching self.now };
 
+    /// Whether it could not be shown all bytes.
+    fn has_failed(&self) -> bool
+        ensures { result ≡ failed self.now };
+
     /// Shows it these bytes. `Unseen`: it was shown a beginning of them.
     fn show(&mut self, bytes: &[u8]) -> Result<(), Unseen>
+        requires going { failed self.old ≡ false }
         ensures part { AppendsPart (seen self.old) (seen self.new) bytes.now }
         ensures whole { OnOk result (Appends (seen self.old) (seen self.new) bytes.now) }
-        ensures watching { watching self.new ≡ watching self.old };
+        ensures watching { watching self.new ≡ watching self.old }
+        ensures failed { failed self.new ≡ is_err result };
 }
 
 /// No one is shown anything, so nothing is known of it.
@@ -47,7 +58,13 @@ impl Viewer for NoViewer {
 
     ghost watching = { λ viewer. false };
 
+    ghost failed = { λ viewer. false };
+
     fn watches(&self) -> bool {
+        false
+    }
+
+    fn has_failed(&self) -> bool {
         false
     }
 
@@ -62,7 +79,6 @@ impl Viewer for NoViewer {
 pub struct Screen<V: Viewer + Drop> {
     viewer: V,
     shown: usize,
-    failed: bool,
 }
 
 impl<V: Viewer + Drop> Model for Screen<V> {
@@ -74,7 +90,7 @@ impl<V: Viewer + Drop> Model for Screen<V> {
       seen = V.seen s.viewer;
       watching = V.watching s.viewer;
       shown = s.shown;
-      failed = s.failed;
+      failed = V.failed s.viewer;
     } };
 }
 
@@ -84,13 +100,9 @@ impl<V: Viewer + Drop> Screen<V> {
         ensures seen { result.seen ≡ V.seen viewer }
         ensures watching { result.watching ≡ V.watching viewer }
         ensures shown { result.shown ≡ 0 }
-        ensures failed { result.failed ≡ false }
+        ensures failed { result.failed ≡ V.failed viewer }
     {
-        Screen {
-            viewer,
-            shown: 0,
-            failed: false,
-        }
+        Screen { viewer, shown: 0 }
     }
 
     /// How many steps are made before the viewer is shown what they printed: those of a turn, or,
@@ -109,7 +121,7 @@ impl<V: Viewer + Drop> Screen<V> {
     pub fn has_failed(&self) -> bool
         ensures { result ≡ self.now.failed }
     {
-        self.failed
+        self.viewer.has_failed()
     }
 
     /// Shows what was printed behind the bytes that were shown, if the viewer watches. False: showing
@@ -139,12 +151,11 @@ impl<V: Viewer + Drop> Screen<V> {
         ensures watching { self.new.watching ≡ self.old.watching }
         ensures stays { self.old.failed ≡ true → self.new ≡ self.old }
     {
-        if self.failed || self.shown == printed.len() {
+        if self.has_failed() || self.shown == printed.len() {
             return;
         }
-        match self.viewer.show(&printed[self.shown..]) {
-            Ok(()) => self.shown = printed.len(),
-            Err(Unseen) => self.failed = true,
+        if self.viewer.show(&printed[self.shown..]).is_ok() {
+            self.shown = printed.len();
         }
     }
 
@@ -155,7 +166,7 @@ impl<V: Viewer + Drop> Screen<V> {
         ensures none { IfNone result (self.now.failed ≡ true) }
         ensures some { self.now.failed ≡ true → result ≡ None }
     {
-        if self.failed {
+        if self.has_failed() {
             return None;
         }
         Some(&printed[self.shown..])
@@ -163,11 +174,19 @@ impl<V: Viewer + Drop> Screen<V> {
 
     /// The viewer itself.
     pub fn into_inner(self) -> V
-        ensures { V.seen result ≡ self.seen }
+        ensures seen { V.seen result ≡ self.seen }
+        ensures failed { V.failed result ≡ self.failed }
     {
         let Screen { viewer, .. } = self;
         viewer
     }
+}
+
+/// A run's report or fault, and who was shown what it prints.
+#[derive(Drop)]
+pub struct Watched<V: Viewer + Drop> {
+    pub report: Result<Report, RunFault>,
+    pub screen: Screen<V>,
 }
 
 impl<M: Memory + Drop, S: Interpret + Drop, D: Deeds + Drop> Vault<'_, M, S, D> {

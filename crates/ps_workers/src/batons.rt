@@ -1,52 +1,69 @@
 //! The baton: a vault with all that a worker needs to make a turn. Who holds it makes steps.
 //!
-//! It keeps (`Keeps`) that the steps made are counted and within the budget, that each refused one
-//! was refused for a reason, and that an outcome, once it stands, is that of the vault's world.
+//! It keeps (`Keeps`) that it is of the run that its type names, that the steps made are counted and
+//! within the budget, that each refused one was refused for a reason, that what was shown is a
+//! beginning of what was printed, and that an outcome, once it stands, is that of the vault's world.
 
 ghost use Rattle.std.specs.Prelude.{◌≡◌, length, ◌==◌, ◌+◌, ◌<◌, ◌≤◌, ◌≢◌, true, false, IfErr, IfOk, IfSome, IfNone, IsErr, IsSome, None, Err};
-ghost use Rattle.ps_mem.specs.Bounded.{bounded_space};
 ghost use Rattle.ps_start.specs.Starts.{IsEmptyHeap};
 ghost use Rattle.ps_vault.specs.Holds.{IfForRoom, IsHeldUp};
 ghost use Rattle.ps_vault.specs.Order.{IsNoneAbove};
-ghost use Rattle.ps_vault.specs.Reports.{EndsAs, IsRunIn, IsWithin};
+ghost use Rattle.ps_vault.specs.Reports.{EndsAs, IsWithin};
 ghost use Rattle.ps_vault.specs.Stories.{world_at};
 ghost use Rattle.ps_world.specs.Needs.{step_wants};
-ghost use Rattle.ps_workers.specs.Batons.{GoesOn, IsStarvedAt, MayGoOn, MayRefuse};
+ghost use Rattle.ps_workers.specs.Batons.{GoesOn, HasEnded, IsStarvedAt, MayGoOn, MayRefuse};
 
+use crate::origins::Origin;
 use crate::paces::Pace;
+use crate::runs::Job;
 use crate::waits::Waits;
 use ps_flips::collected::Counts;
 use ps_interpreter::interprets::Interpret;
 use ps_mem::Memory;
 use ps_ops::failure::NotMade;
-use ps_vault::{Config, FIRST_ENTRIES, Outcome, Report, RunFault, Setup, Told, Vault};
+use ps_vault::{
+    Config, FIRST_ENTRIES, Outcome, RunFault, Screen, Setup, Told, Vault, Viewer, Watched,
+};
 use ps_world::deeds::Deeds;
-use std::alloc::{AllocError, Global};
-use std::hash::RandomState;
-use std::marker::Model;
+use std::alloc::Global;
+use std::marker::{Model, PhantomData};
 
 /// The most turns of one hold of the baton: to hand it on costs as much as some turns.
 pub(crate) const TURNS: u32 = 1024;
 
-/// The vault, and whose turn is next.
+/// The vault, whose turn is next, and who is shown what is printed.
 #[derive(Drop)]
-pub(crate) struct Baton<'a, M: Memory + Drop, S: Interpret + Drop, D: Deeds + Drop> {
+pub(crate) struct Baton<
+    'a,
+    O: Origin,
+    M: Memory + Drop,
+    S: Interpret + Drop,
+    D: Deeds + Drop,
+    V: Viewer + Drop,
+> {
     pub(crate) vault: Vault<'a, M, S, D>,
     pub(crate) config: Config,
     /// How many steps were made.
     pub(crate) made: u32,
+    /// How many may be made.
+    pub(crate) budget: u32,
     /// Whose turn was the last.
     pub(crate) after: u32,
     pub(crate) outcome: Option<Outcome>,
+    pub(crate) screen: Screen<V>,
+    /// Whether all threads were started.
+    started: bool,
     /// A thread could not be started.
-    pub(crate) refused: bool,
+    refused: bool,
     /// When a cycle is opened.
     pub(crate) pace: Pace,
     /// What workers and the collector's thread wait for.
     pub(crate) waits: Waits,
+    of: PhantomData<O>,
 }
 
-impl<'a, M: Memory + Drop, S: Interpret + Drop, D: Deeds + Drop> Model for Baton<'a, M, S, D> {
+impl<'a, O: Origin, M: Memory + Drop, S: Interpret + Drop, D: Deeds + Drop, V: Viewer + Drop> Model
+    for Baton<'a, O, M, S, D, V> {
     ghost use Rattle.ps_workers.specs.Batons.{Progress, Keeps};
 
     ghost Value = { Progress };
@@ -55,64 +72,96 @@ impl<'a, M: Memory + Drop, S: Interpret + Drop, D: Deeds + Drop> Model for Baton
       story = b.vault;
       config = b.config;
       made = b.made;
+      budget = b.budget;
+      sight = b.screen;
       outcome = b.outcome;
     } };
 
-    ghost invariant = { λ b. Keeps S.asks (record {
+    ghost invariant = { λ b. Keeps S.asks O.start (record {
       story = b.vault;
       config = b.config;
       made = b.made;
+      budget = b.budget;
+      sight = b.screen;
       outcome = b.outcome;
     }) };
 }
 
-impl<'a, M: Memory + Drop, S: Interpret + Drop, D: Deeds + Drop> Baton<'a, M, S, D> {
-    /// A baton for the run of a program, over a memory of the configuration's size in which nothing
-    /// stands. `AllocError`: the room that the run starts with can't be had.
+impl<'a, O: Origin, M: Memory + Drop, S: Interpret + Drop, D: Deeds + Drop, V: Viewer + Drop> Baton<
+    'a,
+    O,
+    M,
+    S,
+    D,
+    V,
+> {
+    /// A baton for the run that its type names, over a memory of the configuration's size in which
+    /// nothing stands. The error gives the viewer back: the room that the run starts with can't be
+    /// had.
     pub(crate) fn new(
         alloc: Global,
         memory: M,
-        interpret: S,
-        deeds: D,
-        program: &'a [u8],
-        config: Config,
-        keys: RandomState,
-    ) -> Result<Self, AllocError>
+        job: Job<'a, S, D>,
+        screen: Screen<V>,
+    ) -> Result<Self, Screen<V>>
         requires empty { IsEmptyHeap (M.heap memory) }
-        requires sized { (M.heap memory).space.size ≡ config.space }
+        requires sized { (M.heap memory).space.size ≡ job.config.space }
         requires unmoved { (M.heap memory).space.flips ≡ 0 }
-        requires numbers { IsWithin config }
-        ensures program { IfOk result (λ baton. baton.story.program ≡ program.now) }
-        ensures config { IfOk result (λ baton. baton.config ≡ config) }
-        ensures outcome { IfOk result (λ baton. baton.outcome ≡ None) }
+        requires numbers { IsWithin job.config }
+        requires start { O.start
+            ≡ record { program = job.program.now; config = job.config; sight = screen } }
+        requires nothing { screen.shown ≡ 0 }
+        requires going { screen.failed ≡ false }
+        ensures fault { IfErr result (λ given. given ≡ screen) }
     {
+        let Job {
+            interpret,
+            deeds,
+            program,
+            config,
+            keys,
+        } = job;
         prove!(config.steps <= u32::MAX);
-        let vault = Vault::new(
+        let setup = Setup {
+            keys,
+            output: config.output,
+        };
+        let Ok(vault) = Vault::new(
             alloc,
             memory,
             interpret,
             deeds,
             program,
-            Setup {
-                keys,
-                output: config.output,
-            },
+            setup,
             FIRST_ENTRIES,
-        )?;
+        ) else {
+            return Err(screen);
+        };
         Ok(Baton {
             vault,
             config,
             made: 0,
+            budget: config.steps,
             after: 0,
             outcome: None,
+            screen,
+            started: false,
             refused: false,
             pace: Pace::new(config.space),
             waits: Waits::new(),
+            of: PhantomData,
         })
     }
 }
 
-impl<M: Memory + Drop, S: Interpret + Drop, D: Deeds + Drop> Baton<'_, M, S, D> {
+impl<O: Origin, M: Memory + Drop, S: Interpret + Drop, D: Deeds + Drop, V: Viewer + Drop> Baton<
+    '_,
+    O,
+    M,
+    S,
+    D,
+    V,
+> {
     /// Whether the run is over, or a thread could not be started.
     pub(crate) fn is_over(&self) -> bool
         ensures going { result ≡ false → self.now.outcome ≡ None }
@@ -128,6 +177,41 @@ impl<M: Memory + Drop, S: Interpret + Drop, D: Deeds + Drop> Baton<'_, M, S, D> 
         self.refused = true;
     }
 
+    /// All threads were started, if none could not be: from now on who watches is shown what is
+    /// printed.
+    pub(crate) fn start(&mut self)
+        ensures { self.new ≡ self.old }
+    {
+        self.started = !self.refused;
+    }
+
+    /// Whether it is a time to show what was printed: all threads were started, the run isn't over
+    /// and showing hasn't failed, and no call waits.
+    fn may_show(&self) -> bool
+        ensures going { result ≡ true → self.now.outcome ≡ None }
+        ensures seen { result ≡ true → self.now.sight.failed ≡ false }
+        ensures calling { result ≡ true → self.now.story.caller ≡ None }
+    {
+        self.started
+            && self.outcome.is_none()
+            && !self.screen.has_failed()
+            && self.vault.caller().is_none()
+    }
+
+    /// Shows what was printed, if the viewer watches and it is a time to. Where that fails the run is
+    /// cut: no more steps are made than were.
+    pub(crate) fn show(&mut self)
+        ensures goes_on { GoesOn self.old self.new }
+        ensures over { IsSome self.old.outcome → self.new ≡ self.old }
+    {
+        if !self.may_show() {
+            return;
+        }
+        if !self.vault.show_printed(&mut self.screen) {
+            self.budget = self.made;
+        }
+    }
+
     /// The context whose turn is next. None: the run is over, or it ends here.
     pub(crate) fn turn_of(&mut self) -> Option<u32>
         ensures goes_on { GoesOn self.old self.new }
@@ -138,7 +222,7 @@ impl<M: Memory + Drop, S: Interpret + Drop, D: Deeds + Drop> Baton<'_, M, S, D> 
         if self.is_over() {
             return None;
         }
-        if self.made == self.config.steps {
+        if self.made == self.budget {
             self.judge();
             return None;
         }
@@ -152,7 +236,7 @@ impl<M: Memory + Drop, S: Interpret + Drop, D: Deeds + Drop> Baton<'_, M, S, D> 
     /// The context whose call waits; else the ready one of the least identifier above that of the
     /// last turn, or of all.
     fn next(&mut self) -> Option<u32>
-        requires left { self.old.made < self.old.config.steps }
+        requires left { self.old.made < self.old.budget }
         ensures same { self.new ≡ self.old }
         ensures some { IfSome result (MayGoOn self.old) }
         ensures none { IfNone result (self.old.story.caller ≡ None) }
@@ -172,7 +256,7 @@ impl<M: Memory + Drop, S: Interpret + Drop, D: Deeds + Drop> Baton<'_, M, S, D> 
         ensures same { self.new ≡ self.old }
         ensures may { result ≡ true → MayGoOn self.old context }
     {
-        if self.made >= self.config.steps {
+        if self.made >= self.budget {
             return false;
         }
         match self.vault.caller() {
@@ -184,12 +268,12 @@ impl<M: Memory + Drop, S: Interpret + Drop, D: Deeds + Drop> Baton<'_, M, S, D> 
     /// The run has ended: its steps are used up, or no context is ready.
     fn judge(&mut self)
         requires calling { self.old.story.caller ≡ None }
-        requires ready { self.old.made ≢ self.old.config.steps
+        requires ready { self.old.made ≢ self.old.budget
             → IsNoneAbove (world_at self.old.story) 0 }
         ensures goes_on { GoesOn self.old self.new }
         ensures ended { IsSome self.new.outcome }
     {
-        let outcome = self.vault.outcome(self.made == self.config.steps);
+        let outcome = self.vault.outcome(self.made == self.budget);
         self.finish(outcome);
     }
 
@@ -199,7 +283,7 @@ impl<M: Memory + Drop, S: Interpret + Drop, D: Deeds + Drop> Baton<'_, M, S, D> 
         requires may { MayGoOn self.old context }
         requires outcome { self.old.outcome ≡ None }
         requires some { 1 ≤ most }
-        requires left { most + self.old.made ≤ self.old.config.steps }
+        requires left { most + self.old.made ≤ self.old.budget }
         ensures goes_on { GoesOn self.old self.new }
         ensures may { IsErr result → MayGoOn self.new context }
         ensures outcome { IsErr result → self.new.outcome ≡ None }
@@ -227,7 +311,7 @@ impl<M: Memory + Drop, S: Interpret + Drop, D: Deeds + Drop> Baton<'_, M, S, D> 
 
     /// The run has ended so.
     pub(crate) fn finish(&mut self, outcome: Outcome)
-        requires ends { EndsAs (world_at self.old.story) (self.old.made == self.old.config.steps)
+        requires ends { EndsAs (world_at self.old.story) (self.old.made == self.old.budget)
             (IsStarvedAt S.asks self.old.story) outcome }
         ensures goes_on { GoesOn self.old self.new }
         ensures ended { IsSome self.new.outcome }
@@ -258,32 +342,32 @@ impl<M: Memory + Drop, S: Interpret + Drop, D: Deeds + Drop> Baton<'_, M, S, D> 
         }
     }
 
-    /// The run's report with these counts, if it is over and was one of this program with these
-    /// numbers.
-    pub(crate) fn report(
-        self,
-        program: &[u8],
-        config: Config,
-        counts: Counts,
-    ) -> Result<Report, RunFault>
-        ensures run { IfOk result (IsRunIn S.asks (bounded_space config.space) program.now
-            config.steps) }
-        ensures bounded { IfOk result (λ report. length report.printed.items ≤ config.output) }
-        ensures fault { result ≢ Err RunFault.Config }
+    /// The run's report with these counts, if it is over, and its viewer.
+    pub(crate) fn report(self, counts: Counts) -> Watched<V>
+        ensures ended { HasEnded S.asks O.start result.report result.screen }
+        ensures fault { result.report ≢ Err RunFault.Config }
     {
         let Baton {
             vault,
-            config: own,
+            budget,
             outcome,
             refused,
+            screen,
             ..
         } = self;
         let Some(outcome) = outcome else {
-            return Err(RunFault::Memory);
+            return Watched {
+                report: Err(RunFault::Memory),
+                screen,
+            };
         };
-        if refused || own != config || !vault.is_of(program) {
-            return Err(RunFault::Memory);
+        if refused {
+            return Watched {
+                report: Err(RunFault::Memory),
+                screen,
+            };
         }
-        Ok(vault.into_report(config.steps, outcome, counts))
+        let report = Ok(vault.into_report(budget, outcome, counts));
+        Watched { report, screen }
     }
 }

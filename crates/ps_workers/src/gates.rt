@@ -1,9 +1,10 @@
-//! A memory that tells a gate of each store before it makes it, and what is told of the collector.
+//! A memory that tells a gate of each store before it makes it, and a collector that tells it what it
+//! copied.
 
 ghost use Rattle.std.specs.Prelude.{◌≡◌};
 
 use ps_flips::collected::Counts;
-use ps_flips::sides::{Collects, LoggedMemory, Past};
+use ps_flips::sides::{Collects, LoggedMemory, Works};
 use ps_language::kinds::Kind;
 use ps_mem::marks::Mark;
 use ps_mem::{Memory, NeedFault, Permit};
@@ -21,25 +22,16 @@ pub trait Gate {
     fn copied(&self, words: u64);
 }
 
-/// No one is told.
-pub struct Nobody;
-
-impl Gate for Nobody {
-    fn store(&self, _cycle_open: bool) {}
-
-    fn copied(&self, _words: u64) {}
-}
-
 /// A memory that is collected, with its gate.
 #[derive(Drop)]
-pub struct Gated<'g, M: LoggedMemory + Drop, G: Gate> {
+pub(crate) struct Gated<'g, M: LoggedMemory + Drop, G: Gate> {
     memory: M,
     gate: &'g G,
 }
 
 impl<'g, M: LoggedMemory + Drop, G: Gate> Gated<'g, M, G> {
     /// A memory whose stores are told to this gate.
-    pub fn new(memory: M, gate: &'g G) -> Gated<'g, M, G>
+    pub(crate) fn new(memory: M, gate: &'g G) -> Gated<'g, M, G>
         ensures { result.memory ≡ memory }
     {
         Gated { memory, gate }
@@ -133,20 +125,57 @@ impl<M: LoggedMemory + Drop, G: Gate> LoggedMemory for Gated<'_, M, G> {
     ghost bounded = { λ g. M.bounded g.memory };
 }
 
-impl<'g, M: LoggedMemory + Drop, G: Gate, C: Collects<M>> Collects<Gated<'g, M, G>> for Past<C> {
+/// The collector of such a memory, with its gate.
+#[derive(Drop)]
+pub(crate) struct GatedCollector<'g, C: Drop, G: Gate> {
+    collector: C,
+    gate: &'g G,
+}
+
+impl<'g, C: Drop, G: Gate> GatedCollector<'g, C, G> {
+    /// A collector whose copying is told to this gate.
+    pub(crate) fn new(collector: C, gate: &'g G) -> GatedCollector<'g, C, G>
+        ensures { result.collector ≡ collector }
+    {
+        GatedCollector { collector, gate }
+    }
+}
+
+impl<C: Works + Drop, G: Gate> Works for GatedCollector<'_, C, G> {
+    fn act(&mut self) -> bool {
+        let before = self.collector.copied();
+        let worked = self.collector.act();
+        let after = self.collector.copied();
+        if after != before {
+            self.gate.copied(after);
+        }
+        worked
+    }
+
+    fn copied(&self) -> u64 {
+        self.collector.copied()
+    }
+
+    fn look_anew(&mut self) {
+        self.collector.look_anew();
+    }
+}
+
+impl<'g, M: LoggedMemory + Drop, G: Gate, C: Collects<M> + Drop> Collects<Gated<'g, M, G>>
+    for GatedCollector<'g, C, G> {
     fn hand_over(&mut self, memory: &mut Gated<'g, M, G>, roots: &[Word]) {
-        self.0.hand_over(&mut memory.memory, roots);
+        self.collector.hand_over(&mut memory.memory, roots);
     }
 
     fn try_flip(&mut self, memory: &mut Gated<'g, M, G>, roots: &mut [Word]) -> bool {
-        self.0.try_flip(&mut memory.memory, roots)
+        self.collector.try_flip(&mut memory.memory, roots)
     }
 
     fn whole_cycle(&mut self, memory: &mut Gated<'g, M, G>, roots: &mut [Word]) -> bool {
-        self.0.whole_cycle(&mut memory.memory, roots)
+        self.collector.whole_cycle(&mut memory.memory, roots)
     }
 
     fn end_cycle(&mut self, memory: &mut Gated<'g, M, G>, roots: &mut [Word]) -> bool {
-        self.0.end_cycle(&mut memory.memory, roots)
+        self.collector.end_cycle(&mut memory.memory, roots)
     }
 }

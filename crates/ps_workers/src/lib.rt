@@ -21,28 +21,32 @@
 //! - A step that finds no room is tried again after a whole collection, and then refused, in the hold
 //!   that collects: else another context could take the room.
 //! - The baton keeps that its outcome is that of its vault's world, since what a lock holds is
-//!   known by its type alone. So program and numbers are compared at the end (`report`).
+//!   known by its type alone. So its type also names the run (`Origin`): its program, its numbers
+//!   and what its viewer had seen.
+//! - Who watches is shown what was printed by the worker that has the lock, behind its turns, so in
+//!   order and each byte once. A viewer that is slow holds the others up. Nothing is shown before
+//!   all threads are started, since a run whose thread can't be started prints nothing.
 //! - `run_serial` is over plain words, and its collector works between steps: a host that wants no
 //!   thread needs no shared word, each of which is dearer. The baton is the same.
 //! - `run_alone` is that with no lock: a host's thread makes the turns itself. So it may be called
 //!   where nothing may wait, and its return is proved.
 //! - `run_alone_behind` takes from a schedule whose turns come first, and makes them as its own: so a
 //!   turn that the schedule ends in goes on behind it, as it would in a run that wasn't cut.
-//! - A gate is a memory around a memory (`Gated`), so a run without one pays nothing. That it is
-//!   told of each store is shown by tests alone.
+//! - Each memory gets marks of names here (`Marked`), around what is given.
+//! - A gate is a memory around a memory (`Gated`) and a collector around a collector
+//!   (`GatedCollector`), so a run without one pays nothing. That it is told of each store is shown by
+//!   tests alone.
 #![tactic(auto)]
 
 mod batons;
 mod gates;
 mod loops;
+mod origins;
 mod paces;
 mod runs;
 mod serial;
 mod serving;
 mod waits;
 
-pub use gates::{Gate, Gated, Nobody};
-pub use ps_flips::sides::Past;
-pub use runs::{
-    Job, run, run_alone, run_alone_behind, run_beside, run_gated, run_serial, run_serial_in,
-};
+pub use gates::Gate;
+pub use runs::{Job, run, run_alone, run_alone_behind, run_gated, run_serial, run_shown};

@@ -2,12 +2,13 @@
 //! collector's thread takes it for what both sides of the memory do together, and copies without it.
 
 use crate::batons::Baton;
-use crate::gates::Gate;
+use crate::origins::Origin;
 use crate::serial::SerialBaton;
 use crate::serving::{Lent, Stage};
 use ps_flips::collected::CollectedMemory;
 use ps_flips::sides::{Collects, LoggedMemory, Works};
 use ps_interpreter::interprets::Interpret;
+use ps_vault::Viewer;
 use ps_world::deeds::Deeds;
 use std::sync::atomic::{AtomicU64, Ordering};
 use std::sync::{Condvar, Mutex, Wait};
@@ -19,8 +20,15 @@ const ACTIONS: u32 = 1024;
 
 /// What the threads of a run share.
 #[derive(Drop)]
-pub(crate) struct Desk<'a, M: LoggedMemory + Drop, S: Interpret + Drop, D: Deeds + Drop> {
-    pub(crate) baton: Mutex<Baton<'a, M, S, D>>,
+pub(crate) struct Desk<
+    'a,
+    O: Origin,
+    M: LoggedMemory + Drop,
+    S: Interpret + Drop,
+    D: Deeds + Drop,
+    V: Viewer + Drop,
+> {
+    pub(crate) baton: Mutex<Baton<'a, O, M, S, D, V>>,
     /// Workers wait here for the collector's thread.
     workers: Condvar,
     /// The collector's thread waits here until it has something to do.
@@ -29,9 +37,16 @@ pub(crate) struct Desk<'a, M: LoggedMemory + Drop, S: Interpret + Drop, D: Deeds
     copied: AtomicU64,
 }
 
-impl<'a, M: LoggedMemory + Drop, S: Interpret + Drop, D: Deeds + Drop> Desk<'a, M, S, D> {
+impl<
+    'a,
+    O: Origin,
+    M: LoggedMemory + Drop,
+    S: Interpret + Drop,
+    D: Deeds + Drop,
+    V: Viewer + Drop,
+> Desk<'a, O, M, S, D, V> {
     /// A desk for this baton.
-    pub(crate) fn new(baton: Baton<'a, M, S, D>) -> Desk<'a, M, S, D> {
+    pub(crate) fn new(baton: Baton<'a, O, M, S, D, V>) -> Desk<'a, O, M, S, D, V> {
         Desk {
             baton: Mutex::new(baton),
             workers: Condvar::new(),
@@ -41,7 +56,13 @@ impl<'a, M: LoggedMemory + Drop, S: Interpret + Drop, D: Deeds + Drop> Desk<'a, 
     }
 }
 
-impl<M: LoggedMemory + Drop, S: Interpret + Drop, D: Deeds + Drop> Desk<'_, M, S, D> {
+impl<
+    O: Origin,
+    M: LoggedMemory + Drop,
+    S: Interpret + Drop,
+    D: Deeds + Drop,
+    V: Viewer + Drop,
+> Desk<'_, O, M, S, D, V> {
     /// A worker: turns under the lock, again and again, until the run is over. It sleeps while it
     /// has to wait for the collector's thread, and wakes that thread where there is something for
     /// it.
@@ -65,10 +86,10 @@ impl<M: LoggedMemory + Drop, S: Interpret + Drop, D: Deeds + Drop> Desk<'_, M, S
 
     /// The collector works beside the workers, without the lock, until it finds nothing to do. It
     /// looks now and then whether it is called, where the lock happens to be free.
-    fn copy_beside<C: Works, G: Gate>(&self, gate: &G, collector: &mut C) {
+    fn copy_beside<C: Works>(&self, collector: &mut C) {
         collector.look_anew();
         for _ in 0..u64::MAX {
-            let worked = copy_some(gate, collector);
+            let worked = act_some(collector);
             let copied = collector.copied();
             self.copied.store(copied, Ordering::SeqCst);
             if !worked || self.is_called(copied) {
@@ -81,7 +102,7 @@ impl<M: LoggedMemory + Drop, S: Interpret + Drop, D: Deeds + Drop> Desk<'_, M, S
     /// clear or it is called. It looks now and then, where the lock happens to be free.
     fn clear_beside<C: Works>(&self, collector: &mut C) {
         for _ in 0..u64::MAX {
-            if !clear_some(collector) || self.is_awaited() {
+            if !act_some(collector) || self.is_awaited() {
                 return;
             }
         }
@@ -113,12 +134,7 @@ impl<M: LoggedMemory + Drop, S: Interpret + Drop, D: Deeds + Drop> Desk<'_, M, S
 
     /// The collector's thread: it sleeps until a cycle is open or it is asked for one, takes the
     /// lock for what both sides do together, and works without it between.
-    fn collect<C: Collects<M> + Works + Drop, G: Gate, R: Wait>(
-        &self,
-        rt: &R,
-        gate: &G,
-        lent: Lent<C>,
-    ) {
+    fn collect<C: Collects<M> + Works + Drop, R: Wait>(&self, rt: &R, lent: Lent<C>) {
         let (mut lent, mut stage) = (lent, Stage::Rest);
         for _ in rt.forever() {
             let mut held = self
@@ -131,10 +147,15 @@ impl<M: LoggedMemory + Drop, S: Interpret + Drop, D: Deeds + Drop> Desk<'_, M, S
                 Stage::Over => return,
                 Stage::Rest => self.clear_beside(&mut lent.collector),
                 Stage::Copy | Stage::Drain | Stage::Last | Stage::Stop => {
-                    self.copy_beside(gate, &mut lent.collector);
+                    self.copy_beside(&mut lent.collector);
                 }
             }
         }
+    }
+
+    /// All threads were started, if none could not be.
+    fn start<R: Wait>(&self, rt: &R) {
+        self.baton.lock(rt).start();
     }
 
     /// A thread could not be started: all others end at their next look.
@@ -145,8 +166,8 @@ impl<M: LoggedMemory + Drop, S: Interpret + Drop, D: Deeds + Drop> Desk<'_, M, S
     }
 }
 
-/// Some words of the space that was left are cleared. False: none is left.
-fn clear_some<C: Works>(collector: &mut C) -> bool {
+/// Some actions of the collector. False: it found nothing to do.
+fn act_some<C: Works>(collector: &mut C) -> bool {
     for _ in 0..ACTIONS {
         if !collector.act() {
             return false;
@@ -155,63 +176,39 @@ fn clear_some<C: Works>(collector: &mut C) -> bool {
     true
 }
 
-/// Some actions of the collector; the gate is told what it copied. False: it found nothing to do.
-fn copy_some<C: Works, G: Gate>(gate: &G, collector: &mut C) -> bool {
-    for _ in 0..ACTIONS {
-        let before = collector.copied();
-        if !collector.act() {
-            return false;
-        }
-        let after = collector.copied();
-        if after != before {
-            gate.copied(after);
-        }
-    }
-    true
-}
-
-/// Starts so many workers, and returns when all have ended.
-fn work_by<
+/// Starts the collector and so many workers, and returns when all have ended.
+pub(crate) fn work_all<
+    O: Origin + Send + Sync,
     M: LoggedMemory + Drop + Send,
     S: Interpret + Drop + Send,
     D: Deeds + Drop + Send,
+    V: Viewer + Drop + Send,
+    C: Collects<M> + Works + Drop + Send,
     R: Threads + Wait + Sync,
->(rt: &R, desk: &Desk<'_, M, S, D>, workers: u32) {
+>(rt: &R, desk: &Desk<'_, O, M, S, D, V>, lent: Lent<C>, workers: u32) {
     thread::scope(thread::scope_env(), rt, |scope| {
         for _ in 0..workers {
             if scope.spawn(move || desk.work(rt)).is_err() {
                 desk.refuse(rt);
             }
         }
-    });
-}
-
-/// Starts the collector and so many workers, and returns when all have ended.
-pub(crate) fn work_all<
-    M: LoggedMemory + Drop + Send,
-    S: Interpret + Drop + Send,
-    D: Deeds + Drop + Send,
-    C: Collects<M> + Works + Drop + Send,
-    G: Gate + Sync,
-    R: Threads + Wait + Sync,
->(rt: &R, desk: &Desk<'_, M, S, D>, gate: &G, lent: Lent<C>, workers: u32) {
-    thread::scope(thread::scope_env(), rt, |scope| {
-        if scope.spawn(move || desk.collect(rt, gate, lent)).is_err() {
+        if scope.spawn(move || desk.collect(rt, lent)).is_err() {
             desk.refuse(rt);
         }
-        work_by(rt, desk, workers);
+        desk.start(rt);
     });
 }
 
 /// A worker of a run whose collector has no thread: turns under the lock, again and again, until the
 /// run is over.
 fn work_serially<
+    O: Origin,
     M: CollectedMemory + Drop,
     S: Interpret + Drop,
     D: Deeds + Drop,
     C: Collects<M> + Drop,
     R: Wait,
->(rt: &R, baton: &Mutex<SerialBaton<'_, M, S, D, C>>) {
+>(rt: &R, baton: &Mutex<SerialBaton<'_, O, M, S, D, C>>) {
     for _ in rt.forever() {
         if baton.lock(rt).turns() {
             return;
@@ -222,12 +219,13 @@ fn work_serially<
 /// Starts so many workers, and returns when all have ended. Where one can't be started, the others
 /// end too.
 pub(crate) fn work_all_serially<
+    O: Origin + Send + Sync,
     M: CollectedMemory + Drop + Send,
     S: Interpret + Drop + Send,
     D: Deeds + Drop + Send,
     C: Collects<M> + Drop + Send,
     R: Threads + Wait + Sync,
->(rt: &R, baton: &Mutex<SerialBaton<'_, M, S, D, C>>, workers: u32) {
+>(rt: &R, baton: &Mutex<SerialBaton<'_, O, M, S, D, C>>, workers: u32) {
     thread::scope(thread::scope_env(), rt, |scope| {
         for _ in 0..workers {
             if scope.spawn(move || work_serially(rt, baton)).is_err() {

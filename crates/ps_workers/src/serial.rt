@@ -9,13 +9,15 @@ ghost use Rattle.ps_vault.specs.Reports.{IsRunIn, IsWithin};
 ghost use Rattle.ps_workers.specs.Batons.{GoesOn, SameProgress, MayGoOn};
 
 use crate::batons::{Baton, TURNS};
+use crate::origins::Origin;
 use crate::runs::Job;
 use crate::serving::Lent;
 use ps_flips::collected::CollectedMemory;
-use ps_flips::sides::Collects;
+use ps_flips::sides::{Collects, Past};
 use ps_interpreter::interprets::Interpret;
+use ps_mem::marked::Marked;
 use ps_ops::failure::NotMade;
-use ps_vault::{Config, Entry, Guide, Outcome, Report, Roots, RunFault};
+use ps_vault::{Entry, Guide, NoViewer, Outcome, Report, Roots, RunFault, Screen, Viewer};
 use ps_world::deeds::Deeds;
 use std::alloc::Global;
 
@@ -25,67 +27,72 @@ const ACTIONS: u32 = 64;
 /// The actions of the collector where a log is full.
 const DRAIN_ACTIONS: u32 = 8192;
 
-/// A baton, with the collector that its memory has inside.
+/// A baton, with the collector that its memory has inside, and marks around that. Who is shown what
+/// it prints sees it at the end.
 #[derive(Drop)]
 pub(crate) struct SerialBaton<
     'a,
+    O: Origin,
     M: CollectedMemory + Drop,
     S: Interpret + Drop,
     D: Deeds + Drop,
     C: Collects<M> + Drop,
 > {
-    pub(crate) baton: Baton<'a, M, S, D>,
-    pub(crate) lent: Lent<C>,
+    pub(crate) baton: Baton<'a, O, Marked<M>, S, D, NoViewer>,
+    pub(crate) lent: Lent<Past<C>>,
 }
 
 impl<
     'a,
+    O: Origin,
     M: CollectedMemory + Drop,
     S: Interpret + Drop,
     D: Deeds + Drop,
     C: Collects<M> + Drop,
-> SerialBaton<'a, M, S, D, C> {
+> SerialBaton<'a, O, M, S, D, C> {
     /// The baton of a run that begins, over a memory of the configuration's size in which nothing
     /// stands. `Config`: a number is out of its range. `Memory`: the room that the run starts with
     /// can't be had.
     pub(crate) fn new(
         alloc: Global,
-        memory: M,
-        collector: C,
+        sides: (M, C),
         job: Job<'a, S, D>,
+        screen: Screen<NoViewer>,
     ) -> Result<Self, RunFault>
-        requires empty { IsEmptyHeap (M.heap memory) }
-        requires sized { (M.heap memory).space.size ≡ job.config.space }
-        requires unmoved { (M.heap memory).space.flips ≡ 0 }
+        requires empty { IsEmptyHeap (M.heap sides.0) }
+        requires sized { (M.heap sides.0).space.size ≡ job.config.space }
+        requires unmoved { (M.heap sides.0).space.flips ≡ 0 }
+        requires start { O.start
+            ≡ record { program = job.program.now; config = job.config; sight = screen } }
+        requires nothing { screen.shown ≡ 0 }
+        requires going { screen.failed ≡ false }
         ensures config { (result ≡ Err RunFault.Config) ↔ ¬ IsWithin job.entry.config }
     {
-        let Job {
-            interpret,
-            deeds,
-            program,
-            config,
-            keys,
-        } = job;
-        if !config.is_within() {
+        if !job.config.is_within() {
             return Err(RunFault::Config);
         }
         let Ok(roots) = Roots::new(alloc) else {
             return Err(RunFault::Memory);
         };
-        let Ok(baton) = Baton::new(alloc, memory, interpret, deeds, program, config, keys) else {
+        let (memory, collector) = sides;
+        let Ok(baton) = Baton::new(alloc, Marked::new(alloc, memory), job, screen) else {
             return Err(RunFault::Memory);
         };
-        let lent = Lent { collector, roots };
+        let lent = Lent {
+            collector: Past(collector),
+            roots,
+        };
         Ok(SerialBaton { baton, lent })
     }
 }
 
 impl<
+    O: Origin,
     M: CollectedMemory + Drop,
     S: Interpret + Drop,
     D: Deeds + Drop,
     C: Collects<M> + Drop,
-> SerialBaton<'_, M, S, D, C> {
+> SerialBaton<'_, O, M, S, D, C> {
     /// The turns of one hold of the baton. True: the run is over, or a thread could not be started.
     pub(crate) fn turns(&mut self) -> bool
         ensures goes_on { GoesOn self.old.baton self.new.baton }
@@ -114,19 +121,28 @@ impl<
         }
     }
 
-    /// The run's report, if it is over and was one of this program with these numbers.
-    pub(crate) fn into_report(self, program: &[u8], config: Config) -> Result<Report, RunFault>
-        ensures run { IfOk result (IsRunIn S.asks (bounded_space config.space) program.now
-            config.steps) }
-        ensures bounded { IfOk result (λ report. length report.printed.items ≤ config.output) }
+    /// The run's report, if it is over. No one was shown anything.
+    pub(crate) fn into_report(self) -> Result<Report, RunFault>
+        requires unseen { O.start.sight.watching ≡ false }
+        requires going { O.start.sight.failed ≡ false }
+        ensures run { IfOk result (IsRunIn S.asks (bounded_space O.start.config.space)
+            O.start.program O.start.config.steps) }
+        ensures bounded { IfOk result
+            (λ report. length report.printed.items ≤ O.start.config.output) }
         ensures fault { result ≢ Err RunFault.Config }
     {
         let SerialBaton { baton, .. } = self;
-        baton.into_report(program, config)
+        baton.into_report().report
     }
 }
 
-impl<M: CollectedMemory + Drop, S: Interpret + Drop, D: Deeds + Drop> Baton<'_, M, S, D> {
+impl<
+    O: Origin,
+    M: CollectedMemory + Drop,
+    S: Interpret + Drop,
+    D: Deeds + Drop,
+    V: Viewer + Drop,
+> Baton<'_, O, M, S, D, V> {
     /// A turn of the next context: at most a quantum of its steps, and only one while a cycle is
     /// open. True: the run is over, or a thread could not be started.
     fn serial_turn<C: Collects<M>>(&mut self, lent: &mut Lent<C>) -> bool
@@ -167,7 +183,7 @@ impl<M: CollectedMemory + Drop, S: Interpret + Drop, D: Deeds + Drop> Baton<'_, 
         requires some { 1 ≤ most }
         ensures goes_on { GoesOn self.old self.new }
     {
-        let left = self.config.steps - self.made;
+        let left = self.budget - self.made;
         let most = if self.vault.is_open() {
             1
         } else {
@@ -182,7 +198,7 @@ impl<M: CollectedMemory + Drop, S: Interpret + Drop, D: Deeds + Drop> Baton<'_, 
         requires may { MayGoOn self.old context }
         requires outcome { self.old.outcome ≡ None }
         requires some { 1 ≤ most }
-        requires left { most + self.old.made ≤ self.old.config.steps }
+        requires left { most + self.old.made ≤ self.old.budget }
         ensures goes_on { GoesOn self.old self.new }
     {
         match self.advance(context, most) {

@@ -1,13 +1,12 @@
 //! Turns of a run whose collector has a thread of its own, and what that thread does when it has the
 //! baton: roots that are handed over, logs that are closed, the flip, and room for who found none.
 
-ghost use Rattle.std.specs.Prelude.{◌≡◌, length, ◌+◌, ◌*◌, ◌<◌, ◌≤◌, ◌≢◌, true, false, None, Err, IfOk, IsSome};
-ghost use Rattle.ps_mem.specs.Bounded.{bounded_space};
+ghost use Rattle.std.specs.Prelude.{◌≡◌, length, ◌+◌, ◌*◌, ◌<◌, ◌≤◌, ◌≢◌, true, false, None, Err, IsSome};
 ghost use Rattle.ps_vault.specs.Holds.{IsHeldUp};
-ghost use Rattle.ps_vault.specs.Reports.{IsRunIn};
-ghost use Rattle.ps_workers.specs.Batons.{GoesOn, IsTight, SameProgress, MayGoOn};
+ghost use Rattle.ps_workers.specs.Batons.{GoesOn, HasEnded, IsTight, SameProgress, MayGoOn};
 
 use crate::batons::{Baton, TURNS};
+use crate::origins::Origin;
 use crate::waits::Wanting;
 use ps_flips::collected::Counts;
 use ps_flips::sides::{Collects, LoggedMemory, Works};
@@ -15,7 +14,7 @@ use ps_interpreter::interprets::Interpret;
 use ps_mem::SLOTS;
 use ps_ops::failure::NotMade;
 use ps_parts_memory::Closing;
-use ps_vault::{Config, Outcome, Report, Roots, RunFault};
+use ps_vault::{Outcome, Roots, RunFault, Viewer, Watched};
 use ps_world::deeds::Deeds;
 
 /// The most steps of one hold of the baton while a cycle is open: the collector's thread may want
@@ -46,7 +45,13 @@ pub(crate) struct Lent<C> {
     pub(crate) roots: Roots,
 }
 
-impl<M: LoggedMemory + Drop, S: Interpret + Drop, D: Deeds + Drop> Baton<'_, M, S, D> {
+impl<
+    O: Origin,
+    M: LoggedMemory + Drop,
+    S: Interpret + Drop,
+    D: Deeds + Drop,
+    V: Viewer + Drop,
+> Baton<'_, O, M, S, D, V> {
     /// Whether a worker has to wait for the collector's thread, which has copied so many words so
     /// far: a cycle is asked for, or the roots of the open one weren't handed over yet, or all turns
     /// were held up for a log, or steps are ahead of the collector.
@@ -109,9 +114,19 @@ impl<M: LoggedMemory + Drop, S: Interpret + Drop, D: Deeds + Drop> Baton<'_, M, 
         full || caught_up
     }
 
-    /// The turns of one hold of the baton, where the collector's thread has copied so many words so
-    /// far. True: the run is over, or a thread could not be started.
+    /// One hold of the baton, where the collector's thread has copied so many words so far: turns,
+    /// and what they printed is shown. True: the run is over, or a thread could not be started.
     pub(crate) fn turns(&mut self, copied: u64) -> bool
+        ensures goes_on { GoesOn self.old self.new }
+        ensures over { IsSome self.old.outcome → self.new ≡ self.old }
+    {
+        let over = self.make_turns(copied);
+        self.show();
+        over
+    }
+
+    /// The turns of one hold of the baton. True: the run is over, or a thread could not be started.
+    fn make_turns(&mut self, copied: u64) -> bool
         ensures goes_on { GoesOn self.old self.new }
         ensures over { IsSome self.old.outcome → self.new ≡ self.old }
     {
@@ -136,7 +151,7 @@ impl<M: LoggedMemory + Drop, S: Interpret + Drop, D: Deeds + Drop> Baton<'_, M, 
         let Some(context) = self.turn_of() else {
             return true;
         };
-        let left = self.config.steps - self.made;
+        let left = self.budget - self.made;
         let most = self.config.quantum.min(left);
         self.make_steps(context, most);
         self.outcome.is_some()
@@ -147,7 +162,7 @@ impl<M: LoggedMemory + Drop, S: Interpret + Drop, D: Deeds + Drop> Baton<'_, M, 
         requires may { MayGoOn self.old context }
         requires outcome { self.old.outcome ≡ None }
         requires some { 1 ≤ most }
-        requires left { most + self.old.made ≤ self.old.config.steps }
+        requires left { most + self.old.made ≤ self.old.budget }
         ensures goes_on { GoesOn self.old self.new }
     {
         match self.advance(context, most) {
@@ -366,16 +381,14 @@ impl<M: LoggedMemory + Drop, S: Interpret + Drop, D: Deeds + Drop> Baton<'_, M, 
         }
     }
 
-    /// The run's report, if it is over and was one of this program with these numbers.
-    pub(crate) fn into_report(self, program: &[u8], config: Config) -> Result<Report, RunFault>
-        ensures run { IfOk result (IsRunIn S.asks (bounded_space config.space) program.now
-            config.steps) }
-        ensures bounded { IfOk result (λ report. length report.printed.items ≤ config.output) }
-        ensures fault { result ≢ Err RunFault.Config }
+    /// The run's report, if it is over, and its viewer.
+    pub(crate) fn into_report(self) -> Watched<V>
+        ensures ended { HasEnded S.asks O.start result.report result.screen }
+        ensures fault { result.report ≢ Err RunFault.Config }
     {
         let mut baton = self;
         let counts = baton.counts();
-        baton.report(program, config, counts)
+        baton.report(counts)
     }
 
     /// How much the collector has done, by the words.

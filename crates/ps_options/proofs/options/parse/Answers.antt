@@ -84,18 +84,20 @@ flag_is : (made : Command) (words : List Text) (m : ArgMatches) (id : Text)
 flag_is made words m id is has = one_text-rows (found_of m) id
     ∙ ap (one_of id) (rows_are made words m is has)
 
--- whether a schedule is excluded
+-- whether one thing excludes another
 excluded_is : (made : Command) (words : List Text) (m : ArgMatches) → app_of made ≡ command_line
     → HasMatchesOf (app_of made) words m
     → excludes (first_value (found_of m) (codes "replay"))
     (first_value (found_of m) (codes "plain")) (first_value (found_of m) (codes "record"))
-    (first_value (found_of m) (codes "explore")) ≡ is_excluded words
+    (first_value (found_of m) (codes "explore")) (first_value (found_of m) (codes "stream"))
+    ≡ is_excluded words
 excluded_is made words m is has =
     let replay = name_is made words m (codes "replay") is has in
     let plain = name_is made words m (codes "plain") is has in
     let recorded = name_is made words m (codes "record") is has in
     let explored = name_is made words m (codes "explore") is has in
-    λ i. excludes (replay i) (plain i) (recorded i) (explored i)
+    let streamed = name_is made words m (codes "stream") is has in
+    λ i. excludes (replay i) (plain i) (recorded i) (explored i) (streamed i)
 
 -- whether a record is written over the program
 overwritten_is : (made : Command) (words : List Text) (m : ArgMatches)
@@ -128,13 +130,13 @@ faults_are made words excluded overwritten is none one two =
     (no_fault made words is none)
     ∙ (λ i. others (one i) (two i))
 
-pub returns-then-is_excluded-clause-fault : goal.returns-then-is_excluded-clause-fault
-returns-then-is_excluded-clause-fault c =
+pub returns-in-Some-clause-fault : goal.returns-in-Some-clause-fault
+returns-in-Some-clause-fault c =
     let words : List Text = map {A = Bor Text} {B = Text} (λ (word : Bor Text). word.now)
     c.args.words.now in
     let told : is_excluded words ≡ true =
     sym (excluded_is c.in_ok-line.line words c.in_ok-matches.matches c.in_ok-line.ensures
-    c.in_ok-matches.ensures.ok.2) ∙ sym c.is_excluded.ensures ∙ c.if-is_excluded.true in
+    c.in_ok-matches.ensures.ok.2) ∙ sym c.excluded.ensures ∙ ap is_some c.in-Some.is in
     let faults = faults_are c.in_ok-line.line words true (is_overwritten words)
     c.in_ok-line.ensures c.in_ok-matches.ensures.kinds told refl in
     subst (λ (kinds : Kinds). HasKind kinds c.in_ok-error.field-0) (sym faults)
@@ -157,9 +159,10 @@ pub returns-clause-fault : goal.returns-clause-fault
 returns-clause-fault c =
     let words : List Text = map {A = Bor Text} {B = Text} (λ (word : Bor Text). word.now)
     c.args.words.now in
+    let none : c.excluded.result ≡ None = search rules in
     let free : is_excluded words ≡ false =
     sym (excluded_is c.in_ok-line.line words c.in_ok-matches.matches c.in_ok-line.ensures
-    c.in_ok-matches.ensures.ok.2) ∙ sym c.is_excluded.ensures ∙ c.if-is_excluded.false in
+    c.in_ok-matches.ensures.ok.2) ∙ sym c.excluded.ensures ∙ ap is_some none in
     let apart : is_overwritten words ≡ false =
     sym (overwritten_is c.in_ok-line.line words c.in_ok-matches.matches c.in_ok-line.ensures
     c.in_ok-matches.ensures.ok.2) ∙ sym c.is_overwritten.ensures ∙ c.if-is_overwritten.false in
@@ -195,6 +198,14 @@ returns-clause-plain c =
     record {
       set = λ told. c.get_flag-2.ensures.value (is ∙ told);
       unset = λ told. c.get_flag-2.ensures.other (is ∙ told);
+    }
+
+pub returns-clause-stream : goal.returns-clause-stream
+returns-clause-stream c =
+    let is = flag_is _ _ _ (codes "stream") c.in_ok-line.ensures c.in_ok-matches.ensures.ok.2 in
+    record {
+      set = λ told. c.get_flag-3.ensures.value (is ∙ told);
+      unset = λ told. c.get_flag-3.ensures.other (is ∙ told);
     }
 
 -- a number of 32 bits that was read of its text is that of the text
@@ -313,7 +324,10 @@ explore_rules = (
                 λ e. cc,
                 (
                   λ e. cc,
-                  (λ e. refl, (λ e. cc, tt)),
+                  (
+                    λ e. cc,
+                    (λ e. refl, (λ e. cc, tt)),
+                  ),
                 ),
               ),
             ),
@@ -343,7 +357,10 @@ output_rules = (
                 λ e. cc,
                 (
                   λ e. cc,
-                  (λ e. cc, (λ e. cc, tt)),
+                  (
+                    λ e. cc,
+                    (λ e. cc, (λ e. cc, tt)),
+                  ),
                 ),
               ),
             ),

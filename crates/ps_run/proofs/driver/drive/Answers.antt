@@ -33,6 +33,8 @@ are_asked g c asked is = (
       ∙ c.in-Ok.ensures.numbers.quantum text found numeral small,
   subst (IsFlag (codes "plain") (map (λ word. word.now) c.args.words.now))
       (sym (ap (λ (a : Asked). a.plain) is)) c.in-Ok.ensures.plain,
+  subst (IsFlag (codes "stream") (map (λ word. word.now) c.args.words.now))
+      (sym (ap (λ (a : Asked). a.streamed) is)) c.in-Ok.ensures.stream,
   subst (IsFlag (codes "stats") (map (λ word. word.now) c.args.words.now))
       (sym (ap (λ (a : Asked). a.stats) is)) c.in-Ok.ensures.stats,
   subst (IsOptional (codes "explore") (map (λ word. word.now) c.args.words.now))
@@ -74,15 +76,15 @@ is_fault g c err fault = elim fault [
 pub returns-in-None-clause-run : goal.returns-in-None-clause-run
 returns-in-None-clause-run g c =
     let at = (goal.at.returns-in-None-clause-run g c).In-Ok in (
-      c.run.result,
+      c.run-status.result.0,
       c.number_of.ensures,
       driven_more _ _ _ _ _ _ _ _ _ (same_names g at) (are_asked g at)
-          (λ fault. inr (is_fault g at _ fault)) c.run.ensures.run,
+          (λ fault. inr (is_fault g at _ fault)) c.run-status.ensures.run,
     )
 
 pub returns-in-None-clause-files : goal.returns-in-None-clause-files
 returns-in-None-clause-files g c = λ name other.
-    c.run.ensures.files name (λ is.
+    c.run-status.ensures.files name (λ is.
     other (record_named _ _ _ _ name c.in-Ok.ensures.record_file
     (sym (none_explored (map (λ word. word.now) c.args.words.now) c.in-Ok.options.explore
     c.in-None.is c.in-Ok.ensures.explore)) is))
@@ -92,15 +94,15 @@ returns-in-None-clause-files g c = λ name other.
 pub returns-in-Some-clause-run : goal.returns-in-Some-clause-run
 returns-in-Some-clause-run g c =
     let at = (goal.at.returns-in-Some-clause-run g c).In-Ok in (
-      c.explore.result,
+      c.explore-status.result,
       c.number_of-in-Some.ensures,
       driven_more _ _ _ _ _ _ _ _ _ (same_names g at) (are_asked g at)
-          (λ fault. inr (is_fault g at _ fault)) c.explore.ensures.run,
+          (λ fault. inr (is_fault g at _ fault)) c.explore-status.ensures.run,
     )
 
 pub returns-in-Some-clause-files : goal.returns-in-Some-clause-files
 returns-in-Some-clause-files g c = λ name other.
-    c.explore.ensures.files name (λ is.
+    c.explore-status.ensures.files name (λ is.
     other (record_named _ _ _ _ name c.in-Ok.ensures.record_file
     (sym (some_explored (map (λ word. word.now) c.args.words.now) c.in-Ok.options.explore
     c.in-Some.runs c.in-Some.is c.in-Ok.ensures.explore)) is))
@@ -112,7 +114,7 @@ returns-in-Err-clause-run g c = (
   c.refuse.result,
   c.number_of-in-Err.ensures,
   elim c.refuse.ensures [
-    | inl memory ↦ inr (inl (memory, refl, refl))
+    | inl memory ↦ inr (inl (memory, inl refl, refl))
     | inr usage ↦
         inl (usage.0, refl, refl, inl (faulty _ c.in-Err.error c.in-Err.ensures.fault usage.1))
   ],

@@ -1,34 +1,77 @@
-use Rattle.std.proofs.Common.{inl, inr, refl, ap, subst, ◌∙◌, arith, length}
+use Rattle.std.proofs.Common.{◌≡◌, ℕ, List, Option, inl, inr, refl, sym, ap, subst, ◌∙◌, arith, length}
 use Rattle.std.specs.Prelude.{option_map}
-use Rattle.ps_run.specs.Driving.{Contents, IsGiven, asked_of, names_of}
+use Rattle.ps_vault.specs.Screens.{HasShown, HasShownSome}
+use Rattle.ps_run.specs.Driving.{Asked, Contents, IsGiven, asked_of, names_of}
 use Rattle.ps_run.proofs.Driven.{written_from}
+use Rattle.ps_run.proofs.Streamed.{begun_or_same, cut_streamed, of_fault, of_report}
 use Rattle.ps_run.proofs.driver.run.Goals as goal
 
-pub returns-in-Ok-make-clause-run : goal.returns-in-Ok-make-clause-run
-returns-in-Ok-make-clause-run g c = inr (inr (inl (record {
-  asked = asked_of c.args.options.now;
-  is_asked = refl;
-  is_single = c.requires.single;
-  report = c.in-Ok-make.report;
-  run = record {
-    program = c.in-Ok.program.items;
-    is_file = c.in-Ok.ensures.bytes;
-    few = omega (
-      arith,
-      ap length c.as_slice.ensures.value,
-      c.as_slice.ensures.len,
-      c.in-Ok.ensures.few,
-    );
-    given = option_map (λ schedule. schedule.items) c.in-Ok-read_given.given;
-    is_given =
-        subst (λ (contents : Contents). IsGiven contents (names_of c.args.options.now).replayed
-        (option_map (λ schedule. schedule.items) c.in-Ok-read_given.given)) c.in-Ok.ensures.kept
-        c.in-Ok-read_given.ensures.given;
-    run = rw c.as_slice.ensures.value at c.in-Ok-make.ensures.made;
-    bounded = c.in-Ok-make.ensures.bounded;
-  };
-  written =
-      written_from _ _ c.in-Ok-make.report _ _ _ _
-      (ap g.X.Write.contents (c.in-Ok-read_given.ensures.told ∙ c.in-Ok.ensures.told))
-      (c.in-Ok-read_given.ensures.kept ∙ c.in-Ok.ensures.kept) c.finish.ensures.written;
-})))
+pub returns-in-Ok-report-clause-run : goal.returns-in-Ok-report-clause-run
+returns-in-Ok-report-clause-run g c =
+    let screen = c.screen_of-screen.result in
+    let shown = c.make-report.result.screen in
+    let report = c.in-Ok-report.report in
+    let first = g.W.Write.contents c.args.out in
+    let seen = subst (λ (known : Option (List ℕ)). HasShown known shown report.printed.items)
+    c.screen_of-screen.ensures.seen
+    (of_report _ _ report c.in-Ok-report.is c.make-report.ensures.shown) in
+    inr (inr (inl (record {
+      asked = asked_of c.args.options.now;
+      is_asked = refl;
+      is_single = c.requires.single;
+      cut = shown.failed;
+      report = report;
+      run = record {
+        program = c.in-Ok.program.items;
+        is_program = (
+          c.in-Ok.ensures.bytes,
+          omega (
+            arith,
+            ap length c.as_slice.ensures.value,
+            c.as_slice.ensures.len,
+            c.in-Ok.ensures.few,
+          ),
+        );
+        given = option_map (λ schedule. schedule.items) c.in-Ok-read_given.given;
+        is_given =
+            subst (λ (contents : Contents). IsGiven contents
+            (names_of c.args.options.now).replayed
+            (option_map (λ schedule. schedule.items) c.in-Ok-read_given.given))
+            c.in-Ok.ensures.kept c.in-Ok-read_given.ensures.given;
+        run = rw c.as_slice.ensures.value at
+            (of_report _ _ report c.in-Ok-report.is c.make-report.ensures.made);
+        bounded = of_report _ _ report c.in-Ok-report.is c.make-report.ensures.bounded;
+        streamed = cut_streamed c.args.options.now.stream screen shown
+            c.screen_of-screen.ensures.watching c.screen_of-screen.ensures.failed
+            c.make-report.ensures.still;
+      };
+      written =
+          written_from _ _ _ report _ _ _ _
+          (ap g.X.Write.contents (c.in-Ok-read_given.ensures.told ∙ c.in-Ok.ensures.told))
+          (c.in-Ok-read_given.ensures.kept ∙ c.in-Ok.ensures.kept)
+          (c.finish.ensures.written first seen);
+    })))
+
+pub returns-in-Err-Memory-clause-run : goal.returns-in-Err-Memory-clause-run
+returns-in-Err-Memory-clause-run g c =
+    let screen = c.screen_of-screen.result in
+    let shown = c.make-report.result.screen in
+    let some : HasShownSome c.in-Ok.program.items screen.seen shown =
+    rw c.as_slice.ensures.value at
+    (of_fault _ c.in-Err-Memory.field-0 c.in-Err-Memory.is c.make-report.ensures.unshown) in
+    inr (inl (
+      c.end.ensures.status,
+      begun_or_same g.S.Interpret.asks (names_of c.args.options.now)
+          (λ (asked : Asked). asked ≡ asked_of c.args.options.now) (asked_of c.args.options.now) _
+          c.in-Ok.program.items screen shown refl c.requires.single (
+            c.in-Ok.ensures.bytes,
+            omega (
+              arith,
+              ap length c.as_slice.ensures.value,
+              c.as_slice.ensures.len,
+              c.in-Ok.ensures.few,
+            ),
+          ) c.screen_of-screen.ensures.watching (sym c.screen_of-screen.ensures.seen)
+          c.output_of.ensures c.make-report.ensures.still some,
+      c.in-Ok-read_given.ensures.kept ∙ c.in-Ok.ensures.kept,
+    ))

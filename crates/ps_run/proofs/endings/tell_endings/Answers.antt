@@ -1,4 +1,4 @@
-use Rattle.ps_run.proofs.Written.{part_before, part_behind}
+use Rattle.ps_vault.proofs.Parts.{part_before, part_behind}
 use Rattle.ps_run.proofs.endings.tell_endings.Goals as goal
 
 pub returns-in_err-write_number : goal.returns-in_err-write_number

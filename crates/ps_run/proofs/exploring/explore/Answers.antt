@@ -27,12 +27,14 @@ returns-in-Ok-explore-clause-run g c =
       runs = c.args.runs;
       are_many = c.requires.many;
       program = c.in-Ok.program.items;
-      is_file = c.in-Ok.ensures.bytes;
-      few = omega (
-        arith,
-        ap length c.as_slice.ensures.value,
-        c.as_slice.ensures.len,
-        c.in-Ok.ensures.few,
+      is_program = (
+        c.in-Ok.ensures.bytes,
+        omega (
+          arith,
+          ap length c.as_slice.ensures.value,
+          c.as_slice.ensures.len,
+          c.in-Ok.ensures.few,
+        ),
       );
       endings = c.in-Ok-explore.endings.items;
       are = subst (λ (n : ℕ). AreEndings g.S.Interpret.asks c.in-Ok.program.items n

@@ -1,4 +1,4 @@
-use Rattle.ps_run.proofs.Written.{part_before, part_behind}
+use Rattle.ps_vault.proofs.Parts.{part_before, part_behind}
 use Rattle.ps_run.proofs.finishing.tell.Goals as goal
 use Rattle.ps_run.proofs.finishing.tell.Goals.{then-stats+in_ok-tell_counts, else-stats}
 

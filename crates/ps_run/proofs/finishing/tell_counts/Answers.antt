@@ -1,4 +1,5 @@
-use Rattle.ps_run.proofs.Written.{part_before, part_behind, joined_three, ok_map}
+use Rattle.ps_vault.proofs.Parts.{part_before, part_behind}
+use Rattle.ps_run.proofs.Written.{joined_three, ok_map}
 use Rattle.ps_run.proofs.finishing.tell_counts.Goals as goal
 
 pub returns-in_err-write_number-clause-part : goal.returns-in_err-write_number-clause-part

@@ -3,7 +3,8 @@ use Rattle.std.specs.Option.{option_map}
 use Rattle.ps_schedules.specs.Texts.{IsBadAt}
 use Rattle.ps_schedules.specs.declared.reading.ScheduleFault.{ScheduleFault}
 use Rattle.ps_run.specs.Driving as driving
-use Rattle.ps_run.specs.Driving.{AppendsPart, HasNoSchedule}
+use Rattle.ps_vault.specs.Screens.{AppendsPart}
+use Rattle.ps_run.specs.Driving.{HasNoSchedule}
 use Rattle.ps_run.specs.declared.files.ReadFault.TheVariants as fault
 use Rattle.ps_run.specs.declared.reading.NoSchedule.TheVariants.{Bad, Unread}
 use Rattle.ps_run.specs.declared.statuses.Status.TheVariants as status

@@ -1,5 +1,5 @@
 -- Its three pieces, as far as they were written.
-use Rattle.ps_run.proofs.Written.{part_before, part_behind}
+use Rattle.ps_vault.proofs.Parts.{part_before, part_behind}
 use Rattle.ps_run.proofs.writing.write_unwritten.Goals as goal
 
 pub returns-in_err-write_part : goal.returns-in_err-write_part

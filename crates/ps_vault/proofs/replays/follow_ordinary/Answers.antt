@@ -1,4 +1,4 @@
-use Rattle.std.proofs.Common.{◌≡◌, ◌<◌, sym, ◌∙◌, arith}
+use Rattle.std.proofs.Common.{sym, ◌∙◌, arith}
 use Rattle.ps_vault.specs.Stories.{world_at}
 use Rattle.ps_vault.proofs.Following.{after_ordinary}
 use Rattle.ps_vault.proofs.replays.follow_ordinary.Goals as goal

@@ -1,5 +1,5 @@
 -- Each entry followed is one entry more of the schedule; where memory runs out a part of one is.
-use Rattle.std.proofs.Common.{ℕ, ◌≡◌, ◌<◌, ◌+◌, ◌++◌, List, take, length, get_or, Bool, true, false, None, refl, sym, ◌∙◌, ap, subst, arith}
+use Rattle.std.proofs.Common.{ℕ, ◌≡◌, ◌<◌, ◌+◌, ◌++◌, List, take, length, get_or, Bool, true, false, None, sym, ◌∙◌, ap, subst, arith}
 use Rattle.std.specs.Prelude.{◌&&◌, ◌==◌, not, replicate}
 use Rattle.std.proofs.lemmas.Bool.{true≢false}
 use Rattle.std.proofs.lemmas.List.{take_all}
@@ -14,7 +14,6 @@ use Rattle.ps_vault.specs.Screens.{HasShown, Sight}
 use Rattle.ps_vault.proofs.Beginning.{nothing_stands}
 use Rattle.ps_vault.proofs.Cutting.{begins_first, by_failed, cut_first, memory_ends, printed_at, replay_whole, whole_run}
 use Rattle.ps_vault.proofs.Following.{after_next, after_part, begins_with_part, fewer_with_part, ready_not_over}
-use Rattle.ps_vault.proofs.Screening.{none_shown}
 use Rattle.ps_vault.proofs.NextStep.{refused_behind, context_behind_part}
 use Rattle.ps_vault.proofs.replays.replay_shown.Given as givens
 use Rattle.ps_vault.proofs.replays.replay_shown.Goals as goal

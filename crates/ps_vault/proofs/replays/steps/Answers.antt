@@ -1,5 +1,5 @@
 -- Each round adds as many ordinary steps, which are at most one entry more.
-use Rattle.std.proofs.Common.{◌≡◌, ◌+◌, ◌≤◌, ℕ, List, false, length, refl, sym, ◌∙◌, ap, subst, arith, rules}
+use Rattle.std.proofs.Common.{◌≡◌, ◌+◌, ◌≤◌, false, length, refl, sym, ◌∙◌, ap, subst, arith, rules}
 use Rattle.std.specs.Prelude.{not}
 use Rattle.ps_language.specs.Keeping.{PrintsOn}
 use Rattle.ps_language.specs.Schedules.{plain_move}

@@ -2,7 +2,7 @@
 use Rattle.std.proofs.Common.{◌≡◌, ℕ, ◌+◌, ◌-◌, ◌<◌, ◌≤◌, List, [], false, true, length, refl, sym, ◌∙◌, ap, subst, arith}
 use Rattle.std.specs.Prelude.{not}
 use Rattle.ps_language.specs.Keeping.{PrintsOn}
-use Rattle.ps_language.specs.Schedules.{Begins, count_of, moves}
+use Rattle.ps_language.specs.Schedules.{count_of, moves}
 use Rattle.ps_language.specs.World.{World}
 use Rattle.ps_language.specs.Worlds.{after_moves, starting_world}
 use Rattle.ps_vault.specs.Order.{IsNoneAbove, IsLeastAbove, IsDue, AddsTurns, InOrder}
@@ -11,7 +11,7 @@ use Rattle.ps_vault.specs.Screens.{ShowsOn, Sight}
 use Rattle.ps_vault.specs.Stories.{AreWarranted, Story, world_at}
 use Rattle.ps_vault.proofs.Ordering.{Passing, passing_start, passing_anew, passing_order, due_of, turns_over, turns_order, turns_held, world_moves}
 use Rattle.ps_vault.proofs.Following.{ordinary_starved}
-use Rattle.ps_vault.proofs.Screening.{begins_turns, few_unseen, no_fewer, prints_on, shown_on, some_unseen, turn_end_unseen}
+use Rattle.ps_vault.proofs.Screening.{begins_turns, few_unseen, no_fewer, prints_on, shown_on, turn_end_unseen}
 use Rattle.ps_vault.proofs.vaults.Vault.run.Given as givens
 use Rattle.ps_vault.proofs.vaults.Vault.run.Goals as goal
 use Rattle.ps_vault.proofs.vaults.Vault.run.Goals.{After-next_ready, After-turns-turn, After-show_printed}

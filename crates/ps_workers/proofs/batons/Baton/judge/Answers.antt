@@ -11,7 +11,7 @@ finish-requires g c =
     let same = c.outcome-outcome.ensures.same in
     record {
       ends = subst (λ (s : Story). EndsAs (world_at s)
-          (c.self.inside.made == c.self.inside.config.steps) (IsStarvedAt g.S.Interpret.asks s)
+          (c.self.inside.made == c.self.inside.budget) (IsStarvedAt g.S.Interpret.asks s)
           c.outcome-outcome.result) (sym same)
           (ends_so (world_at c.self.inside.vault) _ _ c.outcome-outcome.result
           c.outcome-outcome.ensures.ends);

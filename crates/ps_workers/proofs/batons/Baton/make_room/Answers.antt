@@ -31,8 +31,9 @@ refuse_step-requires-clause-refusal g c =
       | in_default w ↦ absurd (true≢false (sym c.if-matches.true ∙ w.matches-is))
     ] in
     refusal_now tried c.used.new.self c.args.context
-    (refusal g.S.Interpret.asks before tried c.args.context (c.stop_all.ensures.tight c.if-not-stop_all.false)
-    (subst (Keeps g.S.Interpret.asks) c.self-then-matches.view_is c.self-then-matches.invariant)
+    (refusal g.S.Interpret.asks g.O.Origin.start before tried c.args.context
+    (c.stop_all.ensures.tight c.if-not-stop_all.false)
+    (subst (Keeps g.S.Interpret.asks g.O.Origin.start) c.self-then-matches.view_is c.self-then-matches.invariant)
     made
     (c.in-Err.ensures.stays refl refl
     ∙ ap world_at c.used-used.ensures.same ∙ ap (λ (p : Progress). world_at p.story) view)

@@ -6,6 +6,7 @@ use Rattle.ps_vault.specs.Reports.{all_fit}
 use Rattle.ps_language.proofs.ScheduleLaws.{count_of-added}
 use Rattle.ps_vault.specs.Stories.{move_of, world_at}
 use Rattle.ps_vault.proofs.Reasons.{memory_wanted}
+use Rattle.ps_vault.proofs.Screening.{begins_added}
 use Rattle.ps_vault.proofs.Warrants.{refused_added}
 use Rattle.ps_workers.specs.Batons.{Progress, MayGoOn, MayRefuse, Keeps}
 use Rattle.ps_workers.proofs.Keeping.{progress, on_error, short_starved, keeps_made, waits_none, counts_on, keeps_wanted, MakesObjects}
@@ -13,8 +14,9 @@ use Rattle.ps_workers.proofs.batons.Baton.refuse_step.Goals as goal
 
 pub invariant_of-self : goal.invariant_of-self
 invariant_of-self g c =
-    short_starved g.S.Interpret.asks (progress c.self.inside.vault c.self.inside.config
-    c.self.inside.made c.self.inside.outcome) c.reserve_entries.new.self c.args.context
+    short_starved g.S.Interpret.asks g.O.Origin.start
+    (progress c.self.inside.vault c.self.inside.config c.self.inside.made
+    c.self.inside.budget c.self.inside.screen c.self.inside.outcome) c.reserve_entries.new.self c.args.context
     c.self.invariant (subst (λ (p : Progress). MayGoOn p c.args.context) (sym c.self.view_is)
     c.requires.may) c.reserve_entries.ensures.program c.reserve_entries.ensures.most
     c.reserve_entries.ensures.schedule
@@ -25,28 +27,36 @@ invariant_of-self g c =
 pub overflow_add-self : goal.overflow_add-self
 overflow_add-self g c =
     let fits : c.self.inside.made + 1 < 2 ^ 32 =
-    counts_on g.S.Interpret.asks (progress c.self.inside.vault c.self.inside.config
-    c.self.inside.made c.self.inside.outcome) 1 c.self.invariant
-    (let may : MayGoOn (progress c.self.inside.vault c.self.inside.config
-    c.self.inside.made c.self.inside.outcome) c.args.context =
+    counts_on g.S.Interpret.asks g.O.Origin.start
+    (progress c.self.inside.vault c.self.inside.config c.self.inside.made
+    c.self.inside.budget c.self.inside.screen c.self.inside.outcome) 1 c.self.invariant
+    (let may : MayGoOn (progress c.self.inside.vault c.self.inside.config c.self.inside.made
+    c.self.inside.budget c.self.inside.screen c.self.inside.outcome) c.args.context =
     subst (λ (p : Progress). MayGoOn p c.args.context) (sym c.self.view_is) c.requires.may in
     omega (arith, may.left)) in
     omega (arith, fits)
 
 pub invariant_of-self-in-Ok : goal.invariant_of-self-in-Ok
 invariant_of-self-in-Ok g c =
-    let may : MayGoOn (progress c.self.inside.vault c.self.inside.config
-    c.self.inside.made c.self.inside.outcome) c.args.context =
+    let may : MayGoOn (progress c.self.inside.vault c.self.inside.config c.self.inside.made
+    c.self.inside.budget c.self.inside.screen c.self.inside.outcome) c.args.context =
     subst (λ (p : Progress). MayGoOn p c.args.context) (sym c.self.view_is) c.requires.may in
     let made : count_of c.step.new.self.schedule ≡ count_of c.self.inside.vault.schedule + 1 =
     ap count_of c.in-Ok.ensures.made
     ∙ (count_of-added c.reserve_entries.new.self.schedule (move_of c.args.context true None)
     ∙ ap (λ (s : List Entry). count_of s + 1) c.reserve_entries.ensures.schedule) in
-    subst (λ o. Keeps g.S.Interpret.asks (progress c.step.new.self c.self.inside.config
-    (c.self.inside.made + 1) o)) (sym (ap (λ (p : Progress). p.outcome) c.self.view_is
+    subst (λ o. Keeps g.S.Interpret.asks g.O.Origin.start
+    (progress c.step.new.self c.self.inside.config (c.self.inside.made + 1) c.self.inside.budget
+    c.self.inside.screen o)) (sym (ap (λ (p : Progress). p.outcome) c.self.view_is
     ∙ c.requires.outcome))
-    (keeps_made g.S.Interpret.asks (progress c.self.inside.vault c.self.inside.config
-    c.self.inside.made c.self.inside.outcome) c.step.new.self 1 None c.self.invariant (record {
+    (keeps_made g.S.Interpret.asks g.O.Origin.start
+    (progress c.self.inside.vault c.self.inside.config c.self.inside.made
+    c.self.inside.budget c.self.inside.screen c.self.inside.outcome) c.step.new.self 1 None c.self.invariant (record {
+      program = c.step.ensures.program ∙ c.reserve_entries.ensures.program;
+      begins = begins_added c.self.inside.vault.schedule c.step.new.self.schedule
+          (move_of c.args.context true None)
+          (c.in-Ok.ensures.made ∙ ap (λ (s : List Entry).
+          added s (move_of c.args.context true None)) c.reserve_entries.ensures.schedule);
       counted = made;
       fits = λ fit. c.in-Ok.ensures.fits refl
           (ap (λ (s : List Entry). all_fit (moves s)) c.reserve_entries.ensures.schedule ∙ fit);
@@ -63,16 +73,18 @@ invariant_of-self-in-Ok g c =
       more = omega (arith, c.reserve_entries.ensures.capacity, c.step.ensures.capacity);
     })
     (omega (arith, may.left))
-    (waits_none (progress c.step.new.self c.self.inside.config (c.self.inside.made + 1) None)
+    (waits_none (progress c.step.new.self c.self.inside.config (c.self.inside.made + 1)
+    c.self.inside.budget c.self.inside.screen None)
     c.in-Ok.ensures.calling_on) tt)
 
 pub invariant_of-self-in-Err-Memory : goal.invariant_of-self-in-Err-Memory
 invariant_of-self-in-Err-Memory g c =
-    let may : MayGoOn (progress c.self.inside.vault c.self.inside.config
-    c.self.inside.made c.self.inside.outcome) c.args.context =
+    let may : MayGoOn (progress c.self.inside.vault c.self.inside.config c.self.inside.made
+    c.self.inside.budget c.self.inside.screen c.self.inside.outcome) c.args.context =
     subst (λ (p : Progress). MayGoOn p c.args.context) (sym c.self.view_is) c.requires.may in
-    keeps_wanted g.S.Interpret.asks (progress c.self.inside.vault c.self.inside.config
-    c.self.inside.made c.self.inside.outcome) c.step.new.self c.args.context true
+    keeps_wanted g.S.Interpret.asks g.O.Origin.start
+    (progress c.self.inside.vault c.self.inside.config c.self.inside.made
+    c.self.inside.budget c.self.inside.screen c.self.inside.outcome) c.step.new.self c.args.context true
     c.self.invariant may (c.step.ensures.program ∙ c.reserve_entries.ensures.program)
     (c.step.ensures.most ∙ c.reserve_entries.ensures.most)
     (c.in-Err-Memory.ensures.not_made ∙ c.reserve_entries.ensures.schedule)

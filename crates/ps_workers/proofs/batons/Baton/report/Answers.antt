@@ -1,24 +1,29 @@
--- The run that the baton kept, of the program and the numbers that are asked for.
-use Rattle.std.proofs.Common.{◌≡◌, List, ℕ, sym, subst, ◌∙◌, arith}
-use Rattle.std.proofs.lemmas.Bool.Decides.{nat_tests}
+-- The run that the baton kept.
+use Rattle.std.proofs.Common.{sym}
 use Rattle.ps_mem.specs.Bounded.{bounded_space}
-use Rattle.ps_vault.specs.Reports.{IsRunIn}
+use Rattle.ps_vault.specs.declared.reports.RunFault.TheVariants as fault
 use Rattle.ps_workers.specs.Batons.{Progress}
-use Rattle.ps_workers.proofs.Keeping.{progress, kept_ends}
+use Rattle.ps_workers.proofs.Ending.{reported, unreported}
+use Rattle.ps_workers.proofs.Keeping.{kept_ends, progress}
 use Rattle.ps_workers.proofs.batons.Baton.report.Goals as goal
 
-pub returns-clause-run : goal.returns-clause-run
-returns-clause-run g c =
-    let kept : Progress = progress c.self.inside.vault c.self.inside.config c.self.inside.made
-    c.self.inside.outcome in
-    let same : kept.config.steps ≡ c.args.config.steps =
-    grind (arith, nat_tests, c.ne.ensures, c.if-ne.false) in
-    let space : kept.config.space ≡ c.args.config.space =
-    grind (arith, nat_tests, c.ne.ensures, c.if-ne.false) in
-    let ends = kept_ends g.S.Interpret.asks kept c.in-Some.outcome c.args.config.steps
-    c.self.invariant c.in-Some.is same in
-    subst (λ (p : List ℕ). IsRunIn g.S.Interpret.asks
-    (bounded_space c.args.config.space) p c.args.config.steps c.into_report.result)
-    (c.is_of.ensures.0 c.if-not-is_of.false)
-    (c.into_report.ensures.run (bounded_space c.args.config.space)
-    (sym (c.self.invariant.space ∙ space)) ends)
+pub returns-in_default-clause-ended : goal.returns-in_default-clause-ended
+returns-in_default-clause-ended g c =
+    unreported g.S.Interpret.asks g.O.Origin.start (progress c.self.inside.vault
+    c.self.inside.config c.self.inside.made c.self.inside.budget c.self.inside.screen
+    c.self.inside.outcome) fault.Memory c.self.invariant
+
+pub returns-then-refused-clause-ended : goal.returns-then-refused-clause-ended
+returns-then-refused-clause-ended g c =
+    unreported g.S.Interpret.asks g.O.Origin.start (progress c.self.inside.vault
+    c.self.inside.config c.self.inside.made c.self.inside.budget c.self.inside.screen
+    c.self.inside.outcome) fault.Memory c.self.invariant
+
+pub returns-clause-ended : goal.returns-clause-ended
+returns-clause-ended g c =
+    let p : Progress = progress c.self.inside.vault c.self.inside.config c.self.inside.made
+    c.self.inside.budget c.self.inside.screen c.self.inside.outcome in
+    reported g.S.Interpret.asks g.O.Origin.start p c.into_report.result c.self.invariant
+    (c.into_report.ensures.run (bounded_space c.self.inside.config.space)
+    (sym c.self.invariant.space) (kept_ends g.S.Interpret.asks g.O.Origin.start p c.in-Some.outcome
+    c.self.invariant c.in-Some.is)) c.into_report.ensures.schedule c.into_report.ensures.bounded

@@ -1,6 +1,6 @@
 use Rattle.std.proofs.Common.{◌≡◌}
 use Rattle.std.specs.Prelude.{IsSome}
-use Rattle.ps_workers.proofs.batons.Baton.turns.Given as goal
+use Rattle.ps_workers.proofs.batons.Baton.make_turns.Given as goal
 
 -- only the world goes on, and where the run is over nothing does
 abbrev pub invariant-loop : goal.invariant-loop
