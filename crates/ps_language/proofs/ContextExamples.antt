@@ -7,6 +7,8 @@ use Rattle.ps_language.specs.Effect.{nothing, turn_ends, shows_memory, wishes}
 use Rattle.ps_language.specs.Outcome.{fails}
 use Rattle.ps_language.specs.Readers.{null}
 use Rattle.ps_language.specs.Contexts.{context_at, vmstatus_row}
+use Rattle.ps_language.specs.Locks.{is_ready}
+use Rattle.ps_language.specs.Schedules.{joins}
 use Rattle.ps_language.specs.Step.{stepped}
 use Rattle.ps_language.specs.Live.{roots, asked_words, asked_births}
 use Rattle.ps_language.specs.Worlds.{first_context, starting_world, world, printed, IsAllWaiting}
@@ -54,6 +56,31 @@ own_join : printed (codes "currentcontext join") (turns 1 3 ∷ []) ≡ codes
     "%%[ Error: invalidcontext; OffendingCommand: join ]%%\n"
 unfolding evaluation
 own_join = refl
+
+-- who joins a context that isn't finished can't step
+unready_join : is_ready (world (codes "mark {1} fork join") (turns 1 4 ∷ [])) 1 ≡ false
+unfolding evaluation
+unready_join = refl
+
+-- and can once it is
+ready_join : is_ready (world (codes "mark {1} fork join") (turns 1 4 ∷ turns 2 1 ∷ [])) 1 ≡ true
+unfolding evaluation
+ready_join = refl
+
+-- the mark that join pushes counts among the 500 operands
+joined_full : printed (codes "mark {50 {1 1 1 1 1 1 1 1 1 1} repeat} fork join")
+    (turns 1 3 ∷ turns 2 560 ∷ turns 1 3 ∷ []) ≡ codes
+    "%%[ Error: stackoverflow; OffendingCommand: join ]%%\n"
+unfolding evaluation
+joined_full = refl
+
+-- ---- locks
+
+-- what the procedure allows comes before whose lock it is
+own_lock_unreadable : printed (codes "/l lock def l {l {} noaccess monitor} monitor")
+    (turns 1 14 ∷ []) ≡ codes "%%[ Error: invalidaccess; OffendingCommand: monitor ]%%\n"
+unfolding evaluation
+own_lock_unreadable = refl
 
 -- ---- conditions
 
@@ -134,6 +161,11 @@ vmreclaim_past_range : printed (codes "3 vmreclaim") (turns 1 4 ∷ []) ≡ code
 unfolding evaluation
 vmreclaim_past_range = refl
 
+vmreclaim_below_range : printed (codes "-3 vmreclaim") (turns 1 4 ∷ []) ≡ codes
+    "%%[ Error: rangecheck; OffendingCommand: vmreclaim ]%%\n"
+unfolding evaluation
+vmreclaim_below_range = refl
+
 -- 8 pairs of $error: four fields, a body of 26 words, and the two words of the header
 fork_asks : asked_words (world (codes "mark {1} fork") (turns 1 2 ∷ [])) 1 ≡ 32
 unfolding evaluation
@@ -147,6 +179,28 @@ fork_takes = refl
 procedure_asks : asked_words (starting_world (codes "{{(a)}}")) 1 ≡ 9
 unfolding evaluation
 procedure_asks = refl
+
+-- each of them takes a birth number
+procedure_takes : asked_births (starting_world (codes "{{(a)}}")) 1 ≡ 3
+unfolding evaluation
+procedure_takes = refl
+
+-- and a new body of an old object takes none
+growth_takes : asked_births (world (codes "1 dict dup /a 1 put dup /b 2 put") (turns 1 9 ∷ [])) 1 ≡
+    0
+unfolding evaluation
+growth_takes = refl
+
+-- ---- entries
+
+-- an entry is full at 2^32 - 1 steps
+full_entry : joins (turns 1 4294967295) 1 ≡ false
+unfolding evaluation
+full_entry = refl
+
+unfilled_entry : joins (turns 1 4294967294) 1 ≡ true
+unfolding evaluation
+unfilled_entry = refl
 
 -- a refused step raises another error first
 refused_error : printed (codes "-1 array")

@@ -78,6 +78,28 @@ text_roots : roots (world (codes "(1 2) cvx exec") (turns 1 4 ∷ [])) ≡ 0 ∷
 unfolding evaluation
 text_roots = refl
 
+-- the body of a loop without an end
+loop_roots : roots (world (codes "{1} loop") (turns 1 2 ∷ [])) ≡ 0 ∷ 1 ∷ 1 ∷ 0 ∷ 3 ∷ 2 ∷ []
+unfolding evaluation
+loop_roots = refl
+
+-- of one that is made so many times
+repeat_roots : roots (world (codes "2 {1} repeat") (turns 1 3 ∷ [])) ≡ 0 ∷ 1 ∷ 1 ∷ 0 ∷ 3 ∷ 2 ∷ []
+unfolding evaluation
+repeat_roots = refl
+
+-- of one that counts
+for_roots : roots (world (codes "1 2 6 {=} for") (turns 1 5 ∷ [])) ≡ 0 ∷ 1 ∷ 1 ∷ 0 ∷ 3 ∷ 2 ∷ []
+unfolding evaluation
+for_roots = refl
+
+-- the lock that a notified context retakes: the second context's, behind its $error
+retaking_roots : roots (world (codes
+    "/l lock def /c condition def mark {l {l c wait} monitor} fork l {c notify} monitor")
+    (turns 1 9 ∷ turns 2 6 ∷ turns 1 5 ∷ [])) ≡ 0 ∷ 1 ∷ 1 ∷ 0 ∷ 3 ∷ 2 ∷ 1 ∷ 0 ∷ 3 ∷ 7 ∷ 3 ∷ []
+unfolding evaluation
+retaking_roots = refl
+
 -- an array that is a key
 key_lives : live (world (codes "1 dict dup [1] 2 put") (turns 1 8 ∷ [])) ≡ 542
 unfolding evaluation finding live
