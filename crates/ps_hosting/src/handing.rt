@@ -7,7 +7,7 @@ ghost use Rattle.ps_hosting.specs.Hosts.{handed, IsHanded, IsHandedOut};
 use crate::hosting::Refusal;
 use crate::numbers::{Counts, HostEntry, code_of, code_of_refusal, given_entry, handed_entry};
 use ps_language::schedules::Entry;
-use ps_schedules::steps_of;
+use ps_schedules::{Entries, steps_of};
 use ps_vault::Report;
 use std::alloc::{AllocError, Global};
 
@@ -56,7 +56,7 @@ fn hand_report(
     *counts = Counts {
         bytes: report.printed.len() as u64,
         entries: report.schedule.len() as u64,
-        steps: steps_of(report.schedule.as_slice()),
+        steps: steps_of(Entries::of(report.schedule.as_slice())),
         flips: u64::from(report.flips),
         taken: report.taken,
     };

@@ -10,7 +10,7 @@ use crate::keys::keys_of;
 use crate::numbers::{HostEntry, Settings, config_in, most_output};
 use ps_interpreter::interprets::Interpret;
 use ps_language::schedules::Entry;
-use ps_schedules::{begins, steps_of};
+use ps_schedules::{Entries, begins, steps_of};
 use ps_vault::{Report, RunFault, Setup, replay, run_plain_behind};
 use ps_workers::{Job, run_alone_behind};
 use ps_world::deeds::Deeds;
@@ -58,7 +58,7 @@ pub fn run_for<S: Interpret + Drop, D: Deeds + Drop>(
 fn budget_behind(given: &[Entry], settings: &Settings) -> u32
     ensures { result ≡ hosts.budget_behind given.now settings.now.steps }
 {
-    let steps = steps_of(given).saturating_add(u64::from(settings.steps));
+    let steps = steps_of(Entries::of(given)).saturating_add(u64::from(settings.steps));
     steps.min(u64::from(u32::MAX)) as u32
 }
 
@@ -67,7 +67,8 @@ fn goes_on_from(given: &[Entry], report: &Report) -> bool
     ensures { IsTrue result ↔ GoesOnFrom given.now report.now }
 {
     let made = report.schedule.as_slice();
-    begins(given, made) || report.outcome.is_memory() && begins(made, given)
+    begins(Entries::of(given), Entries::of(made))
+        || report.outcome.is_memory() && begins(Entries::of(made), Entries::of(given))
 }
 
 /// Goes on from a schedule: a run of the program by these settings, of the steps that were given

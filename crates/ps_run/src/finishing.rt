@@ -13,7 +13,7 @@ use crate::statuses::{Status, end, line_of, status_of};
 use crate::streams::{Stream, write_rest};
 use crate::writing::{write_number, write_part, write_unwritten};
 use ps_options::Options;
-use ps_schedules::{append_schedule, steps_of};
+use ps_schedules::{Entries, append_schedule, steps_of};
 use ps_vault::{Entry, Outcome, Report, Screen};
 use std::alloc::Global;
 use std::io::{self, Write};
@@ -112,7 +112,7 @@ pub(crate) fn write_schedule<F: FileSet, X: Write>(
         → result ≡ Err Status.Usage }
 {
     let mut text = Vec::new(alloc);
-    if append_schedule(schedule, &mut text).is_err() {
+    if append_schedule(Entries::of(schedule), &mut text).is_err() {
         return Err(end(err, Status::Memory));
     }
     match files.write(name, text.as_slice()) {
@@ -145,5 +145,5 @@ fn tell_counts<X: Write>(report: &Report, err: &mut X) -> io::Result<()>
 {
     write_number(err, b"flips ", u64::from(report.flips))?;
     write_number(err, b"taken ", report.taken)?;
-    write_number(err, b"steps ", steps_of(report.schedule.as_slice()))
+    write_number(err, b"steps ", steps_of(Entries::of(report.schedule.as_slice())))
 }

@@ -1,2 +1,5 @@
 pub mod Fronts
+pub mod Keeping
+pub mod Packing
 pub mod Texts
+pub mod Turns

@@ -4,6 +4,7 @@ ghost use Rattle.std.specs.Prelude.{◌≡◌, ◌↔◌, ◌≤◌, ◌<◌, Is
 ghost use Rattle.ps_language.specs.Schedules.{moves_of, Begins};
 ghost use Rattle.ps_schedules.specs.Fronts as fronts;
 
+use crate::entries::Entries;
 use ps_language::schedules::Entry;
 
 /// An entry of the first steps of another. A step or more, so there is one such entry.
@@ -54,24 +55,22 @@ const NO_STEP: Entry = Entry {
 
 /// Whether the steps of a schedule are the first steps of another. Where an entry ends doesn't
 /// matter, nor one of no steps.
-pub fn begins(part: &[Entry], whole: &[Entry]) -> bool
-    ensures { IsTrue result ↔ Begins part.now whole.now }
+pub fn begins(part: Entries<'_>, whole: Entries<'_>) -> bool
+    ensures { IsTrue result ↔ Begins part.entry whole.entry }
 {
     let (mut first, mut second) = (NO_STEP, NO_STEP);
     let (mut part_left, mut whole_left) = (part, whole);
     loop {
         if first.steps == 0 {
-            let Some((next, left)) = part_left.split_first() else {
+            let Some(next) = part_left.next() else {
                 return true;
             };
-            first = *next;
-            part_left = left;
+            first = next;
         } else if second.steps == 0 {
-            let Some((next, left)) = whole_left.split_first() else {
+            let Some(next) = whole_left.next() else {
                 return false;
             };
-            second = *next;
-            whole_left = left;
+            second = next;
         } else {
             let both = first.steps.min(second.steps);
             if !has_same_front(&first, &second, both) {

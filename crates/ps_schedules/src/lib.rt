@@ -9,16 +9,22 @@
 //!   whole, or as long as a line may be. So `read_entries` takes a text in parts of any size.
 #![tactic(auto)]
 
+mod coding;
+mod entries;
 mod fields;
 mod fronts;
 mod laws;
 mod lines;
+mod packed;
 mod reading;
 mod steps;
+mod turns;
 mod writing;
 
+pub use entries::Entries;
 pub use fronts::begins;
 pub use laws::schedule_text_laws;
+pub use packed::Schedule;
 pub use reading::{MOST_LINE_BYTES, ScheduleFault, read_entries};
 pub use steps::steps_of;
 pub use writing::append_schedule;

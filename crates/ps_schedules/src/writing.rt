@@ -5,20 +5,22 @@ ghost use Rattle.std.specs.Prelude.{vec_capacity};
 ghost use Rattle.std.specs.Fmt.{decimal, signed_decimal};
 ghost use Rattle.ps_schedules.specs.Texts.{line_of, text_of, field_of, ending_of, flag_of};
 
+use crate::entries::Entries;
 use itoa::{Buffer, Integer};
 use ps_language::schedules::Entry;
 use std::alloc::AllocError;
 
-/// Appends the text of a schedule. Fails only where a growth is refused; nothing has changed then.
-pub fn append_schedule(entries: &[Entry], text: &mut Vec<u8>) -> Result<(), AllocError>
-    ensures appended { OnOk result (text.new.items ≡ text.old.items ++ text_of entries.now) }
+/// Appends the text of a schedule of these entries. Fails only where a growth is refused; nothing has changed then.
+pub fn append_schedule(entries: Entries<'_>, text: &mut Vec<u8>) -> Result<(), AllocError>
+    ensures appended { OnOk result (text.new.items ≡ text.old.items ++ text_of entries.entry) }
     ensures kept { OnErr result (text.new.items ≡ text.old.items) }
     ensures full { OnErr result
-        (vec_capacity text.old < length (text.old.items ++ text_of entries.now)) }
+        (vec_capacity text.old < length (text.old.items ++ text_of entries.entry)) }
 {
     let before = text.len();
-    for entry in entries {
-        if let Err(error) = append_line(entry, text) {
+    let mut left = entries;
+    while let Some(entry) = left.next() {
+        if let Err(error) = append_line(&entry, text) {
             text.truncate(before);
             return Err(error);
         }
