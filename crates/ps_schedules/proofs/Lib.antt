@@ -5,3 +5,7 @@ pub mod Once
 pub mod Nones
 pub mod Appended
 pub mod WholeLines
+pub mod Appends
+pub mod Codes
+pub mod Turning
+pub mod Notes

@@ -1,6 +1,7 @@
 //! Entries as bytes: numbers in groups of seven bits, the lowest first.
 
-ghost use Rattle.std.specs.Prelude.{◌≡◌, ◌+◌, ◌<◌, ◌≤◌, ◌^◌, ℕ, vec_len, vec_capacity};
+ghost use Rattle.std.specs.Prelude.{◌≡◌, ◌==◌, ◌+◌, ◌%◌, ◌<◌, ◌≤◌, ◌^◌, ℕ, is_none, nat_lt};
+ghost use Rattle.std.specs.Prelude.{vec_len, vec_capacity};
 ghost use Rattle.ps_language.specs.declared.schedules.Entry.{Entry as ScheduleEntry};
 ghost use Rattle.ps_schedules.specs.Packing as packing;
 ghost use Rattle.ps_schedules.specs.Packing.{Writes, number_in, words_of, pair_in, full_in, entry_in};
@@ -109,18 +110,28 @@ const FURTHER: u32 = 4;
 /// The most bytes of an entry.
 pub(crate) const MOST_ENTRY_BYTES: usize = 22;
 
+/// The flags of an entry: 1 where its last step is refused, and 2 where it shows a pair.
+fn flags_of(entry: &Entry) -> u32
+    ensures few { result < 4 }
+    ensures refused { (result % 2 == 1) ≡ entry.now.refused }
+    ensures shown { nat_lt result 2 ≡ is_none entry.now.shown }
+{
+    match (entry.refused, entry.shown) {
+        (false, None) => 0,
+        (true, None) => 1,
+        (false, Some(_)) => 2,
+        (true, Some(_)) => 3,
+    }
+}
+
 /// Writes an entry with flags, for which the capacity has room.
 fn push_full(bytes: &mut Vec<u8>, entry: Entry)
     requires { vec_len bytes.old + 21 ≤ vec_capacity bytes.old }
     ensures written { Writes ScheduleEntry full_in entry 21 bytes.old.items bytes.new.items }
     ensures capacity { vec_capacity bytes.new ≡ vec_capacity bytes.old }
 {
-    let refused = if entry.refused { 1 } else { 0 };
-    let (shown, (used, most)) = match entry.shown {
-        Some(pair) => (2, pair),
-        None => (0, (0, 0)),
-    };
-    push_number(bytes, shown + refused, 0);
+    let (used, most) = entry.shown.unwrap_or((0, 0));
+    push_number(bytes, flags_of(&entry), 0);
     push_number(bytes, entry.context, FURTHER);
     push_number(bytes, entry.steps, FURTHER);
     push_number(bytes, code_of_words(used), FURTHER);

@@ -117,9 +117,12 @@ impl Schedule {
         ensures most { self.new.most ≡ self.old.most }
         ensures capacity { self.old.capacity ≤ self.new.capacity }
     {
-        if let Some(last) = self.last {
-            push_entry(&mut self.bytes, last);
-        }
+        let Some(last) = self.last else {
+            self.count = 1;
+            self.last = Some(entry);
+            return;
+        };
+        push_entry(&mut self.bytes, last);
         self.count += 1;
         self.last = Some(entry);
     }
@@ -135,20 +138,23 @@ impl Schedule {
         ensures joined { turning.joins_last self.old.items context ≡ true
             → length self.new.items ≡ length self.old.items }
     {
-        if let Some(last) = self.last
-            && joins(&last, context)
-        {
-            self.last = Some(Entry {
-                context: last.context,
-                steps: last.steps + 1,
-                refused,
-                shown,
-            });
-            return;
-        }
-        self.push(Entry {
+        let single = Entry {
             context,
             steps: 1,
+            refused,
+            shown,
+        };
+        let Some(last) = self.last else {
+            self.push(single);
+            return;
+        };
+        if !joins(&last, context) {
+            self.push(single);
+            return;
+        }
+        self.last = Some(Entry {
+            context: last.context,
+            steps: last.steps + 1,
             refused,
             shown,
         });
