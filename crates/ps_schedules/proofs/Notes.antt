@@ -19,5 +19,3 @@ note_apart old before entry move is test = rw (is, added-last before entry move,
 -- the first of all
 pub note_alone : (old : List Entry) (move : Move) → old ≡ [] → single move ∷ [] ≡ added old move
 note_alone old move is = rw is refl
-
-pub ruleset note_lemmas = (note_joined, note_apart, note_alone)

@@ -1,12 +1,12 @@
 -- Many steps at once are so many single ones.
 use Rattle.std.proofs.Common.{◌≡◌, ◌⊎◌, inl, inr, ℕ, ℤ, zero, suc, ◌+◌, ◌-◌, ◌<◌, ◌≤◌, true, false, Option, Some, None, List, [], ◌∷◌, ◌++◌, length, refl, sym, ◌∙◌, ap, arith, append_assoc, length-append}
-use Rattle.std.specs.Prelude.{is_none, slice_get}
+use Rattle.std.specs.Prelude.{Bool, is_none, slice_get, if◌then◌else◌}
 use Rattle.std.specs.Option.{option_map_or}
 use Rattle.std.proofs.lemmas.Bool.Decides.{nat_tests}
 use Rattle.ps_language.specs.declared.schedules.Entry.{Entry}
 use Rattle.ps_language.specs.Schedules.{Move, plain_move, added, joins, steps_limit}
 use Rattle.ps_language.proofs.ScheduleLaws.{added-last}
-use Rattle.ps_schedules.specs.Turns.{added_times, plain_entry, joins_last}
+use Rattle.ps_schedules.specs.Turns.{added_times, plain_entry, joins_last, last_entry, free_steps}
 
 none_shown : (shown : Option (ℤ × ℤ)) → is_none shown ≡ true → shown ≡ None
 none_shown None h = refl
@@ -128,7 +128,7 @@ last_at : (before : List Entry) (entry : Entry)
 last_at [] entry = refl
 last_at (first ∷ before) entry = last_at before entry
 
-joins_as : (old before : List Entry) (entry : Entry) (context : ℕ) → old ≡ before ++ entry ∷ []
+pub joins_as : (old before : List Entry) (entry : Entry) (context : ℕ) → old ≡ before ++ entry ∷ []
     → joins_last old context ≡ joins entry context
 joins_as old before entry context is =
     let size : length (before ++ entry ∷ []) ≡ length before + 1 = length_push before entry in
@@ -166,9 +166,45 @@ turn_crosses old before entry context n is test h most =
     turn_crossing old before entry context n is
     (sym (joins_as old before entry context is) ∙ test) h most
 
+-- an entry of ordinary steps that isn't full
+pub open_behind : (new before : List Entry) (context steps : ℕ)
+    → new ≡ before ++ plain_entry context steps ∷ [] → steps < steps_limit
+    → joins_last new context ≡ true
+open_behind new before context steps is h =
+    joins_as new before (plain_entry context steps) context is ∙ grind (arith, nat_tests)
+
+-- ---- how many find room
+
+last_as : (old before : List Entry) (entry : Entry) → old ≡ before ++ entry ∷ []
+    → last_entry old ≡ Some entry
+last_as old before entry is =
+    let size : length (before ++ entry ∷ []) ≡ length before + 1 = length_push before entry in
+    let place : length (before ++ entry ∷ []) - 1 ≡ length before = omega (arith, size) in
+    ap last_entry is ∙ ap (slice_get (before ++ entry ∷ [])) place ∙ last_at before entry
+
+free_within_last : (last : Option Entry) (context : ℕ)
+    → option_map_or (λ it. if joins it context then steps_limit - it.steps else steps_limit) last
+    steps_limit ≤ steps_limit
+free_within_last None context = omega arith
+free_within_last (Some entry) context = within (joins entry context)
+  where
+    within : (test : Bool) → (if test then steps_limit - entry.steps else steps_limit) ≤ steps_limit
+    within true = omega arith
+    within false = omega arith
+
+-- never more than an entry has
+pub free_within : (old : List Entry) (context : ℕ) → free_steps old context ≤ steps_limit
+free_within old context = free_within_last (last_entry old) context
+
+-- what the last entry has left, where they join it
+pub free_left : (old before : List Entry) (entry : Entry) (context : ℕ) → old ≡ before ++ entry ∷ []
+    → joins entry context ≡ true → free_steps old context ≡ steps_limit - entry.steps
+free_left old before entry context is test =
+    ap (λ (last : Option Entry).
+    option_map_or (λ it. if joins it context then steps_limit - it.steps else steps_limit) last
+    steps_limit) (last_as old before entry is) ∙ rw test refl
+
 -- none
 pub times_none : (n : ℕ) (old : List Entry) (move : Move) → n ≡ 0 → old ≡ added_times n old move
 unfolding added_times
 times_none n old move is = rw is refl
-
-pub ruleset turn_lemmas = (times_none, turn_fits, turn_crosses, turn_apart, times_alone)

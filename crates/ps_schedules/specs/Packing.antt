@@ -1,5 +1,5 @@
--- Entries packed into bytes. A number stands in groups of seven bits, the lowest first; each byte but
--- its last one has 128 more.
+-- Entries packed into bytes. A number stands in groups of seven bits, the lowest first; each byte
+-- but its last one has 128 more.
 use Rattle.std.specs.Prelude.{ℕ, zero, suc, ℤ, pos, negsuc, ◌+◌, ◌-◌, ◌*◌, ◌/◌, ◌%◌, ◌≡◌, ◌==◌, min}
 use Rattle.std.specs.Prelude.{◌≤◌, Option, Some, None, List, [], ◌∷◌, ◌++◌, length, nat_lt}
 use Rattle.std.specs.Prelude.{if◌then◌else◌}
@@ -27,9 +27,10 @@ pair_in bytes =
     let most = number_in used.1 in
     ((words_of used.0, words_of most.0), most.1)
 
--- an entry that isn't of ordinary steps, and the bytes behind it
-abbrev pub full_in : List ℕ → Entry × List ℕ
-full_in bytes =
+-- an entry with flags: 1 where its last step is refused, 2 where it shows a pair; and the bytes
+-- behind it
+abbrev pub flagged_in : List ℕ → Entry × List ℕ
+flagged_in bytes =
     let flags = number_in bytes in
     let context = number_in flags.1 in
     let steps = number_in context.1 in
@@ -43,13 +44,13 @@ full_in bytes =
       pair.1,
     )
 
--- an entry, and the bytes behind it: where the first number is 0 a full one, else one of so many
+-- an entry, and the bytes behind it: where the first number is 0 one with flags, else one of so many
 -- ordinary steps
 abbrev pub entry_in : List ℕ → Entry × List ℕ
 entry_in bytes =
     let steps = number_in bytes in
     let context = number_in steps.1 in
-    if steps.0 == 0 then full_in steps.1 else (plain_entry context.0 steps.0, context.1)
+    if steps.0 == 0 then flagged_in steps.1 else (plain_entry context.0 steps.0, context.1)
 
 -- so many entries, and the bytes behind them
 abbrev pub entries_in : ℕ → List ℕ → List Entry × List ℕ
@@ -63,17 +64,16 @@ entries_in (suc more) bytes =
 
 -- behind what stood there, a value is written in some bytes, up to so many, that are read as it,
 -- whatever follows them
-pub record Writes (A : Type 0) (read : List ℕ → A × List ℕ) (value : A) (most : ℕ) (old new : List ℕ) : Type 0 where
+pub record Writes
+    (A : Type 0) (read : List ℕ → A × List ℕ) (value : A) (most : ℕ) (old new : List ℕ)
+    : Type 0 where
   pub code : List ℕ
   pub is : new ≡ old ++ code
   pub reads : (rest : List ℕ) → read (code ++ rest) ≡ (value, rest)
   pub some : 1 ≤ length code
   pub short : length code ≤ most
 
--- the most bytes of a number, and of an entry
-abbrev pub most_number_bytes : ℕ
-most_number_bytes = 5
-
+-- the most bytes of an entry: two of one byte, and four numbers of up to five
 abbrev pub most_entry_bytes : ℕ
 most_entry_bytes = 22
 

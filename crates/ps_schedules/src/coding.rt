@@ -4,7 +4,7 @@ ghost use Rattle.std.specs.Prelude.{◌≡◌, ◌==◌, ◌+◌, ◌%◌, ◌<�
 ghost use Rattle.std.specs.Prelude.{vec_len, vec_capacity};
 ghost use Rattle.ps_language.specs.declared.schedules.Entry.{Entry as ScheduleEntry};
 ghost use Rattle.ps_schedules.specs.Packing as packing;
-ghost use Rattle.ps_schedules.specs.Packing.{Writes, number_in, words_of, pair_in, full_in, entry_in};
+ghost use Rattle.ps_schedules.specs.Packing.{Writes, number_in, words_of, pair_in, flagged_in, entry_in};
 
 use crate::turns::{is_plain, plain_entry};
 use ps_language::schedules::Entry;
@@ -57,9 +57,9 @@ fn pair(bytes: &[u8]) -> ((i32, i32), &[u8])
 }
 
 /// The entry with flags that bytes begin with, and the bytes behind it.
-fn full(bytes: &[u8]) -> (Entry, &[u8])
-    ensures value { result.0 ≡ (full_in bytes.now).0 }
-    ensures rest { result.1.now ≡ (full_in bytes.now).1 }
+fn flagged(bytes: &[u8]) -> (Entry, &[u8])
+    ensures value { result.0 ≡ (flagged_in bytes.now).0 }
+    ensures rest { result.1.now ≡ (flagged_in bytes.now).1 }
 {
     let (flags, rest) = number(bytes);
     let (context, rest) = number(rest);
@@ -83,7 +83,7 @@ pub(crate) fn entry(bytes: &[u8]) -> (Entry, &[u8])
 {
     let (steps, rest) = number(bytes);
     if steps == 0 {
-        return full(rest);
+        return flagged(rest);
     }
     let (context, rest) = number(rest);
     (plain_entry(context, steps), rest)
@@ -125,9 +125,9 @@ fn flags_of(entry: &Entry) -> u32
 }
 
 /// Writes an entry with flags, for which the capacity has room.
-fn push_full(bytes: &mut Vec<u8>, entry: Entry)
+fn push_flagged(bytes: &mut Vec<u8>, entry: Entry)
     requires { vec_len bytes.old + 21 ≤ vec_capacity bytes.old }
-    ensures written { Writes ScheduleEntry full_in entry 21 bytes.old.items bytes.new.items }
+    ensures written { Writes ScheduleEntry flagged_in entry 21 bytes.old.items bytes.new.items }
     ensures capacity { vec_capacity bytes.new ≡ vec_capacity bytes.old }
 {
     let (used, most) = entry.shown.unwrap_or((0, 0));
@@ -151,5 +151,5 @@ pub(crate) fn push_entry(bytes: &mut Vec<u8>, entry: Entry)
         return;
     }
     push_number(bytes, 0, 0);
-    push_full(bytes, entry);
+    push_flagged(bytes, entry);
 }

@@ -1,7 +1,7 @@
 //! A schedule as a run keeps it: packed but for its last entry, which a further step may join.
 
 ghost use Rattle.std.specs.Prelude.{◌≡◌, ◌+◌, ◌<◌, ◌≤◌, ◌++◌, ◌∷◌, [], true, length, OnOk, OnErr};
-ghost use Rattle.std.specs.Prelude.{IfOk};
+ghost use Rattle.std.specs.Prelude.{IfOk, IsTrue, ◌↔◌};
 ghost use Rattle.ps_language.specs.Schedules as schedules;
 ghost use Rattle.ps_language.specs.Schedules.{plain_move};
 ghost use Rattle.ps_schedules.specs.Turns as turning;
@@ -73,6 +73,13 @@ impl Schedule {
         ensures { result ≡ self.now.most }
     {
         self.most
+    }
+
+    /// Whether it has as many entries as it may have.
+    pub fn is_full(&self) -> bool
+        ensures { IsTrue result ↔ self.now.most ≤ length self.now.items }
+    {
+        self.count as u64 >= self.most
     }
 
     /// Whether a further step of a context joins the last entry.

@@ -1,4 +1,4 @@
-use Rattle.std.proofs.Common.{◌≡◌, ℕ, ap, arith, length}
+use Rattle.std.proofs.Common.{ℕ, ap, arith, length}
 use Rattle.ps_schedules.specs.Keeping.{Kept}
 use Rattle.ps_schedules.proofs.Appends.{count_is}
 use Rattle.ps_schedules.proofs.packed.Schedule.clear.Goals as goal

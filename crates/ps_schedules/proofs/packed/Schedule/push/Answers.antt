@@ -1,4 +1,4 @@
-use Rattle.std.proofs.Common.{◌≡◌, ℕ, ◌∙◌, sym, ap, arith, List, [], ◌∷◌, ◌++◌, length}
+use Rattle.std.proofs.Common.{ℕ, ◌∙◌, ap, arith, List, [], ◌∷◌, ◌++◌, length}
 use Rattle.ps_language.specs.declared.schedules.Entry.{Entry}
 use Rattle.ps_schedules.specs.Keeping.{Kept}
 use Rattle.ps_schedules.proofs.Appends.{count_is, packed_more, items_more}
