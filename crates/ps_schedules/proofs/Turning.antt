@@ -156,16 +156,6 @@ pub turn_fits : (old before : List Entry) (entry : Entry) (context n : ℕ) → 
 turn_fits old before entry context n is test h =
     turn_joined old before entry context n is (sym (joins_as old before entry context is) ∙ test) h
 
-pub turn_crosses : (old before : List Entry) (entry : Entry) (context n : ℕ) → old ≡ before
-    ++ entry ∷ [] → joins_last old context ≡ true
-    → steps_limit < entry.steps + n → n ≤ steps_limit
-    → (before ++ plain_entry context steps_limit ∷ [])
-    ++ plain_entry context (n - (steps_limit - entry.steps))
-    ∷ [] ≡ added_times n old (plain_move context)
-turn_crosses old before entry context n is test h most =
-    turn_crossing old before entry context n is
-    (sym (joins_as old before entry context is) ∙ test) h most
-
 -- an entry of ordinary steps that isn't full
 pub open_behind : (new before : List Entry) (context steps : ℕ)
     → new ≡ before ++ plain_entry context steps ∷ [] → steps < steps_limit

@@ -4,6 +4,7 @@ ghost use Rattle.std.specs.Prelude.{◌≡◌, ◌+◌, ◌<◌, ◌≤◌, ◌+
 ghost use Rattle.std.specs.Prelude.{IfOk, IsTrue, ◌↔◌};
 ghost use Rattle.ps_language.specs.Schedules as schedules;
 ghost use Rattle.ps_language.specs.Schedules.{plain_move};
+ghost use Rattle.ps_schedules.specs.Keeping.{MayAdd, most_of};
 ghost use Rattle.ps_schedules.specs.Turns as turning;
 ghost use Rattle.ps_schedules.specs.Turns.{move_of, added_times};
 
@@ -14,7 +15,7 @@ use ps_language::schedules::Entry;
 use std::alloc::{AllocError, Global};
 use std::marker::Model;
 
-/// A schedule, seen as its entries, how many find room before memory is asked for, and how many
+/// A schedule, seen as its entries, how many find room before memory is asked for, and how many more
 /// there may be. An entry of up to 127 ordinary steps of a context up to 127 takes two bytes.
 #[derive(Drop)]
 pub struct Schedule {
@@ -35,7 +36,7 @@ impl Model for Schedule {
     ghost view = { λ s. record {
       items = items_in s.count s.bytes.items s.last;
       capacity = s.count + (vec_capacity s.bytes - vec_len s.bytes) / most_entry_bytes;
-      most = s.most;
+      left = s.most - s.count;
     } };
 
     ghost invariant = { λ s. IsPacked s.count s.bytes.items s.last };
@@ -48,7 +49,7 @@ impl Schedule {
     pub fn with_capacity(alloc: Global, entries: usize, most: u64) -> Result<Schedule, AllocError>
         ensures items { IfOk result (λ schedule. schedule.items ≡ []) }
         ensures capacity { IfOk result (λ schedule. entries ≤ schedule.capacity) }
-        ensures most { IfOk result (λ schedule. schedule.most ≡ most) }
+        ensures most { IfOk result (λ schedule. most_of schedule ≡ most) }
     {
         if entries > usize::MAX / MOST_ENTRY_BYTES {
             return Err(AllocError);
@@ -68,22 +69,15 @@ impl Schedule {
         self.count
     }
 
-    /// How many entries it may have.
-    pub fn most(&self) -> u64
-        ensures { result ≡ self.now.most }
-    {
-        self.most
-    }
-
     /// Whether it has as many entries as it may have.
-    pub fn is_full(&self) -> bool
-        ensures { IsTrue result ↔ self.now.most ≤ length self.now.items }
+    fn is_full(&self) -> bool
+        ensures { IsTrue result ↔ self.now.left ≡ 0 }
     {
         self.count as u64 >= self.most
     }
 
     /// Whether a further step of a context joins the last entry.
-    pub fn joins_last(&self, context: u32) -> bool
+    fn joins_last(&self, context: u32) -> bool
         ensures { result ≡ turning.joins_last self.now.items context }
     {
         match &self.last {
@@ -92,10 +86,18 @@ impl Schedule {
         }
     }
 
+    /// Whether it has an entry that a step of a context joins, or may have another.
+    pub fn may_add(&self, context: u32) -> bool
+        ensures { IsTrue result ↔ MayAdd self.now context }
+    {
+        self.joins_last(context) || !self.is_full()
+    }
+
     /// How many ordinary steps of a context, up to 4,294,967,295, find room without a second new
     /// entry.
     pub fn free_steps(&self, context: u32) -> u32
-        ensures { result ≡ turning.free_steps self.now.items context }
+        ensures is { result ≡ turning.free_steps self.now.items context }
+        ensures some { 1 ≤ result }
     {
         match &self.last {
             Some(last) if joins(last, context) => u32::MAX - last.steps,
@@ -108,7 +110,7 @@ impl Schedule {
     /// `AllocError`: the room can't be had. Nothing has changed then.
     pub fn reserve(&mut self) -> Result<(), AllocError>
         ensures items { self.new.items ≡ self.old.items }
-        ensures most { self.new.most ≡ self.old.most }
+        ensures most { most_of self.new ≡ most_of self.old }
         ensures capacity { self.old.capacity ≤ self.new.capacity }
         ensures room { OnOk result (length self.new.items + 2 ≤ self.new.capacity) }
         ensures full { OnErr result (self.new.capacity < length self.new.items + 2) }
@@ -117,11 +119,12 @@ impl Schedule {
         self.bytes.reserve(2 * MOST_ENTRY_BYTES)
     }
 
-    /// Adds an entry, for which there is room.
+    /// Adds an entry, for which there is room, and which it may have.
     pub fn push(&mut self, entry: Entry)
-        requires { length self.old.items < self.old.capacity }
+        requires room { length self.old.items < self.old.capacity }
+        requires few { 1 ≤ self.old.left }
         ensures items { self.new.items ≡ self.old.items ++ entry ∷ [] }
-        ensures most { self.new.most ≡ self.old.most }
+        ensures most { most_of self.new ≡ most_of self.old }
         ensures capacity { self.old.capacity ≤ self.new.capacity }
     {
         let Some(last) = self.last else {
@@ -136,10 +139,11 @@ impl Schedule {
 
     /// Adds a step of a context, for which there is room: it joins the last entry where it can.
     pub fn note(&mut self, context: u32, refused: bool, shown: Option<(i32, i32)>)
-        requires { length self.old.items < self.old.capacity }
+        requires room { length self.old.items < self.old.capacity }
+        requires may { MayAdd self.old context }
         ensures added { self.new.items ≡ schedules.added self.old.items
             (move_of context refused shown) }
-        ensures most { self.new.most ≡ self.old.most }
+        ensures most { most_of self.new ≡ most_of self.old }
         ensures capacity { self.old.capacity ≤ self.new.capacity }
         ensures longer { length self.new.items ≤ length self.old.items + 1 }
         ensures joined { turning.joins_last self.old.items context ≡ true
@@ -167,15 +171,16 @@ impl Schedule {
         });
     }
 
-    /// Adds ordinary steps of a context, for which there is room: as many single ones.
+    /// Adds ordinary steps of a context, for which there is room in one entry: as many single ones.
     pub fn note_turn(&mut self, context: u32, steps: u32)
-        requires { length self.old.items < self.old.capacity }
+        requires room { length self.old.items < self.old.capacity }
+        requires may { MayAdd self.old context }
+        requires fits { steps ≤ turning.free_steps self.old.items context }
         ensures added { self.new.items ≡ added_times steps self.old.items (plain_move context) }
-        ensures most { self.new.most ≡ self.old.most }
+        ensures most { most_of self.new ≡ most_of self.old }
         ensures capacity { self.old.capacity ≤ self.new.capacity }
         ensures longer { length self.new.items ≤ length self.old.items + 1 }
         ensures joined { turning.joins_last self.old.items context ≡ true
-            → steps ≤ turning.free_steps self.old.items context
             → length self.new.items ≡ length self.old.items }
         ensures open { 1 ≤ steps → steps < turning.free_steps self.old.items context
             → turning.joins_last self.new.items context ≡ true }
@@ -191,24 +196,7 @@ impl Schedule {
             self.push(plain_entry(context, steps));
             return;
         }
-        let free = u32::MAX - last.steps;
-        if steps <= free {
-            self.last = Some(plain_entry(context, last.steps + steps));
-            return;
-        }
-        self.last = Some(plain_entry(context, u32::MAX));
-        self.push(plain_entry(context, steps - free));
-    }
-
-    /// Takes all entries away.
-    pub fn clear(&mut self)
-        ensures items { self.new.items ≡ [] }
-        ensures most { self.new.most ≡ self.old.most }
-        ensures capacity { self.old.capacity ≤ self.new.capacity + length self.old.items }
-    {
-        self.bytes.clear();
-        self.count = 0;
-        self.last = None;
+        self.last = Some(plain_entry(context, last.steps + steps));
     }
 
     /// Its entries, one after another.

@@ -1,11 +1,11 @@
 use Rattle.std.proofs.Common.{◌≡◌, ◌+◌, ◌-◌, ◌∙◌, refl, sym, ap, arith, true≢false, false, List, [], ◌∷◌, ◌++◌}
 use Rattle.ps_language.specs.declared.schedules.Entry.{Entry}
-use Rattle.ps_language.specs.Schedules.{plain_move, steps_limit}
+use Rattle.ps_language.specs.Schedules.{plain_move}
 use Rattle.ps_schedules.specs.Keeping.{Kept}
 use Rattle.ps_schedules.specs.Packing.{entries_in}
-use Rattle.ps_schedules.specs.Turns.{joins_last, plain_entry}
+use Rattle.ps_schedules.specs.Turns.{joins_last}
 use Rattle.ps_schedules.proofs.Appends.{none_yet}
-use Rattle.ps_schedules.proofs.Turning.{times_none, turn_apart, turn_fits, turn_crosses, joins_as, open_behind}
+use Rattle.ps_schedules.proofs.Turning.{times_none, turn_apart, turn_fits, joins_as, open_behind}
 use Rattle.ps_schedules.proofs.Turning.{free_within, free_left}
 use Rattle.ps_schedules.proofs.packed.Schedule.note_turn.Goals as goal
 
@@ -36,7 +36,7 @@ returns-then-not-joins-clause-added c =
     (omega (arith, c.ranges.steps.fits)))
 
 pub returns-then-not-joins-clause-joined : goal.returns-then-not-joins-clause-joined
-returns-then-not-joins-clause-joined c = λ joined few.
+returns-then-not-joins-clause-joined c = λ joined.
     let is = sym (rw c.in-Some.is at (ap (λ (kept : Kept). kept.items) c.self.view_is)) in
     absurd (true≢false (sym joined
     ∙ (joins_as c.args.self.now.items _ c.in-Some.last c.args.context is
@@ -51,52 +51,25 @@ returns-then-not-joins-clause-open c = λ some few.
     ∙ ap (λ (entry : Entry). old ++ entry ∷ []) c.plain_entry-then-not-joins.ensures)
     (omega (arith, few, most))
 
-pub returns-then-steps-free-clause-added : goal.returns-then-steps-free-clause-added
-returns-then-steps-free-clause-added c =
-    let is = sym (rw c.in-Some.is at (ap (λ (kept : Kept). kept.items) c.self.view_is)) in
-    let test = joins_as c.args.self.now.items _ c.in-Some.last c.args.context is
-    ∙ (sym c.joins.ensures ∙ c.if-not-joins.false) in
-    let free = c.if-steps-free.true in
-    let before : List Entry = (entries_in (c.self.inside.count - 1) c.self.inside.bytes.items).0 in
-    ap (λ (entry : Entry). before ++ entry ∷ []) c.plain_entry-then-steps-free.ensures
-    ∙ turn_fits c.args.self.now.items _ c.in-Some.last c.args.context c.args.steps is test
-    (omega (arith, free))
-
-pub returns-then-steps-free-clause-open : goal.returns-then-steps-free-clause-open
-returns-then-steps-free-clause-open c = λ some few.
-    let is = sym (rw c.in-Some.is at (ap (λ (kept : Kept). kept.items) c.self.view_is)) in
-    let left = free_left c.args.self.now.items _ c.in-Some.last c.args.context is
-    (sym c.joins.ensures ∙ c.if-not-joins.false) in
-    let before : List Entry = (entries_in (c.self.inside.count - 1) c.self.inside.bytes.items).0 in
-    open_behind (before ++ c.plain_entry-then-steps-free.result ∷ []) before c.args.context
-    (c.in-Some.last.steps + c.args.steps)
-    (ap (λ (entry : Entry). before ++ entry ∷ []) c.plain_entry-then-steps-free.ensures)
-    (omega (arith, left, few))
-
 pub returns-clause-added : goal.returns-clause-added
 returns-clause-added c =
     let is = sym (rw c.in-Some.is at (ap (λ (kept : Kept). kept.items) c.self.view_is)) in
     let test = joins_as c.args.self.now.items _ c.in-Some.last c.args.context is
     ∙ (sym c.joins.ensures ∙ c.if-not-joins.false) in
-    let before : List Entry = (entries_in (c.self.inside.count - 1) c.self.inside.bytes.items).0 in
-    let behind = c.plain_entry-3.result in
-    c.push-2.ensures.items
-    ∙ (ap (λ (entry : Entry). (before ++ entry ∷ []) ++ behind ∷ []) c.plain_entry-2.ensures
-    ∙ (ap (λ (entry : Entry).
-    (before ++ plain_entry c.args.context steps_limit ∷ []) ++ entry ∷ []) c.plain_entry-3.ensures
-    ∙ turn_crosses c.args.self.now.items before c.in-Some.last c.args.context c.args.steps is test
-    (omega (arith, c.if-steps-free.false)) (omega (arith, c.ranges.steps.fits))))
-
-pub returns-clause-joined : goal.returns-clause-joined
-returns-clause-joined c = λ joined few.
-    let is = sym (rw c.in-Some.is at (ap (λ (kept : Kept). kept.items) c.self.view_is)) in
     let left = free_left c.args.self.now.items _ c.in-Some.last c.args.context is
     (sym c.joins.ensures ∙ c.if-not-joins.false) in
-    absurd (omega (arith, left, few, c.if-steps-free.false))
+    let before : List Entry = (entries_in (c.self.inside.count - 1) c.self.inside.bytes.items).0 in
+    ap (λ (entry : Entry). before ++ entry ∷ []) c.plain_entry-2.ensures
+    ∙ turn_fits c.args.self.now.items _ c.in-Some.last c.args.context c.args.steps is test
+    (omega (arith, left, c.requires.fits))
 
 pub returns-clause-open : goal.returns-clause-open
 returns-clause-open c = λ some few.
     let is = sym (rw c.in-Some.is at (ap (λ (kept : Kept). kept.items) c.self.view_is)) in
     let left = free_left c.args.self.now.items _ c.in-Some.last c.args.context is
     (sym c.joins.ensures ∙ c.if-not-joins.false) in
-    absurd (omega (arith, left, few, c.if-steps-free.false))
+    let before : List Entry = (entries_in (c.self.inside.count - 1) c.self.inside.bytes.items).0 in
+    open_behind (before ++ c.plain_entry-2.result ∷ []) before c.args.context
+    (c.in-Some.last.steps + c.args.steps)
+    (ap (λ (entry : Entry). before ++ entry ∷ []) c.plain_entry-2.ensures)
+    (omega (arith, left, few))

@@ -1,4 +1,4 @@
-use Rattle.std.proofs.Common.{ℕ, ◌∙◌, ap, arith, List, [], ◌∷◌, ◌++◌, length}
+use Rattle.std.proofs.Common.{ℕ, ◌∙◌, ap, arith, List, [], ◌∷◌, ◌++◌, length, length-append}
 use Rattle.ps_language.specs.declared.schedules.Entry.{Entry}
 use Rattle.ps_schedules.specs.Keeping.{Kept}
 use Rattle.ps_schedules.proofs.Appends.{count_is, packed_more, items_more}
@@ -10,7 +10,7 @@ push_entry-requires c =
     let size = count_is inside.count inside.bytes.items inside.last c.self.invariant in
     let same = ap {B = ℕ} (λ (kept : Kept). length kept.items) c.self.view_is in
     let room = ap {B = ℕ} (λ (kept : Kept). kept.capacity) c.self.view_is in
-    omega (arith, size, same, room, c.requires)
+    omega (arith, size, same, room, c.requires.room)
 
 pub invariant_of-self-2 : goal.invariant_of-self-2
 invariant_of-self-2 c =
@@ -23,3 +23,13 @@ returns-clause-items c =
     c.in-Some.last c.args.entry (rw c.in-Some.is at c.self.invariant) c.push_entry.ensures.written
     ∙ ap (λ (entries : List Entry). entries ++ c.args.entry ∷ [])
     (rw c.in-Some.is at (ap (λ (kept : Kept). kept.items) c.self.view_is))
+
+pub returns-clause-most : goal.returns-clause-most
+returns-clause-most c =
+    let inside = c.self.inside in
+    let size = count_is inside.count inside.bytes.items inside.last c.self.invariant in
+    let same = ap {B = ℕ} (λ (kept : Kept). length kept.items) c.self.view_is in
+    let left = ap {B = ℕ} (λ (kept : Kept). kept.left) c.self.view_is in
+    let more = ap {B = ℕ} (λ (entries : List Entry). length entries) (returns-clause-items c) in
+    let sum = length-append c.args.self.now.items (c.args.entry ∷ []) in
+    omega (arith, size, same, left, more, sum, c.requires.few)
