@@ -24,6 +24,7 @@ mod writing;
 pub use entries::Entries;
 pub use fronts::begins;
 pub use laws::schedule_text_laws;
+pub use lines::is_entry;
 pub use packed::Schedule;
 pub use reading::{MOST_LINE_BYTES, ScheduleFault, read_entries};
 pub use steps::steps_of;
