@@ -12,8 +12,8 @@ use ps_language::schedules::Entry;
 /// The most words that a `vmstatus` shows.
 const MOST_WORDS: u32 = 2147483647;
 
-/// Whether an entry has a line: it has a step or more, of a context's identifier, and a pair that it
-/// shows is of numbers of words from 1.
+/// Whether an entry has a line: it has a step or more, of a context's identifier, and a pair that
+/// it shows is of numbers of words from 1.
 pub fn is_entry(entry: &Entry) -> bool
     ensures { IsTrue result ↔ IsEntry entry.now }
 {
