@@ -43,7 +43,8 @@ enum tallowmarch_code {
     TALLOWMARCH_MEMORY = 5,        /* memory was refused, or more was to be printed than `output`; what was made so far is handed out */
     TALLOWMARCH_OUT_OF_RANGE = 16, /* `space`, `quantum` or `steps` is out of its range */
     TALLOWMARCH_NO_ROOM = 17,      /* no memory to start with */
-    TALLOWMARCH_OTHER_SCHEDULE = 18 /* the schedule to go on from isn't that of a run of this program by these settings */
+    TALLOWMARCH_OTHER_SCHEDULE = 18, /* the schedule to go on from isn't that of a run of this program by these settings */
+    TALLOWMARCH_BAD_ENTRY = 19     /* an entry of the given schedule is none: its context or its steps are 0, or it shows a pair below 1 */
 };
 
 /* Two numbers that who wrote the program can't guess, as from getentropy: with them it can't make the table of names slow. They change nothing
@@ -68,14 +69,16 @@ typedef struct tallowmarch_settings {
 /* A collected space of 65536 words, turns of 100 steps, as many steps as there may be, no bound on the output, and keys that are no secret. */
 #define TALLOWMARCH_SETTINGS {65536, 100, UINT32_MAX, 0, 0, {0, 0}}
 
-/* Neighbouring steps of one context in a schedule. */
+/* Neighbouring steps of one context in a schedule. A call that is given another number than those told here gives TALLOWMARCH_BAD_ENTRY; so
+ * these are the entries that a line of `dpsrun --replay` can have.
+ */
 typedef struct tallowmarch_entry {
     uint32_t context; /* the context's identifier, from 1 */
-    uint32_t steps;   /* how many steps; an entry of 0 is no step */
+    uint32_t steps;   /* how many steps, at least 1 */
     uint32_t refused; /* not 0: the last step finds no memory for an object, and raises VMerror if it wants one */
     uint32_t shown;   /* not 0: a vmstatus in the last step shows `used` and `size` */
-    int32_t used;     /* the words that are used */
-    int32_t size;     /* the words that there are */
+    int32_t used;     /* the words that are used: from 1, if they are shown */
+    int32_t size;     /* the words that there are: from 1, if they are shown */
 } tallowmarch_entry;
 
 /* How much a run came to, whatever there was room for. */
@@ -109,7 +112,8 @@ uint32_t tallowmarch_run(const uint8_t *program, size_t length, const tallowmarc
  * its budgets, all calls together make at most some three times the steps of the last one.
  *
  * With TALLOWMARCH_MEMORY memory may have been wanted before all given steps were made: then as many are handed out. With
- * TALLOWMARCH_OTHER_SCHEDULE the run didn't begin with them. That is told when it is over, after as many steps as were asked for at most.
+ * TALLOWMARCH_OTHER_SCHEDULE the run didn't begin with them. That is told when it is over, after as many steps as were asked for at most. With
+ * TALLOWMARCH_BAD_ENTRY one of the entries is none, and no step was made.
  */
 uint32_t tallowmarch_go_on(const uint8_t *program, size_t length, const tallowmarch_settings *settings, const tallowmarch_entry *given,
                            size_t given_length, uint8_t *printed, size_t printed_room, tallowmarch_entry *schedule, size_t schedule_room,
@@ -118,8 +122,8 @@ uint32_t tallowmarch_go_on(const uint8_t *program, size_t length, const tallowma
 /* Follows a schedule of `given_length` entries, from a run of the same program by whatever settings, over memory that grows and is never
  * collected. It prints what that run printed. Of the settings here only `output` and `keys` count. The schedule that is handed out is the given
  * one; or, with TALLOWMARCH_MEMORY, as much of it as was followed. Steps of contexts that aren't ready are passed over. The code is
- * TALLOWMARCH_STEPS_OUT where a context is ready at the end, and never TALLOWMARCH_OUT_OF_RANGE. A call takes time for each step of the
- * schedule that a context makes.
+ * TALLOWMARCH_STEPS_OUT where a context is ready at the end, and TALLOWMARCH_BAD_ENTRY where one of the entries is none, but never
+ * TALLOWMARCH_OUT_OF_RANGE. A call takes time for each step of the schedule that a context makes.
  */
 uint32_t tallowmarch_replay(const uint8_t *program, size_t length, const tallowmarch_settings *settings, const tallowmarch_entry *given,
                             size_t given_length, uint8_t *printed, size_t printed_room, tallowmarch_entry *schedule, size_t schedule_room,

@@ -169,9 +169,9 @@ static void replays(struct made *made) {
         count(made->counts.flips == 0 && made->counts.taken == 0, "a replay collects nothing");
     }
     count(prints(made, TALLOWMARCH_FINISHED, "600\n") && made->counts.steps == whole.counts.steps, "a whole replay");
-    const tallowmarch_entry nobody[] = {{7, 4000000000u, 2, 0x100, 1, 2}, {0, 3, 0, 0, 5, 6}, {1, 0, 1, 0, 0, 0}};
-    made->code = tallowmarch_replay(program, strlen(contexts), &any, nobody, 3, made->printed, BYTES, made->schedule, ENTRIES, &made->counts);
-    const tallowmarch_entry first = {7, 4000000000u, 1, 1, 1, 2}, second = {0, 3, 0, 0, 0, 0};
+    const tallowmarch_entry nobody[] = {{7, 4000000000u, 2, 0x100, 1, INT32_MAX}, {UINT32_MAX, 3, 0, 0, 0, -6}};
+    made->code = tallowmarch_replay(program, strlen(contexts), &any, nobody, 2, made->printed, BYTES, made->schedule, ENTRIES, &made->counts);
+    const tallowmarch_entry first = {7, 4000000000u, 1, 1, 1, INT32_MAX}, second = {UINT32_MAX, 3, 0, 0, 0, 0};
     count(made->code == TALLOWMARCH_STEPS_OUT && made->counts.steps == 4000000003u && !memcmp(made->schedule, &first, sizeof first) &&
               !memcmp(made->schedule + 1, &second, sizeof second), "steps of contexts that there aren't");
 }
@@ -224,7 +224,7 @@ static void other_schedules(struct made *made) {
     static struct made whole;
     static tallowmarch_entry given[ENTRIES];
     const tallowmarch_settings settings = small();
-    const tallowmarch_entry nobody = {7, 1, 0, 0, 0, 0}, none = {9, 0, 1, 1, 1, 1};
+    const tallowmarch_entry nobody = {7, 1, 0, 0, 0, 0};
     run_in(&whole, contexts, settings, BYTES, ENTRIES);
     go_on_in(made, "1 =", settings, whole.schedule, whole.counts.entries, BYTES, ENTRIES);
     count(is_refused(made, TALLOWMARCH_OTHER_SCHEDULE), "a schedule of another program");
@@ -250,14 +250,32 @@ static void other_schedules(struct made *made) {
             count(!memcmp(made, &whole, sizeof whole), "any number but 0 is a refusal");
     }
     size_t length = 0;
-    for (size_t place = 0; place < entries && length + 3 < ENTRIES; place++) {
+    for (size_t place = 0; place < entries && length + 2 < ENTRIES; place++) {
         const tallowmarch_entry entry = whole.schedule[place];
-        given[length++] = none;
         if (entry.steps > 1) given[length++] = (tallowmarch_entry){entry.context, entry.steps - 1, 0, 0, 0, 0};
         given[length++] = (tallowmarch_entry){entry.context, 1, entry.refused, entry.shown, entry.used, entry.size};
     }
     go_on_in(made, statuses, settings, given, length, BYTES, ENTRIES);
     count(!memcmp(made, &whole, sizeof whole), "a schedule in other entries");
+}
+
+/* Entries that are none, first and last in a schedule: neither call that is given one makes a step or writes. */
+static void bad_entries(struct made *made) {
+    const tallowmarch_entry good = {1, 1, 0, 0, 0, 0}, bad[] = {{0, 1, 0, 0, 0, 0}, {1, 0, 0, 0, 0, 0},  {1, 0, 1, 1, 5, 6},         {1, 1, 0, 1, 0, 5},
+                                                                {1, 1, 0, 7, 5, 0}, {1, 1, 1, 1, -1, 5}, {1, 1, 0, 1, 5, INT32_MIN}};
+    const tallowmarch_settings settings = small(), any = {0, 0, 0, 0, 0, {1, 2}};
+    for (size_t at = 0; at < sizeof bad / sizeof *bad; at++) {
+        for (int before = 0; before < 2; before++) {
+            const tallowmarch_entry given[] = {before ? bad[at] : good, before ? good : bad[at]};
+            go_on_in(made, "1 =", settings, given, 2, BYTES, ENTRIES);
+            count(is_refused(made, TALLOWMARCH_BAD_ENTRY), "going on from an entry that is none");
+            go_on_in(made, "1 =", any, given, 2, BYTES, ENTRIES);
+            count(is_refused(made, TALLOWMARCH_OUT_OF_RANGE), "a number out of its range before an entry that is none");
+            memset(made, 0x5a, sizeof *made);
+            made->code = tallowmarch_replay((const uint8_t *)"1 =", 3, &any, given, 2, made->printed, BYTES, made->schedule, ENTRIES, &made->counts);
+            count(is_refused(made, TALLOWMARCH_BAD_ENTRY), "a replay of an entry that is none");
+        }
+    }
 }
 
 /* Runs that go on: rooms of no item, numbers out of their range, and a bound on the output that is met in the given steps. */
@@ -356,6 +374,7 @@ int main(void) {
     rooms(&made);
     replays(&made);
     goings_on(&made);
+    bad_entries(&made);
     refusals(&made, 0);
     refusals(&made, 1);
     threads();

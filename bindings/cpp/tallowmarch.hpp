@@ -29,8 +29,8 @@ enum class Outcome {
     memory = TALLOWMARCH_MEMORY             // memory was refused, or more was to be printed than may be; the report has what was made so far
 };
 
-// Why there is no run: `code` is TALLOWMARCH_OUT_OF_RANGE, TALLOWMARCH_NO_ROOM or TALLOWMARCH_OTHER_SCHEDULE, and 0 where the library is of
-// another version.
+// Why there is no run: `code` is TALLOWMARCH_OUT_OF_RANGE, TALLOWMARCH_NO_ROOM, TALLOWMARCH_OTHER_SCHEDULE or TALLOWMARCH_BAD_ENTRY, and 0 where
+// the library is of another version.
 class Error : public std::runtime_error {
 public:
     explicit Error(std::uint32_t code) : std::runtime_error(text_of(code)), code_(code) {}
@@ -43,6 +43,7 @@ private:
         case TALLOWMARCH_OUT_OF_RANGE: return "tallowmarch: a number of the settings is out of its range";
         case TALLOWMARCH_NO_ROOM: return "tallowmarch: out of memory";
         case TALLOWMARCH_OTHER_SCHEDULE: return "tallowmarch: the schedule is not that of a run by these settings";
+        case TALLOWMARCH_BAD_ENTRY: return "tallowmarch: an entry of the schedule is none";
         default: return "tallowmarch: the library is of another version";
         }
     }
@@ -134,12 +135,12 @@ public:
 
     // Goes on from a schedule that a run of this program by these settings was handed, for at most so many steps more as the settings say. The
     // report is of the whole run, from its start, and begins with the given steps and what they printed; but with Outcome::memory it may end
-    // before. Throws Error where the schedule is another run's, and as run does.
+    // before. Throws Error where the schedule is another run's or has an entry that is none, and as run does.
     Report go_on(const Schedule &given) const { return from(tallowmarch_go_on, given); }
 
     // Follows a schedule of a run of this program, by whatever settings, over memory that grows and is never collected. It prints what that run
     // printed. Of these settings the bound on the output alone counts. With Outcome::memory the report has the schedule as far as it was followed.
-    // Throws as run does.
+    // Throws Error where the schedule has an entry that is none, and as run does.
     Report replay(const Schedule &given) const { return from(tallowmarch_replay, given); }
 
 private:

@@ -51,6 +51,12 @@ int main() {
     } catch (const tallowmarch::Error &error) {
         count(error.code() == TALLOWMARCH_OTHER_SCHEDULE, "another schedule");
     }
+    try {
+        Run("1 =").replay({{0, 1, 0, 0, 0, 0}});
+        count(false, "an entry that is none");
+    } catch (const tallowmarch::Error &error) {
+        count(error.code() == TALLOWMARCH_BAD_ENTRY, "an entry that is none");
+    }
     const auto flood = Run("{(flood) =} loop").output(13).run();
     count(flood.outcome == Outcome::memory && flood.printed == "flood\nflood\n", "a bound on the output");
     count(Run("{} loop").steps(1000).run().outcome == Outcome::steps_out, "steps");

@@ -48,12 +48,16 @@ class OtherSchedule(Error, ValueError):
     """The schedule to go on from isn't that of a run of this program by these settings."""
 
 
+class BadEntry(Error, ValueError):
+    """An entry of the given schedule is none: its context or its steps are 0, or it shows a pair below 1."""
+
+
 class Entry(typing.NamedTuple):
     """Neighbouring steps of one context in a schedule."""
     context: int  #: the context's identifier, from 1
-    steps: int  #: how many steps
+    steps: int  #: how many steps, at least 1
     refused: bool = False  #: whether the last step finds no memory for an object
-    shown: typing.Optional[typing.Tuple[int, int]] = None  #: what a vmstatus in the last step shows: words used, words there are
+    shown: typing.Optional[typing.Tuple[int, int]] = None  #: what a vmstatus in the last step shows: words used, words there are, from 1
 
 
 @dataclasses.dataclass(frozen=True)
@@ -104,7 +108,7 @@ def _load():
 
 _LIBRARY = _load()
 _ERRORS = {16: OutOfRange('a number of the settings is out of its range'), 17: NoRoom('out of memory'),
-           18: OtherSchedule('the schedule is not that of a run by these settings')}
+           18: OtherSchedule('the schedule is not that of a run by these settings'), 19: BadEntry('an entry of the schedule is none')}
 
 
 def _entry_of(raw):
@@ -175,7 +179,7 @@ def go_on(program, schedule, *, space=65536, quantum=100, steps=2 ** 32 - 1, pla
 
     The report is of the whole run, from its start: it begins with the given steps, and with what they printed; but with MEMORY it may end before.
     The given steps are made again, so a host that looks at a clock doubles its budgets. Raises OtherSchedule where the run doesn't begin with the
-    schedule, and OutOfRange or NoRoom as a run does.
+    schedule, BadEntry where one of its entries is none, and OutOfRange or NoRoom as a run does.
 
     >>> first = run(b'1 1 1000 {=} for', steps=100)
     >>> second = go_on(b'1 1 1000 {=} for', first.schedule, steps=100)
@@ -196,8 +200,11 @@ def replay(program, schedule, *, output=0, keys=None):
     """Follows a schedule of a run of the same program, over memory that grows and is never collected. It prints what that run printed.
 
     output and keys are as for a run. Where memory was wanted the outcome is MEMORY, and the report has the schedule as far as it was followed.
-    Raises NoRoom where there is no memory to start with.
+    Raises BadEntry where an entry is none, and NoRoom where there is no memory to start with.
 
+    >>> replay(b'1 =', [Entry(context=1, steps=0)])
+    Traceback (most recent call last):
+    tallowmarch.BadEntry: an entry of the schedule is none
     >>> program = b'mark {(a) print} fork mark {(b) print} fork join cleartomark join cleartomark'
     >>> report = run(program, quantum=1)
     >>> replay(program, report.schedule).printed == report.printed

@@ -134,7 +134,8 @@ impl<'a> Run<'a> {
     ///
     /// # Errors
     ///
-    /// [`Error::OtherSchedule`] where the run doesn't begin with the schedule, [`Error::OutOfRange`] and [`Error::NoRoom`] as for [`Run::run`].
+    /// [`Error::OtherSchedule`] where the run doesn't begin with the schedule, [`Error::BadEntry`] where one of its entries is none, [`Error::OutOfRange`]
+    /// and [`Error::NoRoom`] as for [`Run::run`].
     ///
     /// ```
     /// use tallowmarch::{Error, Run};
@@ -153,7 +154,14 @@ impl<'a> Run<'a> {
     ///
     /// # Errors
     ///
-    /// [`Error::NoRoom`] where there is no memory to start with.
+    /// [`Error::BadEntry`] where an entry of the schedule is none, and [`Error::NoRoom`] where there is no memory to start with.
+    ///
+    /// ```
+    /// use tallowmarch::{Entry, Error, Run, Schedule};
+    ///
+    /// let nobody: Schedule = [Entry { context: 0, steps: 1, refused: false, shown: None }].into_iter().collect();
+    /// assert_eq!(Run::new(b"1 =").replay(&nobody), Err(Error::BadEntry));
+    /// ```
     pub fn replay(&self, schedule: &Schedule) -> Result<Report, Error> {
         raw::replay(self.program, &self.settings, &schedule.0)
     }
@@ -200,6 +208,8 @@ pub enum Error {
     NoRoom,
     /// The schedule to go on from isn't that of a run of this program by these settings.
     OtherSchedule,
+    /// An entry of the given schedule is none: its context or its steps are 0, or it shows a pair below 1.
+    BadEntry,
     /// The library is of another version than this crate.
     Version,
 }
@@ -210,6 +220,7 @@ impl fmt::Display for Error {
             Error::OutOfRange => "a number of the settings is out of its range",
             Error::NoRoom => "out of memory",
             Error::OtherSchedule => "the schedule is not that of a run by these settings",
+            Error::BadEntry => "an entry of the schedule is none",
             Error::Version => "libtallowmarch is of another version",
         })
     }
@@ -222,11 +233,11 @@ impl std::error::Error for Error {}
 pub struct Entry {
     /// The context's identifier, from 1.
     pub context: u32,
-    /// How many steps.
+    /// How many steps, at least 1.
     pub steps: u32,
     /// Whether the last step finds no memory for an object.
     pub refused: bool,
-    /// What a `vmstatus` in the last step shows, if one does: the words used, and the words there are.
+    /// What a `vmstatus` in the last step shows, if one does: the words used, and the words there are, both from 1.
     pub shown: Option<(i32, i32)>,
 }
 

@@ -191,6 +191,7 @@ fn outcome_of(code: u32) -> Result<Outcome, Error> {
         16 => Err(Error::OutOfRange),
         17 => Err(Error::NoRoom),
         18 => Err(Error::OtherSchedule),
+        19 => Err(Error::BadEntry),
         _ => Err(Error::Version),
     }
 }

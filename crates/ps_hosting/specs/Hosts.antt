@@ -9,13 +9,14 @@ use Rattle.ps_mem.specs.Bounded.{bounded_space}
 use Rattle.ps_mem.specs.Heap.{Space}
 use Rattle.ps_mem.specs.Plain.{plain_space}
 use Rattle.ps_start.specs.declared.start.TheConstants.{ANY_OUTPUT}
+use Rattle.ps_schedules.specs.Texts.{AreEntries}
 use Rattle.ps_vault.specs.declared.reports.Config.{Config}
 use Rattle.ps_vault.specs.declared.reports.Outcome.{Outcome}
 use Rattle.ps_vault.specs.declared.reports.Outcome.TheVariants.{Finished, Faulted, AllWaiting, StepsOut, Memory}
 use Rattle.ps_vault.specs.declared.reports.Report.{Report}
 use Rattle.ps_vault.specs.Reports.{IsReplayOf, IsRunIn, IsWithin, is_memory}
 use Rattle.ps_hosting.specs.declared.hosting.Refusal.{Refusal}
-use Rattle.ps_hosting.specs.declared.hosting.Refusal.TheVariants.{OutOfRange, NoRoom, OtherSchedule}
+use Rattle.ps_hosting.specs.declared.hosting.Refusal.TheVariants.{OutOfRange, NoRoom, OtherSchedule, BadEntry}
 use Rattle.ps_hosting.specs.declared.numbers.Settings.{Settings}
 use Rattle.ps_hosting.specs.declared.numbers.Counts.{Counts}
 use Rattle.ps_hosting.specs.declared.numbers.HostEntry.{HostEntry}
@@ -83,6 +84,7 @@ abbrev pub code_of_refusal : Refusal → ℕ
 code_of_refusal OutOfRange = 16
 code_of_refusal NoRoom = 17
 code_of_refusal OtherSchedule = 18
+code_of_refusal BadEntry = 19
 
 -- the rooms of a host, before or after a call
 pub record Rooms : Type 0 where
@@ -123,6 +125,7 @@ abbrev pub IsMade : (asks : Status → Around → Scene → Asked) → (program 
 IsMade asks program settings (Err OutOfRange) = ¬ IsWithin (config_in settings)
 IsMade asks program settings (Err NoRoom) = IsWithin (config_in settings)
 IsMade asks program settings (Err OtherSchedule) = ⊥
+IsMade asks program settings (Err BadEntry) = ⊥
 IsMade asks program settings (Ok report) =
     IsWithin (config_in settings) × IsRunFor asks program settings settings.steps report
 
@@ -135,25 +138,39 @@ abbrev pub GoesOnFrom : (given : List Entry) → Report → Type 0
 GoesOnFrom given report = Begins given report.schedule.items
     ⊎ ((is_memory report.outcome ≡ true) × Begins report.schedule.items given)
 
+-- why a given schedule isn't taken: an entry is none, or there is no room for it
+abbrev pub IsNotTaken : (given : List Entry) → Refusal → Type 0
+IsNotTaken given OutOfRange = ⊥
+IsNotTaken given NoRoom = AreEntries given
+IsNotTaken given OtherSchedule = ⊥
+IsNotTaken given BadEntry = ¬ AreEntries given
+
 -- what is made where a host asks to go on from a schedule: as where it asks for a run, but with a
--- budget behind the schedule, and the run goes on from it; or there is a run that doesn't
+-- budget behind the schedule, and the run goes on from it; or there is a run that doesn't; or an
+-- entry of the schedule is none
 abbrev pub IsGoneOn : (asks : Status → Around → Scene → Asked) → (program : List ℕ) → Settings
     → (given : List Entry) → Result Report Refusal → Type 0
 IsGoneOn asks program settings given (Err OutOfRange) = ¬ IsWithin (config_in settings)
-IsGoneOn asks program settings given (Err NoRoom) = IsWithin (config_in settings)
+IsGoneOn asks program settings given (Err BadEntry) =
+    IsWithin (config_in settings) × IsNotTaken given BadEntry
+IsGoneOn asks program settings given (Err NoRoom) =
+    IsWithin (config_in settings) × IsNotTaken given NoRoom
 IsGoneOn asks program settings given (Err OtherSchedule) = IsWithin (config_in settings)
+    × AreEntries given
     × ((report : Report)
     × IsRunFor asks program settings (budget_behind given settings.steps) report
     × (¬ GoesOnFrom given report))
 IsGoneOn asks program settings given (Ok report) = IsWithin (config_in settings)
+    × AreEntries given
     × IsRunFor asks program settings (budget_behind given settings.steps) report
     × GoesOnFrom given report
 
 -- what is made where a host asks for a schedule to be followed: a replay, which prints no more than
--- it may, or there is no room to start with
+-- it may; or an entry of the schedule is none, or there is no room to start with
 abbrev pub IsFollowed : (asks : Status → Around → Scene → Asked) → (program : List ℕ) → Settings
     → (given : List Entry) → Result Report Refusal → Type 0
-IsFollowed asks program settings given (Err refusal) = refusal ≡ NoRoom
+IsFollowed asks program settings given (Err refusal) = IsNotTaken given refusal
 IsFollowed asks program settings given (Ok report) =
-    IsReplayOf asks program given report
+    AreEntries given
+    × IsReplayOf asks program given report
     × (length report.printed.items ≤ most_output settings.output)

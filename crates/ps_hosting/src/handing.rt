@@ -1,13 +1,14 @@
 //! What a host has room for of what was found.
 
-ghost use Rattle.std.specs.Prelude.{◌≡◌, map, IfOk};
+ghost use Rattle.std.specs.Prelude.{◌≡◌, ◌↔◌, map, IfErr, IfOk, IsTrue};
+ghost use Rattle.ps_schedules.specs.Texts.{AreEntries};
 ghost use Rattle.ps_hosting.specs.Hosts as hosts;
-ghost use Rattle.ps_hosting.specs.Hosts.{handed, IsHanded, IsHandedOut};
+ghost use Rattle.ps_hosting.specs.Hosts.{handed, IsHanded, IsHandedOut, IsNotTaken};
 
 use crate::hosting::Refusal;
 use crate::numbers::{Counts, HostEntry, code_of, code_of_refusal, given_entry, handed_entry};
 use ps_language::schedules::Entry;
-use ps_schedules::{Entries, steps_of};
+use ps_schedules::{Entries, is_entry, steps_of};
 use ps_vault::Report;
 use std::alloc::{AllocError, Global};
 
@@ -29,8 +30,23 @@ fn hand_entries(entries: &[Entry], room: &mut [HostEntry])
     }
 }
 
-/// The schedule that a host gives. `AllocError`: there is no room for it.
-pub(crate) fn given_entries(alloc: Global, entries: &[HostEntry]) -> Result<Vec<Entry>, AllocError>
+/// Whether each entry that a host gives is one: of a context's identifier, of a step or more, and
+/// with a pair, if it shows one, of numbers of words from 1.
+fn are_entries(entries: &[HostEntry]) -> bool
+    ensures { IsTrue result ↔ AreEntries (map hosts.given_entry entries.now) }
+{
+    let mut left = entries;
+    while let Some((first, behind)) = left.split_first() {
+        if !is_entry(&given_entry(first)) {
+            return false;
+        }
+        left = behind;
+    }
+    true
+}
+
+/// What these entries of a host's mean. `AllocError`: there is no room for it.
+fn meant_entries(alloc: Global, entries: &[HostEntry]) -> Result<Vec<Entry>, AllocError>
     ensures { IfOk result (λ given. given.items ≡ map hosts.given_entry entries.now) }
 {
     let mut given = Vec::with_capacity(alloc, entries.len())?;
@@ -38,6 +54,22 @@ pub(crate) fn given_entries(alloc: Global, entries: &[HostEntry]) -> Result<Vec<
         given.push(given_entry(entry))?;
     }
     Ok(given)
+}
+
+/// The schedule that a host gives. The refusal is `BadEntry` where an entry is none, and `NoRoom`
+/// where there is no room for it.
+pub(crate) fn given_entries(alloc: Global, entries: &[HostEntry]) -> Result<Vec<Entry>, Refusal>
+    ensures given { IfOk result (λ given. given.items ≡ map hosts.given_entry entries.now) }
+    ensures entries { IfOk result (λ _. AreEntries (map hosts.given_entry entries.now)) }
+    ensures refused { IfErr result (IsNotTaken (map hosts.given_entry entries.now)) }
+{
+    if !are_entries(entries) {
+        return Err(Refusal::BadEntry);
+    }
+    match meant_entries(alloc, entries) {
+        Ok(given) => Ok(given),
+        Err(_) => Err(Refusal::NoRoom),
+    }
 }
 
 /// Hands a report out as far as there is room, and gives its code.

@@ -32,6 +32,8 @@ pub enum Refusal {
     NoRoom,
     /// The schedule to go on from isn't that of such a run.
     OtherSchedule,
+    /// An entry of the given schedule is none.
+    BadEntry,
 }
 
 /// Runs a program by these settings.
@@ -76,8 +78,8 @@ fn goes_on_from(given: &[Entry], report: &Report) -> bool
 /// what this one prints. Where memory was wanted on the way the report has the given steps that
 /// were made.
 ///
-/// The refusal is `OtherSchedule` where the schedule isn't that of a run by these settings, or is
-/// that of one that was over before.
+/// The refusal is `BadEntry` where an entry of the schedule is none, and `OtherSchedule` where the
+/// schedule isn't that of a run by these settings, or is that of one that was over before.
 pub fn go_on_for<S: Interpret + Drop, D: Deeds + Drop>(
     alloc: Global,
     makers: Makers<S, D>,
@@ -90,9 +92,7 @@ pub fn go_on_for<S: Interpret + Drop, D: Deeds + Drop>(
     if !config_in(settings).is_within() {
         return Err(Refusal::OutOfRange);
     }
-    let Ok(entries) = given_entries(alloc, given) else {
-        return Err(Refusal::NoRoom);
-    };
+    let entries = given_entries(alloc, given)?;
     let further = Settings {
         steps: budget_behind(entries.as_slice(), settings),
         ..*settings
@@ -109,7 +109,8 @@ pub fn go_on_for<S: Interpret + Drop, D: Deeds + Drop>(
 /// Follows a schedule, over memory that is never collected. Of the settings the keys and the bound
 /// on the output count. Where a growth was refused, or more was to be printed than may be, the
 /// report's outcome is `Memory`, and it has the steps that were made; else it has the given
-/// schedule. The only refusal is for want of room.
+/// schedule. The refusal is `BadEntry` where an entry of the schedule is none, and else for want of
+/// room.
 pub fn replay_for<S: Interpret + Drop, D: Deeds + Drop>(
     alloc: Global,
     makers: Makers<S, D>,
@@ -119,9 +120,7 @@ pub fn replay_for<S: Interpret + Drop, D: Deeds + Drop>(
 ) -> Result<Report, Refusal>
     ensures { IsFollowed S.asks program.now settings.now (map hosts.given_entry given.now) result }
 {
-    let Ok(entries) = given_entries(alloc, given) else {
-        return Err(Refusal::NoRoom);
-    };
+    let entries = given_entries(alloc, given)?;
     let Ok(keys) = keys_of(&settings.keys) else {
         return Err(Refusal::NoRoom);
     };

@@ -105,6 +105,7 @@ pub(crate) fn code_of_refusal(refusal: Refusal) -> u32
         Refusal::OutOfRange => 16,
         Refusal::NoRoom => 17,
         Refusal::OtherSchedule => 18,
+        Refusal::BadEntry => 19,
     }
 }
 

@@ -1,7 +1,7 @@
 -- Entries packed into bytes. A number stands in groups of seven bits, the lowest first; each byte
 -- but its last one has 128 more.
 use Rattle.std.specs.Prelude.{ℕ, zero, suc, ℤ, pos, negsuc, ◌+◌, ◌-◌, ◌*◌, ◌/◌, ◌%◌, ◌≡◌, ◌==◌, min}
-use Rattle.std.specs.Prelude.{◌≤◌, Option, Some, None, List, [], ◌∷◌, ◌++◌, length, nat_lt}
+use Rattle.std.specs.Prelude.{◌<◌, ◌≤◌, Option, Some, None, List, [], ◌∷◌, ◌++◌, length, nat_lt}
 use Rattle.std.specs.Prelude.{if◌then◌else◌}
 use Rattle.std.specs.Option.{option_to_list}
 use Rattle.ps_language.specs.declared.schedules.Entry.{Entry}
@@ -44,8 +44,8 @@ flagged_in bytes =
       pair.1,
     )
 
--- an entry, and the bytes behind it: where the first number is 0 one with flags, else one of so many
--- ordinary steps
+-- an entry, and the bytes behind it: where the first number is 0 one with flags, else one of so
+-- many ordinary steps
 abbrev pub entry_in : List ℕ → Entry × List ℕ
 entry_in bytes =
     let steps = number_in bytes in
@@ -76,6 +76,13 @@ pub record Writes
 -- the most bytes of an entry: two of one byte, and four numbers of up to five
 abbrev pub most_entry_bytes : ℕ
 most_entry_bytes = 22
+
+-- an entry of two bytes: of few ordinary steps, of one of the first contexts
+pub record IsShort (entry : Entry) : Type 0 where
+  pub ordinary : entry ≡ plain_entry entry.context entry.steps
+  pub some : 1 ≤ entry.steps
+  pub few : entry.steps < 128
+  pub early : entry.context < 128
 
 -- ---- a packed schedule: but for its last entry
 

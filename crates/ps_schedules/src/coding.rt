@@ -4,7 +4,8 @@ ghost use Rattle.std.specs.Prelude.{◌≡◌, ◌==◌, ◌+◌, ◌%◌, ◌<�
 ghost use Rattle.std.specs.Prelude.{vec_len, vec_capacity};
 ghost use Rattle.ps_language.specs.declared.schedules.Entry.{Entry as ScheduleEntry};
 ghost use Rattle.ps_schedules.specs.Packing as packing;
-ghost use Rattle.ps_schedules.specs.Packing.{Writes, number_in, words_of, pair_in, flagged_in, entry_in};
+ghost use Rattle.ps_schedules.specs.Packing.{Writes, number_in, words_of, pair_in};
+ghost use Rattle.ps_schedules.specs.Packing.{flagged_in, entry_in, IsShort};
 
 use crate::turns::{is_plain, plain_entry};
 use ps_language::schedules::Entry;
@@ -94,6 +95,7 @@ fn push_number(bytes: &mut Vec<u8>, number: u32, more: u32)
     requires fits { number < 128 ^ (more + 1) }
     requires room { vec_len bytes.old + more < vec_capacity bytes.old }
     ensures written { Writes ℕ number_in number (more + 1) bytes.old.items bytes.new.items }
+    ensures short { number < 128 → vec_len bytes.new ≡ vec_len bytes.old + 1 }
     ensures capacity { vec_capacity bytes.new ≡ vec_capacity bytes.old }
 {
     if number < 128 {
@@ -143,6 +145,7 @@ pub(crate) fn push_entry(bytes: &mut Vec<u8>, entry: Entry)
     requires { vec_len bytes.old + packing.most_entry_bytes ≤ vec_capacity bytes.old }
     ensures written { Writes ScheduleEntry entry_in entry packing.most_entry_bytes
         bytes.old.items bytes.new.items }
+    ensures short { IsShort entry → vec_len bytes.new ≡ vec_len bytes.old + 2 }
     ensures capacity { vec_capacity bytes.new ≡ vec_capacity bytes.old }
 {
     if entry.steps != 0 && is_plain(&entry) {

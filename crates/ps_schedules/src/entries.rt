@@ -7,8 +7,8 @@ use crate::coding;
 use ps_language::schedules::Entry;
 use std::marker::Model;
 
-/// A reader of a schedule, seen as the entries that are left: those that are packed, and behind them
-/// those of a slice.
+/// A reader of a schedule, seen as the entries that are left: those that are packed, and behind
+/// them those of a slice.
 #[derive(Drop)]
 pub struct Entries<'a> {
     left: usize,

@@ -1,7 +1,7 @@
 //! The entry of a line.
 
 ghost use Rattle.std.specs.Prelude.{◌≡◌, ◌≢◌, ◌++◌, ◌∷◌, ℤ, Bool, List, ℕ, Option, Some, IfSome};
-ghost use Rattle.std.specs.Prelude.{IfNone};
+ghost use Rattle.std.specs.Prelude.{IfNone, IsTrue, ◌↔◌};
 ghost use Rattle.ps_language.specs.declared.schedules.Entry.{Entry};
 ghost use Rattle.ps_schedules.specs.Texts.{IsEntry, IsShown, line_of, flag_of, ending_of, pair_of};
 ghost use Rattle.ps_schedules.specs.Texts.{BeginsNoLine};
@@ -11,6 +11,18 @@ use ps_language::schedules::Entry;
 
 /// The most words that a `vmstatus` shows.
 const MOST_WORDS: u32 = 2147483647;
+
+/// Whether an entry has a line: it has a step or more, of a context's identifier, and a pair that
+/// it shows is of numbers of words from 1.
+pub fn is_entry(entry: &Entry) -> bool
+    ensures { IsTrue result ↔ IsEntry entry.now }
+{
+    let is_shown = match entry.shown {
+        Some((used, most)) => used >= 1 && most >= 1,
+        None => true,
+    };
+    is_shown && entry.context >= 1 && entry.steps >= 1
+}
 
 /// The entry whose line the bytes begin with, and what stands behind the line; none where they
 /// begin with no entry's line.

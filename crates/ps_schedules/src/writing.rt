@@ -10,7 +10,8 @@ use itoa::{Buffer, Integer};
 use ps_language::schedules::Entry;
 use std::alloc::AllocError;
 
-/// Appends the text of a schedule of these entries. Fails only where a growth is refused; nothing has changed then.
+/// Appends the text of a schedule of these entries. Fails only where a growth is refused; nothing
+/// has changed then.
 pub fn append_schedule(entries: Entries<'_>, text: &mut Vec<u8>) -> Result<(), AllocError>
     ensures appended { OnOk result (text.new.items ≡ text.old.items ++ text_of entries.entry) }
     ensures kept { OnErr result (text.new.items ≡ text.old.items) }

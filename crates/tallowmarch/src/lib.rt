@@ -71,8 +71,8 @@ pub extern "C" fn tallowmarch_run(
 /// Goes on from a schedule that a run of the program by these settings was handed, and hands out
 /// the longer run: `steps` counts the steps behind the given ones. What was printed, and the
 /// schedule, are whole, from the start. The results are those of `tallowmarch_run`; with 5 memory
-/// may have been wanted before the end of the given steps, and with 18 the schedule isn't that of
-/// such a run: then nothing is written.
+/// may have been wanted before the end of the given steps, with 18 the schedule isn't that of such a
+/// run, and with 19 one of its entries is none: then nothing is written.
 #[unsafe(no_mangle)]
 pub extern "C" fn tallowmarch_go_on(
     alloc: Global,
@@ -97,7 +97,8 @@ pub extern "C" fn tallowmarch_go_on(
 /// Follows a schedule over memory that is never collected, and hands out what was printed, the
 /// steps that were made and their counts. Of the settings the keys and the bound on the output
 /// count. The results are those of `tallowmarch_run`, without 16: with 5 the schedule was followed
-/// as far as memory and that bound went.
+/// as far as memory and that bound went. With 19 one of its entries is none: then nothing is
+/// written.
 #[unsafe(no_mangle)]
 pub extern "C" fn tallowmarch_replay(
     alloc: Global,

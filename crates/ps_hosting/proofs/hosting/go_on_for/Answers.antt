@@ -9,11 +9,12 @@ use Rattle.ps_hosting.proofs.hosting.go_on_for.Goals as goal
 pub returns-then-not-goes_on_from : goal.returns-then-not-goes_on_from
 returns-then-not-goes_on_from g c =
     let given : List Entry = map given_entry c.args.given.now in
-    let is : c.as_slice.result.now ≡ given = c.as_slice.ensures.value ∙ c.in-Ok.ensures in
-    let same : c.as_slice-3.result.now ≡ given = c.as_slice-3.ensures.value ∙ c.in-Ok.ensures in
+    let is : c.as_slice.result.now ≡ given = c.as_slice.ensures.value ∙ c.in_ok-entries.ensures.given in
+    let same : c.as_slice-3.result.now ≡ given = c.as_slice-3.ensures.value ∙ c.in_ok-entries.ensures.given in
     let steps : c.budget_behind.result ≡ budget_behind given c.args.settings.now.steps =
     c.budget_behind.ensures ∙ ap (λ (e : List Entry). budget_behind e c.args.settings.now.steps) is in (
       subst IsWithin c.config_in.ensures (c.is_within.ensures.0 c.if-not-is_within.false),
+      c.in_ok-entries.ensures.entries,
       (
         c.in-Ok-make.report,
         (

@@ -9,8 +9,8 @@ loop-entry-preserved c =
     let first = ap count_of c.in-Some.ensures
     ∙ count_first c.in-Some.entry c.next.new.self in
     record {
-      is = omega (arith, first, c.loop-entry.invariant.is, c.from.ensures, c.saturating_add-steps.ensures);
-      within = omega (arith, c.saturating_add-steps.ensures);
+      is = omega (arith, first);
+      within = omega arith;
     }
 
 pub returns : goal.returns
