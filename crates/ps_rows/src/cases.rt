@@ -3,7 +3,7 @@
 
 use crate::rows::{bytes_of, number_of};
 use ps_run::ReadFault;
-use ps_vault::{ANY_OUTPUT, Config, Entry};
+use ps_vault::{ANY_ENTRIES, ANY_OUTPUT, Config, Entry};
 use std::alloc::{AllocError, Global};
 
 /// What is called.
@@ -89,6 +89,7 @@ fn config_of(numbers: &[u32]) -> Option<Config> {
         quantum: *quantum,
         steps: *steps,
         output: ANY_OUTPUT,
+        entries: ANY_ENTRIES,
     })
 }
 

@@ -5,7 +5,7 @@ use crate::rows::Verdict;
 use crate::runs::CONFIG;
 use ps_gc::{Inside, SerialSpaces};
 use ps_ops::failure::NotMade;
-use ps_vault::{Closing, Config, Roots, Setup, Told, Vault};
+use ps_vault::{ANY_ENTRIES, Closing, Config, Room, Roots, Setup, Told, Vault};
 use std::alloc::{AllocError, Global};
 use std::hash::RandomState;
 
@@ -39,7 +39,10 @@ pub fn held_up(
         deeds,
         program,
         Setup::unbounded(keys),
-        4,
+        Room {
+            first: 4,
+            most: ANY_ENTRIES,
+        },
     )?;
     if vault.is_open() || !vault.open_cycle() {
         return Ok(Verdict::Different);
@@ -47,7 +50,7 @@ pub fn held_up(
     vault.hand_over(&mut Inside, &mut roots);
     let first = vault.close_log(SLOT);
     let again = vault.close_log(SLOT);
-    vault.reserve_entries()?;
+    vault.reserve_entries(FIRST)?;
     if !vault.is_ready(FIRST) {
         return Ok(Verdict::Different);
     }
@@ -59,7 +62,7 @@ pub fn held_up(
         return Ok(Verdict::Different);
     }
     let turn = vault.turns(FIRST, AMPLE, AMPLE);
-    let (text, _) = vault.into_followed(&[]);
+    let text = vault.into_printed();
     if held.told == Told::HeldUp(NotMade::Memory) || turn.held {
         return Ok(Verdict::WantsMemory);
     }

@@ -3,6 +3,7 @@
 use crate::cases::{Call, Case, Wanted};
 use crate::driven::{ALL_WRITES, AMPLE, Given, MEMORY, STEPS_OUT, Writes, driven};
 use crate::fakes::{Files, deeds_in, steps_in};
+use crate::runs::entries_of;
 use ps_run::ReadFault;
 use ps_vault::{Config, Entry, Outcome, RunFault, Setup, replay, run_plain};
 use std::alloc::{AllocError, Global};
@@ -191,7 +192,10 @@ impl Case<'_> {
             err: Vec::new(alloc),
         };
         self.judge_ended(&given, self.status)?;
-        expect(report.schedule.as_slice() == entries, "entries")
+        let Ok(followed) = entries_of(alloc, &report.schedule) else {
+            return Err(Amiss::WantsMemory);
+        };
+        expect(followed.as_slice() == entries, "entries")
     }
 
     /// Fails where a run with these numbers isn't refused.

@@ -4,8 +4,11 @@ use crate::driven::{ALL_WRITES, MEMORY, driven};
 use crate::fakes::{Files, deeds_in, steps_in};
 use crate::rows::Verdict;
 use ps_run::ReadFault;
-use ps_vault::{ANY_OUTPUT, Config, Outcome, Report, RunFault, Setup, replay, run_plain};
-use std::alloc::Global;
+use ps_vault::{
+    ANY_ENTRIES, ANY_OUTPUT, Config, Entry, Outcome, Report, RunFault, Schedule, Setup, replay,
+    run_plain,
+};
+use std::alloc::{AllocError, Global};
 use std::hash::RandomState;
 use std::sync::Wait;
 use std::thread::Threads;
@@ -17,6 +20,7 @@ pub const CONFIG: Config = Config {
     quantum: 100,
     steps: 1000000,
     output: ANY_OUTPUT,
+    entries: ANY_ENTRIES,
 };
 
 /// The words of a command line.
@@ -93,16 +97,30 @@ pub fn replayed(alloc: Global, keys: RandomState, program: &[u8], printed: &[u8]
     }
 }
 
+/// The entries of a schedule. `AllocError`: the room for them can't be had.
+pub fn entries_of(alloc: Global, schedule: &Schedule) -> Result<Vec<Entry>, AllocError> {
+    let mut entries = Vec::new(alloc);
+    let mut left = schedule.entries();
+    for _ in 0..schedule.len() {
+        if let Some(entry) = left.next() {
+            entries.push(entry)?;
+        }
+    }
+    Ok(entries)
+}
+
 /// Whether the schedule of a report makes a run print the same bytes, or a beginning of them where
 /// memory is wanted then.
 pub fn again(alloc: Global, keys: RandomState, program: &[u8], report: &Report) -> Verdict {
-    let schedule = report.schedule.as_slice();
+    let Ok(schedule) = entries_of(alloc, &report.schedule) else {
+        return Verdict::WantsMemory;
+    };
     let Ok(other) = replay(
         alloc,
         steps_in(alloc),
         deeds_in(alloc),
         program,
-        schedule,
+        schedule.as_slice(),
         Setup::unbounded(keys),
     ) else {
         return Verdict::WantsMemory;

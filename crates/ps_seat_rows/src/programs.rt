@@ -7,7 +7,7 @@ use anyhow::{Result, bail};
 use ps_interpreter::interprets::Interpret;
 use ps_roots::ROOT_LIMIT;
 use ps_seats::{Naming, named_seats};
-use ps_vault::{FIRST_ENTRIES, Outcome, Roots, Setup, Vault};
+use ps_vault::{ANY_ENTRIES, Outcome, Room, Roots, Setup, Vault};
 use ps_world::deeds::Deeds;
 use std::alloc::Global;
 use std::hash::RandomState;
@@ -45,14 +45,14 @@ pub fn stress<J: Naming, S: Interpret + Drop, D: Deeds + Drop>(
         deeds,
         program,
         Setup::unbounded(keys),
-        FIRST_ENTRIES,
+        Room::of_run(ANY_ENTRIES),
     )?;
     let mut made: u32 = 0;
     'step: for _ in 0..MOST_STEPS {
         let Some(context) = vault.next_ready(0) else {
             break;
         };
-        vault.reserve_entries()?;
+        vault.reserve_entries(context)?;
         if let Err(reason) = vault.step(context, false, None) {
             bail!("a step is not made: {reason}");
         }
@@ -64,7 +64,7 @@ pub fn stress<J: Naming, S: Interpret + Drop, D: Deeds + Drop>(
         Some(_) => bail!("steps are left"),
     };
     let flips = vault.counts().flips;
-    let (printed, _) = vault.into_followed(&[]);
+    let printed = vault.into_printed();
     Ok(Stressed {
         printed,
         outcome,

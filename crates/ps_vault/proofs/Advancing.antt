@@ -20,12 +20,12 @@ use Rattle.ps_world.specs.declared.worlds.Calling.{Calling}
 use Rattle.ps_world.specs.Held.{Held, IsAt}
 use Rattle.ps_world.specs.Notes.{note_of, HasNoStatus}
 use Rattle.ps_world.specs.Steps.{AllFrom, HasMade, IsQuiet, IsUnready, KeepsOthers}
+use Rattle.ps_schedules.specs.Turns.{added_times, move_of}
 use Rattle.ps_vault.specs.Holds.{wish_in}
 use Rattle.ps_vault.specs.Order.{IsOnlyLeft, IsAlone, Tells, IsNoEnd, IsNoWish, AllTell, IsOfOne, AllOfOne}
 use Rattle.ps_vault.specs.Reports.{are_words, fits, is_ordinary}
 use Rattle.ps_vault.specs.Warrants.{AddsShown, AllWarranted}
-use Rattle.ps_vault.specs.Stories.{Keeps, move_of}
-use Rattle.ps_vault.specs.Turns.{added_times}
+use Rattle.ps_vault.specs.Stories.{Keeps}
 use Rattle.ps_vault.proofs.Following.{times_moves}
 use Rattle.ps_vault.proofs.Keeping.{and_both}
 use Rattle.ps_vault.proofs.Showing.{shown_last}

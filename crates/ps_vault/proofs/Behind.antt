@@ -23,13 +23,13 @@ use Rattle.ps_world.specs.Held.{Held, IsAtBy, MayStep}
 use Rattle.ps_world.specs.Notes.{note_of, HasNoStatus}
 use Rattle.ps_world.specs.Steps.{AreShown, StepsBehind, shown_words}
 use Rattle.ps_language.specs.Step.{stepped}
+use Rattle.ps_schedules.specs.Turns.{added_times, move_of}
 use Rattle.ps_vault.specs.Holds as holds
 use Rattle.ps_vault.specs.Holds.{IsHeldUp, wish_in}
 use Rattle.ps_vault.specs.Order.{IsOnlyLeft, Tells, AllTell, IsOfOne, AllOfOne, AllTellButLast, EndsWith}
 use Rattle.ps_vault.specs.Reports.{are_words}
 use Rattle.ps_vault.specs.Warrants.{AddsShown, AllWarranted, IsPairOf, IsWarranted}
-use Rattle.ps_vault.specs.Stories.{Story, Keeps, move_of}
-use Rattle.ps_vault.specs.Turns.{added_times}
+use Rattle.ps_vault.specs.Stories.{Story, Keeps}
 use Rattle.ps_vault.proofs.Advancing.{keeps_made, warranted_made, last_made, tell_made, alone_made, left_made, only_left_ready, world_times}
 use Rattle.ps_vault.proofs.Keeping.{keeps_noted, keeps_unmade}
 use Rattle.ps_vault.proofs.Reasons.{held_step, HasNumbersOf}

@@ -9,6 +9,7 @@ use Rattle.ps_language.specs.World.{Status}
 use Rattle.ps_acts.specs.Acts.{Asked}
 use Rattle.ps_vault.specs.declared.reports.Report.{Report}
 use Rattle.ps_vault.specs.Endings.{AreEndings, no_run, alike, another, IsAlike, IsEnding}
+use Rattle.ps_vault.specs.Reports.{Bounds}
 
 -- the next one isn't alike either
 pub none_further : (report : Report) (endings : List Report) (at : ℕ) (next : Report)
@@ -29,9 +30,10 @@ none_further report endings at next less is before new place within other found 
 
 -- ---- how many endings so many runs have, and what each is
 
-module _ (asks : Status → Around → Scene → Asked) (program : List ℕ) (steps output : ℕ) where
+module _ (asks : Status → Around → Scene → Asked) (program : List ℕ) (steps : ℕ)
+    (most : Bounds) where
   pub endings_few : (runs : ℕ) (endings : List Report)
-      → AreEndings asks program steps output runs endings → length endings ≤ runs
+      → AreEndings asks program steps most runs endings → length endings ≤ runs
   endings_few runs endings no_run = omega arith
   endings_few runs endings (alike before is one) =
       let less = endings_few _ _ before in
@@ -42,7 +44,7 @@ module _ (asks : Status → Around → Scene → Asked) (program : List ℕ) (st
       omega (arith, less, more)
 
   pub endings_some : (runs : ℕ) (endings : List Report)
-      → AreEndings asks program steps output runs endings → 1 ≤ runs → 1 ≤ length endings
+      → AreEndings asks program steps most runs endings → 1 ≤ runs → 1 ≤ length endings
   endings_some runs endings no_run less = absurd (omega (arith, less))
   endings_some runs endings (alike before is one) less = omega (arith, one.2)
   endings_some runs endings (another {endings = some} {report = report} before is none) less =
@@ -50,27 +52,27 @@ module _ (asks : Status → Around → Scene → Asked) (program : List ℕ) (st
       omega (arith, more)
 
   pub each_ending : (runs : ℕ) (endings : List Report)
-      → AreEndings asks program steps output runs endings → All (IsEnding asks program steps output) endings
+      → AreEndings asks program steps most runs endings → All (IsEnding asks program steps most) endings
   each_ending runs endings no_run = λ k d less. absurd (omega (arith, less))
   each_ending runs endings (alike before is one) = each_ending _ _ before
   each_ending runs endings (another {endings = some} {report = report} before is none) =
-      All-append (IsEnding asks program steps output) some (report ∷ []) (each_ending _ _ before)
-      (All-cons (IsEnding asks program steps output) report [] is (All-nil (IsEnding asks program steps output)))
+      All-append (IsEnding asks program steps most) some (report ∷ []) (each_ending _ _ before)
+      (All-cons (IsEnding asks program steps most) report [] is (All-nil (IsEnding asks program steps most)))
 
   -- one run more, which ended like another or is the first that ended so
   pub one_run_more : (runs : ℕ) (endings new : List Report) (report : Report)
-      → AreEndings asks program steps output runs endings → IsEnding asks program steps output report
+      → AreEndings asks program steps most runs endings → IsEnding asks program steps most report
       → (Any (IsAlike report) endings × (new ≡ endings))
       ⊎ ((¬ Any (IsAlike report) endings) × (new ≡ endings ++ report ∷ []))
-      → AreEndings asks program steps output (runs + 1) new
+      → AreEndings asks program steps most (runs + 1) new
   one_run_more runs endings new report before is kept =
       let next : suc runs ≡ runs + 1 = omega arith in
-      subst (λ (n : ℕ). AreEndings asks program steps output n new) next (more kept)
+      subst (λ (n : ℕ). AreEndings asks program steps most n new) next (more kept)
     where
       more : (Any (IsAlike report) endings × (new ≡ endings))
           ⊎ ((¬ Any (IsAlike report) endings) × (new ≡ endings ++ report ∷ []))
-          → AreEndings asks program steps output (suc runs) new
+          → AreEndings asks program steps most (suc runs) new
       more (inl one) =
-          subst (AreEndings asks program steps output (suc runs)) (sym one.1) (alike before is one.0)
+          subst (AreEndings asks program steps most (suc runs)) (sym one.1) (alike before is one.0)
       more (inr none) =
-          subst (AreEndings asks program steps output (suc runs)) (sym none.1) (another before is none.0)
+          subst (AreEndings asks program steps most (suc runs)) (sym none.1) (another before is none.0)

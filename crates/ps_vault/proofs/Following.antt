@@ -14,14 +14,15 @@ use Rattle.ps_language.specs.World.{Status, running, unwinding, again, waiting, 
 use Rattle.ps_language.specs.Worlds.{after_move, after_moves, starting_world, world, is_over, is_all_over}
 use Rattle.std.specs.List.{list_all}
 use Rattle.ps_acts.specs.Acts.{Asked}
+use Rattle.ps_schedules.specs.Keeping.{Kept}
+use Rattle.ps_schedules.specs.Turns.{added_times, move_of}
 use Rattle.ps_vault.specs.declared.reports.Outcome.{Outcome}
 use Rattle.ps_vault.specs.declared.reports.Outcome.TheVariants.{Finished, Faulted, AllWaiting, StepsOut, Memory}
 use Rattle.ps_vault.specs.Reports.{EndsAs, IsOneStarved, IsStarved, is_memory}
-use Rattle.ps_vault.specs.Stories.{Story, world_at, move_of}
-use Rattle.ps_vault.specs.Turns.{added_times}
+use Rattle.ps_vault.specs.Stories.{Story, world_at}
 use Rattle.ps_language.proofs.ScheduleLaws.{moves-single, moves-append, moves-added, plain_entry, begins-part}
 use Rattle.ps_language.proofs.WorldLaws.{step-unready, after_moves-append, world-append}
-use Rattle.ps_vault.proofs.Turning.{last_of, length_push, times_sum, turn_joined, turn_crossing, times_apart, times_alone}
+use Rattle.ps_schedules.proofs.Turning.{last_of, length_push, times_sum, turn_joined, turn_crossing, times_apart, times_alone}
 
 -- ---- many equal steps
 
@@ -393,10 +394,9 @@ fewer_with_part given schedule i few d lt less steps =
 
 -- a context is starved whose step is an ordinary one
 pub ordinary_starved : (asks : Status → Around → Scene → Asked) (grows : Bool) (context : ℕ)
-    (w : World) (capacity : ℕ) (schedule : List Entry)
-    → IsStarved asks grows context false w capacity schedule
-    → IsOneStarved asks grows w capacity schedule
-ordinary_starved asks grows context w capacity schedule starved =
+    (w : World) (schedule : Kept) → IsStarved asks grows context false w schedule
+    → IsOneStarved asks grows w schedule
+ordinary_starved asks grows context w schedule starved =
     record {
       context = context;
       refused = false;

@@ -1,6 +1,6 @@
 -- What a vault keeps, over its steps.
-use Rattle.std.proofs.Common.{◌≡◌, ◌≢◌, ℕ, ℤ, zero, suc, ◌<◌, ◌≤◌, Bool, true, false, ◌&&◌, Option, Some, None, Ok, Err, List, [], ◌∷◌, refl, sym, ◌∙◌, ap, subst, arith}
-use Rattle.std.specs.Prelude.{Result, slice_get, IsSome, IfSome, IfNone, ◌==◌, length, vec_capacity}
+use Rattle.std.proofs.Common.{◌≡◌, ◌≢◌, ℕ, ℤ, zero, suc, ◌-◌, ◌<◌, ◌≤◌, Bool, true, false, ◌&&◌, Option, Some, None, Ok, Err, List, [], ◌∷◌, refl, sym, ◌∙◌, ap, subst, arith}
+use Rattle.std.specs.Prelude.{Result, slice_get, IsSome, IfSome, IfNone, ◌==◌, length}
 use Rattle.std.specs.Option.{option_map, option_map_or}
 use Rattle.std.proofs.lemmas.Bool.{true≢false}
 use Rattle.ps_language.specs.declared.schedules.Entry.{Entry}
@@ -34,13 +34,15 @@ use Rattle.ps_world.specs.declared.worlds.Calling.{Calling}
 use Rattle.ps_world.specs.Held.{Held, held, IsAt, IsAtBy, AreFramedBy, IsSteadyHeld, MayStep}
 use Rattle.ps_world.specs.Notes.{note_of, HasNoStatus}
 use Rattle.ps_world.specs.Steps.{Steps}
+use Rattle.ps_schedules.specs.Keeping.{Kept, most_of}
+use Rattle.ps_schedules.specs.Turns.{move_of}
 use Rattle.ps_vault.specs.declared.reports.Outcome.{Outcome}
 use Rattle.ps_vault.specs.declared.reports.Report.{Report}
 use Rattle.ps_vault.specs.Order.{IsOnlyLeft}
 use Rattle.ps_vault.specs.declared.reports.TheConstants.{FIRST_ENTRIES}
 use Rattle.ps_vault.specs.Reports.{all_fit, EndsAs, IsOneStarved, IsRunIn}
 use Rattle.ps_vault.specs.Warrants.{AllWarranted, IsStatus}
-use Rattle.ps_vault.specs.Stories.{Story, Keeps, AreWarranted, logs_closed, move_of, world_at}
+use Rattle.ps_vault.specs.Stories.{Story, Keeps, AreWarranted, kept_of, logs_closed, world_at}
 
 -- ---- one more move
 
@@ -265,6 +267,13 @@ printed_by (Some calling) d w at =
     (scene_of (machine_of w at.context))) (calling_of calling.operator) at.left
     (at.leaves false)).is ∙ at.world.printed
 
+-- as many more as there may be in all, less those that there are
+pub kept_same : (kept : Kept)
+    → record kept { left = most_of kept - length kept.items } ≡ kept
+kept_same kept =
+    let left : most_of kept - length kept.items ≡ kept.left = omega arith in
+    ap (λ n. record kept { left = n }) left
+
 -- a vault at its end is a run
 pub run_at_end : (asks : Status → Around → Scene → Asked) (space : Space) (h : Held)
     (report : Report) (steps : ℕ) (caller : Option ℕ) (story : Story)
@@ -272,9 +281,9 @@ pub run_at_end : (asks : Status → Around → Scene → Asked) (space : Space) 
     → Keeps h report.schedule.items
     → record {
       program = h.desk.program;
-      most = h.desk.most;
+      most = record { output = h.desk.most; entries = most_of report.schedule };
       schedule = report.schedule.items;
-      capacity = vec_capacity report.schedule;
+      capacity = report.schedule.capacity;
       caller = caller;
       space = h.desk.heap.space.size;
       used = h.desk.heap.used;
@@ -286,13 +295,14 @@ pub run_at_end : (asks : Status → Around → Scene → Asked) (space : Space) 
     → count_of story.schedule ≤ steps
     → all_fit (moves story.schedule) ≡ true → AreWarranted story → FIRST_ENTRIES ≤ story.capacity
     → EndsAs (world_at story) (count_of story.schedule == steps)
-    (IsOneStarved asks space.grows (world_at story) story.capacity story.schedule) report.outcome
+    (IsOneStarved asks space.grows (world_at story) (kept_of story)) report.outcome
     → IsRunIn asks space story.program steps report
 unfolding printed
 run_at_end asks space h report steps caller story prints keeps view size few fit shows room ends =
     let schedule : List Entry = report.schedule.items in
     let outcome : Outcome = report.outcome in
-    let capacity : ℕ = vec_capacity report.schedule in
+    let kept : kept_of story ≡ report.schedule = sym (ap kept_of view)
+    ∙ kept_same report.schedule in
     let same : h.desk.program ≡ story.program = ap (λ (s : Story). s.program) view in
     let made : story.schedule ≡ schedule = sym (ap (λ (s : Story). s.schedule) view) in
     let here : World = world h.desk.program schedule in
@@ -307,10 +317,9 @@ run_at_end asks space h report steps caller story prints keeps view size few fit
           (subst (λ (s : List Entry). AllWarranted story.space story.program s) made shows);
       room = subst (λ (n : ℕ). FIRST_ENTRIES ≤ n) (sym (ap (λ (s : Story). s.capacity) view)) room;
       ends = subst (λ (s : List Entry). EndsAs (world story.program s) (count_of s == steps)
-          (IsOneStarved asks space.grows (world story.program s) capacity s) outcome) made
-          (subst (λ (n : ℕ). EndsAs (world_at story) (count_of story.schedule == steps)
-          (IsOneStarved asks space.grows (world_at story) n story.schedule) outcome)
-          (sym (ap (λ (s : Story). s.capacity) view)) ends);
+          (IsOneStarved asks space.grows (world story.program s) report.schedule) outcome) made
+          (subst (λ (k : Kept). EndsAs (world_at story) (count_of story.schedule == steps)
+          (IsOneStarved asks space.grows (world_at story) k) outcome) kept ends);
     }
 
 -- ---- the next one that is left

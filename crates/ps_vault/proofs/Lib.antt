@@ -5,16 +5,16 @@ pub mod Behind
 pub mod Collected
 pub mod Cutting
 pub mod Endings
+mod Examples
 pub mod Following
 pub mod Keeping
 pub mod Living
 pub mod NextStep
-pub mod Notes
+pub mod Noting
 pub mod Ordering
 pub mod Parts
 pub mod Readiness
 pub mod Reasons
 pub mod Screening
 pub mod Showing
-pub mod Turning
 pub mod Warrants

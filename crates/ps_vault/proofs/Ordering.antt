@@ -12,10 +12,10 @@ use Rattle.ps_language.specs.Worlds.{after_move, after_moves, starting_world, wo
 use Rattle.ps_language.proofs.ScheduleLaws.{moves-added}
 use Rattle.ps_language.proofs.WorldLaws.{after_moves-append}
 use Rattle.ps_world.specs.Steps.{AllFrom}
+use Rattle.ps_schedules.specs.Turns.{added_times}
 use Rattle.ps_vault.specs.declared.turns.Turn.{Turn}
 use Rattle.ps_vault.specs.Order.{IsNoneAbove, IsLeastAbove, IsNext, IsAlone, AddsSteps, KeepsTurn, AddsAll, NoneEnds, OnlyLastMayEnd, AddsTurn, AreTurns, no_turn, one_more, IsDue, AddsWhole, no_whole, whole_more, AddsTurns, IsTurnEnd, HasTurn, InOrder}
 use Rattle.ps_vault.specs.Stories.{Story, world_at}
-use Rattle.ps_vault.specs.Turns.{added_times}
 use Rattle.ps_vault.proofs.Following.{times_moves}
 
 -- the world of a story by its steps

@@ -15,10 +15,9 @@ use Rattle.ps_world.specs.declared.notes.Note.{Note}
 use Rattle.ps_world.specs.declared.notes.Note.TheVariants.{Nothing, TurnEnds, ShowsMemory, Wishes}
 use Rattle.ps_world.specs.Notes.{note_of}
 use Rattle.ps_world.specs.Steps.{AreShown, words_shown}
+use Rattle.ps_schedules.specs.Turns.{added_times, move_of}
 use Rattle.ps_vault.specs.Reports.{are_words, is_number_of_words}
-use Rattle.ps_vault.specs.Stories.{move_of}
 use Rattle.ps_vault.specs.Warrants.{AddsShown, IsPairOf, IsWarranted}
-use Rattle.ps_vault.specs.Turns.{added_times}
 use Rattle.ps_vault.proofs.Following.{times_moves}
 use Rattle.ps_vault.proofs.Keeping.{and_both}
 use Rattle.ps_vault.proofs.Warrants.{ordinary_warranted}

@@ -21,8 +21,8 @@ use Rattle.ps_contexts.specs.Desks.{Desk, IsSteady, IsWorld}
 use Rattle.ps_contexts.proofs.Reached.{live-stands}
 use Rattle.ps_roots.specs.Moved.{IsLeft}
 use Rattle.ps_world.specs.Steps.{AllFrom, AreShown, IsQuiet}
-use Rattle.ps_vault.specs.Stories.{AreWarranted, Story, move_of}
-use Rattle.ps_vault.specs.Turns.{added_times}
+use Rattle.ps_schedules.specs.Turns.{added_times, move_of}
+use Rattle.ps_vault.specs.Stories.{AreWarranted, Story}
 use Rattle.ps_vault.specs.Warrants.{AllWarranted, AllWarrantedFrom, IsPairOf, IsRefusal, IsStatus, IsWarranted}
 use Rattle.ps_vault.proofs.Following.{times_moves}
 

@@ -5,5 +5,4 @@ pub mod Order
 pub mod Reports
 pub mod Screens
 pub mod Stories
-pub mod Turns
 pub mod Warrants

@@ -1,5 +1,5 @@
 -- What runs promise.
-use Rattle.std.specs.Prelude.{◌≡◌, ℕ, zero, suc, ◌++◌, take, ◌+◌, ◌<◌, ◌≤◌, ◌^◌, ◌==◌, nat_lt, ℤ, pos, negsuc, Bool, true, false, IsTrue, Option, Some, None, List, [], ◌∷◌, length, drop, not, ◌&&◌, ◌⊎◌, vec_capacity}
+use Rattle.std.specs.Prelude.{◌≡◌, ℕ, zero, suc, ◌++◌, take, ◌+◌, ◌<◌, ◌≤◌, ◌^◌, ◌==◌, nat_lt, ℤ, pos, negsuc, Bool, true, false, IsTrue, Option, Some, None, List, [], ◌∷◌, length, drop, not, ◌&&◌, ◌⊎◌}
 use Rattle.std.specs.List.{list_all}
 use Rattle.ps_language.specs.declared.schedules.Entry.{Entry}
 use Rattle.ps_language.specs.Effect.{Around, Scene}
@@ -13,6 +13,7 @@ use Rattle.ps_mem.specs.Heap.{Space}
 use Rattle.ps_mem.specs.Plain.{plain_space}
 use Rattle.ps_world.specs.Growth.{may_fail}
 use Rattle.ps_world.specs.Needs.{step_wants}
+use Rattle.ps_schedules.specs.Keeping.{Kept, MayAdd}
 use Rattle.ps_vault.specs.declared.reports.Config.{Config}
 use Rattle.ps_vault.specs.declared.reports.Outcome.{Outcome}
 use Rattle.ps_vault.specs.declared.reports.Outcome.TheVariants.{Finished, Faulted, AllWaiting, StepsOut, Memory}
@@ -54,9 +55,11 @@ is_ordinary move = not move.refused && fits move
 abbrev pub are_ordinary : List Move → Bool
 are_ordinary steps = list_all is_ordinary steps
 
--- a schedule of so many entries has no room for two more
-abbrev pub IsShort : (capacity : ℕ) → List Entry → Type 0
-IsShort capacity schedule = capacity < length schedule + 2
+-- a schedule has no room for a step of a context: memory has none for two entries more, or the step
+-- joins no entry and there are as many as there may be
+pub data IsShort (schedule : Kept) (context : ℕ) : Type 0 where
+  no_words_left : schedule.capacity < length schedule.items + 2 → IsShort schedule context
+  no_entry_left : ¬ MayAdd schedule context → IsShort schedule context
 
 -- how a run ended at this world; used up says that no step is left. Want of memory comes only
 -- before any other end, and only where something is starved
@@ -77,18 +80,18 @@ module _ (asks : Status → Around → Scene → Asked) (grows : Bool) where
     pub wants : IsTrue (may_fail grows (step_wants asks context refused w))
 
   -- or the schedule has no room for it
-  pub record IsStarved (context : ℕ) (refused : Bool) (w : World) (capacity : ℕ)
-      (schedule : List Entry) : Type 0 where
+  pub record IsStarved (context : ℕ) (refused : Bool) (w : World) (schedule : Kept)
+      : Type 0 where
     pub ready : is_ready w context ≡ true
     pub wants : IsTrue (may_fail grows (step_wants asks context refused w))
-        ⊎ IsShort capacity schedule
+        ⊎ IsShort schedule context
 
   -- one is; a step is refused only where it makes objects, in a memory that doesn't grow
-  pub record IsOneStarved (w : World) (capacity : ℕ) (schedule : List Entry) : Type 0 where
+  pub record IsOneStarved (w : World) (schedule : Kept) : Type 0 where
     pub context : ℕ
     pub refused : Bool
     pub makes : refused ≡ true → (1 ≤ (step_wants asks context false w).words) × (grows ≡ false)
-    pub starved : IsStarved context refused w capacity schedule
+    pub starved : IsStarved context refused w schedule
 
 -- a run of the program with a budget of steps, in a memory of this space: its bytes are those that
 -- the definitions print under its schedule, which is proper and of the longest entries, and the
@@ -103,17 +106,31 @@ pub record IsRunIn (asks : Status → Around → Scene → Asked) (space : Space
   pub within : count_of report.schedule.items ≤ steps
   pub fits : all_fit (moves report.schedule.items) ≡ true
   pub warranted : AllWarranted space.size program report.schedule.items
-  pub room : FIRST_ENTRIES ≤ vec_capacity report.schedule
+  pub room : FIRST_ENTRIES ≤ report.schedule.capacity
   pub ends : EndsAs (worlds.world program report.schedule.items)
       (count_of report.schedule.items == steps)
       (IsOneStarved asks space.grows (worlds.world program report.schedule.items)
-      (vec_capacity report.schedule) report.schedule.items) report.outcome
+      report.schedule) report.outcome
 
 -- a run over a memory that grows, whose steps are all ordinary
 pub record IsRunOf (asks : Status → Around → Scene → Asked) (program : List ℕ) (steps : ℕ)
     (report : Report) : Type 0 where
   pub run : IsRunIn asks plain_space program steps report
   pub ordinary : are_ordinary (moves report.schedule.items) ≡ true
+
+-- how many bytes a run may print, and how many entries its schedule may have
+pub record Bounds : Type 0 where
+  pub output : ℕ
+  pub entries : ℕ
+
+-- those of a run's numbers
+abbrev pub bounds_of : Config → Bounds
+bounds_of config = record { output = config.output; entries = config.entries }
+
+-- no more bytes were printed, and the schedule has no more entries
+pub record IsBounded (most : Bounds) (report : Report) : Type 0 where
+  pub printed : length report.printed.items ≤ most.output
+  pub schedule : length report.schedule.items ≤ most.entries
 
 -- whether it is for want of memory
 abbrev pub is_memory : Outcome → Bool

@@ -1,9 +1,9 @@
 -- What clauses see of a vault, and what it keeps.
-use Rattle.std.specs.Prelude.{◌≡◌, ◌+◌, ◌<◌, ◌≤◌, ℕ, ℤ, Bool, true, false, Option, None, IfSome, List, length, map, replicate, slice_set}
+use Rattle.std.specs.Prelude.{◌≡◌, ◌+◌, ◌-◌, ◌<◌, ◌≤◌, ℕ, Bool, true, false, Option, None, IfSome, List, length, map, replicate, slice_set}
 use Rattle.std.specs.List.{range_with_len}
 use Rattle.ps_language.specs.declared.schedules.Entry.{Entry}
 use Rattle.ps_language.specs.Live.{Live, asked_births, asked_words}
-use Rattle.ps_language.specs.Schedules.{Move, is_longest}
+use Rattle.ps_language.specs.Schedules.{is_longest}
 use Rattle.ps_language.specs.World.{World}
 use Rattle.ps_language.specs.Worlds.{world, IsProper}
 use Rattle.ps_word.specs.Headers.{birth_limit}
@@ -12,16 +12,17 @@ use Rattle.ps_mem.specs.Heap.{Heap, Grants}
 use Rattle.ps_roots.specs.Moved.{IsLeft}
 use Rattle.ps_world.specs.Held.{Held, IsAt, IsSteadyHeld}
 use Rattle.ps_world.specs.Notes.{HasNoStatus}
+use Rattle.ps_schedules.specs.Keeping.{Kept, MayAdd}
+use Rattle.ps_vault.specs.Reports.{Bounds}
 use Rattle.ps_vault.specs.Warrants.{AllWarranted}
 
--- The program, how many bytes it may print, the steps that were made, how many entries find room,
--- and the context whose call waits, since it could not be made. Of the memory: the words of its
--- space, those that are used, how
--- often what stands was moved, whether a cycle of the collector is open, and by slot whether its
--- log is closed
+-- The program, the bounds of its run, the steps that were made, how many entries find room, and the
+-- context whose call waits, since it could not be made. Of the memory: the words of its space, those
+-- that are used, how often what stands was moved, whether a cycle of the collector is open, and by
+-- slot whether its log is closed
 pub record Story : Type 0 where
   pub program : List ℕ
-  pub most : ℕ
+  pub most : Bounds
   pub schedule : List Entry
   pub capacity : ℕ
   pub caller : Option ℕ
@@ -56,9 +57,19 @@ with_closed slot story = record story { closed = slice_set story.closed slot tru
 abbrev pub MayGo : Story → (context : ℕ) → Type 0
 MayGo story context = IfSome story.caller (λ caller. caller ≡ context)
 
--- two entries more find room
-abbrev pub HasRoom : Story → Type 0
-HasRoom story = length story.schedule + 2 ≤ story.capacity
+-- the schedule as it is kept
+abbrev pub kept_of : Story → Kept
+kept_of story = record {
+  items = story.schedule;
+  capacity = story.capacity;
+  left = story.most.entries - length story.schedule;
+}
+
+-- the schedule has room for steps of a context: two entries more find room, and one of them may
+-- be added where the next step joins none
+pub record HasRoom (story : Story) (context : ℕ) : Type 0 where
+  pub words : length story.schedule + 2 ≤ story.capacity
+  pub entry : MayAdd (kept_of story) context
 
 -- the world that they stand for
 abbrev pub world_at : Story → World
@@ -92,11 +103,6 @@ pub record UsesOnlyLive (story : Story) : Type 0 where
   pub exact : story.caller ≡ None → IsLeft (world_at story) → Live (world_at story) story.used
   pub most : IsLeft (world_at story) → (words : ℕ) → Live (world_at story) words
       → story.used ≤ words
-
--- a step
-abbrev pub move_of : (context : ℕ) → (refused : Bool) → (shown : Option (ℤ × ℤ)) → Move
-move_of context refused shown =
-    record { context = context; refused = refused; shown = shown }
 
 -- all is at the world of program and schedule, and the schedule is proper; a call that waits is no
 -- vmstatus that acts

@@ -4,7 +4,7 @@ ghost use Rattle.std.specs.Prelude.{◌≡◌, ◌↔◌, ◌⊎◌, ◌++◌, �
 ghost use Rattle.ps_vault.specs.Endings.{AreEndings, IsAlike};
 
 use crate::orders::{TurnOrder, run_in_order};
-use crate::reports::Report;
+use crate::reports::{Budget, Report};
 use ps_interpreter::interprets::Interpret;
 use ps_start::start::Setup;
 use ps_world::deeds::Deeds;
@@ -53,13 +53,14 @@ pub fn explore<S: Interpret + Clone + Drop, D: Deeds + Clone + Drop, O: TurnOrde
     interpret: &S,
     deeds: &D,
     program: &[u8],
-    steps: u32,
+    budget: Budget,
     runs: u32,
     setup: Setup,
     order: &mut O,
 ) -> Result<Vec<Report>, AllocError>
     ensures { IfOk result
-        (λ endings. AreEndings S.asks program.now steps setup.output runs endings.items) }
+        (λ endings. AreEndings S.asks program.now budget.steps
+        (record { output = setup.output; entries = budget.entries }) runs endings.items) }
 {
     let mut endings = Vec::new(alloc);
     let mut made = 0;
@@ -69,7 +70,7 @@ pub fn explore<S: Interpret + Clone + Drop, D: Deeds + Clone + Drop, O: TurnOrde
             interpret.clone()?,
             deeds.clone()?,
             program,
-            steps,
+            budget,
             setup,
             order,
         )?;

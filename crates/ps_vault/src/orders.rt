@@ -5,10 +5,10 @@ ghost use Rattle.ps_language.specs.Locks as locks;
 ghost use Rattle.ps_language.specs.Schedules.{count_of, moves};
 ghost use Rattle.ps_vault.specs.Holds.{OnlyGrows};
 ghost use Rattle.ps_vault.specs.Order.{IsNoneAbove};
-ghost use Rattle.ps_vault.specs.Reports.{are_ordinary, IsOneStarved, IsRunOf};
-ghost use Rattle.ps_vault.specs.Stories.{AreWarranted, world_at};
+ghost use Rattle.ps_vault.specs.Reports.{are_ordinary, IsBounded, IsOneStarved, IsRunOf};
+ghost use Rattle.ps_vault.specs.Stories.{AreWarranted, kept_of, world_at};
 
-use crate::reports::{FIRST_ENTRIES, Report};
+use crate::reports::{Budget, Report, Room};
 use crate::turns::Turn;
 use crate::vaults::Vault;
 use ps_interpreter::interprets::Interpret;
@@ -80,7 +80,7 @@ impl<M: Memory + Drop, S: Interpret + Drop, D: Deeds + Drop> Vault<'_, M, S, D> 
         ensures calling_on { result.held ≡ false → self.new.caller ≡ None }
         ensures fewer { result.held ≡ true → result.made < steps }
         ensures starved { OnlyGrows M.heap M.grants → result.held ≡ true
-            → IsOneStarved S.asks true (world_at self.new) self.new.capacity self.new.schedule }
+            → IsOneStarved S.asks true (world_at self.new) (kept_of self.new) }
         ensures ended { result.held ≡ false → result.made < steps
             → IsNoneAbove (world_at self.new) 0 }
     {
@@ -101,22 +101,24 @@ impl<M: Memory + Drop, S: Interpret + Drop, D: Deeds + Drop> Vault<'_, M, S, D> 
     }
 }
 
-/// Runs a program for at most so many steps, over memory that is never collected, turn by turn as
+/// Runs a program within a budget, over memory that is never collected, turn by turn as
 /// they are chosen.
 ///
 /// `AllocError` where the room that the run starts with can't be had. A growth that is refused
-/// later ends the run: the outcome is `Memory` then, and the report has what was made so far.
+/// later, or one more entry than the schedule may have, ends the run: the outcome is `Memory` then,
+/// and the report has what was made so far.
 pub fn run_in_order<S: Interpret + Drop, D: Deeds + Drop, O: TurnOrder>(
     alloc: Global,
     interpret: S,
     deeds: D,
     program: &[u8],
-    steps: u32,
+    budget: Budget,
     setup: Setup,
     order: &mut O,
 ) -> Result<Report, AllocError>
-    ensures run { IfOk result (IsRunOf S.asks program.now steps) }
-    ensures bounded { IfOk result (λ report. length report.printed.items ≤ setup.output) }
+    ensures run { IfOk result (IsRunOf S.asks program.now budget.steps) }
+    ensures bounded { IfOk result
+        (IsBounded (record { output = setup.output; entries = budget.entries })) }
 {
     let memory = plain_with_marks(alloc);
     let mut vault = Vault::new(
@@ -126,8 +128,8 @@ pub fn run_in_order<S: Interpret + Drop, D: Deeds + Drop, O: TurnOrder>(
         deeds,
         program,
         setup,
-        FIRST_ENTRIES,
+        Room::of_run(budget.entries),
     )?;
-    let run = vault.run_by(steps, order);
-    Ok(vault.into_run(run, steps))
+    let run = vault.run_by(budget.steps, order);
+    Ok(vault.into_run(run, budget.steps))
 }

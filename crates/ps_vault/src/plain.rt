@@ -6,11 +6,11 @@ ghost use Rattle.ps_language.specs.Worlds.{starting_world, world};
 ghost use Rattle.ps_mem.specs.Plain.{plain_space};
 ghost use Rattle.ps_vault.specs.Order.{HasTurn, InOrder, IsNoneAbove};
 ghost use Rattle.ps_vault.specs.declared.reports.TheConstants.{FIRST_ENTRIES};
-ghost use Rattle.ps_vault.specs.Reports.{are_ordinary, is_memory, IsOneStarved, IsRunOf, IsStarved, IsWithin, WithBudget};
+ghost use Rattle.ps_vault.specs.Reports.{are_ordinary, is_memory, IsOneStarved, IsRunOf, IsStarved, IsWithin, WithBudget, IsBounded, bounds_of};
 ghost use Rattle.ps_vault.specs.Screens.{HasShown};
-ghost use Rattle.ps_vault.specs.Stories.{AreWarranted, world_at};
+ghost use Rattle.ps_vault.specs.Stories.{AreWarranted, kept_of, world_at};
 
-use crate::reports::{Config, FIRST_ENTRIES, Outcome, Report, RunFault};
+use crate::reports::{Config, Outcome, Report, Room, RunFault};
 use crate::screens::{NoViewer, Screen, Viewer};
 use crate::turns::Turn;
 use crate::vaults::Vault;
@@ -42,13 +42,13 @@ pub fn run_plain<S: Interpret + Drop, D: Deeds + Drop>(
 ) -> Result<Report, RunFault>
     ensures config { (result ≡ Err RunFault.Config) ↔ ¬ IsWithin config }
     ensures run { IfOk result (IsRunOf S.asks program.now config.steps) }
-    ensures bounded { IfOk result (λ report. length report.printed.items ≤ config.output) }
+    ensures bounded { IfOk result (IsBounded (bounds_of config)) }
     ensures order { IfOk result (λ report. InOrder config.quantum
         (starting_world program.now) (moves report.schedule.items)) }
     ensures starved { IfOk result (λ report. is_memory report.outcome ≡ true → (context : ℕ)
         × HasTurn config.quantum (starting_world program.now) context (moves report.schedule.items)
         × IsStarved S.asks true context false (world program.now report.schedule.items)
-        (vec_capacity report.schedule) report.schedule.items) }
+        report.schedule) }
     ensures flips { IfOk result (λ report. report.flips ≡ 0) }
     ensures taken { IfOk result (λ report. report.taken ≡ 0) }
 {
@@ -86,13 +86,13 @@ pub fn run_plain_shown<S: Interpret + Drop, D: Deeds + Drop, V: Viewer + Drop>(
         (λ report. HasShown screen.old.seen screen.new report.printed.items) }
     ensures unshown { OnErr result (screen.new ≡ screen.old) }
     ensures still { screen.old.watching ≡ false → screen.new ≡ screen.old }
-    ensures bounded { IfOk result (λ report. length report.printed.items ≤ config.output) }
+    ensures bounded { IfOk result (IsBounded (bounds_of config)) }
     ensures order { IfOk result (λ report. InOrder config.quantum
         (starting_world program.now) (moves report.schedule.items)) }
     ensures starved { IfOk result (λ report. is_memory report.outcome ≡ true → (context : ℕ)
         × HasTurn config.quantum (starting_world program.now) context (moves report.schedule.items)
         × IsStarved S.asks true context false (world program.now report.schedule.items)
-        (vec_capacity report.schedule) report.schedule.items) }
+        report.schedule) }
     ensures flips { IfOk result (λ report. report.flips ≡ 0) }
     ensures taken { IfOk result (λ report. report.taken ≡ 0) }
 {
@@ -110,7 +110,7 @@ pub fn run_plain_shown<S: Interpret + Drop, D: Deeds + Drop, V: Viewer + Drop>(
             keys,
             output: config.output,
         },
-        FIRST_ENTRIES,
+        Room::of_run(config.entries),
     ) else {
         return Err(RunFault::Memory);
     };
@@ -132,12 +132,11 @@ impl<M: Memory + Drop, S: Interpret + Drop, D: Deeds + Drop> Vault<'_, M, S, D> 
         requires calling { run.held ≡ false → self.caller ≡ None }
         requires fewer { run.held ≡ true → run.made < steps }
         requires starved { run.held ≡ true
-            → IsOneStarved S.asks true (world_at self) self.capacity self.schedule }
+            → IsOneStarved S.asks true (world_at self) (kept_of self) }
         requires ended { run.held ≡ false → run.made < steps → IsNoneAbove (world_at self) 0 }
         ensures run { IsRunOf S.asks self.entry.program steps result }
-        ensures bounded { length result.printed.items ≤ self.entry.most }
-        ensures schedule { result.schedule.items ≡ self.entry.schedule }
-        ensures capacity { vec_capacity result.schedule ≡ self.entry.capacity }
+        ensures bounded { IsBounded self.entry.most result }
+        ensures schedule { result.schedule ≡ kept_of self.entry }
         ensures memory { is_memory result.outcome ≡ run.held }
         ensures flips { result.flips ≡ 0 }
         ensures taken { result.taken ≡ 0 }

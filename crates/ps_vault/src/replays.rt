@@ -1,18 +1,18 @@
 //! A run under a given schedule (PLRM2, 3.5, 7.1).
 
-ghost use Rattle.std.specs.Prelude.{◌≡◌, ◌≢◌, ◌+◌, ◌<◌, ◌≤◌, ◌++◌, ◌&&◌, ◌==◌, ℕ, List, vec_len, vec_capacity, length, true, false, not, replicate, IfOk, OnErr, Err};
+ghost use Rattle.std.specs.Prelude.{◌≡◌, ◌≢◌, ◌+◌, ◌<◌, ◌≤◌, ◌++◌, ◌&&◌, ◌==◌, ℕ, List, length, true, false, not, replicate, IfOk, OnErr, Err};
 ghost use Rattle.ps_language.specs.declared.schedules.Entry.{Entry as EntryOf};
 ghost use Rattle.ps_language.specs.Locks as locks;
 ghost use Rattle.ps_language.specs.Schedules.{last_move, plain_move, moves_of, moves, count_of, Begins};
 ghost use Rattle.ps_language.specs.Worlds as worlds;
 ghost use Rattle.ps_language.specs.Worlds.{after_moves};
+ghost use Rattle.ps_schedules.specs.Turns.{added_times};
 ghost use Rattle.ps_vault.specs.Reports.{EndsAs, IsCutOf, IsReplayOf, MayWant, MayWantNext, UnderPart, entry_of, is_memory};
 ghost use Rattle.ps_vault.specs.Screens.{HasShown, ShowsOn};
 ghost use Rattle.ps_vault.specs.Stories.{world_at};
-ghost use Rattle.ps_vault.specs.Turns.{added_times};
 
-use crate::reports::{Outcome, Report, RunFault};
-use crate::schedules::{is_ordinary, push_within};
+use crate::reports::{Outcome, Report, Room, RunFault};
+use crate::schedules::is_ordinary;
 use crate::screens::{NoViewer, Screen, Viewer};
 use crate::turns::Turn;
 use crate::vaults::{Told, Vault};
@@ -20,6 +20,7 @@ use ps_interpreter::interprets::Interpret;
 use ps_language::schedules::Entry;
 use ps_mem::marked::{Marked, plain_with_marks};
 use ps_mem::plain::PlainMemory;
+use ps_schedules::Schedule;
 use ps_start::start::Setup;
 use ps_world::deeds::Deeds;
 use std::alloc::Global;
@@ -39,6 +40,7 @@ fn steps<S: Interpret + Drop, D: Deeds + Drop, V: Viewer + Drop>(
 ) -> Turn
     requires calling { vault.old.caller ≡ None }
     requires room { length vault.old.schedule + 3 ≤ vault.old.capacity }
+    requires few { length vault.old.schedule + 3 ≤ vault.old.most.entries }
     requires fits { screen.old.shown ≤ length (world_at vault.old).printed }
     requires going { screen.old.failed ≡ false }
     ensures program { vault.new.program ≡ vault.old.program }
@@ -86,6 +88,7 @@ fn follow_ordinary<S: Interpret + Drop, D: Deeds + Drop, V: Viewer + Drop>(
 ) -> u32
     requires calling { vault.old.caller ≡ None }
     requires room { length vault.old.schedule + 3 ≤ vault.old.capacity }
+    requires few { length vault.old.schedule + 3 ≤ vault.old.most.entries }
     requires fits { screen.old.shown ≤ length (world_at vault.old).printed }
     requires going { screen.old.failed ≡ false }
     requires ordinary { last_move entry ≡ plain_move entry.context }
@@ -125,6 +128,7 @@ fn follow_entry<S: Interpret + Drop, D: Deeds + Drop, V: Viewer + Drop>(
 ) -> u32
     requires calling { vault.old.caller ≡ None }
     requires room { length vault.old.schedule + 3 ≤ vault.old.capacity }
+    requires few { length vault.old.schedule + 3 ≤ vault.old.most.entries }
     requires fits { screen.old.shown ≤ length (world_at vault.old).printed }
     requires going { screen.old.failed ≡ false }
     ensures program { vault.new.program ≡ vault.old.program }
@@ -241,7 +245,14 @@ pub fn replay_shown<S: Interpret + Drop, D: Deeds + Drop, V: Viewer + Drop>(
         return Err(RunFault::Memory);
     };
     let memory = plain_with_marks(alloc);
-    let Ok(mut vault) = Vault::new(alloc, memory, interpret, deeds, program, setup, entries) else {
+    let room = Room {
+        first: entries,
+        most: entries as u64,
+    };
+    let Ok(mut vault) = Vault::new(alloc, memory, interpret, deeds, program, setup, room) else {
+        return Err(RunFault::Memory);
+    };
+    let Ok(mut followed) = Schedule::with_capacity(alloc, entries, entries as u64) else {
         return Err(RunFault::Memory);
     };
     for place in 0..schedule.len() {
@@ -249,19 +260,17 @@ pub fn replay_shown<S: Interpret + Drop, D: Deeds + Drop, V: Viewer + Drop>(
         let made = follow_entry(&mut vault, entry, screen);
         if made < entry.steps {
             let outcome = cut_outcome(&mut vault, screen.has_failed());
-            let (printed, mut followed) = vault.into_followed(&schedule[..place]);
             push_part(&mut followed, entry.context, made);
-            return Ok(report_of(printed, followed, outcome));
+            return Ok(report_of(vault.into_printed(), followed, outcome));
         }
+        followed.push(entry);
         if screen.has_failed() {
             let outcome = vault.outcome(true);
-            let (printed, followed) = vault.into_followed(&schedule[..place + 1]);
-            return Ok(report_of(printed, followed, outcome));
+            return Ok(report_of(vault.into_printed(), followed, outcome));
         }
     }
     let outcome = vault.outcome(true);
-    let (printed, followed) = vault.into_followed(schedule);
-    Ok(report_of(printed, followed, outcome))
+    Ok(report_of(vault.into_printed(), followed, outcome))
 }
 
 /// How a run ended in an entry: for want of memory, or, where its viewer failed, as its world tells.
@@ -282,27 +291,25 @@ fn cut_outcome<S: Interpret + Drop, D: Deeds + Drop>(
 
 /// Pushes an entry of so many ordinary steps, if there are any.
 #[tactic(auto, using(crate::proofs::Following::part_lemmas))]
-fn push_part(schedule: &mut Vec<Entry>, context: u32, made: u32)
-    requires { vec_len schedule.old < vec_capacity schedule.old }
+fn push_part(schedule: &mut Schedule, context: u32, made: u32)
+    requires room { length schedule.old.items < schedule.old.capacity }
+    requires few { 1 ≤ schedule.old.left }
     ensures moves { moves schedule.new.items ≡ moves schedule.old.items
         ++ replicate made (plain_move context) }
     ensures entry { schedule.new.items ≡ schedule.old.items ++ entry_of context made }
 {
     if made > 0 {
-        push_within(
-            schedule,
-            Entry {
-                context,
-                steps: made,
-                refused: false,
-                shown: None,
-            },
-        );
+        schedule.push(Entry {
+            context,
+            steps: made,
+            refused: false,
+            shown: None,
+        });
     }
 }
 
 /// The report of a run without a collector.
-fn report_of(printed: Vec<u8>, schedule: Vec<Entry>, outcome: Outcome) -> Report
+fn report_of(printed: Vec<u8>, schedule: Schedule, outcome: Outcome) -> Report
     ensures printed { result.printed ≡ printed }
     ensures schedule { result.schedule ≡ schedule }
     ensures outcome { result.outcome ≡ outcome }

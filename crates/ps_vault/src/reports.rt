@@ -2,13 +2,17 @@
 
 ghost use Rattle.std.specs.Prelude.{◌≡◌, ◌↔◌, IsTrue};
 ghost use Rattle.ps_vault.specs.Reports.{is_memory, IsWithin};
+ghost use Rattle.ps_vault.specs.declared.reports.TheConstants.{FIRST_ENTRIES};
 
-use ps_language::schedules::Entry;
+use ps_schedules::Schedule;
 use thiserror::Error;
 
 /// How many entries find room in the schedule of a run from its start. So a run that has hardly
 /// begun can't end for want of room for the next.
 pub const FIRST_ENTRIES: usize = 4096;
+
+/// The bound on the entries of a schedule without one: no memory has as many.
+pub const ANY_ENTRIES: u64 = u64::MAX;
 
 /// The numbers of a run.
 #[derive(Clone, Copy, Debug, PartialEq, Eq)]
@@ -23,6 +27,38 @@ pub struct Config {
     pub steps: u32,
     /// The most bytes that the program may print.
     pub output: u64,
+    /// The most entries that its schedule may have.
+    pub entries: u64,
+}
+
+/// The room of a schedule.
+#[derive(Clone, Copy)]
+pub struct Room {
+    /// How many entries find room from the start.
+    pub first: usize,
+    /// The most entries.
+    pub most: u64,
+}
+
+impl Room {
+    /// That of a run whose schedule may have so many entries.
+    pub fn of_run(most: u64) -> Room
+        ensures { result ≡ record { first = FIRST_ENTRIES; most = most } }
+    {
+        Room {
+            first: FIRST_ENTRIES,
+            most,
+        }
+    }
+}
+
+/// How far a run may go.
+#[derive(Clone, Copy, Debug, PartialEq, Eq)]
+pub struct Budget {
+    /// The most steps.
+    pub steps: u32,
+    /// The most entries of its schedule.
+    pub entries: u64,
 }
 
 impl Config {
@@ -65,7 +101,8 @@ pub enum Outcome {
     AllWaiting,
     /// A context is ready, and the steps are used up.
     StepsOut,
-    /// A growth was refused before any of these, or more was to be printed than may be.
+    /// A growth was refused before any of these, or more was to be printed than may be, or the
+    /// schedule to have more entries.
     Memory,
 }
 
@@ -82,12 +119,12 @@ impl Outcome {
 }
 
 /// What a run gives.
-#[derive(Debug, Drop)]
+#[derive(Drop)]
 pub struct Report {
     /// The bytes that the program printed.
     pub printed: Vec<u8>,
     /// Which context made each step.
-    pub schedule: Vec<Entry>,
+    pub schedule: Schedule,
     pub outcome: Outcome,
     /// The collector's cycles; none without a collector.
     pub flips: u32,

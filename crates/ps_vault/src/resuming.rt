@@ -5,11 +5,11 @@ ghost use Rattle.ps_language.specs.Locks as locks;
 ghost use Rattle.ps_language.specs.Schedules.{count_of, moves};
 ghost use Rattle.ps_vault.specs.Holds.{OnlyGrows};
 ghost use Rattle.ps_vault.specs.Order.{IsNoneAbove};
-ghost use Rattle.ps_vault.specs.Reports.{are_ordinary, IsOneStarved, IsRunOf, IsWithin};
-ghost use Rattle.ps_vault.specs.Stories.{AreWarranted, world_at};
+ghost use Rattle.ps_vault.specs.Reports.{are_ordinary, IsOneStarved, IsRunOf, IsWithin, IsBounded, bounds_of};
+ghost use Rattle.ps_vault.specs.Stories.{AreWarranted, kept_of, world_at};
 
 use crate::guides::Guide;
-use crate::reports::{Config, FIRST_ENTRIES, Report, RunFault};
+use crate::reports::{Config, Report, Room, RunFault};
 use crate::turns::Turn;
 use crate::vaults::Vault;
 use ps_interpreter::interprets::Interpret;
@@ -34,7 +34,7 @@ pub fn run_plain_behind<S: Interpret + Drop, D: Deeds + Drop>(
 ) -> Result<Report, RunFault>
     ensures config { (result ≡ Err RunFault.Config) ↔ ¬ IsWithin config }
     ensures run { IfOk result (IsRunOf S.asks program.now config.steps) }
-    ensures bounded { IfOk result (λ report. length report.printed.items ≤ config.output) }
+    ensures bounded { IfOk result (IsBounded (bounds_of config)) }
 {
     if !config.is_within() {
         return Err(RunFault::Config);
@@ -50,7 +50,7 @@ pub fn run_plain_behind<S: Interpret + Drop, D: Deeds + Drop>(
             keys,
             output: config.output,
         },
-        FIRST_ENTRIES,
+        Room::of_run(config.entries),
     ) else {
         return Err(RunFault::Memory);
     };
@@ -96,7 +96,7 @@ impl<M: Memory + Drop, S: Interpret + Drop, D: Deeds + Drop> Vault<'_, M, S, D> 
         ensures calling_on { result.held ≡ false → self.new.caller ≡ None }
         ensures fewer { result.held ≡ true → result.made < steps }
         ensures starved { OnlyGrows M.heap M.grants → result.held ≡ true
-            → IsOneStarved S.asks true (world_at self.new) self.new.capacity self.new.schedule }
+            → IsOneStarved S.asks true (world_at self.new) (kept_of self.new) }
         ensures ended { result.held ≡ false → result.made < steps
             → IsNoneAbove (world_at self.new) 0 }
     {

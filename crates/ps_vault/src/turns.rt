@@ -8,7 +8,7 @@ ghost use Rattle.ps_vault.specs.Holds.{OnlyGrows};
 ghost use Rattle.ps_vault.specs.Order.{IsNoneAbove, IsLeastAbove, AddsTurns, HasTurn, InOrder};
 ghost use Rattle.ps_vault.specs.Reports.{are_ordinary, IsStarved, IsOneStarved};
 ghost use Rattle.ps_vault.specs.Screens.{ShowsOn};
-ghost use Rattle.ps_vault.specs.Stories.{AreWarranted, world_at};
+ghost use Rattle.ps_vault.specs.Stories.{AreWarranted, kept_of, world_at};
 
 use crate::screens::{Screen, Viewer};
 use crate::vaults::{Told, Vault};
@@ -65,13 +65,12 @@ impl<M: Memory + Drop, S: Interpret + Drop, D: Deeds + Drop> Vault<'_, M, S, D> 
         ensures calling_on { result.held ≡ false → self.new.caller ≡ None }
         ensures fewer { result.held ≡ true → result.made < most }
         ensures starved { OnlyGrows M.heap M.grants → result.held ≡ true
-            → IsStarved S.asks true context false (world_at self.new) self.new.capacity
-            self.new.schedule }
+            → IsStarved S.asks true context false (world_at self.new) (kept_of self.new) }
     {
         let mut made = 0;
         let mut begun = 0;
         loop {
-            if self.reserve_entries().is_err() {
+            if self.reserve_entries(context).is_err() {
                 return Turn { made, held: true };
             }
             let goal = self.at_once(quantum - begun, most - made);
@@ -137,12 +136,11 @@ impl<M: Memory + Drop, S: Interpret + Drop, D: Deeds + Drop> Vault<'_, M, S, D> 
         ensures calling_on { result.held ≡ false → self.new.caller ≡ None }
         ensures fewer { result.held ≡ true → result.made < steps }
         ensures starved { OnlyGrows M.heap M.grants → result.held ≡ true
-            → IsOneStarved S.asks true (world_at self.new) self.new.capacity self.new.schedule }
+            → IsOneStarved S.asks true (world_at self.new) (kept_of self.new) }
         ensures owed { OnlyGrows M.heap M.grants → result.held ≡ true
             → moves self.old.schedule ≡ [] → (context : ℕ)
             × HasTurn quantum (starting_world self.old.program) context (moves self.new.schedule)
-            × IsStarved S.asks true context false (world_at self.new) self.new.capacity
-            self.new.schedule }
+            × IsStarved S.asks true context false (world_at self.new) (kept_of self.new) }
         ensures ended { result.held ≡ false → result.made < steps → screen.new.failed ≡ false
             → IsNoneAbove (world_at self.new) 0 }
         ensures shown { ShowsOn screen.old (world_at self.old).printed screen.new

@@ -1,33 +1,33 @@
 //! All contexts and their memory, with the program and the schedule that they stand for: after
 //! each call they are at the world of that program and that schedule, whatever the memory is.
 
-ghost use Rattle.std.specs.Prelude.{◌≡◌, ◌≢◌, ◌↔◌, ◌+◌, ◌<◌, ◌≤◌, ℕ, ℤ, false, true, Bool, OnOk, OnErr, IfOk, IfErr, IfSome, IfNone, IsTrue, Option, None, IsSome, [], ◌==◌, ◌⊎◌, min, not, nat_eq, vec_capacity, length, if◌then◌else◌};
+ghost use Rattle.std.specs.Prelude.{◌≡◌, ◌≢◌, ◌↔◌, ◌+◌, ◌/◌, ◌<◌, ◌≤◌, ℕ, ℤ, false, true, Bool, OnOk, OnErr, IfOk, IfErr, IfSome, IfNone, IsTrue, Option, None, IsSome, [], ◌==◌, ◌⊎◌, min, not, nat_eq, length, if◌then◌else◌};
 ghost use Rattle.ps_language.specs.Contexts.{count_not_ended};
 ghost use Rattle.ps_language.specs.Locks as locks;
 ghost use Rattle.ps_language.specs.Schedules.{added, count_of, moves, plain_move};
 ghost use Rattle.ps_language.specs.Worlds as worlds;
 ghost use Rattle.ps_language.specs.Worlds.{after_move, after_moves, starting_world};
+ghost use Rattle.ps_schedules.specs.Turns.{added_times, joins_last, move_of};
 ghost use Rattle.ps_vault.specs.Order.{IsNoneAbove, IsOnlyLeft, AddsSteps, AllOfOne, NoneEnds, OnlyLastMayEnd, EndsTurn, WishesAs};
 ghost use Rattle.ps_mem.specs.Heap.{Space};
 ghost use Rattle.ps_start.specs.Starts.{IsEmptyHeap};
 ghost use Rattle.ps_vault.specs.Holds as holds;
 ghost use Rattle.ps_vault.specs.Holds.{IfForRoom, IfHeldUp, IsHeldUp, is_held_up, wish_in};
-ghost use Rattle.ps_vault.specs.Reports.{all_fit, are_ordinary, are_words, is_memory, EndsAs, IsOneStarved, IsRunIn, IsShort};
+ghost use Rattle.ps_vault.specs.Reports.{all_fit, are_ordinary, are_words, is_memory, EndsAs, IsBounded, IsOneStarved, IsRunIn, IsShort};
 ghost use Rattle.ps_vault.specs.declared.reports.TheConstants.{FIRST_ENTRIES};
-ghost use Rattle.ps_vault.specs.Stories.{Story, HasRoom, MayGo, AreWarranted, world_at, move_of};
-ghost use Rattle.ps_vault.specs.Turns.{added_times};
+ghost use Rattle.ps_vault.specs.Stories.{Story, HasRoom, MayGo, AreWarranted, kept_of, world_at};
 ghost use Rattle.ps_vault.specs.Warrants.{AddsShown, IsStatus};
 ghost use Rattle.ps_world.specs.Steps.{words_shown};
 
-use crate::reports::{Outcome, Report};
-use crate::schedules::{kept, note, note_turn};
+use crate::reports::{Outcome, Report, Room};
+use crate::schedules::kept;
 use ps_acts::lent::{Shared, Trial};
 use ps_contexts::contexts::Contexts;
 use ps_flips::collected::Counts;
 use ps_interpreter::interprets::Interpret;
-use ps_language::schedules::Entry;
 use ps_mem::{Memory, SLOTS};
 use ps_ops::failure::NotMade;
+use ps_schedules::Schedule;
 use ps_start::start::Setup;
 use ps_world::deeds::Deeds;
 use ps_world::notes::Note;
@@ -38,20 +38,21 @@ use std::alloc::{AllocError, Global};
 use std::marker::Model;
 
 /// All contexts, who makes their steps, their memory, and the steps that they made: seen as the
-/// program, how many bytes it may print, the schedule, how many entries find room, whose call waits, the words of the memory's
-/// space, those that are used, how often what stands was moved, whether a cycle of the collector is
-/// open, and which logs are closed.
+/// program, the most bytes that it may print and entries that the schedule may have, the schedule,
+/// how many entries find room, whose call waits, the words of the memory's space, those that are used, how often what
+/// stands was moved, whether a cycle of the collector is open, and which logs are closed.
 #[derive(Drop)]
 pub struct Vault<'a, M: Memory + Drop, S: Interpret + Drop, D: Deeds + Drop> {
     interpret: S,
     deeds: D,
     pub(crate) world: World<'a>,
     pub(crate) memory: M,
-    schedule: Vec<Entry>,
+    schedule: Schedule,
 }
 
 impl<'a, M: Memory + Drop, S: Interpret + Drop, D: Deeds + Drop> Model for Vault<'a, M, S, D> {
-    ghost use Rattle.std.specs.Prelude.{option_map, vec_capacity};
+    ghost use Rattle.std.specs.Prelude.{option_map};
+    ghost use Rattle.ps_schedules.specs.Keeping.{most_of};
     ghost use Rattle.ps_world.specs.Calls.{over};
     ghost use Rattle.ps_world.specs.Held.{held};
     ghost use Rattle.ps_vault.specs.Stories.{Story, Keeps, logs_closed};
@@ -60,9 +61,12 @@ impl<'a, M: Memory + Drop, S: Interpret + Drop, D: Deeds + Drop> Model for Vault
 
     ghost view = { λ v. record {
       program = v.world.contexts.shared.program.now;
-      most = v.world.contexts.shared.printed.most;
+      most = record {
+        output = v.world.contexts.shared.printed.most;
+        entries = most_of v.schedule;
+      };
       schedule = v.schedule.items;
-      capacity = vec_capacity v.schedule;
+      capacity = v.schedule.capacity;
       caller = option_map (λ calling. calling.caller) v.world.calling;
       space = (M.heap v.memory).space.size;
       used = (M.heap v.memory).used;
@@ -131,8 +135,8 @@ fn wish_of(note: Note) -> Option<i32>
 
 impl<'a, M: Memory + Drop, S: Interpret + Drop, D: Deeds + Drop> Vault<'a, M, S, D> {
     /// The first context before its first step, over a memory in which nothing stands, and an empty
-    /// schedule with room for so many entries. Fails where that room, or the first objects' or the
-    /// context's, can't be had.
+    /// schedule. Fails where the schedule's room, or that of the first objects or the context, can't
+    /// be had.
     pub fn new(
         alloc: Global,
         mut memory: M,
@@ -140,13 +144,14 @@ impl<'a, M: Memory + Drop, S: Interpret + Drop, D: Deeds + Drop> Vault<'a, M, S,
         deeds: D,
         program: &'a [u8],
         setup: Setup,
-        entries: usize,
+        room: Room,
     ) -> Result<Vault<'a, M, S, D>, AllocError>
         requires empty { IsEmptyHeap (M.heap memory) }
         ensures program { IfOk result (λ vault. vault.program ≡ program.now) }
-        ensures most { IfOk result (λ vault. vault.most ≡ setup.output) }
+        ensures most { IfOk result (λ vault. vault.most.output ≡ setup.output) }
         ensures schedule { IfOk result (λ vault. vault.schedule ≡ []) }
-        ensures room { IfOk result (λ vault. entries ≤ vault.capacity) }
+        ensures entries { IfOk result (λ vault. vault.most.entries ≡ room.most) }
+        ensures room { IfOk result (λ vault. room.first ≤ vault.capacity) }
         ensures calling { IfOk result (λ vault. vault.caller ≡ None) }
         ensures space { IfOk result (λ vault. vault.space ≡ (M.heap memory).space.size) }
         ensures flips { IfOk result (λ vault. vault.flips ≡ (M.heap memory).space.flips) }
@@ -154,7 +159,7 @@ impl<'a, M: Memory + Drop, S: Interpret + Drop, D: Deeds + Drop> Vault<'a, M, S,
         let Ok(world) = start_world(alloc, &mut memory, program, setup) else {
             return Err(AllocError);
         };
-        let schedule = Vec::with_capacity(alloc, entries)?;
+        let schedule = Schedule::with_capacity(alloc, room.first, room.most)?;
         Ok(Vault {
             interpret,
             deeds,
@@ -221,7 +226,8 @@ impl<M: Memory + Drop, S: Interpret + Drop, D: Deeds + Drop> Vault<'_, M, S, D> 
 
     /// Whether more than half is used of what was free of the space while so many words were used.
     pub fn is_half_used(&mut self, kept: u32) -> bool
-        ensures { self.new ≡ self.old }
+        ensures same { self.new ≡ self.old }
+        ensures half { IsTrue result ↔ kept / 2 + self.old.space / 2 < self.old.used }
     {
         self.memory.used() > kept / 2 + self.memory.size() / 2
     }
@@ -233,8 +239,9 @@ impl<M: Memory + Drop, S: Interpret + Drop, D: Deeds + Drop> Vault<'_, M, S, D> 
         self.world.contexts.shared.program == program
     }
 
-    /// Room for two entries of the schedule. `AllocError`: it can't be had; nothing has changed.
-    pub fn reserve_entries(&mut self) -> Result<(), AllocError>
+    /// Room in the schedule for steps of a context. `AllocError`: it can't be had, or the schedule has
+    /// as many entries as it may have, and none takes a further step; nothing has changed.
+    pub fn reserve_entries(&mut self, context: u32) -> Result<(), AllocError>
         ensures program { self.new.program ≡ self.old.program }
         ensures most { self.new.most ≡ self.old.most }
         ensures schedule { self.new.schedule ≡ self.old.schedule }
@@ -245,10 +252,13 @@ impl<M: Memory + Drop, S: Interpret + Drop, D: Deeds + Drop> Vault<'_, M, S, D> 
         ensures flips { self.new.flips ≡ self.old.flips }
         ensures cycle { self.new.cycle_open ≡ self.old.cycle_open }
         ensures closed { self.new.closed ≡ self.old.closed }
-        ensures room { OnOk result (HasRoom self.new) }
-        ensures short { OnErr result (IsShort self.new.capacity self.new.schedule) }
+        ensures room { OnOk result (HasRoom self.new context) }
+        ensures short { OnErr result (IsShort (kept_of self.new) context) }
     {
-        self.schedule.reserve(2)
+        if !self.schedule.may_add(context) {
+            return Err(AllocError);
+        }
+        self.schedule.reserve()
     }
 
     /// Makes a step of a context that is ready, where no other's call waits; a refused one makes no
@@ -265,7 +275,7 @@ impl<M: Memory + Drop, S: Interpret + Drop, D: Deeds + Drop> Vault<'_, M, S, D> 
     ) -> Result<(), NotMade>
         requires calling { MayGo self.old context }
         requires ready { locks.is_ready (world_at self.old) context ≡ true }
-        requires room { HasRoom self.old }
+        requires room { HasRoom self.old context }
         ensures program { self.new.program ≡ self.old.program }
         ensures most { self.new.most ≡ self.old.most }
         ensures made { OnOk result
@@ -306,7 +316,7 @@ impl<M: Memory + Drop, S: Interpret + Drop, D: Deeds + Drop> Vault<'_, M, S, D> 
         );
         match told {
             Ok(_) => {
-                note(&mut self.schedule, context, refused, shown);
+                self.schedule.note(context, refused, shown);
                 Ok(())
             }
             Err(reason) => Err(reason),
@@ -323,7 +333,7 @@ impl<M: Memory + Drop, S: Interpret + Drop, D: Deeds + Drop> Vault<'_, M, S, D> 
     pub fn advance(&mut self, context: u32, most: u32, shows: bool) -> Advanced
         requires calling { MayGo self.old context }
         requires ready { locks.is_ready (world_at self.old) context ≡ true }
-        requires room { HasRoom self.old }
+        requires room { HasRoom self.old context }
         requires some { 1 ≤ most }
         ensures program { self.new.program ≡ self.old.program }
         ensures most { self.new.most ≡ self.old.most }
@@ -355,7 +365,7 @@ impl<M: Memory + Drop, S: Interpret + Drop, D: Deeds + Drop> Vault<'_, M, S, D> 
             → IsOnlyLeft (world_at self.new) context }
         ensures plain { shows ≡ false → self.new.schedule
             ≡ added_times result.made self.old.schedule (plain_move context) }
-        ensures longer { length self.new.schedule ≤ length self.old.schedule + 2 }
+        ensures longer { length self.new.schedule ≤ length self.old.schedule + 1 }
         ensures capacity { self.old.capacity ≤ self.new.capacity }
         ensures space { self.new.space ≡ self.old.space }
         ensures flips { self.new.flips ≡ self.old.flips }
@@ -365,6 +375,7 @@ impl<M: Memory + Drop, S: Interpret + Drop, D: Deeds + Drop> Vault<'_, M, S, D> 
             (IsHeldUp M.heap M.grants S.asks context false self.new) result.told }
         ensures room { IfHeldUp (IfForRoom false self.new context) result.told }
     {
+        let most = most.min(self.schedule.free_steps(context));
         let Advance { made, next } = self.world.go_on(
             &mut self.interpret,
             &mut self.deeds,
@@ -374,7 +385,7 @@ impl<M: Memory + Drop, S: Interpret + Drop, D: Deeds + Drop> Vault<'_, M, S, D> 
             most,
             shows,
         );
-        note_turn(&mut self.schedule, context, made);
+        self.schedule.note_turn(context, made);
         let Some(next) = next else {
             return Advanced {
                 made,
@@ -393,7 +404,7 @@ impl<M: Memory + Drop, S: Interpret + Drop, D: Deeds + Drop> Vault<'_, M, S, D> 
             }
         };
         let kept = kept(told, next.shown);
-        note(&mut self.schedule, context, false, kept);
+        self.schedule.note(context, false, kept);
         Advanced {
             made: made + 1,
             told: Told::of(told),
@@ -437,25 +448,16 @@ impl<M: Memory + Drop, S: Interpret + Drop, D: Deeds + Drop> Vault<'_, M, S, D> 
         self.world.contexts.has_faulted
     }
 
-    /// The printed bytes, at the end, and these entries in the room of the schedule.
-    pub fn into_followed(self, entries: &[Entry]) -> (Vec<u8>, Vec<Entry>)
-        requires { length entries.now ≤ self.capacity }
-        ensures printed { result.0.items ≡ (world_at self.entry).printed }
-        ensures bounded { length result.0.items ≤ self.entry.most }
-        ensures entries { result.1.items ≡ entries.now }
-        ensures capacity { self.entry.capacity ≤ vec_capacity result.1 }
+    /// The printed bytes, at the end.
+    pub fn into_printed(self) -> Vec<u8>
+        ensures printed { result.items ≡ (world_at self.entry).printed }
+        ensures bounded { length result.items ≤ self.entry.most.output }
     {
-        let Vault {
-            world,
-            schedule: mut room,
-            ..
-        } = self;
-        room.clear();
-        let _ = room.extend_from_slice(entries);
+        let Vault { world, .. } = self;
         let World { contexts, .. } = world;
         let Contexts { shared, .. } = contexts;
         let Shared { printed, .. } = shared;
-        (printed.into_bytes(), room)
+        printed.into_bytes()
     }
 
     /// The report of a run with a budget of steps, at the end, and how much a collector has done.
@@ -466,11 +468,10 @@ impl<M: Memory + Drop, S: Interpret + Drop, D: Deeds + Drop> Vault<'_, M, S, D> 
         requires room { FIRST_ENTRIES ≤ self.capacity }
         ensures run { (space : Space) → space.size ≡ self.entry.space → EndsAs (world_at self.entry)
             (count_of self.entry.schedule == steps) (IsOneStarved S.asks space.grows
-            (world_at self.entry) self.entry.capacity self.entry.schedule) outcome
+            (world_at self.entry) (kept_of self.entry)) outcome
             → IsRunIn S.asks space self.entry.program steps result }
-        ensures bounded { length result.printed.items ≤ self.entry.most }
-        ensures schedule { result.schedule.items ≡ self.entry.schedule }
-        ensures capacity { vec_capacity result.schedule ≡ self.entry.capacity }
+        ensures bounded { IsBounded self.entry.most result }
+        ensures schedule { result.schedule ≡ kept_of self.entry }
         ensures outcome { result.outcome ≡ outcome }
         ensures flips { result.flips ≡ counts.flips }
         ensures taken { result.taken ≡ counts.taken }

@@ -59,12 +59,12 @@ unreported asks start p fault keeps = record {
 pub reported : (asks : Status → Around → Scene → Asked) (start : Start) (p : Progress)
     (report : Report) → Keeps asks start p
     → IsRunIn asks (bounded_space p.config.space) p.story.program p.budget report
-    → report.schedule.items ≡ p.story.schedule → length report.printed.items ≤ p.story.most
+    → report.schedule.items ≡ p.story.schedule → IsBounded p.story.most report
     → HasEnded asks start (Ok report) p.sight
 reported asks start p report keeps run schedule few =
     let steps = ap (λ (c : Config). c.steps) keeps.config in
     let space = ap (λ (c : Config). c.space) keeps.config in
-    let most = keeps.most ∙ ap (λ (c : Config). c.output) keeps.config in
+    let most = keeps.most ∙ ap bounds_of keeps.config in
     record {
       run = (
         p.budget,
@@ -78,7 +78,7 @@ reported asks start p report keeps run schedule few =
           (sym (run.prints ∙ same_bytes p.story report.schedule.items schedule)) keeps.watched.shown;
       unshown = tt;
       still = keeps.watched.still;
-      bounded = subst (λ (n : ℕ). length report.printed.items ≤ n) most few;
+      bounded = subst (λ (m : Bounds). IsBounded m report) most few;
     }
 
 -- nothing stands at any address

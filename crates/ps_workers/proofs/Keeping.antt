@@ -82,7 +82,7 @@ MakesObjects asks context w = 1 ≤ (step_wants asks context false w).words
 pub ends_starved : (asks : Status → Around → Scene → Asked) (p : Progress) (context : ℕ)
     (refused : Bool) → MayGoOn p context
     → (refused ≡ true → MakesObjects asks context (world_at p.story))
-    → IsStarved asks false context refused (world_at p.story) p.story.capacity p.story.schedule
+    → IsStarved asks false context refused (world_at p.story) (kept_of p.story)
     → EndsAs (world_at p.story) (p.made == p.budget) (IsStarvedAt asks p.story) End
 ends_starved asks p context refused may makes starved = (
   let left : p.made < p.budget = may.left in grind (arith, nat_tests),
@@ -211,7 +211,7 @@ pub short_starved : (asks : Status → Around → Scene → Asked) (start : Star
     → story.schedule ≡ p.story.schedule
     → story.caller ≡ p.story.caller → story.space ≡ p.story.space
     → story.flips ≡ p.story.flips → p.story.capacity ≤ story.capacity
-    → IsShort story.capacity story.schedule
+    → IsShort (kept_of story) context
     → Keeps asks start (come_to p story p.made (Some End))
 short_starved asks start p story context keeps may program most schedule caller space flips more short =
     let here : MayGoOn (come_to p story p.made None) context =

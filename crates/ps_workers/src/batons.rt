@@ -22,7 +22,7 @@ use ps_interpreter::interprets::Interpret;
 use ps_mem::Memory;
 use ps_ops::failure::NotMade;
 use ps_vault::{
-    Config, FIRST_ENTRIES, Outcome, RunFault, Screen, Setup, Told, Vault, Viewer, Watched,
+    Config, Outcome, Room, RunFault, Screen, Setup, Told, Vault, Viewer, Watched,
 };
 use ps_world::deeds::Deeds;
 use std::alloc::Global;
@@ -47,8 +47,10 @@ pub(crate) struct Baton<
     pub(crate) made: u32,
     /// How many may be made.
     pub(crate) budget: u32,
-    /// Whose turn was the last.
+    /// Whose turn was the last, or goes on.
     pub(crate) after: u32,
+    /// How many steps that turn may still have; 0 where it is over.
+    rest: u32,
     pub(crate) outcome: Option<Outcome>,
     pub(crate) screen: Screen<V>,
     /// Whether all threads were started.
@@ -133,7 +135,7 @@ impl<'a, O: Origin, M: Memory + Drop, S: Interpret + Drop, D: Deeds + Drop, V: V
             deeds,
             program,
             setup,
-            FIRST_ENTRIES,
+            Room::of_run(config.entries),
         ) else {
             return Err(screen);
         };
@@ -143,6 +145,7 @@ impl<'a, O: Origin, M: Memory + Drop, S: Interpret + Drop, D: Deeds + Drop, V: V
             made: 0,
             budget: config.steps,
             after: 0,
+            rest: 0,
             outcome: None,
             screen,
             started: false,
@@ -233,8 +236,26 @@ impl<O: Origin, M: Memory + Drop, S: Interpret + Drop, D: Deeds + Drop, V: Viewe
         next
     }
 
-    /// The context whose call waits; else the ready one of the least identifier above that of the
-    /// last turn, or of all.
+    /// How many steps the turn of a context may still have: a quantum, where none of its own goes on.
+    pub(crate) fn rest_of(&self, context: u32) -> u32
+        ensures { 1 ≤ result }
+    {
+        if context == self.after && self.rest > 0 {
+            return self.rest;
+        }
+        self.config.quantum
+    }
+
+    /// The turn that goes on is over: the next one is another context's, if one is ready.
+    pub(crate) fn pass_on(&mut self, context: u32)
+        ensures { self.new ≡ self.old }
+    {
+        self.after = context;
+        self.rest = 0;
+    }
+
+    /// The context whose call waits; else the one whose turn goes on, if it is ready; else the ready
+    /// one of the least identifier above that of the last turn, or of all.
     fn next(&mut self) -> Option<u32>
         requires left { self.old.made < self.old.budget }
         ensures same { self.new ≡ self.old }
@@ -244,6 +265,9 @@ impl<O: Origin, M: Memory + Drop, S: Interpret + Drop, D: Deeds + Drop, V: Viewe
     {
         if let Some(caller) = self.vault.caller() {
             return Some(caller);
+        }
+        if self.rest > 0 && self.vault.is_ready(self.after) {
+            return Some(self.after);
         }
         match self.vault.next_ready(self.after) {
             Some(next) => Some(next),
@@ -294,16 +318,20 @@ impl<O: Origin, M: Memory + Drop, S: Interpret + Drop, D: Deeds + Drop, V: Viewe
             (IsHeldUp M.heap M.grants S.asks context false self.new.story) }
         ensures room { IfErr result (IfForRoom false self.new.story context) }
     {
-        if self.vault.reserve_entries().is_err() {
+        if self.vault.reserve_entries(context).is_err() {
             self.outcome = Some(Outcome::Memory);
             return Ok(None);
         }
+        let rest = self.rest_of(context);
         let advanced = self.vault.advance(context, most, true);
         self.made += advanced.made;
+        self.after = context;
+        self.rest = rest.saturating_sub(advanced.made);
         match advanced.told {
             Told::HeldUp(reason) => Err(reason),
-            Told::Goes | Told::TurnEnds => {
-                self.after = context;
+            Told::Goes => Ok(advanced.wish),
+            Told::TurnEnds => {
+                self.rest = 0;
                 Ok(advanced.wish)
             }
         }
@@ -328,13 +356,14 @@ impl<O: Origin, M: Memory + Drop, S: Interpret + Drop, D: Deeds + Drop, V: Viewe
         requires refusal { MayRefuse self.old context }
         ensures goes_on { GoesOn self.old self.new }
     {
-        if self.vault.reserve_entries().is_err() {
+        if self.vault.reserve_entries(context).is_err() {
             self.outcome = Some(Outcome::Memory);
             return;
         }
         match self.vault.step(context, true, None) {
             Ok(()) => {
                 self.made += 1;
+                self.rest = self.rest_of(context).saturating_sub(1);
                 self.after = context;
             }
             Err(NotMade::Memory) => self.outcome = Some(Outcome::Memory),

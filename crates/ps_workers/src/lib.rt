@@ -6,9 +6,11 @@
 //!
 //! Why so:
 //! - A worker makes up to `TURNS` turns in one hold of the baton, since handing it on costs as much
-//!   as some turns. Nothing is lost by it: one worker steps at a time. In a cycle a hold ends after
-//!   `STEPS_IN_CYCLE`, for the collector's thread.
-//! - A cycle is opened behind a turn and not behind a step: a test in the loop of a turn would cost
+//!   as some turns. Nothing is lost by it: one worker steps at a time. A hold ends after `STEPS`, so
+//!   that what was printed is shown, and in a cycle after `STEPS_IN_CYCLE`, for the collector's
+//!   thread. It may end in the middle of a turn: the next one goes on with it (`rest`), so where a
+//!   hold ends can't be seen in a schedule. Nor does an error that is caught end a turn.
+//! - A cycle is opened behind many steps and not behind each: a test in the loop of a turn would cost
 //!   each step. It is opened where more than half is used of what the last one left free. Where most
 //!   of a space lives for good, a cycle behind each turn would free nothing.
 //! - Workers that ran unchecked would fill the space before it is copied, and each cycle would end in

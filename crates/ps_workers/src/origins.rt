@@ -17,7 +17,7 @@ impl Origin for Brand {
 
     ghost start = { record {
       program = [];
-      config = record { space = 0; workers = 0; quantum = 0; steps = 0; output = 0 };
+      config = record { space = 0; workers = 0; quantum = 0; steps = 0; output = 0; entries = 0 };
       sight = record { seen = None; watching = false; shown = 0; failed = false };
     } };
 }

@@ -1,13 +1,13 @@
 //! Runs of a program by workers, with a collector on a thread of its own, or with one that works
 //! between steps.
 
-ghost use Rattle.std.specs.Prelude.{◌≡◌, ◌≢◌, ◌↔◌, ◌≤◌, false, length, Err, IfOk};
+ghost use Rattle.std.specs.Prelude.{◌≡◌, ◌≢◌, ◌↔◌, false, Err, IfOk};
 ghost use Rattle.ps_core_parts.specs.Steps.{start};
 ghost use Rattle.ps_mem.specs.Bounded.{bounded_space};
 ghost use Rattle.ps_mem.specs.Heap.{empty_heap};
 ghost use Rattle.ps_parts_memory.specs.Memory.{heap_of};
 ghost use Rattle.ps_start.specs.Starts.{IsEmptyHeap};
-ghost use Rattle.ps_vault.specs.Reports.{IsRunIn, IsWithin};
+ghost use Rattle.ps_vault.specs.Reports.{bounds_of, IsBounded, IsRunIn, IsWithin};
 ghost use Rattle.ps_workers.specs.Batons.{HasEnded};
 
 use crate::batons::Baton;
@@ -157,8 +157,7 @@ fn run_named_gated<
     ensures fault { result ≢ Err RunFault.Config }
     ensures run { IfOk result (IsRunIn S.asks (bounded_space job.entry.config.space)
         job.entry.program.now job.entry.config.steps) }
-    ensures bounded { IfOk result
-        (λ report. length report.printed.items ≤ job.entry.config.output) }
+    ensures bounded { IfOk result (IsBounded (bounds_of job.entry.config)) }
 {
     let (vm, gc) = seats;
     let space = job.config.space;
@@ -180,7 +179,7 @@ fn run_named_gated<
 /// run starts with can't be had, or a thread can't be started. A growth that is refused later ends
 /// the run, and the report has what was made so far. The outcome is `Memory` only where the step of
 /// a ready context may want a growth that is no object's, or prints more than the run may, or the
-/// schedule has no room for it.
+/// schedule has no room for it or would have more entries than it may.
 pub fn run<S: Interpret + Drop + Send, D: Deeds + Drop + Send, R: Threads + Wait + Sync>(
     rt: &R,
     alloc: Global,
@@ -189,8 +188,7 @@ pub fn run<S: Interpret + Drop + Send, D: Deeds + Drop + Send, R: Threads + Wait
     ensures config { (result ≡ Err RunFault.Config) ↔ ¬ IsWithin job.entry.config }
     ensures run { IfOk result (IsRunIn S.asks (bounded_space job.entry.config.space)
         job.entry.program.now job.entry.config.steps) }
-    ensures bounded { IfOk result
-        (λ report. length report.printed.items ≤ job.entry.config.output) }
+    ensures bounded { IfOk result (IsBounded (bounds_of job.entry.config)) }
 {
     run_shown(rt, alloc, job, Screen::new(NoViewer)).report
 }
@@ -237,8 +235,7 @@ pub fn run_gated<
     ensures config { (result ≡ Err RunFault.Config) ↔ ¬ IsWithin job.entry.config }
     ensures run { IfOk result (IsRunIn S.asks (bounded_space job.entry.config.space)
         job.entry.program.now job.entry.config.steps) }
-    ensures bounded { IfOk result
-        (λ report. length report.printed.items ≤ job.entry.config.output) }
+    ensures bounded { IfOk result (IsBounded (bounds_of job.entry.config)) }
 {
     if !job.config.is_within() {
         return Err(RunFault::Config);
@@ -276,8 +273,7 @@ fn run_serial_in<
     ensures config { (result ≡ Err RunFault.Config) ↔ ¬ IsWithin job.entry.config }
     ensures run { IfOk result (IsRunIn S.asks (bounded_space job.entry.config.space)
         job.entry.program.now job.entry.config.steps) }
-    ensures bounded { IfOk result
-        (λ report. length report.printed.items ≤ job.entry.config.output) }
+    ensures bounded { IfOk result (IsBounded (bounds_of job.entry.config)) }
 {
     let workers = job.config.workers;
     let baton = SerialBaton::<O, M, S, D, C>::new(alloc, sides, job, screen)?;
@@ -309,8 +305,7 @@ pub fn run_serial<S: Interpret + Drop + Send, D: Deeds + Drop + Send, R: Threads
     ensures config { (result ≡ Err RunFault.Config) ↔ ¬ IsWithin job.entry.config }
     ensures run { IfOk result (IsRunIn S.asks (bounded_space job.entry.config.space)
         job.entry.program.now job.entry.config.steps) }
-    ensures bounded { IfOk result
-        (λ report. length report.printed.items ≤ job.entry.config.output) }
+    ensures bounded { IfOk result (IsBounded (bounds_of job.entry.config)) }
 {
     if !job.config.is_within() {
         return Err(RunFault::Config);
@@ -331,8 +326,7 @@ pub fn run_alone<S: Interpret + Drop, D: Deeds + Drop>(
     ensures config { (result ≡ Err RunFault.Config) ↔ ¬ IsWithin job.entry.config }
     ensures run { IfOk result (IsRunIn S.asks (bounded_space job.entry.config.space)
         job.entry.program.now job.entry.config.steps) }
-    ensures bounded { IfOk result
-        (λ report. length report.printed.items ≤ job.entry.config.output) }
+    ensures bounded { IfOk result (IsBounded (bounds_of job.entry.config)) }
 {
     run_alone_behind(alloc, job, &[])
 }
@@ -347,8 +341,7 @@ pub fn run_alone_behind<S: Interpret + Drop, D: Deeds + Drop>(
     ensures config { (result ≡ Err RunFault.Config) ↔ ¬ IsWithin job.entry.config }
     ensures run { IfOk result (IsRunIn S.asks (bounded_space job.entry.config.space)
         job.entry.program.now job.entry.config.steps) }
-    ensures bounded { IfOk result
-        (λ report. length report.printed.items ≤ job.entry.config.output) }
+    ensures bounded { IfOk result (IsBounded (bounds_of job.entry.config)) }
 {
     if !job.config.is_within() {
         return Err(RunFault::Config);
@@ -390,8 +383,7 @@ fn run_alone_in<
     ensures config { (result ≡ Err RunFault.Config) ↔ ¬ IsWithin job.entry.config }
     ensures run { IfOk result (IsRunIn S.asks (bounded_space job.entry.config.space)
         job.entry.program.now job.entry.config.steps) }
-    ensures bounded { IfOk result
-        (λ report. length report.printed.items ≤ job.entry.config.output) }
+    ensures bounded { IfOk result (IsBounded (bounds_of job.entry.config)) }
 {
     let mut baton = SerialBaton::<O, M, S, D, C>::new(alloc, sides, job, screen)?;
     baton.follow(given);

@@ -5,7 +5,7 @@ ghost use Rattle.std.specs.Prelude.{◌≡◌, length, ◌+◌, ◌≤◌, ◌�
 ghost use Rattle.ps_mem.specs.Bounded.{bounded_space};
 ghost use Rattle.ps_start.specs.Starts.{IsEmptyHeap};
 ghost use Rattle.ps_vault.specs.Holds.{IsHeldUp};
-ghost use Rattle.ps_vault.specs.Reports.{IsRunIn, IsWithin};
+ghost use Rattle.ps_vault.specs.Reports.{bounds_of, IsBounded, IsRunIn, IsWithin};
 ghost use Rattle.ps_workers.specs.Batons.{GoesOn, SameProgress, MayGoOn};
 
 use crate::batons::{Baton, TURNS};
@@ -127,8 +127,7 @@ impl<
         requires going { O.start.sight.failed ≡ false }
         ensures run { IfOk result (IsRunIn S.asks (bounded_space O.start.config.space)
             O.start.program O.start.config.steps) }
-        ensures bounded { IfOk result
-            (λ report. length report.printed.items ≤ O.start.config.output) }
+        ensures bounded { IfOk result (IsBounded (bounds_of O.start.config)) }
         ensures fault { result ≢ Err RunFault.Config }
     {
         let SerialBaton { baton, .. } = self;
@@ -143,8 +142,8 @@ impl<
     D: Deeds + Drop,
     V: Viewer + Drop,
 > Baton<'_, O, M, S, D, V> {
-    /// A turn of the next context: at most a quantum of its steps, and only one while a cycle is
-    /// open. True: the run is over, or a thread could not be started.
+    /// A turn of the next context, or what is left of the one that goes on: at most a quantum of its
+    /// steps, and only one while a cycle is open. True: the run is over, or a thread could not be started.
     fn serial_turn<C: Collects<M>>(&mut self, lent: &mut Lent<C>) -> bool
         ensures goes_on { GoesOn self.old self.new }
         ensures over { IsSome self.old.outcome → self.new ≡ self.old }
@@ -176,7 +175,8 @@ impl<
         Some(self.made.saturating_sub(before))
     }
 
-    /// A turn of a context: at most so many steps and a quantum, and only one while a cycle is open.
+    /// A turn of a context, or what is left of it: at most so many steps, and only one while a cycle
+    /// is open.
     fn turn_within<C: Collects<M>>(&mut self, context: u32, most: u32, lent: &mut Lent<C>)
         requires may { MayGoOn self.old context }
         requires outcome { self.old.outcome ≡ None }
@@ -187,7 +187,7 @@ impl<
         let most = if self.vault.is_open() {
             1
         } else {
-            most.min(self.config.quantum).min(left)
+            most.min(self.rest_of(context)).min(left)
         };
         self.make_serially(context, most, lent);
     }

@@ -17,8 +17,10 @@ use ps_parts_memory::Closing;
 use ps_vault::{Outcome, Roots, RunFault, Viewer, Watched};
 use ps_world::deeds::Deeds;
 
-/// The most steps of one hold of the baton while a cycle is open: the collector's thread may want
-/// it.
+/// The most steps of one hold of the baton: behind it what was printed is shown.
+const STEPS: u32 = 65536;
+
+/// The most while a cycle is open: the collector's thread may want it.
 const STEPS_IN_CYCLE: u32 = 1024;
 
 /// How far the collector's thread is.
@@ -130,21 +132,34 @@ impl<
         ensures goes_on { GoesOn self.old self.new }
         ensures over { IsSome self.old.outcome → self.new ≡ self.old }
     {
-        let most = self.made.saturating_add(STEPS_IN_CYCLE);
+        let before = self.made;
         for _ in 0..TURNS {
-            if self.turn() {
+            let left = self.hold_left(before);
+            if left == 0 {
+                return false;
+            }
+            if self.turn(left) {
                 return true;
             }
-            if self.must_wait(copied) || (self.made >= most && !self.is_idle()) {
+            if self.must_wait(copied) {
                 return false;
             }
         }
         false
     }
 
-    /// A turn of the next context: at most a quantum of its steps. True: the run is over, or a
-    /// thread could not be started.
-    fn turn(&mut self) -> bool
+    /// How many steps more a hold of the baton may have that began behind so many.
+    fn hold_left(&mut self, before: u32) -> u32
+        ensures { self.new ≡ self.old }
+    {
+        let most = if self.is_idle() { STEPS } else { STEPS_IN_CYCLE };
+        most.saturating_sub(self.made.saturating_sub(before))
+    }
+
+    /// A turn of the next context, or what is left of the one that goes on: at most so many of its
+    /// steps. True: the run is over, or a thread could not be started.
+    fn turn(&mut self, most: u32) -> bool
+        requires { 1 ≤ most }
         ensures goes_on { GoesOn self.old self.new }
         ensures over { IsSome self.old.outcome → self.new ≡ self.old }
     {
@@ -152,7 +167,7 @@ impl<
             return true;
         };
         let left = self.budget - self.made;
-        let most = self.config.quantum.min(left);
+        let most = self.rest_of(context).min(most).min(left);
         self.make_steps(context, most);
         self.outcome.is_some()
     }
@@ -187,7 +202,7 @@ impl<
             NotMade::NeedSpace(_) => self.waits.wanting = Wanting::Room(context),
             NotMade::LogFull | NotMade::LogClosed => {
                 self.waits.hold_up(reason == NotMade::LogFull);
-                self.after = context;
+                self.pass_on(context);
             }
         }
     }

@@ -1,14 +1,14 @@
 use Rattle.std.proofs.Common.{◌≡◌, ℕ, List, false, true, sym, ap, ◌∙◌, subst, arith}
-use Rattle.std.specs.Prelude.{vec_capacity}
 use Rattle.ps_language.specs.declared.schedules.Entry.{Entry}
 use Rattle.ps_language.specs.Schedules.{count_of, moves}
 use Rattle.ps_language.proofs.ScheduleLaws.{count_of-nil}
 use Rattle.ps_language.specs.Worlds.{starting_world, world}
 use Rattle.ps_mem.specs.Objects.{heap_in}
+use Rattle.ps_schedules.specs.Keeping.{Kept}
 use Rattle.ps_vault.specs.Order.{HasTurn, InOrder}
 use Rattle.ps_vault.specs.Reports.{are_ordinary, IsRunOf, IsStarved}
 use Rattle.ps_vault.specs.Screens.{HasShown}
-use Rattle.ps_vault.specs.Stories.{world_at}
+use Rattle.ps_vault.specs.Stories.{kept_of, world_at}
 use Rattle.ps_vault.proofs.Screening.{budget_ends, budget_least, budget_more, budget_most, budget_whole, none_shown, same_bytes}
 use Rattle.ps_vault.proofs.Beginning.{nothing_stands, plain_grows}
 use Rattle.ps_vault.proofs.Warrants.{nothing_warranted}
@@ -68,7 +68,7 @@ pub returns-clause-shown : goal.returns-clause-shown
 returns-clause-shown g c =
     let prints : c.into_run.result.printed.items ≡ (world_at c.run-run.new.self).printed =
     c.into_run.ensures.run.run.prints ∙ same_bytes c.run-run.new.self c.into_run.result.schedule.items
-    c.into_run.ensures.schedule in
+    (ap (λ (kept : Kept). kept.items) c.into_run.ensures.schedule) in
     subst (HasShown c.args.screen.now.seen c.run-run.new.screen) (sym prints)
     (c.run-run.ensures.shown c.args.screen.now.seen
     (none_shown c.args.screen.now (world_at c.in-Ok.vault).printed c.requires.nothing
@@ -99,7 +99,8 @@ ordered g c =
 pub returns-clause-order : goal.returns-clause-order
 returns-clause-order g c =
     subst (λ (entries : List Entry). InOrder c.args.config.quantum
-    (starting_world c.args.program.now) (moves entries)) (sym c.into_run.ensures.schedule)
+    (starting_world c.args.program.now) (moves entries))
+    (sym (ap (λ (kept : Kept). kept.items) c.into_run.ensures.schedule))
     (ordered g (goal.at.returns-clause-order g c).After-run-run)
 
 -- whose turn it was
@@ -110,7 +111,7 @@ returns-clause-starved g c = λ memory.
     let owed = c.run-run.ensures.owed (λ m. plain_grows _ _ _ _) held
     (ap moves c.in-Ok.ensures.schedule) in
     let made = c.run-run.new.self in
-    let same = c.into_run.ensures.schedule in
+    let same = ap (λ (kept : Kept). kept.items) c.into_run.ensures.schedule in
     let program : made.program ≡ c.args.program.now =
     c.run-run.ensures.program ∙ c.in-Ok.ensures.program in (
       owed.0,
@@ -118,13 +119,10 @@ returns-clause-starved g c = λ memory.
           (starting_world c.args.program.now) owed.0 (moves entries)) (sym same)
           (subst (λ (p : List ℕ). HasTurn c.args.config.quantum (starting_world p) owed.0
           (moves made.schedule)) c.in-Ok.ensures.program owed.1),
-      subst (λ (entries : List Entry). IsStarved g.S.Interpret.asks true owed.0 false
-          (world c.args.program.now entries) (vec_capacity c.into_run.result.schedule) entries)
-          (sym same) (subst (λ n. IsStarved g.S.Interpret.asks true owed.0 false
-          (world c.args.program.now made.schedule) n made.schedule)
-          (sym c.into_run.ensures.capacity)
+      subst (λ (kept : Kept). IsStarved g.S.Interpret.asks true owed.0 false
+          (world c.args.program.now kept.items) kept) (sym c.into_run.ensures.schedule)
           (subst (λ (p : List ℕ). IsStarved g.S.Interpret.asks true owed.0 false
-          (world p made.schedule) made.capacity made.schedule) program owed.2)),
+          (world p made.schedule) (kept_of made)) program owed.2),
     )
 
 pub into_run-requires-clause-warranted : goal.into_run-requires-clause-warranted

@@ -1,15 +1,15 @@
 -- Each entry followed is one entry more of the schedule; where memory runs out a part of one is.
-use Rattle.std.proofs.Common.{ℕ, ◌≡◌, ◌<◌, ◌+◌, ◌++◌, List, take, length, get_or, Bool, true, false, None, sym, ◌∙◌, ap, subst, arith}
+use Rattle.std.proofs.Common.{ℕ, ◌≡◌, ◌<◌, ◌+◌, ◌++◌, ◌∷◌, [], List, take, length, get_or, Bool, true, false, None, sym, ◌∙◌, ap, subst, arith}
 use Rattle.std.specs.Prelude.{◌&&◌, ◌==◌, not, replicate}
 use Rattle.std.proofs.lemmas.Bool.{true≢false}
-use Rattle.std.proofs.lemmas.List.{take_all}
+use Rattle.std.proofs.lemmas.List.{take_all, take_more, length-take}
 use Rattle.ps_language.specs.declared.schedules.Entry.{Entry}
 use Rattle.ps_language.specs.Schedules.{Begins, plain_move, moves_of, moves}
 use Rattle.ps_language.specs.World.{World}
 use Rattle.ps_language.specs.Worlds.{after_moves, world, printed}
 use Rattle.ps_mem.specs.Objects.{heap_in}
 use Rattle.ps_vault.specs.Stories.{world_at}
-use Rattle.ps_vault.specs.Reports.{EndsAs, IsCutOf, IsReplayOf, IsUncollected, entry_of, MayWant, MayWantNext, is_memory, is_next_refused, next_identifier}
+use Rattle.ps_vault.specs.Reports.{Bounds, EndsAs, IsCutOf, IsReplayOf, IsUncollected, entry_of, MayWant, MayWantNext, is_memory, is_next_refused, next_identifier}
 use Rattle.ps_vault.specs.Screens.{HasShown, Sight}
 use Rattle.ps_vault.proofs.Beginning.{nothing_stands}
 use Rattle.ps_vault.proofs.Cutting.{begins_first, by_failed, cut_first, memory_ends, printed_at, replay_whole, whole_run}
@@ -17,7 +17,7 @@ use Rattle.ps_vault.proofs.Following.{after_next, after_part, begins_with_part, 
 use Rattle.ps_vault.proofs.NextStep.{refused_behind, context_behind_part}
 use Rattle.ps_vault.proofs.replays.replay_shown.Given as givens
 use Rattle.ps_vault.proofs.replays.replay_shown.Goals as goal
-use Rattle.ps_vault.proofs.replays.replay_shown.Goals.{After-report_of, After-report_of-then-has_failed, After-report_of-2}
+use Rattle.ps_vault.proofs.replays.replay_shown.Goals.{After-push, After-report_of, After-report_of-then-has_failed, After-report_of-2}
 
 -- what is past the end
 abbrev none : Entry
@@ -27,19 +27,58 @@ pub new-requires : goal.new-requires
 unfolding heap_in
 new-requires g c = record { empty = nothing_stands _ _ c.plain_with_marks-memory.ensures }
 
+-- the entry that was followed stands behind those before it
+followed_on : (g : givens.Over) (c : After-push g)
+    → c.push.new.self.items ≡ take (c.loop-place.place + 1) c.args.schedule.now
+followed_on g c = c.push.ensures.items
+    ∙ (ap (λ (entries : List Entry).
+    entries ++ get_or c.args.schedule.now c.loop-place.place none ∷ [])
+    c.loop-place.invariant.followed
+    ∙ sym (take_more c.args.schedule.now c.loop-place.place none c.loop-place-test.true))
+
+pub push-requires-clause-room : goal.push-requires-clause-room
+push-requires-clause-room g c =
+    let size = ap {B = ℕ} (λ (entries : List Entry). length entries)
+    c.loop-place.invariant.followed in
+    let few = length-take c.loop-place.place c.args.schedule.now in
+    omega (arith, size, few, c.loop-place-test.true, c.loop-place.invariant.spaced)
+
+pub push-requires-clause-few : goal.push-requires-clause-few
+push-requires-clause-few g c =
+    let size = ap {B = ℕ} (λ (entries : List Entry). length entries)
+    c.loop-place.invariant.followed in
+    let few = length-take c.loop-place.place c.args.schedule.now in
+    omega (arith, size, few, c.loop-place-test.true, c.loop-place.invariant.bounded)
+
+pub push_part-requires-clause-room : goal.push_part-requires-clause-room
+push_part-requires-clause-room g c =
+    let size = ap {B = ℕ} (λ (entries : List Entry). length entries)
+    c.loop-place.invariant.followed in
+    let few = length-take c.loop-place.place c.args.schedule.now in
+    omega (arith, size, few, c.loop-place-test.true, c.loop-place.invariant.spaced)
+
+pub push_part-requires-clause-few : goal.push_part-requires-clause-few
+push_part-requires-clause-few g c =
+    let size = ap {B = ℕ} (λ (entries : List Entry). length entries)
+    c.loop-place.invariant.followed in
+    let few = length-take c.loop-place.place c.args.schedule.now in
+    omega (arith, size, few, c.loop-place-test.true, c.loop-place.invariant.bounded)
+
 pub loop-place-preserved : goal.loop-place-preserved
 loop-place-preserved g c =
+    let at = (goal.at.loop-place-preserved g c).After-push in
     let given = c.args.schedule.now in
     let i = c.loop-place.place in
     let entry : Entry = get_or given i none in
     let lt : i < length given = c.loop-place-test.true in
     let all : c.follow_entry-made.result ≡ entry.steps =
     omega (arith, c.follow_entry-made.ensures.within, c.if-made-entry.false) in
+    let most_same = ap (λ (m : Bounds). m.entries) c.follow_entry-made.ensures.most in
     record {
       program = c.follow_entry-made.ensures.program ∙ c.loop-place.invariant.program;
-      most = c.follow_entry-made.ensures.most ∙ c.loop-place.invariant.most;
+      most = ap (λ (m : Bounds). m.output) c.follow_entry-made.ensures.most
+          ∙ c.loop-place.invariant.most;
       calling = c.follow_entry-made.ensures.calling_on all;
-      room = omega (arith, c.follow_entry-made.ensures.capacity, c.loop-place.invariant.room);
       spare = omega (
         arith,
         lt,
@@ -47,6 +86,16 @@ loop-place-preserved g c =
         c.follow_entry-made.ensures.capacity,
         c.loop-place.invariant.spare,
       );
+      fewer = omega (
+        arith,
+        lt,
+        most_same,
+        c.follow_entry-made.ensures.longer,
+        c.loop-place.invariant.fewer,
+      );
+      followed = followed_on g at;
+      spaced = omega (arith, c.push.ensures.capacity, c.loop-place.invariant.spaced);
+      bounded = omega (arith, c.push.ensures.most, c.loop-place.invariant.bounded);
       fits = c.follow_entry-made.ensures.fits;
       going = sym c.has_failed-in-loop-place.ensures ∙ c.if-has_failed.false;
       still = λ unseen. let before = c.loop-place.invariant.still unseen in
@@ -64,9 +113,8 @@ finished_world : (g : givens.Over) (c : After-report_of-2 g)
     c.report_of-2.result.schedule.items
 finished_world g c = c.loop-place.invariant.at
     ∙ ap (world c.args.program.now)
-    (take_all c.loop-place.place c.args.schedule.now (omega (arith, c.loop-place-test.false))
-    ∙ sym (ap (λ (v : _). v.items) c.report_of-2.ensures.schedule
-    ∙ c.into_followed-printed-2.ensures.entries))
+    (sym (ap (λ (v : _). v.items) c.report_of-2.ensures.schedule
+    ∙ c.loop-place.invariant.followed))
 
 -- the steps where memory ran out
 stopped_moves : (g : givens.Over) (c : After-report_of g)
@@ -79,7 +127,7 @@ stopped_moves g c =
     rw c.report_of.ensures.schedule
     (c.push_part.ensures.moves ∙ ap (λ (entries : List Entry). moves entries
     ++ replicate c.follow_entry-made.result (plain_move entry.context))
-    c.into_followed-printed.ensures.entries)
+    c.loop-place.invariant.followed)
 
 -- the world where memory ran out
 stopped_world : (g : givens.Over) (c : After-report_of g)
@@ -103,7 +151,7 @@ stopped_prints : (g : givens.Over) (c : After-report_of g)
 unfolding printed
 stopped_prints g c =
     ap (λ (v : _). v.items) c.report_of.ensures.printed
-    ∙ (c.into_followed-printed.ensures.printed ∙ ap (λ (w : World). w.printed)
+    ∙ (c.into_printed.ensures.printed ∙ ap (λ (w : World). w.printed)
     (ap world_at c.cut_outcome-outcome.ensures.same ∙ stopped_world g c))
 
 stopped_begins : (g : givens.Over) (c : After-report_of g)
@@ -123,7 +171,7 @@ stopped_cut g c = record {
       ∙ (c.push_part.ensures.entry
       ∙ ap (λ (entries : List Entry). entries
       ++ entry_of (get_or c.args.schedule.now c.loop-place.place none).context
-      c.follow_entry-made.result) c.into_followed-printed.ensures.entries);
+      c.follow_entry-made.result) c.loop-place.invariant.followed);
 }
 
 uncollected : (g : givens.Over) (c : After-report_of g) → IsUncollected c.report_of.result
@@ -192,7 +240,7 @@ pub returns-then-made-entry-clause-shown : goal.returns-then-made-entry-clause-s
 returns-then-made-entry-clause-shown g c =
     subst (HasShown c.args.screen.now.seen c.follow_entry-made.new.screen)
     (sym (ap (λ (v : _). v.items) c.report_of.ensures.printed
-    ∙ (c.into_followed-printed.ensures.printed
+    ∙ (c.into_printed.ensures.printed
     ∙ ap (λ s. (world_at s).printed) c.cut_outcome-outcome.ensures.same)))
     (c.follow_entry-made.ensures.shown c.args.screen.now.seen c.loop-place.invariant.shown)
 
@@ -211,7 +259,7 @@ behind_world g c =
     ∙ ap (λ (w : World). after_moves w (moves_of (get_or given i none) (get_or given i none).steps))
     c.loop-place.invariant.at)
     ∙ ap (world c.args.program.now) (sym (ap (λ (v : _). v.items) c.report_of-then-has_failed.ensures.schedule
-    ∙ c.into_followed-printed-then-has_failed.ensures.entries))
+    ∙ followed_on g (goal.at.After-report_of-then-has_failed g c).After-push))
 
 pub returns-then-has_failed-clause-run : goal.returns-then-has_failed-clause-run
 returns-then-has_failed-clause-run g c =
@@ -220,7 +268,7 @@ returns-then-has_failed-clause-run g c =
     let made : List Entry = c.report_of-then-has_failed.result.schedule.items in
     let is : made ≡ take (c.loop-place.place + 1) given =
     ap (λ (v : _). v.items) c.report_of-then-has_failed.ensures.schedule
-    ∙ c.into_followed-printed-then-has_failed.ensures.entries in
+    ∙ followed_on g (goal.at.returns-then-has_failed-clause-run g c).After-push in
     let failed : c.follow_entry-made.new.screen.failed ≡ true =
     sym c.has_failed-in-loop-place.ensures ∙ c.if-has_failed.true in (
       made,
@@ -230,7 +278,7 @@ returns-then-has_failed-clause-run g c =
       λ going. absurd (true≢false (sym failed ∙ going)),
       replay_whole g.S.Interpret.asks c.args.program.now c.report_of-then-has_failed.result
           (ap (λ (v : _). v.items) c.report_of-then-has_failed.ensures.printed
-          ∙ (c.into_followed-printed-then-has_failed.ensures.printed ∙ printed_at _ _ _
+          ∙ (c.into_printed-then-has_failed.ensures.printed ∙ printed_at _ _ _
           (ap world_at c.outcome-outcome.ensures.same ∙ behind_world g at)))
           (ap is_memory c.report_of-then-has_failed.ensures.outcome ∙ c.outcome-outcome.ensures.known)
           (subst (EndsAs (world c.args.program.now made) true ⊥)
@@ -244,7 +292,7 @@ pub returns-then-has_failed-clause-shown : goal.returns-then-has_failed-clause-s
 returns-then-has_failed-clause-shown g c =
     subst (HasShown c.args.screen.now.seen c.follow_entry-made.new.screen)
     (sym (ap (λ (v : _). v.items) c.report_of-then-has_failed.ensures.printed
-    ∙ (c.into_followed-printed-then-has_failed.ensures.printed
+    ∙ (c.into_printed-then-has_failed.ensures.printed
     ∙ ap (λ s. (world_at s).printed) c.outcome-outcome.ensures.same)))
     (c.follow_entry-made.ensures.shown c.args.screen.now.seen c.loop-place.invariant.shown)
 
@@ -256,12 +304,13 @@ returns-clause-run g c =
     let given = c.args.schedule.now in
     let made : List Entry = c.report_of-2.result.schedule.items in
     let is : made ≡ given = ap (λ (v : _). v.items) c.report_of-2.ensures.schedule
-    ∙ c.into_followed-printed-2.ensures.entries in
+    ∙ c.loop-place.invariant.followed
+    ∙ take_all c.loop-place.place given (omega (arith, c.loop-place-test.false)) in
     whole_run c.loop-place.screen.failed given made
     (λ part. IsReplayOf g.S.Interpret.asks c.args.program.now part c.report_of-2.result) is
     (replay_whole g.S.Interpret.asks c.args.program.now c.report_of-2.result
     (ap (λ (v : _). v.items) c.report_of-2.ensures.printed
-    ∙ (c.into_followed-printed-2.ensures.printed ∙ printed_at _ _ _
+    ∙ (c.into_printed-2.ensures.printed ∙ printed_at _ _ _
     (ap world_at c.outcome-outcome-2.ensures.same ∙ finished_world g at)))
     (ap is_memory c.report_of-2.ensures.outcome ∙ c.outcome-outcome-2.ensures.known)
     (subst (EndsAs (world c.args.program.now made) true ⊥) (sym c.report_of-2.ensures.outcome)
@@ -273,6 +322,6 @@ pub returns-clause-shown : goal.returns-clause-shown
 returns-clause-shown g c =
     subst (HasShown c.args.screen.now.seen c.loop-place.screen)
     (sym (ap (λ (v : _). v.items) c.report_of-2.ensures.printed
-    ∙ (c.into_followed-printed-2.ensures.printed
+    ∙ (c.into_printed-2.ensures.printed
     ∙ ap (λ s. (world_at s).printed) c.outcome-outcome-2.ensures.same)))
     c.loop-place.invariant.shown

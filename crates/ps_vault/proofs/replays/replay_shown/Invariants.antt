@@ -1,5 +1,6 @@
 use Rattle.std.proofs.Common.{◌≡◌, ◌≤◌, ◌+◌, ◌-◌, ◌*◌, false, take, length, None}
 use Rattle.ps_language.specs.Worlds.{world}
+use Rattle.ps_schedules.specs.Keeping.{most_of}
 use Rattle.ps_vault.specs.Screens.{HasShown}
 use Rattle.ps_vault.specs.Stories.{world_at}
 use Rattle.ps_vault.proofs.replays.replay_shown.Given as goal
@@ -8,11 +9,15 @@ use Rattle.ps_vault.proofs.replays.replay_shown.Given as goal
 abbrev pub invariant-loop-place : goal.invariant-loop-place
 invariant-loop-place g l = record {
   program : l.vault.program ≡ l.program;
-  most : l.vault.most ≡ l.fn.setup.output;
+  most : l.vault.most.output ≡ l.fn.setup.output;
   calling : l.vault.caller ≡ None;
-  room : length l.schedule + 1 ≤ l.vault.capacity;
   spare : length l.vault.schedule + 2 * (length l.schedule - l.place) + 1
       ≤ l.vault.capacity;
+  fewer : length l.vault.schedule + 2 * (length l.schedule - l.place) + 1
+      ≤ l.vault.most.entries;
+  followed : l.followed.items ≡ take l.place l.schedule;
+  spaced : length l.schedule + 1 ≤ l.followed.capacity;
+  bounded : length l.schedule + 1 ≤ most_of l.followed;
   fits : l.screen.shown ≤ length (world_at l.vault).printed;
   going : l.screen.failed ≡ false;
   still : l.fn.screen.watching ≡ false → l.screen ≡ l.fn.screen;

@@ -1,11 +1,12 @@
 -- Each round adds as many ordinary steps, which are at most one entry more.
-use Rattle.std.proofs.Common.{◌≡◌, ◌+◌, ◌≤◌, false, length, refl, sym, ◌∙◌, ap, subst, arith, rules}
+use Rattle.std.proofs.Common.{◌≡◌, ◌+◌, ◌≤◌, inr, false, length, refl, sym, ◌∙◌, ap, subst, arith, rules}
 use Rattle.std.specs.Prelude.{not}
 use Rattle.ps_language.specs.Keeping.{PrintsOn}
 use Rattle.ps_language.specs.Schedules.{plain_move}
+use Rattle.ps_schedules.specs.Turns.{added_times}
 use Rattle.ps_vault.specs.Screens.{ShowsOn, Sight}
+use Rattle.ps_vault.specs.Reports.{Bounds}
 use Rattle.ps_vault.specs.Stories.{Story, HasRoom, world_at}
-use Rattle.ps_vault.specs.Turns.{added_times}
 use Rattle.ps_vault.proofs.Beginning.{plain_grows}
 use Rattle.ps_vault.proofs.Following.{times_more, times_world, times_longer}
 use Rattle.ps_vault.proofs.Reasons.{may_want}
@@ -38,8 +39,11 @@ short_at g c = times_longer _ _ c.args.context c.loop-made.made c.loop-made.inva
 pub advance-advanced-requires-clause-room : goal.advance-advanced-requires-clause-room
 advance-advanced-requires-clause-room g c =
     let short = short_at g (goal.at.advance-advanced-requires-clause-room g c).After-is_ready in
-    subst HasRoom (sym c.is_ready.ensures.same)
-    (omega (arith, short, c.loop-made.invariant.capacity, c.requires.room))
+    let most = ap (λ (m : Bounds). m.entries) c.loop-made.invariant.most in
+    subst (λ (s : Story). HasRoom s c.args.context) (sym c.is_ready.ensures.same) (record {
+      words = omega (arith, short, c.loop-made.invariant.capacity, c.requires.room);
+      entry = inr (omega (arith, short, most, c.requires.few));
+    })
 
 -- behind it
 added_on : (g : givens.Over) (c : After-advance-advanced g)

@@ -1,5 +1,5 @@
 -- So many steps more of the schedule, and the one behind them.
-use Rattle.std.proofs.Common.{◌≡◌, ℕ, ℤ, Bool, false, true, List, Option, Some, None, Ok, Err, refl, sym, ap, subst, ◌∙◌, ◌+◌, arith}
+use Rattle.std.proofs.Common.{◌≡◌, ◌≤◌, ◌<◌, ℕ, ℤ, Bool, false, true, List, Option, Some, None, Ok, Err, refl, sym, ap, subst, ◌∙◌, ◌+◌, length, arith}
 use Rattle.std.specs.List.{list_all}
 use Rattle.ps_language.specs.declared.schedules.Entry.{Entry}
 use Rattle.ps_language.specs.Effect as effect
@@ -10,16 +10,18 @@ use Rattle.ps_language.specs.Worlds.{starting_world, world}
 use Rattle.ps_language.proofs.ScheduleLaws.{count_of-added}
 use Rattle.ps_world.specs.Notes.{note_of}
 use Rattle.ps_world.specs.Steps.{shown_words}
+use Rattle.ps_schedules.specs.Keeping.{Kept, MayAdd}
+use Rattle.ps_schedules.specs.Turns.{added_times, free_steps, move_of}
 use Rattle.ps_vault.specs.Holds.{wish_in}
 use Rattle.ps_vault.specs.Order.{IsOnlyLeft, AddsSteps, NoneEnds, AllOfOne, OnlyLastMayEnd, IsNoEnd, IsNoWish, AllTell, WishesLast, WishesAs}
 use Rattle.ps_vault.specs.Reports.{are_words, fits, is_ordinary}
 use Rattle.ps_vault.specs.Warrants.{AddsShown, AllWarranted}
-use Rattle.ps_vault.specs.Stories.{AreWarranted, Story, world_at, move_of}
-use Rattle.ps_vault.specs.Turns.{added_times}
+use Rattle.ps_vault.specs.Stories.{AreWarranted, Story, kept_of, world_at}
 use Rattle.ps_vault.proofs.Following.{times_noted}
 use Rattle.ps_mem.specs.Heap.{Space}
-use Rattle.ps_vault.proofs.Keeping.{caller_there, may_step}
+use Rattle.ps_vault.proofs.Keeping.{caller_there, kept_same, may_step}
 use Rattle.ps_vault.proofs.Reasons.{for_room}
+use Rattle.ps_vault.proofs.Noting.{HasNoted, may_note, longer_noted}
 use Rattle.ps_vault.proofs.Advancing.{keeps_made, count_times, move_fits, all_added, all_times, some_made, tell_made, nothing_ends, nothing_wishes, ends_noted, wish_noted, no_wish_noted, last_made, alone_made, same_space, warranted_made}
 use Rattle.ps_vault.proofs.Behind.{tell_mid, tell_behind, others_behind, keeps_behind, ends_behind, keeps_held, held_behind, last_mid, shown_behind, alone_mid, alone_behind, left_held, same_space_behind, warranted_held, warranted_behind, words_behind}
 use Rattle.ps_vault.proofs.Showing.{kept_none}
@@ -44,14 +46,14 @@ ready_before g c =
     ap (λ (s : Story). is_ready (world_at s) c.args.context) c.self.view_is ∙ c.requires.ready
 
 noted : (g : givens.Over) (c : After-note_turn g)
-    → c.note_turn.new.schedule.items
+    → c.note_turn.new.self.items
     ≡ added_times c.go_on-made.result.made c.args.self.now.schedule (plain_move c.args.context)
 noted g c = c.note_turn.ensures.added
     ∙ ap (λ (s : Story). added_times c.go_on-made.result.made s.schedule
     (plain_move c.args.context)) c.self.view_is
 
 counted : (g : givens.Over) (c : After-note_turn g)
-    → count_of c.note_turn.new.schedule.items
+    → count_of c.note_turn.new.self.items
     ≡ count_of c.args.self.now.schedule + c.go_on-made.result.made
 counted g c = ap count_of (noted g c)
     ∙ count_times c.go_on-made.result.made c.args.self.now.schedule (plain_move c.args.context)
@@ -60,7 +62,7 @@ counted g c = ap count_of (noted g c)
 each : (g : givens.Over) (c : After-note_turn g) (test : Move → Bool)
     → test (plain_move c.args.context) ≡ true
     → list_all test (moves c.args.self.now.schedule) ≡ true
-    → list_all test (moves c.note_turn.new.schedule.items) ≡ true
+    → list_all test (moves c.note_turn.new.self.items) ≡ true
 each g c test one before =
     ap (λ (entries : List Entry). list_all test (moves entries)) (noted g c)
     ∙ all_times test c.go_on-made.result.made c.args.self.now.schedule
@@ -72,10 +74,10 @@ plain_fits g c =
 
 takes : (g : givens.Over) (c : After-note_turn g)
     → AddsSteps c.args.context c.go_on-made.result.made (moves c.args.self.now.schedule)
-    (moves c.note_turn.new.schedule.items)
+    (moves c.note_turn.new.self.items)
 takes g c =
     adds_times c.args.context c.go_on-made.result.made c.args.self.now.schedule
-    c.note_turn.new.schedule.items (noted g c)
+    c.note_turn.new.self.items (noted g c)
 
 -- what holds of the program and the schedule inside
 of_story : (g : givens.Over) (c : After-note_turn g)
@@ -110,10 +112,12 @@ invariant_of-self g c =
 
 pub returns-in_default-clause-some : goal.returns-in_default-clause-some
 returns-in_default-clause-some g c = λ _.
-    some_made c.args.context c.go_on-made.result.made c.args.most _ _
+    let some : 1 ≤ c.min-most.result =
+    omega (arith, c.min-most.ensures, c.requires.some, c.free_steps.ensures.some) in
+    some_made c.args.context c.go_on-made.result.made c.min-most.result _ _
     c.self.inside.schedule.items c.self.invariant
     (ready_before g (goal.at.returns-in_default-clause-some g c).After-go_on-made)
-    (rw c.in_default.is at c.go_on-made.ensures.makes) c.requires.some
+    (rw c.in_default.is at c.go_on-made.ensures.makes) some
     (c.go_on-made.ensures.ended (rw c.in_default.is refl))
 
 pub returns-in_default-clause-counted : goal.returns-in_default-clause-counted
@@ -138,7 +142,7 @@ pub returns-in_default-clause-keeps : goal.returns-in_default-clause-keeps
 returns-in_default-clause-keeps g c = λ _.
     of_story g (goal.at.returns-in_default-clause-keeps g c).After-note_turn
     (λ p entries. NoneEnds (starting_world p) (moves entries)
-    (moves c.note_turn.new.schedule.items))
+    (moves c.note_turn.new.self.items))
     (rw c.note_turn.ensures.added
     (tell_made c.args.context c.go_on-made.result.made _ _ c.self.inside.schedule.items
     c.self.invariant (ready_before g (goal.at.returns-in_default-clause-keeps g c).After-go_on-made)
@@ -148,7 +152,7 @@ pub returns-in_default-clause-wish : goal.returns-in_default-clause-wish
 returns-in_default-clause-wish g c =
     of_story g (goal.at.returns-in_default-clause-wish g c).After-note_turn
     (λ p entries. AllTell IsNoWish (starting_world p) (moves entries)
-    (moves c.note_turn.new.schedule.items))
+    (moves c.note_turn.new.self.items))
     (rw c.note_turn.ensures.added
     (tell_made c.args.context c.go_on-made.result.made _ _ c.self.inside.schedule.items
     c.self.invariant (ready_before g (goal.at.returns-in_default-clause-wish g c).After-go_on-made)
@@ -158,7 +162,7 @@ pub returns-in_default-clause-alone : goal.returns-in_default-clause-alone
 returns-in_default-clause-alone g c = λ left.
     let at = (goal.at.returns-in_default-clause-alone g c).After-note_turn in
     of_story g at (λ p entries. AllOfOne c.args.context (starting_world p) (moves entries)
-    (moves c.note_turn.new.schedule.items))
+    (moves c.note_turn.new.self.items))
     (rw c.note_turn.ensures.added
     (alone_made c.args.context c.go_on-made.result.made _ _ c.self.inside.schedule.items
     c.self.invariant (ready_before g (goal.at.returns-in_default-clause-alone g c).After-go_on-made)
@@ -177,7 +181,7 @@ returns-in_default-clause-shown g c = λ some.
     of_story g (goal.at.returns-in_default-clause-shown g c).After-note_turn
     (λ p entries. AddsShown c.args.context c.go_on-made.result.made
     (shown_words (g.M.Memory.heap c.go_on-made.new.memory)) (moves entries)
-    (moves c.note_turn.new.schedule.items))
+    (moves c.note_turn.new.self.items))
     (rw c.note_turn.ensures.added
     (last_made c.args.context c.go_on-made.result.made _ _ c.self.inside.schedule.items
     c.self.invariant (ready_before g (goal.at.returns-in_default-clause-shown g c).After-go_on-made)
@@ -245,7 +249,7 @@ pub returns-in-Err-clause-keeps : goal.returns-in-Err-clause-keeps
 returns-in-Err-clause-keeps g c = λ _.
     of_story g (goal.at.returns-in-Err-clause-keeps g c).After-note_turn
     (λ p entries. NoneEnds (starting_world p) (moves entries)
-    (moves c.note_turn.new.schedule.items))
+    (moves c.note_turn.new.self.items))
     (rw c.note_turn.ensures.added
     (tell_mid g.S.Interpret.asks c.args.context c.slot_of.result c.go_on-made.result.made
     c.in-Some.next.shown _ _ c.self.inside.schedule.items c.self.invariant
@@ -256,7 +260,7 @@ pub returns-in-Err-clause-wish : goal.returns-in-Err-clause-wish
 returns-in-Err-clause-wish g c =
     of_story g (goal.at.returns-in-Err-clause-wish g c).After-note_turn
     (λ p entries. AllTell IsNoWish (starting_world p) (moves entries)
-    (moves c.note_turn.new.schedule.items))
+    (moves c.note_turn.new.self.items))
     (rw c.note_turn.ensures.added
     (tell_mid g.S.Interpret.asks c.args.context c.slot_of.result c.go_on-made.result.made
     c.in-Some.next.shown _ _ c.self.inside.schedule.items c.self.invariant
@@ -267,7 +271,7 @@ pub returns-in-Err-clause-alone : goal.returns-in-Err-clause-alone
 returns-in-Err-clause-alone g c = λ left.
     let at = (goal.at.returns-in-Err-clause-alone g c).After-note_turn in
     of_story g at (λ p entries. AllOfOne c.args.context (starting_world p) (moves entries)
-    (moves c.note_turn.new.schedule.items))
+    (moves c.note_turn.new.self.items))
     (rw c.note_turn.ensures.added
     (alone_mid g.S.Interpret.asks c.args.context c.slot_of.result c.go_on-made.result.made c.in-Some.next.shown
     _ _ c.self.inside.schedule.items c.self.invariant
@@ -298,7 +302,7 @@ returns-in-Err-clause-shown g c = λ some.
     of_story g (goal.at.returns-in-Err-clause-shown g c).After-note_turn
     (λ p entries. AddsShown c.args.context c.go_on-made.result.made
     (shown_words (g.M.Memory.heap c.go_on-made.new.memory)) (moves entries)
-    (moves c.note_turn.new.schedule.items))
+    (moves c.note_turn.new.self.items))
     (rw c.note_turn.ensures.added
     (last_mid g.S.Interpret.asks c.args.context c.slot_of.result c.go_on-made.result.made
     c.in-Some.next.shown _ _ c.self.inside.schedule.items c.self.invariant
@@ -338,7 +342,7 @@ pub returns-clause-counted : goal.returns-clause-counted
 returns-clause-counted g c =
     let before = counted g (goal.at.returns-clause-counted g c).After-note_turn in
     let one = ap count_of c.note.ensures.added
-    ∙ count_of-added c.note_turn.new.schedule.items
+    ∙ count_of-added c.note_turn.new.self.items
     (move_of c.args.context false c.kept-kept.result) in
     omega (arith, before, one)
 
@@ -347,10 +351,10 @@ each_behind : (g : givens.Over) (c : After-note g) (test : Move → Bool)
     → test (plain_move c.args.context) ≡ true
     → test (move_of c.args.context false c.kept-kept.result) ≡ true
     → list_all test (moves c.args.self.now.schedule) ≡ true
-    → list_all test (moves c.note.new.schedule.items) ≡ true
+    → list_all test (moves c.note.new.self.items) ≡ true
 each_behind g c test one behind before =
     ap (λ (entries : List Entry). list_all test (moves entries)) c.note.ensures.added
-    ∙ all_added test c.note_turn.new.schedule.items
+    ∙ all_added test c.note_turn.new.self.items
     (move_of c.args.context false c.kept-kept.result) behind
     (each g (goal.at.After-note g c).After-note_turn test one before)
 
@@ -393,7 +397,7 @@ returns-clause-shown g c = λ some.
     of_story g (goal.at.returns-clause-shown g c).After-note_turn
     (λ p entries. AddsShown c.args.context (c.go_on-made.result.made + 1)
     (shown_words (g.M.Memory.heap c.go_on-made.new.memory)) (moves entries)
-    (moves c.note.new.schedule.items))
+    (moves c.note.new.self.items))
     (rw (c.note.ensures.added, c.note_turn.ensures.added)
     (shown_behind g.S.Interpret.asks c.args.context c.slot_of.result c.go_on-made.result.made
     c.in-Some.next.shown _ _ c.self.inside.schedule.items c.self.invariant
@@ -422,10 +426,10 @@ returns-clause-flips g c =
 pub returns-clause-takes : goal.returns-clause-takes
 returns-clause-takes g c =
     adds_more c.args.context c.go_on-made.result.made 1 (moves c.args.self.now.schedule)
-    (moves c.note_turn.new.schedule.items) (moves c.note.new.schedule.items)
+    (moves c.note_turn.new.self.items) (moves c.note.new.self.items)
     (takes g (goal.at.returns-clause-takes g c).After-note_turn)
-    (adds_one (move_of c.args.context false c.kept-kept.result) c.note_turn.new.schedule.items
-    c.note.new.schedule.items c.note.ensures.added)
+    (adds_one (move_of c.args.context false c.kept-kept.result) c.note_turn.new.self.items
+    c.note.new.self.items c.note.ensures.added)
 
 pub returns-clause-ends : goal.returns-clause-ends
 returns-clause-ends g c = λ ends.
@@ -441,7 +445,7 @@ returns-clause-ends g c = λ ends.
 pub returns-clause-keeps : goal.returns-clause-keeps
 returns-clause-keeps g c = λ goes.
     of_story g (goal.at.returns-clause-keeps g c).After-note_turn
-    (λ p entries. NoneEnds (starting_world p) (moves entries) (moves c.note.new.schedule.items))
+    (λ p entries. NoneEnds (starting_world p) (moves entries) (moves c.note.new.self.items))
     (rw (c.note.ensures.added, c.note_turn.ensures.added)
     (tell_behind g.S.Interpret.asks c.args.context c.slot_of.result c.go_on-made.result.made
     c.in-Some.next.shown _ _ c.self.inside.schedule.items c.self.invariant
@@ -454,7 +458,7 @@ pub returns-clause-only_last : goal.returns-clause-only_last
 returns-clause-only_last g c = λ _.
     of_story g (goal.at.returns-clause-only_last g c).After-note_turn
     (λ p entries. OnlyLastMayEnd (starting_world p) (moves entries)
-    (moves c.note.new.schedule.items))
+    (moves c.note.new.self.items))
     (rw (c.note.ensures.added, c.note_turn.ensures.added)
     (others_behind g.S.Interpret.asks c.args.context c.slot_of.result c.go_on-made.result.made
     c.in-Some.next.shown _ _ c.self.inside.schedule.items c.self.invariant
@@ -466,7 +470,7 @@ returns-clause-only_last g c = λ _.
 
 module _ (g : givens.Over) (c : After-note g) where
   abbrev entries_behind : List Entry
-  entries_behind = c.note.new.schedule.items
+  entries_behind = c.note.new.self.items
 
   -- it is no vmreclaim
   wishes_none : wish_in c.in-Ok.told ≡ None
@@ -521,7 +525,7 @@ pub returns-clause-alone : goal.returns-clause-alone
 returns-clause-alone g c = λ left.
     let at = (goal.at.returns-clause-alone g c).After-note_turn in
     of_story g at (λ p entries. AllOfOne c.args.context (starting_world p) (moves entries)
-    (moves c.note.new.schedule.items))
+    (moves c.note.new.self.items))
     (rw (c.note.ensures.added, c.note_turn.ensures.added)
     (alone_behind g.S.Interpret.asks c.args.context c.slot_of.result c.go_on-made.result.made
     c.in-Some.next.shown _ _ c.self.inside.schedule.items c.self.invariant
@@ -534,6 +538,48 @@ returns-clause-plain g c = λ hides.
     let none : c.kept-kept.result ≡ None = c.kept-kept.ensures
     ∙ kept_none c.in-Ok.told c.in-Some.next.shown
     ((rw (c.in-Some.is, c.in-Ok.is) at c.go_on-made.ensures.shown) ∙ hides) in
-    times_noted c.go_on-made.result.made c.args.self.now.schedule c.note_turn.new.schedule.items
-    c.note.new.schedule.items c.args.context c.kept-kept.result
+    times_noted c.go_on-made.result.made c.args.self.now.schedule c.note_turn.new.self.items
+    c.note.new.self.items c.args.context c.kept-kept.result
     (noted g (goal.at.returns-clause-plain g c).After-note_turn) none c.note.ensures.added
+
+-- ---- what is noted
+
+-- the steps that were noted before the one behind them
+noted_so : (g : givens.Over) (c : After-note_turn g)
+    → c.go_on-made.result.made < c.min-most.result
+    → HasNoted c.args.context c.go_on-made.result.made
+    (free_steps c.self.inside.schedule.items c.args.context) c.self.inside.schedule
+    c.note_turn.new.self
+noted_so g c fewer = record {
+  added = c.note_turn.ensures.added;
+  longer = c.note_turn.ensures.longer;
+  most = c.note_turn.ensures.most;
+  few = let free = c.free_steps.ensures.is in let least = c.min-most.ensures in
+      omega (arith, fewer, free, least);
+  joins = λ some few. c.note_turn.ensures.open some few;
+}
+
+-- the schedule inside is the one that the story tells
+kept_inside : (g : givens.Over) (c : After-note_turn g)
+    → c.self.inside.schedule ≡ kept_of c.args.self.now
+kept_inside g c = sym (kept_same c.self.inside.schedule) ∙ ap kept_of c.self.view_is
+
+pub note-requires-clause-may : goal.note-requires-clause-may
+note-requires-clause-may g c =
+    let at = (goal.at.note-requires-clause-may g c).After-note_turn in
+    may_note c.args.context c.go_on-made.result.made
+    (free_steps c.self.inside.schedule.items c.args.context) c.self.inside.schedule
+    c.note_turn.new.self (noted_so g at (c.go_on-made.ensures.fewer (rw c.in-Some.is refl)))
+    (subst (λ (kept : Kept). MayAdd kept c.args.context) (sym (kept_inside g at))
+    c.requires.room.entry)
+
+pub returns-clause-longer : goal.returns-clause-longer
+returns-clause-longer g c =
+    let at = (goal.at.returns-clause-longer g c).After-note_turn in
+    let longer = longer_noted c.args.context c.go_on-made.result.made
+    (free_steps c.self.inside.schedule.items c.args.context) c.self.inside.schedule
+    c.note_turn.new.self c.note.new.self.items
+    (noted_so g at (c.go_on-made.ensures.fewer (rw c.in-Some.is refl))) c.note.ensures.longer
+    c.note.ensures.joined in
+    let same = ap {B = ℕ} (λ (s : Story). length s.schedule) c.self.view_is in
+    omega (arith, longer, same)

@@ -2,7 +2,7 @@
 use Rattle.std.proofs.Common.{sym, ap, subst, length, ◌∙◌, ◌≤◌}
 use Rattle.ps_vault.specs.Stories.{Story, world_at}
 use Rattle.ps_vault.proofs.Keeping.{printed_by}
-use Rattle.ps_vault.proofs.vaults.Vault.into_followed.Goals as goal
+use Rattle.ps_vault.proofs.vaults.Vault.into_printed.Goals as goal
 
 pub returns-clause-printed : goal.returns-clause-printed
 returns-clause-printed g c =
@@ -11,5 +11,5 @@ returns-clause-printed g c =
 
 pub returns-clause-bounded : goal.returns-clause-bounded
 returns-clause-bounded g c =
-    subst (λ (s : Story). length c.into_bytes.result.items ≤ s.most) c.self.view_is
+    subst (λ (s : Story). length c.into_bytes.result.items ≤ s.most.output) c.self.view_is
     c.into_bytes.ensures.within

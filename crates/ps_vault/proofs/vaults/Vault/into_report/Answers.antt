@@ -1,7 +1,7 @@
 -- A run at its end.
-use Rattle.std.proofs.Common.{subst, length, ◌≤◌}
-use Rattle.ps_vault.specs.Stories.{Story}
-use Rattle.ps_vault.proofs.Keeping.{run_at_end}
+use Rattle.std.proofs.Common.{sym, ap, ◌∙◌}
+use Rattle.ps_vault.specs.Stories.{kept_of}
+use Rattle.ps_vault.proofs.Keeping.{kept_same, run_at_end}
 use Rattle.ps_vault.proofs.vaults.Vault.into_report.Goals as goal
 
 pub returns-clause-run : goal.returns-clause-run
@@ -10,7 +10,6 @@ returns-clause-run g c = λ space size ends.
     c.self.invariant c.self.view_is size c.requires.few c.requires.fits c.requires.warranted
     c.requires.room ends
 
-pub returns-clause-bounded : goal.returns-clause-bounded
-returns-clause-bounded g c =
-    subst (λ (s : Story). length c.into_bytes.result.items ≤ s.most) c.self.view_is
-    c.into_bytes.ensures.within
+pub returns-clause-schedule : goal.returns-clause-schedule
+returns-clause-schedule g c =
+    sym (kept_same c.self.inside.schedule) ∙ ap kept_of c.self.view_is

@@ -1,10 +1,10 @@
 use Rattle.std.proofs.Common.{◌==◌, ◌<◌, ◌≤◌, List, ℕ, true, sym, ap, ◌∙◌, subst, arith}
 use Rattle.std.proofs.lemmas.Bool.Decides.{nat_tests}
-use Rattle.ps_language.specs.declared.schedules.Entry.{Entry}
 use Rattle.ps_language.specs.Schedules.{count_of, moves}
 use Rattle.ps_mem.specs.Plain.{plain_space}
+use Rattle.ps_schedules.specs.Keeping.{Kept}
 use Rattle.ps_vault.specs.Reports.{all_fit, are_ordinary, EndsAs, IsOneStarved, IsRunIn}
-use Rattle.ps_vault.specs.Stories.{AreWarranted, Story, world_at}
+use Rattle.ps_vault.specs.Stories.{AreWarranted, Story, kept_of, world_at}
 use Rattle.ps_vault.proofs.Advancing.{ordinary_fit}
 use Rattle.ps_vault.proofs.Following.{ends_so, ready_not_over}
 use Rattle.ps_vault.proofs.vaults.Vault.into_run.Goals as goal
@@ -42,7 +42,7 @@ returns-then-run-clause-run g c =
         ready_not_over (world_at c.args.self) one.context one.starved.ready,
         one,
       );
-      ordinary = ap (λ (s : List Entry). are_ordinary (moves s)) c.into_report.ensures.schedule
+      ordinary = ap (λ (k : Kept). are_ordinary (moves k.items)) c.into_report.ensures.schedule
           ∙ c.requires.ordinary;
     }
 
@@ -50,10 +50,10 @@ pub returns-clause-run : goal.returns-clause-run
 returns-clause-run g c =
     let same = c.outcome-outcome.ensures.same in
     let ends : EndsAs (world_at c.args.self) (count_of c.args.self.schedule == c.args.steps)
-    (IsOneStarved g.S.Interpret.asks true (world_at c.args.self) c.args.self.capacity
-    c.args.self.schedule) c.outcome-outcome.result =
+    (IsOneStarved g.S.Interpret.asks true (world_at c.args.self) (kept_of c.args.self))
+    c.outcome-outcome.result =
     subst (λ n. EndsAs (world_at c.args.self) (n == c.args.steps) (IsOneStarved g.S.Interpret.asks
-    true (world_at c.args.self) c.args.self.capacity c.args.self.schedule)
+    true (world_at c.args.self) (kept_of c.args.self))
     c.outcome-outcome.result) (sym c.requires.counted)
     (ends_so (world_at c.args.self) _ _ c.outcome-outcome.result c.outcome-outcome.ensures.ends) in
     record {
@@ -62,7 +62,7 @@ returns-clause-run g c =
           (c.into_report-2.ensures.run plain_space
           (sym (ap (λ (s : Story). s.space) same ∙ c.requires.space)) (subst (λ (s : Story). EndsAs (world_at s)
           (count_of s.schedule == c.args.steps) (IsOneStarved g.S.Interpret.asks true (world_at s)
-          s.capacity s.schedule) c.outcome-outcome.result) (sym same) ends));
-      ordinary = ap (λ (s : List Entry). are_ordinary (moves s)) (c.into_report-2.ensures.schedule
-          ∙ ap (λ (s : Story). s.schedule) same) ∙ c.requires.ordinary;
+          (kept_of s)) c.outcome-outcome.result) (sym same) ends));
+      ordinary = ap (λ (k : Kept). are_ordinary (moves k.items)) (c.into_report-2.ensures.schedule
+          ∙ ap kept_of same) ∙ c.requires.ordinary;
     }

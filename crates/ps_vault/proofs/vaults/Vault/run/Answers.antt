@@ -192,7 +192,7 @@ shown_more g c = λ first has.
 
 pub returns-then-turn-clause-starved : goal.returns-then-turn-clause-starved
 returns-then-turn-clause-starved g c = λ grows held.
-    ordinary_starved g.S.Interpret.asks true c.in-Some.next _ _ _
+    ordinary_starved g.S.Interpret.asks true c.in-Some.next _ _
     (c.turns-turn.ensures.starved grows c.if-turn.true)
 
 pub returns-then-turn-clause-owed : goal.returns-then-turn-clause-owed

@@ -8,7 +8,7 @@ use Rattle.ps_vault.proofs.vaults.Vault.run_by.Goals as goal
 
 pub returns-then-turn-clause-starved : goal.returns-then-turn-clause-starved
 returns-then-turn-clause-starved g c = λ grows held.
-    ordinary_starved g.S.Interpret.asks true c.in-Some.next _ _ _
+    ordinary_starved g.S.Interpret.asks true c.in-Some.next _ _
     (c.turns-turn.ensures.starved grows c.if-turn.true)
 
 pub loop-made-preserved : goal.loop-made-preserved

@@ -6,8 +6,9 @@ use Rattle.ps_language.specs.Locks.{is_ready}
 use Rattle.ps_language.specs.Schedules.{moves}
 use Rattle.ps_language.specs.Worlds.{after_move, world}
 use Rattle.ps_mem.specs.Heap.{Heap, Space}
+use Rattle.ps_schedules.specs.Turns.{move_of}
 use Rattle.ps_vault.specs.Reports.{all_fit, fits}
-use Rattle.ps_vault.specs.Stories.{Story, world_at, move_of}
+use Rattle.ps_vault.specs.Stories.{Story, world_at}
 use Rattle.ps_vault.specs.Warrants.{IsStatus}
 use Rattle.ps_vault.proofs.Keeping.{caller_of, caller_there, keeps_step, may_step, same_closed, same_cycle, status_leaves, world_added}
 use Rattle.ps_vault.proofs.Reasons.{for_room, heap_left, held_step}

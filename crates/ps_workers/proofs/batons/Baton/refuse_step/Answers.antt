@@ -2,9 +2,10 @@
 use Rattle.std.proofs.Common.{◌≡◌, ◌+◌, ◌<◌, ◌^◌, ap, refl, sym, subst, ◌∙◌, arith, None, List, true, false}
 use Rattle.ps_language.specs.declared.schedules.Entry.{Entry}
 use Rattle.ps_language.specs.Schedules.{added, count_of, moves}
+use Rattle.ps_schedules.specs.Turns.{move_of}
 use Rattle.ps_vault.specs.Reports.{all_fit}
 use Rattle.ps_language.proofs.ScheduleLaws.{count_of-added}
-use Rattle.ps_vault.specs.Stories.{move_of, world_at}
+use Rattle.ps_vault.specs.Stories.{world_at}
 use Rattle.ps_vault.proofs.Reasons.{memory_wanted}
 use Rattle.ps_vault.proofs.Screening.{begins_added}
 use Rattle.ps_vault.proofs.Warrants.{refused_added}
