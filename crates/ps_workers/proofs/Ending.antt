@@ -12,7 +12,7 @@ use Rattle.ps_mem.proofs.EmptyLemmas.{object_at-empty}
 use Rattle.ps_start.specs.Starts.{IsEmptyHeap}
 use Rattle.ps_vault.specs.declared.reports.Report.{Report}
 use Rattle.ps_vault.specs.declared.reports.RunFault.{RunFault}
-use Rattle.ps_vault.specs.Reports.{IsRunIn}
+use Rattle.ps_vault.specs.Reports.{Bounds, bounds_of, IsBounded, IsRunIn}
 use Rattle.ps_vault.specs.declared.reports.Config.{Config}
 use Rattle.ps_vault.specs.Screens.{HasShown, Sight}
 use Rattle.ps_vault.proofs.Screening.{none_shown, same_bytes}

@@ -28,7 +28,7 @@ use Rattle.ps_vault.specs.Reports.{all_fit, EndsAs, IsShort, IsStarved, MayWant}
 use Rattle.ps_vault.specs.Holds.{IfForRoom, IsHeldUp}
 use Rattle.ps_vault.specs.Order.{AddsSteps}
 use Rattle.ps_vault.specs.Screens.{HasShown, ShowsOn, Sight}
-use Rattle.ps_vault.specs.Stories.{Story, MayGo, AreWarranted, LacksRoom, few_words, few_births, world_at}
+use Rattle.ps_vault.specs.Stories.{Story, MayGo, AreWarranted, LacksRoom, few_words, few_births, kept_of, world_at}
 use Rattle.ps_vault.specs.Warrants.{IsRefusal, many_steps, no_room, no_births, no_cycles}
 use Rattle.ps_vault.proofs.Following.{ready_not_over}
 use Rattle.ps_vault.proofs.Reasons.{memory_wanted}

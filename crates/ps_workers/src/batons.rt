@@ -22,7 +22,7 @@ use ps_interpreter::interprets::Interpret;
 use ps_mem::Memory;
 use ps_ops::failure::NotMade;
 use ps_vault::{
-    Config, Outcome, Room, RunFault, Screen, Setup, Told, Vault, Viewer, Watched,
+    Advanced, Config, Outcome, Room, RunFault, Screen, Setup, Told, Vault, Viewer, Watched,
 };
 use ps_world::deeds::Deeds;
 use std::alloc::Global;
@@ -30,6 +30,14 @@ use std::marker::{Model, PhantomData};
 
 /// The most turns of one hold of the baton: to hand it on costs as much as some turns.
 pub(crate) const TURNS: u32 = 1024;
+
+/// How many steps are left of a turn that had so many, behind these.
+fn left_behind(rest: u32, advanced: Advanced) -> u32 {
+    match advanced.told {
+        Told::TurnEnds => 0,
+        Told::Goes | Told::HeldUp(_) => rest.saturating_sub(advanced.made),
+    }
+}
 
 /// The vault, whose turn is next, and who is shown what is printed.
 #[derive(Drop)]
@@ -326,14 +334,10 @@ impl<O: Origin, M: Memory + Drop, S: Interpret + Drop, D: Deeds + Drop, V: Viewe
         let advanced = self.vault.advance(context, most, true);
         self.made += advanced.made;
         self.after = context;
-        self.rest = rest.saturating_sub(advanced.made);
+        self.rest = left_behind(rest, advanced);
         match advanced.told {
             Told::HeldUp(reason) => Err(reason),
-            Told::Goes => Ok(advanced.wish),
-            Told::TurnEnds => {
-                self.rest = 0;
-                Ok(advanced.wish)
-            }
+            Told::Goes | Told::TurnEnds => Ok(advanced.wish),
         }
     }
 

@@ -152,7 +152,11 @@ impl<
     fn hold_left(&mut self, before: u32) -> u32
         ensures { self.new ≡ self.old }
     {
-        let most = if self.is_idle() { STEPS } else { STEPS_IN_CYCLE };
+        let most = if self.is_idle() {
+            STEPS
+        } else {
+            STEPS_IN_CYCLE
+        };
         most.saturating_sub(self.made.saturating_sub(before))
     }
 

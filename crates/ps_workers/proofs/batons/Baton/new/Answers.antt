@@ -2,6 +2,7 @@
 use Rattle.std.proofs.Common.{List, ap, ◌∙◌, arith, refl, sym, subst}
 use Rattle.ps_language.specs.declared.schedules.Entry.{Entry}
 use Rattle.ps_language.specs.Schedules.{count_of, moves}
+use Rattle.ps_vault.specs.declared.reports.Room.{Room}
 use Rattle.ps_vault.specs.Reports.{all_fit}
 use Rattle.ps_language.proofs.ScheduleLaws.{count_of-nil}
 use Rattle.std.specs.Prelude.{None}
@@ -31,11 +32,15 @@ invariant_of-result g c = record {
   counted = ap count_of c.in-Ok.ensures.schedule ∙ count_of-nil;
   within = omega arith;
   fits = ap (λ (s : List Entry). all_fit (moves s)) c.in-Ok.ensures.schedule;
-  most = c.in-Ok.ensures.most;
+  most = λ i. record {
+    output = c.in-Ok.ensures.most i;
+    entries = (c.in-Ok.ensures.entries ∙ ap (λ (room : Room). room.most) c.of_run.ensures) i;
+  };
   space = c.in-Ok.ensures.space ∙ c.requires.sized;
   warranted = nothing_warranted _ _ _ c.in-Ok.ensures.schedule;
   flips = omega (arith, c.in-Ok.ensures.flips, c.requires.unmoved);
-  room = omega (arith, c.in-Ok.ensures.room);
+  room = let first = ap (λ (room : Room). room.first) c.of_run.ensures in
+      omega (arith, c.in-Ok.ensures.room, first);
   waits = waits_none (progress c.in-Ok.vault c.args.job.config 0
       c.args.job.config.steps c.args.screen None)
       c.in-Ok.ensures.calling;
