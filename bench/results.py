@@ -4,18 +4,19 @@ The file is bench/NAME.tsv. Its first line is `#` and fields KEY=VALUE: the date
 the tree differs from it, the program, and what the script adds. The second line names the columns, and each other line is a row. Tabs
 stand between fields, and '-' where nothing is known.
 """
-import argparse
 import datetime
 import os
 import subprocess
 import sys
 
 TOP = os.path.dirname(os.path.dirname(os.path.realpath(__file__)))
+sys.path.insert(0, os.path.join(TOP, 'tools'))
+import usage  # noqa: E402
 
 
 def parser(about, writes=True):
     """The words of a script that runs a built program."""
-    made = argparse.ArgumentParser(description=about, formatter_class=argparse.RawDescriptionHelpFormatter)
+    made = usage.Parser(about)
     made.add_argument('--program', metavar='PATH', help='the program to run, in place of the proved one')
     if writes:
         made.add_argument('--write', action='store_true', help='put the rows into bench/NAME.tsv')
@@ -32,7 +33,7 @@ def program(given, crate, builds=False):
         if subprocess.run([f'{TOP}/tools/build', crate], check=False).returncode:
             sys.exit(1)
     if not os.access(found, os.X_OK):
-        sys.exit(f'{script}: there is no program {found}: run tools/build {crate}, or name one by --program')
+        usage.stop(f'there is no program {found}: run tools/build {crate}, or name one by --program')
     return found
 
 

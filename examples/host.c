@@ -1,7 +1,7 @@
 /* A host that runs programs which it doesn't trust: each on a thread of its own, with a quota of memory, of output and of steps. Then it records
  * a race of two contexts, and makes it again.
  *
- *     tools/library && cc examples/host.c -Iout -Lout -ltallowmarch && ./a.out
+ *     tools/library && cc examples/host.c -Iout -Lout -ltallowmarch -o out/host && out/host
  */
 #include "tallowmarch.h"
 

@@ -1,6 +1,6 @@
 /* A host that shows what a program prints as it comes, looks at a clock, and stops the program when its time is up.
  *
- *     tools/library && cc examples/embed/clock.c -Iout -Lout -ltallowmarch -o clock && ./clock
+ *     tools/library && cc examples/embed/clock.c -Iout -Lout -ltallowmarch -o out/clock && out/clock
  */
 #include "tallowmarch.h"
 

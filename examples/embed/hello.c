@@ -1,6 +1,6 @@
 /* The least that a C host does: one program, run in the host's own process.
  *
- *     cc examples/embed/hello.c -Iout -Lout -ltallowmarch -o hello && ./hello
+ *     cc examples/embed/hello.c -Iout -Lout -ltallowmarch -o out/hello && out/hello
  */
 #include "tallowmarch.h"
 

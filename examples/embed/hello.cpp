@@ -1,6 +1,6 @@
 // The least that a C++ host does: one program, run in the host's own process.
 //
-//     c++ -std=c++17 examples/embed/hello.cpp -Iout -Lout -ltallowmarch -o hello && ./hello
+//     c++ -std=c++17 examples/embed/hello.cpp -Iout -Lout -ltallowmarch -o out/hello && out/hello
 #include "tallowmarch.hpp"
 
 #include <iostream>
