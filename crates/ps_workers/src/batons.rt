@@ -326,18 +326,25 @@ impl<O: Origin, M: Memory + Drop, S: Interpret + Drop, D: Deeds + Drop, V: Viewe
             (IsHeldUp M.heap M.grants S.asks context false self.new.story) }
         ensures room { IfErr result (IfForRoom false self.new.story context) }
     {
+        let rest = self.rest_of(context);
         if self.vault.reserve_entries(context).is_err() {
             self.outcome = Some(Outcome::Memory);
             return Ok(None);
         }
-        let rest = self.rest_of(context);
         let advanced = self.vault.advance(context, most, true);
         self.made += advanced.made;
-        self.after = context;
-        self.rest = left_behind(rest, advanced);
+        let left = left_behind(rest, advanced);
         match advanced.told {
-            Told::HeldUp(reason) => Err(reason),
-            Told::Goes | Told::TurnEnds => Ok(advanced.wish),
+            Told::HeldUp(reason) => {
+                self.after = context;
+                self.rest = left;
+                Err(reason)
+            }
+            Told::Goes | Told::TurnEnds => {
+                self.after = context;
+                self.rest = left;
+                Ok(advanced.wish)
+            }
         }
     }
 
@@ -360,6 +367,7 @@ impl<O: Origin, M: Memory + Drop, S: Interpret + Drop, D: Deeds + Drop, V: Viewe
         requires refusal { MayRefuse self.old context }
         ensures goes_on { GoesOn self.old self.new }
     {
+        let rest = self.rest_of(context);
         if self.vault.reserve_entries(context).is_err() {
             self.outcome = Some(Outcome::Memory);
             return;
@@ -367,8 +375,8 @@ impl<O: Origin, M: Memory + Drop, S: Interpret + Drop, D: Deeds + Drop, V: Viewe
         match self.vault.step(context, true, None) {
             Ok(()) => {
                 self.made += 1;
-                self.rest = self.rest_of(context).saturating_sub(1);
                 self.after = context;
+                self.rest = rest.saturating_sub(1);
             }
             Err(NotMade::Memory) => self.outcome = Some(Outcome::Memory),
             Err(_) => {}

@@ -1,6 +1,7 @@
 -- The run that the baton kept.
-use Rattle.std.proofs.Common.{sym}
+use Rattle.std.proofs.Common.{sym, ap}
 use Rattle.ps_mem.specs.Bounded.{bounded_space}
+use Rattle.ps_schedules.specs.Keeping.{Kept}
 use Rattle.ps_vault.specs.declared.reports.RunFault.TheVariants as fault
 use Rattle.ps_workers.specs.Batons.{Progress}
 use Rattle.ps_workers.proofs.Ending.{reported, unreported}
@@ -26,4 +27,5 @@ returns-clause-ended g c =
     reported g.S.Interpret.asks g.O.Origin.start p c.into_report.result c.self.invariant
     (c.into_report.ensures.run (bounded_space c.self.inside.config.space)
     (sym c.self.invariant.space) (kept_ends g.S.Interpret.asks g.O.Origin.start p c.in-Some.outcome
-    c.self.invariant c.in-Some.is)) c.into_report.ensures.schedule c.into_report.ensures.bounded
+    c.self.invariant c.in-Some.is)) (ap (λ (kept : Kept). kept.items) c.into_report.ensures.schedule)
+    c.into_report.ensures.bounded
