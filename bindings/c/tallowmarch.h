@@ -30,7 +30,7 @@ extern "C" {
 #endif
 
 /* The version of this header: 10000 for each major number, 100 for each minor one, 1 for each patch. */
-#define TALLOWMARCH_VERSION 200
+#define TALLOWMARCH_VERSION 300
 
 /* What a call returns. Below 16 there was a run: its bytes, entries and counts are handed out. From 16 on there was none, and the rooms and
  * the counts are as they were. The codes of runs are the exit statuses of dpsrun.
@@ -40,7 +40,8 @@ enum tallowmarch_code {
     TALLOWMARCH_FAULTED = 1,       /* each context finished, and at least one line of an error was printed */
     TALLOWMARCH_ALL_WAITING = 3,   /* a context is left, and all that are left wait: none will ever go on */
     TALLOWMARCH_STEPS_OUT = 4,     /* a context is ready, and the steps are used up */
-    TALLOWMARCH_MEMORY = 5,        /* memory was refused, or more was to be printed than `output`; what was made so far is handed out */
+    TALLOWMARCH_MEMORY = 5,        /* memory was refused, or more was to be printed than `output`, or the schedule to have more entries than
+                                      `entries`; what was made so far is handed out */
     TALLOWMARCH_OUT_OF_RANGE = 16, /* `space`, `quantum` or `steps` is out of its range */
     TALLOWMARCH_NO_ROOM = 17,      /* no memory to start with */
     TALLOWMARCH_OTHER_SCHEDULE = 18, /* the schedule to go on from isn't that of a run of this program by these settings */
@@ -63,11 +64,15 @@ typedef struct tallowmarch_settings {
     uint32_t plain;   /* 0: the space is collected while the program runs. Else: memory that grows and is never collected, where `space` is
                          not used, but must be in its range */
     uint64_t output;  /* the most bytes that the run may print; 0: no bound. A step that would print past it is not made, and ends the run */
+    uint64_t entries; /* the most entries that the run's schedule may have; 0: no bound. A step that wants one more is not made, and ends the
+                         run. So it bounds what a program that changes its contexts at each step makes its host keep */
     tallowmarch_keys keys;
 } tallowmarch_settings;
 
-/* A collected space of 65536 words, turns of 100 steps, as many steps as there may be, no bound on the output, and keys that are no secret. */
-#define TALLOWMARCH_SETTINGS {65536, 100, UINT32_MAX, 0, 0, {0, 0}}
+/* A collected space of 65536 words, turns of 100 steps, as many steps as there may be, no bound on the output or the entries, and keys that are no
+ * secret.
+ */
+#define TALLOWMARCH_SETTINGS {65536, 100, UINT32_MAX, 0, 0, 0, {0, 0}}
 
 /* Neighbouring steps of one context in a schedule. A call that is given another number than those told here gives TALLOWMARCH_BAD_ENTRY; so
  * these are the entries that a line of `dpsrun --replay` can have.
@@ -107,7 +112,7 @@ uint32_t tallowmarch_run(const uint8_t *program, size_t length, const tallowmarc
 
 /* Goes on from a schedule of `given_length` entries, which a run of the same program by the same settings was handed: makes a run that begins
  * with its steps and has at most `settings->steps` more behind them, up to 4294967295 together. What is handed out is that whole run, from its
- * start; so it prints what the given run did, and then more. `output` may be larger than before, and `keys` may be others; with another
+ * start; so it prints what the given run did, and then more. `output` and `entries` may be larger than before, and `keys` may be others; with another
  * `quantum` or `space` it goes on as far as what steps are shown and refused stays the same. The given steps are made again: where a host doubles
  * its budgets, all calls together make at most some three times the steps of the last one.
  *

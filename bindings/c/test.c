@@ -99,8 +99,8 @@ static void codes(struct made *made) {
     settings.steps = 1000;
     run_in(made, "(so far) = {} loop", settings, BYTES, ENTRIES);
     count(prints(made, TALLOWMARCH_STEPS_OUT, "so far\n") && made->counts.steps == 1000, "steps that are used up");
-    const tallowmarch_settings wrong[] = {{4095, 1, 1, 0, 0, {0, 0}}, {1048577, 1, 1, 1, 0, {0, 0}}, {4096, 0, 1, 0, 0, {0, 0}},
-                                          {4096, 65536, 1, 1, 0, {0, 0}}, {4096, 1, 0, 0, 1, {0, 0}}};
+    const tallowmarch_settings wrong[] = {{4095, 1, 1, 0, 0, 0, {0, 0}}, {1048577, 1, 1, 1, 0, 0, {0, 0}}, {4096, 0, 1, 0, 0, 1, {0, 0}},
+                                          {4096, 65536, 1, 1, 0, 0, {0, 0}}, {4096, 1, 0, 0, 1, 0, {0, 0}}};
     for (size_t at = 0; at < sizeof wrong / sizeof *wrong; at++) {
         run_in(made, "1 =", wrong[at], BYTES, ENTRIES);
         count(is_refused(made, TALLOWMARCH_OUT_OF_RANGE), "a number out of its range");
@@ -136,6 +136,25 @@ static void outputs(struct made *made) {
     }
 }
 
+/* A bound on the entries: a schedule that just fits is whole, and a step that wants one more ends the run. */
+static void few_entries(struct made *made) {
+    static struct made whole;
+    tallowmarch_settings settings = small();
+    for (uint32_t plain = 0; plain < 2; plain++) {
+        settings.plain = plain;
+        settings.entries = 0;
+        run_in(&whole, contexts, settings, BYTES, ENTRIES);
+        const size_t entries = whole.counts.entries;
+        settings.entries = entries;
+        run_in(made, contexts, settings, BYTES, ENTRIES);
+        count(!memcmp(made, &whole, sizeof whole), "a schedule that just fits");
+        settings.entries = entries - 1;
+        run_in(made, contexts, settings, BYTES, ENTRIES);
+        count(made->code == TALLOWMARCH_MEMORY && made->counts.entries == entries - 1 && made->counts.steps < whole.counts.steps &&
+                  !memcmp(made->schedule, whole.schedule, (entries - 1) * sizeof(tallowmarch_entry)), "an entry too much");
+    }
+}
+
 /* Rooms of no item, of one, of just as many as there are, of one fewer and of more: what is written is a beginning, and nothing lies behind it. */
 static void rooms(struct made *made) {
     static struct made whole;
@@ -156,7 +175,7 @@ static void rooms(struct made *made) {
 /* Replays: of a run in a collected space, of a part of it, of none, of contexts that there aren't, and where memory is refused. */
 static void replays(struct made *made) {
     static struct made whole;
-    const tallowmarch_settings any = {0, 0, 0, 0, 0, {1, 2}};
+    const tallowmarch_settings any = {0, 0, 0, 0, 0, 0, {1, 2}};
     const uint8_t *program = (const uint8_t *)contexts;
     run_in(&whole, contexts, small(), BYTES, ENTRIES);
     const size_t entries = whole.counts.entries;
@@ -263,7 +282,7 @@ static void other_schedules(struct made *made) {
 static void bad_entries(struct made *made) {
     const tallowmarch_entry good = {1, 1, 0, 0, 0, 0}, bad[] = {{0, 1, 0, 0, 0, 0}, {1, 0, 0, 0, 0, 0},  {1, 0, 1, 1, 5, 6},         {1, 1, 0, 1, 0, 5},
                                                                 {1, 1, 0, 7, 5, 0}, {1, 1, 1, 1, -1, 5}, {1, 1, 0, 1, 5, INT32_MIN}};
-    const tallowmarch_settings settings = small(), any = {0, 0, 0, 0, 0, {1, 2}};
+    const tallowmarch_settings settings = small(), any = {0, 0, 0, 0, 0, 0, {1, 2}};
     for (size_t at = 0; at < sizeof bad / sizeof *bad; at++) {
         for (int before = 0; before < 2; before++) {
             const tallowmarch_entry given[] = {before ? bad[at] : good, before ? good : bad[at]};
@@ -371,6 +390,7 @@ int main(void) {
     static struct made made;
     codes(&made);
     outputs(&made);
+    few_entries(&made);
     rooms(&made);
     replays(&made);
     goings_on(&made);

@@ -26,7 +26,7 @@ enum class Outcome {
     faulted = TALLOWMARCH_FAULTED,          // each context finished, and at least one line of an error was printed
     all_waiting = TALLOWMARCH_ALL_WAITING,  // a context is left, and all that are left wait
     steps_out = TALLOWMARCH_STEPS_OUT,      // a context is ready, and the steps are used up
-    memory = TALLOWMARCH_MEMORY             // memory was refused, or more was to be printed than may be; the report has what was made so far
+    memory = TALLOWMARCH_MEMORY             // memory was refused, or more was to be printed or scheduled than may be; the report has what was made so far
 };
 
 // Why there is no run: `code` is TALLOWMARCH_OUT_OF_RANGE, TALLOWMARCH_NO_ROOM, TALLOWMARCH_OTHER_SCHEDULE or TALLOWMARCH_BAD_ENTRY, and 0 where
@@ -121,6 +121,9 @@ public:
 
     // The most bytes that the run may print; 0 is no bound. A step that would print past it ends the run, with Outcome::memory.
     Run &output(std::uint64_t most) { settings_.output = most; return *this; }
+
+    // The most entries that the run's schedule may have; 0 is no bound. A step that wants one more ends the run, with Outcome::memory.
+    Run &entries(std::uint64_t most) { settings_.entries = most; return *this; }
 
     // Memory that grows and is never collected, in place of a collected space.
     Run &plain() { settings_.plain = 1; return *this; }

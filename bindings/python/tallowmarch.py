@@ -19,7 +19,7 @@ import os
 import secrets
 import typing
 
-VERSION = 200
+VERSION = 300
 _FIRST_BYTES, _FIRST_ENTRIES = 4096, 256
 
 
@@ -29,7 +29,7 @@ class Outcome(enum.Enum):
     FAULTED = 1  #: each context finished, and at least one line of an error was printed
     ALL_WAITING = 3  #: a context is left, and all that are left wait
     STEPS_OUT = 4  #: a context is ready, and the steps are used up
-    MEMORY = 5  #: memory was refused, or more was to be printed than may be; the report has what was made so far
+    MEMORY = 5  #: memory was refused, or more was to be printed or scheduled than may be; the report has what was made so far
 
 
 class Error(Exception):
@@ -76,7 +76,8 @@ class _Keys(ctypes.Structure):
 
 
 class _Settings(ctypes.Structure):
-    _fields_ = [*((it, ctypes.c_uint32) for it in ('space', 'quantum', 'steps', 'plain')), ('output', ctypes.c_uint64), ('keys', _Keys)]
+    _fields_ = [*((it, ctypes.c_uint32) for it in ('space', 'quantum', 'steps', 'plain')), ('output', ctypes.c_uint64), ('entries', ctypes.c_uint64),
+                ('keys', _Keys)]
 
 
 class _Entry(ctypes.Structure):
@@ -136,7 +137,7 @@ def _keys(given):
 def _within(**numbers):
     """The numbers, if each fits what it crosses in."""
     for name, number in numbers.items():
-        if not 0 <= number < 2 ** (64 if name == 'output' else 32):
+        if not 0 <= number < 2 ** (64 if name in ('output', 'entries') else 32):
             raise OutOfRange(f'{name} is out of its range')
     return numbers
 
@@ -154,27 +155,30 @@ def _entries(schedule):
     return given
 
 
-def run(program, *, space=65536, quantum=100, steps=2 ** 32 - 1, plain=False, output=0, keys=None):
+def run(program, *, space=65536, quantum=100, steps=2 ** 32 - 1, plain=False, output=0, entries=0, keys=None):
     """Runs a program, given as bytes.
 
     space: the words, of 8 bytes, that its objects may take, 4,096 to 1,048,576; quantum: the most steps of a context's turn, 1 to 65,535;
     steps: the most steps of the run, at least 1; plain: memory that grows and is never collected, in place of a collected space; output: the
-    most bytes that it may print, 0 for no bound; keys: two numbers of 64 bits for the table of names, else such as nobody knows.
+    most bytes that it may print, 0 for no bound; entries: the most entries that its schedule may have, 0 for no bound; keys: two numbers of
+    64 bits for the table of names, else such as nobody knows.
     Raises OutOfRange or NoRoom where there is no run; whatever the program does is no exception.
 
     >>> run(b'{} loop', steps=1000).outcome
     <Outcome.STEPS_OUT: 4>
     >>> run(b'{(flood) =} loop', output=13).printed
     b'flood\\nflood\\n'
+    >>> len(run(b'mark {{(a) print} loop} fork {(b) print} loop', quantum=1, entries=13).schedule)
+    13
     >>> run(b'', space=1)
     Traceback (most recent call last):
     tallowmarch.OutOfRange: a number of the settings is out of its range
     """
-    program, settings = bytes(program), _settings(keys, plain, space=space, quantum=quantum, steps=steps, output=output)
+    program, settings = bytes(program), _settings(keys, plain, space=space, quantum=quantum, steps=steps, output=output, entries=entries)
     return _with_rooms(lambda *rooms: _LIBRARY.tallowmarch_run(program, len(program), settings, *rooms))
 
 
-def go_on(program, schedule, *, space=65536, quantum=100, steps=2 ** 32 - 1, plain=False, output=0, keys=None):
+def go_on(program, schedule, *, space=65536, quantum=100, steps=2 ** 32 - 1, plain=False, output=0, entries=0, keys=None):
     """Goes on from a schedule that a run of the same program by the same settings was handed, for at most so many steps more.
 
     The report is of the whole run, from its start: it begins with the given steps, and with what they printed; but with MEMORY it may end before.
@@ -191,7 +195,7 @@ def go_on(program, schedule, *, space=65536, quantum=100, steps=2 ** 32 - 1, pla
     Traceback (most recent call last):
     tallowmarch.OtherSchedule: the schedule is not that of a run by these settings
     """
-    program, settings = bytes(program), _settings(keys, plain, space=space, quantum=quantum, steps=steps, output=output)
+    program, settings = bytes(program), _settings(keys, plain, space=space, quantum=quantum, steps=steps, output=output, entries=entries)
     given = _entries(schedule)
     return _with_rooms(lambda *rooms: _LIBRARY.tallowmarch_go_on(program, len(program), settings, given, len(schedule), *rooms))
 

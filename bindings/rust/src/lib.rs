@@ -43,7 +43,7 @@ impl<'a> Run<'a> {
     ///
     /// The keys of the table of names are taken from the system's random numbers. They change nothing of what is printed.
     pub fn new(program: &'a [u8]) -> Run<'a> {
-        let settings = raw::Settings { space: 65_536, quantum: 100, steps: u32::MAX, plain: 0, output: 0, keys: raw::Keys::random() };
+        let settings = raw::Settings { space: 65_536, quantum: 100, steps: u32::MAX, plain: 0, output: 0, entries: 0, keys: raw::Keys::random() };
         Run { program, settings }
     }
 
@@ -87,6 +87,22 @@ impl<'a> Run<'a> {
     /// ```
     pub fn output(mut self, most: u64) -> Self {
         self.settings.output = most;
+        self
+    }
+
+    /// The most entries that the run's schedule may have; 0 is no bound. A step that wants one more is not made, and ends the run, with
+    /// [`Outcome::Memory`].
+    ///
+    /// ```
+    /// use tallowmarch::{Outcome, Run};
+    ///
+    /// let program = b"mark {{(a) print} loop} fork {(b) print} loop";
+    /// let report = Run::new(program).quantum(1).entries(13).run()?;
+    /// assert_eq!((report.outcome, report.schedule.len()), (Outcome::Memory, 13));
+    /// # Ok::<(), tallowmarch::Error>(())
+    /// ```
+    pub fn entries(mut self, most: u64) -> Self {
+        self.settings.entries = most;
         self
     }
 
@@ -195,7 +211,7 @@ pub enum Outcome {
     AllWaiting,
     /// A context is ready, and the steps are used up.
     StepsOut,
-    /// Memory was refused, or more was to be printed than the run may; the report has what was made so far.
+    /// Memory was refused, or more was to be printed or scheduled than the run may; the report has what was made so far.
     Memory,
 }
 

@@ -3,7 +3,7 @@
 use crate::{random, Error, Outcome, Report, Schedule};
 
 /// The version of `tallowmarch.h` that these types are of.
-const VERSION: u32 = 200;
+const VERSION: u32 = 300;
 /// The items of the rooms of a first call.
 const FIRST_BYTES: usize = 4096;
 const FIRST_ENTRIES: usize = 256;
@@ -30,6 +30,7 @@ pub(crate) struct Settings {
     pub(crate) steps: u32,
     pub(crate) plain: u32,
     pub(crate) output: u64,
+    pub(crate) entries: u64,
     pub(crate) keys: Keys,
 }
 

@@ -21,9 +21,13 @@ use Rattle.ps_hosting.specs.declared.numbers.Settings.{Settings}
 use Rattle.ps_hosting.specs.declared.numbers.Counts.{Counts}
 use Rattle.ps_hosting.specs.declared.numbers.HostEntry.{HostEntry}
 
--- the most bytes that may be printed, where 0 asks for no bound
+-- a bound that a host gives, where 0 asks for the one that is none
+abbrev pub bound_in : (given none : ℕ) → ℕ
+bound_in given none = if given == 0 then none else given
+
+-- the most bytes that may be printed
 abbrev pub most_output : ℕ → ℕ
-most_output output = if output == 0 then ANY_OUTPUT else output
+most_output output = bound_in output ANY_OUTPUT
 
 -- the numbers of a run that a host asks for; its own thread is the one worker
 abbrev pub config_in : Settings → Config
@@ -33,6 +37,7 @@ config_in settings = record {
   quantum = settings.quantum;
   steps = settings.steps;
   output = most_output settings.output;
+  entries = bound_in settings.entries (2 ^ 64 - 1);
 }
 
 -- the space: one that is collected, or memory that grows

@@ -8,6 +8,9 @@ use crate::keys::Keys;
 use ps_language::schedules::Entry;
 use ps_vault::{ANY_OUTPUT, Config, Outcome};
 
+/// The bound on the entries of a schedule that is none.
+const ANY_ENTRIES: u64 = u64::MAX;
+
 /// What a host asks for.
 #[repr(C)]
 #[derive(Clone, Copy, Debug, PartialEq, Eq)]
@@ -23,6 +26,8 @@ pub struct Settings {
     pub plain: u32,
     /// The most bytes that the run may print; 0 is no bound.
     pub output: u64,
+    /// The most entries that the run's schedule may have; 0 is no bound.
+    pub entries: u64,
     /// For the table of names alone.
     pub keys: Keys,
 }
@@ -70,18 +75,22 @@ pub(crate) fn config_in(settings: &Settings) -> Config
         quantum: settings.quantum,
         steps: settings.steps,
         output: most_output(settings),
+        entries: bound_in(settings.entries, ANY_ENTRIES),
     }
+}
+
+/// A bound that a host gives, or the one that is none, where it gives 0.
+fn bound_in(given: u64, none: u64) -> u64
+    ensures { result ≡ hosts.bound_in given none }
+{
+    if given == 0 { none } else { given }
 }
 
 /// The most bytes that may be printed.
 pub(crate) fn most_output(settings: &Settings) -> u64
     ensures { result ≡ hosts.most_output settings.now.output }
 {
-    if settings.output == 0 {
-        ANY_OUTPUT
-    } else {
-        settings.output
-    }
+    bound_in(settings.output, ANY_OUTPUT)
 }
 
 /// The code of a run that ended so.

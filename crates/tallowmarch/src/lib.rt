@@ -21,12 +21,12 @@ use std::alloc::Global;
 
 /// The version of this interface: 10,000 for each first number, 100 for each second one, 1 for each
 /// third one.
-const VERSION: u32 = 200;
+const VERSION: u32 = 300;
 
 /// The version of this interface, which a host compares with that of its header.
 #[unsafe(no_mangle)]
 pub extern "C" fn tallowmarch_version() -> u32
-    ensures { result ≡ 200 }
+    ensures { result ≡ 300 }
 {
     VERSION
 }
@@ -44,9 +44,9 @@ fn makers(alloc: Global) -> Makers<Steps<Operators>, WorldOperators> {
 
 /// Runs a program, and hands out what it printed, its schedule and its counts. The result says how
 /// it ended: 0 where each context finished, 1 where an error was printed too, 3 where all contexts
-/// wait, 4 where the steps are used up, 5 where memory was wanted or more was to be printed than
-/// may be. With 16 a number is out of its range, and with 17 there was no room to start with: then
-/// nothing is written.
+/// wait, 4 where the steps are used up, 5 where memory was wanted, or more was to be printed than
+/// may be, or the schedule was to have more entries than it may. With 16 a number is out of its
+/// range, and with 17 there was no room to start with: then nothing is written.
 ///
 /// Of the bytes and of the entries as many are written as there is room for, from the first on.
 #[unsafe(no_mangle)]

@@ -16,13 +16,13 @@ returns-then-not-goes_on_from g c =
       subst IsWithin c.config_in.ensures (c.is_within.ensures.0 c.if-not-is_within.false),
       c.in_ok-entries.ensures.entries,
       (
-        c.in-Ok-make.report,
+        c.in-Ok.report,
         (
           subst (λ n. IsRunIn g.S.Interpret.asks (space_in c.args.settings.now) c.args.program.now
-              n c.in-Ok-make.report) steps c.in-Ok-make.ensures.run,
-          c.in-Ok-make.ensures.bounded,
+              n c.in-Ok.report) steps c.in-Ok.ensures.run,
+          c.in-Ok.ensures.bounded,
         ),
         λ goes. true≢false (sym (c.goes_on_from.ensures.1 (subst (λ (e : List Entry).
-            GoesOnFrom e c.in-Ok-make.report) (sym same) goes)) ∙ c.if-not-goes_on_from.true),
+            GoesOnFrom e c.in-Ok.report) (sym same) goes)) ∙ c.if-not-goes_on_from.true),
       ),
     )
