@@ -1,13 +1,14 @@
 -- The command line of the program, as rules of clap.
-use Rattle.std.specs.Prelude.{◌≡◌, ◌==◌, ◌<◌, ◌^◌, ℕ, Bool, ◌&&◌, ◌||◌, List, [], ◌∷◌, Option, Some, None, is_some, true, false, length, drop, nat_eq, codes, unwrap_or, if◌then◌else◌}
+use Rattle.std.specs.Prelude.{◌≡◌, ◌==◌, ◌<◌, ◌^◌, ℕ, Bool, ◌&&◌, ◌||◌, List, [], ◌∷◌, Option, Some, None, is_some, true, false, length, drop, nat_eq, codes, unwrap_or, option_and_then, if◌then◌else◌}
 use Rattle.std.specs.Char.{is_ascii_digit}
 use Rattle.std.specs.List.{list_all, starts_with}
 use Rattle.std.specs.Str.{bytes_eq}
 use Rattle.std.specs.Str.Parse.{IsNumeral, digits_value, without_leading_plus}
 use Rattle.clap.specs.Kinds.{Kinds, or_else}
 use Rattle.clap.specs.Words.{App, Rule, Text, new_app, new_rule, with_rule, matches_of, first_of, one_of, fault_of}
+use Rattle.ps_options.specs.Sizes.{is_within, size_of}
 use Rattle.clap.specs.declared.builder.action.ArgAction.TheVariants.{SetTrue}
-use Rattle.clap.specs.declared.error.kind.ErrorKind.TheVariants.{ArgumentConflict}
+use Rattle.clap.specs.declared.error.kind.ErrorKind.TheVariants.{ArgumentConflict, MissingRequiredArgument, ValueValidation}
 use Rattle.clap.specs.declared.builder.value_parser.ValueParser.TheVariants.{Unsigned}
 
 -- an option with a value
@@ -29,22 +30,25 @@ number_rule name default least most = within (option_rule name default) least mo
 abbrev pub flag_rule : Text → Rule
 flag_rule name = record (new_rule name) { long = Some name; action = Some SetTrue }
 
--- the program's file, which must be there
-abbrev pub file_rule : Rule
-file_rule = record (new_rule (codes "FILE")) { required = true }
+-- the program's text: -e with a value
+abbrev pub text_rule : Rule
+text_rule = record (new_rule (codes "e")) { short = Some 101; value_names = 1 }
+
+-- the program: its text, or its file
+abbrev pub with_program : App → App
+with_program app = with_rule (with_rule app text_rule) (new_rule (codes "FILE"))
 
 -- the numbers of memory and threads
 abbrev pub with_sizes : App → App
-with_sizes app = with_rule
-    (with_rule app (number_rule (codes "space") (codes "65536") 4096 1048576))
+with_sizes app = with_rule (with_rule app (option_rule (codes "space") (codes "65536")))
     (number_rule (codes "workers") (codes "4") 1 32)
 
--- the numbers of steps, and that of bytes
+-- the numbers of steps, and those of bytes and entries
 abbrev pub with_limits : App → App
 with_limits app = with_rule
-    (with_rule (with_rule app (number_rule (codes "quantum") (codes "100") 1 65535))
-    (number_rule (codes "steps") (codes "1000000000") 1 4294967295))
-    (within (valued_rule (codes "output")) 0 4294967295)
+    (with_rule (with_rule (with_rule app (number_rule (codes "quantum") (codes "100") 1 65535))
+    (option_rule (codes "steps") (codes "1000000000"))) (valued_rule (codes "output")))
+    (valued_rule (codes "entries"))
 
 abbrev pub with_flags : App → App
 with_flags app = with_rule
@@ -66,12 +70,8 @@ versioned app = record app { top = record app.top { has_version = true } }
 
 -- the whole: its words come without the program's name
 abbrev pub command_line : App
-command_line = with_rule (with_schedules (with_flags
-    (with_limits (with_sizes (nameless (versioned (new_app (codes "dpsrun")))))))) file_rule
-
--- the name of the program's file in such words
-abbrev pub file_in : List Text → Text
-file_in words = unwrap_or (first_of (codes "FILE") (matches_of command_line words)) []
+command_line = with_schedules (with_flags
+    (with_limits (with_sizes (with_program (nameless (versioned (new_app (codes "dpsrun"))))))))
 
 -- the first text of an option in such words, such as the name of a schedule's file
 abbrev pub named_in : Text → List Text → Option Text
@@ -84,15 +84,15 @@ is_set (Some text) = bytes_eq text (codes "true")
 
 -- what is given beside what it can't be used with: a schedule beside anything else that says how
 -- the run is made or records it, or a stream beside many runs
-abbrev pub excludes : (replay plain recorded explored streamed : Option Text) → Bool
-excludes replay plain recorded explored streamed =
-    is_some replay && (is_set plain || is_some recorded || is_some explored)
+abbrev pub excludes : (replay plain recorded explored entries streamed : Option Text) → Bool
+excludes replay plain recorded explored entries streamed =
+    is_some replay && (is_set plain || is_some recorded || is_some explored || is_some entries)
     || is_set streamed && is_some explored
 
 abbrev pub is_excluded : List Text → Bool
 is_excluded words = excludes (named_in (codes "replay") words) (named_in (codes "plain") words)
     (named_in (codes "record") words) (named_in (codes "explore") words)
-    (named_in (codes "stream") words)
+    (named_in (codes "entries") words) (named_in (codes "stream") words)
 
 -- a number in decimal, of any size
 abbrev pub is_number : Text → Bool
@@ -118,11 +118,37 @@ abbrev pub is_overwritten : List Text → Bool
 is_overwritten words = overwrites (named_in (codes "record") words)
     (named_in (codes "explore") words) (named_in (codes "FILE") words)
 
--- the faults of such words: those by the rules, or that one excludes another, or that the program
--- would be written over
+-- one program is given, by the name of its file or by its text
+abbrev pub source_fault : (file text : Option Text) → Kinds
+source_fault None None = MissingRequiredArgument ∷ []
+source_fault (Some name) (Some text) = ArgumentConflict ∷ []
+source_fault file text = []
+
+-- where an option stands there, it has a size from least to most
+abbrev pub is_sized : (least most : ℕ) → Option Text → Bool
+is_sized least most None = true
+is_sized least most (Some text) = is_within least most (size_of text)
+
+abbrev pub are_sized : (space steps output entries : Option Text) → Bool
+are_sized space steps output entries = is_sized 4096 1048576 space && is_sized 1 4294967295 steps
+    && is_sized 0 4294967295 output && is_sized 1 4294967295 entries
+
+abbrev pub are_sizes : List Text → Bool
+are_sizes words = are_sized (named_in (codes "space") words) (named_in (codes "steps") words)
+    (named_in (codes "output") words) (named_in (codes "entries") words)
+
+-- the faults beside those of the rules
+abbrev pub own_faults : (source : Kinds) → (sized conflicts : Bool) → Kinds
+own_faults source sized conflicts =
+    or_else source (if sized then (if conflicts then ArgumentConflict ∷ [] else [])
+    else ValueValidation ∷ [])
+
+-- the faults of such words: those by the rules, or that they don't name one program, or that a size
+-- is none, or that one excludes another, or that the program would be written over
 abbrev pub faults_in : List Text → Kinds
 faults_in words = or_else (fault_of command_line words)
-    (if is_excluded words || is_overwritten words then ArgumentConflict ∷ [] else [])
+    (own_faults (source_fault (named_in (codes "FILE") words) (named_in (codes "e") words))
+    (are_sizes words) (is_excluded words || is_overwritten words))
 
 -- the text of a flag in such words
 abbrev pub flag_in : Text → List Text → Option Text
@@ -136,6 +162,10 @@ IsNumber name words number =
     → digits_value 10 (without_leading_plus text) < 2 ^ 32
     → number ≡ digits_value 10 (without_leading_plus text)
 
+-- the size of an option in such words, if it stands there
+abbrev pub size_in : (name : Text) → List Text → Option ℕ
+size_in name words = option_and_then size_of (named_in name words)
+
 -- the numbers of a run
 pub record Numbers : Type 0 where
   pub space : ℕ
@@ -145,10 +175,10 @@ pub record Numbers : Type 0 where
 
 -- each is that of its option
 pub record AreNumbers (words : List Text) (numbers : Numbers) : Type 0 where
-  pub space : IsNumber (codes "space") words numbers.space
+  pub space : numbers.space ≡ unwrap_or (size_in (codes "space") words) 65536
   pub workers : IsNumber (codes "workers") words numbers.workers
   pub quantum : IsNumber (codes "quantum") words numbers.quantum
-  pub steps : IsNumber (codes "steps") words numbers.steps
+  pub steps : numbers.steps ≡ unwrap_or (size_in (codes "steps") words) 1000000000
 
 -- the number of an option that may be left out, such as how many schedules are chosen by chance
 abbrev pub IsOptional : (name : Text) → List Text → Option ℕ → Type 0

@@ -1,1 +1,3 @@
 pub mod CommandLine
+pub mod Sizes
+pub mod Sources

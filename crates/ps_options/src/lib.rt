@@ -5,8 +5,12 @@
 //! - What one word excludes of another is tested behind the parse, since the contracts of `clap`
 //!   say what a parse answers only where no option has a rule on another. The texts of those faults
 //!   are ours.
+//! - So are sizes, which are texts to `clap`, since its parsers of numbers know no units. The texts
+//!   of their faults are those of its numbers.
 #![tactic(auto)]
 
+mod form;
 mod options;
+mod sizes;
 
-pub use options::{Options, VERSION, no_text, parse};
+pub use options::{Options, Source, VERSION, no_text, overwritten, parse};

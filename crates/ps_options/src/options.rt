@@ -1,22 +1,32 @@
 //! The command line.
 
-ghost use Rattle.std.specs.Prelude.{◌≡◌, ◌≤◌, Some, true, false, codes, is_some, map, IfOk, IfSome};
-ghost use Rattle.std.specs.Option.{option_map};
+ghost use Rattle.std.specs.Prelude.{◌≡◌, ◌≤◌, ◌∷◌, [], Some, true, false, codes, is_ok, is_some, map, IfErr, IfOk, IfSome, OnOk, unwrap_or};
+ghost use Rattle.std.specs.Option.{option_map, option_and_then};
 ghost use Rattle.clap.specs.Values.{kind_of};
 ghost use Rattle.clap.specs.Words.{app_of, rule_of, with_rule, first_value, found_of, FailsBy};
 ghost use Rattle.ps_options.specs.CommandLine as spec;
+ghost use Rattle.ps_options.specs.Sizes.{size_of};
+ghost use Rattle.ps_options.specs.Sources.{file_of, text_of};
 
-use clap::builder::ValueParser;
+use crate::form::command;
+use crate::sizes::{SizeFault, size_within};
 use clap::error::ErrorKind;
-use clap::{Arg, ArgAction, ArgMatches, Command, Error};
+use clap::{ArgMatches, Command, Error};
 use std::alloc::{AllocError, Global};
 
 /// The version of the program, which `--version` tells.
 pub const VERSION: &str = "0.1.0";
 
+/// What is told where no program is given.
+const NO_SOURCE: &str = "the following required arguments were not provided:\n  \
+    <FILE> or -e <TEXT>";
+
+/// What is told of two programs.
+const TWO_SOURCES: &str = "the argument '<FILE>' cannot be used with '-e <TEXT>'";
+
 /// What is told of a schedule that is given beside what it can't be used with.
 const REPLAY_EXCLUDED: &str = "the argument '--replay <FILE>' cannot be used with '--plain', \
-    '--record <FILE>' or '--explore <N>'";
+    '--record <FILE>', '--explore <N>' or '--entries <N>'";
 
 /// What is told of a stream that is asked for beside many runs.
 const STREAM_EXCLUDED: &str = "the argument '--stream' cannot be used with '--explore <N>'";
@@ -26,6 +36,15 @@ const OVERWRITTEN: &str = "the argument '--record <FILE>' would write over the p
 
 /// What is told of words that are no text.
 const NO_TEXT: &str = "invalid UTF-8 was detected in one or more arguments";
+
+/// Where the program is.
+#[derive(Clone, Copy, Debug, PartialEq, Eq)]
+pub enum Source<'a> {
+    /// In the file of this name; `-` is standard input.
+    File(&'a str),
+    /// It is this text.
+    Text(&'a str),
+}
 
 /// What the command line asks for.
 #[derive(Debug, Drop)]
@@ -40,6 +59,8 @@ pub struct Options<'a> {
     pub steps: u32,
     /// The most bytes that the run may print, if there is a bound.
     pub output: Option<u32>,
+    /// The most entries that its schedule may have, if there is a bound: at least 1.
+    pub entries: Option<u32>,
     /// Whether the counts are told at the end.
     pub stats: bool,
     /// Whether the run is over memory that is never collected.
@@ -54,145 +75,32 @@ pub struct Options<'a> {
     /// The name of the file whose schedule is followed, if one is. Nothing is recorded then, and
     /// nothing is chosen by chance.
     pub replay_file: Option<&'a str>,
-    /// The name of the program's file; `-` is standard input.
-    pub file: &'a str,
+    /// Where the program is.
+    pub source: Source<'a>,
 }
 
-/// The command line's form. Numbers out of their ranges are refused; an option may be given once.
-fn command<'a>(alloc: Global) -> Result<Command<'a>, AllocError>
-    ensures { IfOk result (λ made. app_of made ≡ spec.command_line) }
-{
-    let command = Command::new(alloc, "dpsrun")
-        .about("Runs a program in the PostScript language.")
-        .version(VERSION)
-        .no_binary_name(true);
-    let numbered = with_limits(alloc, with_sizes(alloc, command)?)?;
-    with_file(alloc, with_schedules(alloc, with_flags(alloc, numbered)?)?)
+/// A fault of words that the rules take one by one.
+#[derive(Clone, Copy, Debug)]
+struct Misuse {
+    kind: ErrorKind,
+    text: &'static str,
 }
 
-/// The numbers of memory and threads.
-fn with_sizes<'a>(alloc: Global, command: Command<'a>) -> Result<Command<'a>, AllocError>
-    ensures { IfOk result (λ made. app_of made ≡ spec.with_sizes (app_of command.entry)) }
-{
-    let space = number(alloc, "space", "65536", "words of a space of memory");
-    let workers = number(alloc, "workers", "4", "threads that make steps");
-    command
-        .arg(within(space, 4096, 1048576))?
-        .arg(within(workers, 1, 32))
+/// An option whose text is no size in its range.
+#[derive(Clone, Copy, Debug)]
+struct BadSize<'a> {
+    name: &'static str,
+    text: &'a str,
+    fault: SizeFault,
 }
 
-/// The numbers of steps, and that of bytes.
-fn with_limits<'a>(alloc: Global, command: Command<'a>) -> Result<Command<'a>, AllocError>
-    ensures { IfOk result (λ made. app_of made ≡ spec.with_limits (app_of command.entry)) }
-{
-    let quantum = number(alloc, "quantum", "100", "most steps of a turn of a context");
-    let steps = number(alloc, "steps", "1000000000", "most steps of the run");
-    let output = valued(
-        alloc,
-        "output",
-        "N",
-        "most bytes that the run may print; without it there is no bound",
-    );
-    command
-        .arg(within(quantum, 1, 65535))?
-        .arg(within(steps, 1, 4294967295))?
-        .arg(within(output, 0, 4294967295))
-}
-
-/// The options without a value.
-fn with_flags<'a>(alloc: Global, command: Command<'a>) -> Result<Command<'a>, AllocError>
-    ensures { IfOk result (λ made. app_of made ≡ spec.with_flags (app_of command.entry)) }
-{
-    command
-        .arg(flag(alloc, "plain", "run over memory that is never collected"))?
-        .arg(flag(
-            alloc,
-            "stats",
-            "tell flips, records taken and steps at the end",
-        ))?
-        .arg(flag(
-            alloc,
-            "stream",
-            "hand printed bytes on while the run goes on; not with --explore",
-        ))
-}
-
-/// The schedules: the files that have them, and how many are chosen by chance.
-fn with_schedules<'a>(alloc: Global, command: Command<'a>) -> Result<Command<'a>, AllocError>
-    ensures { IfOk result (λ made. app_of made ≡ spec.with_schedules (app_of command.entry)) }
-{
-    let record = valued(
-        alloc,
-        "record",
-        "FILE",
-        "write the schedule of the run to FILE; with --explore, those of the endings to FILE.1, \
-            FILE.2, ..",
-    );
-    let replay = valued(
-        alloc,
-        "replay",
-        "FILE",
-        "make the steps of the schedule in FILE; not with --plain, --record or --explore",
-    );
-    let explore = valued(
-        alloc,
-        "explore",
-        "N",
-        "run the program under N schedules chosen by chance, and tell how many endings there were",
-    );
-    command
-        .arg(record)?
-        .arg(replay)?
-        .arg(within(explore, 1, 65535))
-}
-
-/// The program's file.
-fn with_file<'a>(alloc: Global, command: Command<'a>) -> Result<Command<'a>, AllocError>
-    ensures { IfOk result (λ made. app_of made ≡ with_rule (app_of command.entry) spec.file_rule) }
-{
-    command.arg(
-        Arg::new(alloc, "FILE")
-            .help("the program; '-' is standard input")
-            .required(true),
-    )
-}
-
-/// An option with a value, which the help calls `value`.
-fn valued<'a>(alloc: Global, name: &'a str, value: &'a str, help: &'a str) -> Arg<'a>
-    ensures rule { rule_of result ≡ spec.valued_rule name.entry.now }
-    ensures local { result.global ≡ false }
-{
-    Arg::new(alloc, name)
-        .long(name)
-        .value_name(value)
-        .help(help)
-}
-
-/// An option with a number, of any range, which is `default` where it is left out.
-fn number<'a>(alloc: Global, name: &'a str, default: &'a str, help: &'a str) -> Arg<'a>
-    ensures rule { rule_of result ≡ spec.option_rule name.entry.now default.entry.now }
-    ensures local { result.global ≡ false }
-{
-    valued(alloc, name, "N", help).default_value(default)
-}
-
-/// The option, with a number from `least` to `most`.
-fn within<'a>(option: Arg<'a>, least: u64, most: u64) -> Arg<'a>
-    ensures rule { rule_of result ≡ spec.within (rule_of option.entry) least most }
-    ensures local { result.global ≡ option.entry.global }
-{
-    option.value_parser(ValueParser::unsigned(least, most))
-}
-
-/// An option without a value.
-fn flag<'a>(alloc: Global, name: &'a str, help: &'a str) -> Arg<'a>
-    ensures rule { rule_of result ≡ spec.flag_rule name.entry.now }
-    ensures local { result.global ≡ false }
-{
-    Arg::new(alloc, name)
-        .long(name)
-        .action(ArgAction::SetTrue)
-        .help(help)
+/// The sizes that words give.
+#[derive(Clone, Copy, Debug)]
+struct Sizes {
+    space: u32,
+    steps: u32,
+    output: Option<u32>,
+    entries: Option<u32>,
 }
 
 /// Whether a flag stands in the words of the matches.
@@ -212,12 +120,14 @@ fn excluded(matches: &ArgMatches<'_>) -> Option<&'static str>
         (first_value (found_of matches.now) (codes "plain"))
         (first_value (found_of matches.now) (codes "record"))
         (first_value (found_of matches.now) (codes "explore"))
+        (first_value (found_of matches.now) (codes "entries"))
         (first_value (found_of matches.now) (codes "stream")) }
 {
     let explores = matches.get_str("explore").is_some();
     let makes_otherwise = is_set(matches, "plain")
         || matches.get_str("record").is_some()
-        || explores;
+        || explores
+        || matches.get_str("entries").is_some();
     if matches.get_str("replay").is_some() && makes_otherwise {
         return Some(REPLAY_EXCLUDED);
     }
@@ -225,6 +135,93 @@ fn excluded(matches: &ArgMatches<'_>) -> Option<&'static str>
         return Some(STREAM_EXCLUDED);
     }
     None
+}
+
+/// Where the program is, by the words of the matches. Fails where they name none, or two.
+fn source_of<'a>(matches: &ArgMatches<'a>) -> Result<Source<'a>, Misuse>
+    ensures file { IfOk result
+        (λ source. file_of source ≡ first_value (found_of matches.now) (codes "FILE")) }
+    ensures text { IfOk result
+        (λ source. text_of source ≡ first_value (found_of matches.now) (codes "e")) }
+    ensures fault { IfErr result (λ misuse. spec.source_fault
+        (first_value (found_of matches.now) (codes "FILE"))
+        (first_value (found_of matches.now) (codes "e")) ≡ misuse.kind ∷ []) }
+    ensures one { OnOk result (spec.source_fault
+        (first_value (found_of matches.now) (codes "FILE"))
+        (first_value (found_of matches.now) (codes "e")) ≡ []) }
+{
+    match (matches.get_str("FILE"), matches.get_str("e")) {
+        (Some(name), None) => Ok(Source::File(name)),
+        (None, Some(text)) => Ok(Source::Text(text)),
+        (None, None) => Err(Misuse {
+            kind: ErrorKind::MissingRequiredArgument,
+            text: NO_SOURCE,
+        }),
+        (Some(_), Some(_)) => Err(Misuse {
+            kind: ErrorKind::ArgumentConflict,
+            text: TWO_SOURCES,
+        }),
+    }
+}
+
+/// The size of an option, if it stands in the words of the matches. Fails where its text is none
+/// from `least` to `most`.
+fn sized<'a>(
+    matches: &ArgMatches<'a>,
+    name: &'static str,
+    least: u32,
+    most: u32,
+) -> Result<Option<u32>, BadSize<'a>>
+    ensures size { IfOk result (λ size. size
+        ≡ option_and_then size_of (first_value (found_of matches.now) name.now)) }
+    ensures is { is_ok result
+        ≡ spec.is_sized least most (first_value (found_of matches.now) name.now) }
+{
+    let Some(text) = matches.get_str(name) else {
+        return Ok(None);
+    };
+    match size_within(text, least, most) {
+        Ok(size) => Ok(Some(size)),
+        Err(fault) => Err(BadSize { name, text, fault }),
+    }
+}
+
+/// The sizes in the words of the matches. Fails by the first option whose text is none in its range.
+fn sizes_of<'a>(matches: &ArgMatches<'a>) -> Result<Sizes, BadSize<'a>>
+    ensures space { IfOk result (λ sizes. sizes.space ≡ unwrap_or
+        (option_and_then size_of (first_value (found_of matches.now) (codes "space"))) 65536) }
+    ensures steps { IfOk result (λ sizes. sizes.steps ≡ unwrap_or
+        (option_and_then size_of (first_value (found_of matches.now) (codes "steps")))
+        1000000000) }
+    ensures output { IfOk result (λ sizes. sizes.output
+        ≡ option_and_then size_of (first_value (found_of matches.now) (codes "output"))) }
+    ensures entries { IfOk result (λ sizes. sizes.entries
+        ≡ option_and_then size_of (first_value (found_of matches.now) (codes "entries"))) }
+    ensures are { is_ok result ≡ spec.are_sized
+        (first_value (found_of matches.now) (codes "space"))
+        (first_value (found_of matches.now) (codes "steps"))
+        (first_value (found_of matches.now) (codes "output"))
+        (first_value (found_of matches.now) (codes "entries")) }
+{
+    let space = sized(matches, "space", 4096, 1_048_576)?;
+    let steps = sized(matches, "steps", 1, u32::MAX)?;
+    let output = sized(matches, "output", 0, u32::MAX)?;
+    let entries = sized(matches, "entries", 1, u32::MAX)?;
+    Ok(Sizes {
+        space: space.unwrap_or(65536),
+        steps: steps.unwrap_or(1_000_000_000),
+        output,
+        entries,
+    })
+}
+
+/// The error for an option whose text is no size in its range.
+fn bad_size(alloc: Global, line: &mut Command<'_>, bad: BadSize<'_>) -> Result<Error, AllocError>
+    ensures { IfOk result (λ error. kind_of error ≡ ErrorKind.ValueValidation) }
+{
+    let BadSize { name, text, fault } = bad;
+    let told = format!(in alloc; "invalid value '{text}' for '--{name} <N>': {fault}")?;
+    line.error(ErrorKind::ValueValidation, told.as_str())
 }
 
 /// Whether a text is a number in decimal, of any size.
@@ -280,14 +277,24 @@ pub fn no_text(alloc: Global) -> Result<Error, AllocError>
     command(alloc)?.error(ErrorKind::InvalidValue, NO_TEXT)
 }
 
+/// The error for a record that would be written over the program. Fails for want of memory.
+pub fn overwritten(alloc: Global) -> Result<Error, AllocError>
+    ensures { IfOk result (λ error. kind_of error ≡ ErrorKind.ArgumentConflict) }
+{
+    command(alloc)?.error(ErrorKind::ArgumentConflict, OVERWRITTEN)
+}
+
 /// Reads the words of a command line, without the program's name. The error is the first fault of
-/// the words by the rules of the command line; or that a schedule is given and `--plain`,
-/// `--record` or `--explore` stands there too, or `--stream` and `--explore`; or that a record would
+/// the words by the rules of the command line; or that they name no program or two; or that the
+/// text of a size is none in its range; or that a schedule is given and `--plain`, `--record`,
+/// `--explore` or `--entries` stands there too, or `--stream` and `--explore`; or that a record would
 /// be written over the program, as far as the names tell; or want of memory.
 pub fn parse<'a>(alloc: Global, words: &'a [&'a str]) -> Result<Options<'a>, Error>
     ensures fault { FailsBy (spec.faults_in (map (λ word. word.now) words.entry.now)) result }
-    ensures file { IfOk result
-        (λ options. options.file.now ≡ spec.file_in (map (λ word. word.now) words.entry.now)) }
+    ensures file { IfOk result (λ options. file_of options.source
+        ≡ spec.named_in (codes "FILE") (map (λ word. word.now) words.entry.now)) }
+    ensures text { IfOk result (λ options. text_of options.source
+        ≡ spec.named_in (codes "e") (map (λ word. word.now) words.entry.now)) }
     ensures record_file { IfOk result
         (λ options. option_map (λ name. name.now) options.record_file
         ≡ spec.named_in (codes "record") (map (λ word. word.now) words.entry.now)) }
@@ -309,13 +316,23 @@ pub fn parse<'a>(alloc: Global, words: &'a [&'a str]) -> Result<Options<'a>, Err
         })) }
     ensures explore { IfOk result (λ options. spec.IsOptional (codes "explore")
         (map (λ word. word.now) words.entry.now) options.explore) }
-    ensures output { IfOk result (λ options. spec.IsOptional (codes "output")
-        (map (λ word. word.now) words.entry.now) options.output) }
+    ensures output { IfOk result (λ options. options.output
+        ≡ spec.size_in (codes "output") (map (λ word. word.now) words.entry.now)) }
+    ensures entries { IfOk result (λ options. options.entries
+        ≡ spec.size_in (codes "entries") (map (λ word. word.now) words.entry.now)) }
     ensures explore_range { IfOk result
         (λ options. IfSome options.explore (λ count. (1 ≤ count) × (count ≤ 65535))) }
 {
     let mut line = command(alloc)?;
     let matches = line.try_get_matches_from_mut(words)?;
+    let source = match source_of(&matches) {
+        Ok(source) => source,
+        Err(misuse) => return Err(line.error(misuse.kind, misuse.text)?),
+    };
+    let sizes = match sizes_of(&matches) {
+        Ok(sizes) => sizes,
+        Err(bad) => return Err(bad_size(alloc, &mut line, bad)?),
+    };
     if let Some(text) = excluded(&matches) {
         return Err(line.error(ErrorKind::ArgumentConflict, text)?);
     }
@@ -323,17 +340,18 @@ pub fn parse<'a>(alloc: Global, words: &'a [&'a str]) -> Result<Options<'a>, Err
         return Err(line.error(ErrorKind::ArgumentConflict, OVERWRITTEN)?);
     }
     Ok(Options {
-        space: matches.get_one::<u32>("space").unwrap_or(65536),
+        space: sizes.space,
         workers: matches.get_one::<u32>("workers").unwrap_or(4),
         quantum: matches.get_one::<u32>("quantum").unwrap_or(100),
-        steps: matches.get_one::<u32>("steps").unwrap_or(1_000_000_000),
+        steps: sizes.steps,
         stats: matches.get_flag("stats"),
         plain: matches.get_flag("plain"),
         stream: matches.get_flag("stream"),
         explore: matches.get_one::<u32>("explore"),
-        output: matches.get_one::<u32>("output"),
+        output: sizes.output,
+        entries: sizes.entries,
         record_file: matches.get_str("record"),
         replay_file: matches.get_str("replay"),
-        file: matches.get_str("FILE").unwrap_or(""),
+        source,
     })
 }

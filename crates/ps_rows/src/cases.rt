@@ -97,6 +97,10 @@ fn config_of(numbers: &[u32]) -> Option<Config> {
 fn fault_of(text: &str) -> ReadFault {
     match text {
         "memory" => ReadFault::Memory,
+        "missing" => ReadFault::NotFound,
+        "folder" => ReadFault::Folder,
+        "nameless" => ReadFault::Nameless,
+        "denied" => ReadFault::Denied,
         _ => ReadFault::NoRead,
     }
 }

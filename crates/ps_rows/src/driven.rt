@@ -1,7 +1,7 @@
 //! The program over files and outputs in memory.
 
 use crate::fakes::{Files, Output, deeds_in, steps_in};
-use ps_run::{Flushed, drive};
+use ps_run::{ErrorOutput, Flushed, drive};
 use std::alloc::{AllocError, Global};
 use std::hash::RandomState;
 use std::sync::Wait;
@@ -50,7 +50,7 @@ pub fn driven<R: Threads + Wait + Sync>(
 ) -> Result<Given, AllocError> {
     let mut output = Output::new(alloc, writes.out);
     output.bytes.reserve(room)?;
-    let mut err = Output::new(alloc, writes.err);
+    let mut err = ErrorOutput::new(Output::new(alloc, writes.err));
     let (status, out) = drive(
         rt,
         alloc,
@@ -63,7 +63,7 @@ pub fn driven<R: Threads + Wait + Sync>(
         &mut err,
     );
     let Output { bytes: printed, .. } = out.into_inner();
-    let Output { bytes: told, .. } = err;
+    let Output { bytes: told, .. } = err.into_inner();
     Ok(Given {
         status,
         out: printed,

@@ -26,8 +26,8 @@ pub fn deeds_in(alloc: Global) -> WorldOperators {
     WorldOperators { alloc }
 }
 
-/// The program's file `f` and a schedule's file `s`, each with its bytes or a fault in their place,
-/// and one file that can be written, of any other name.
+/// The program's file `f` and a schedule's file `s`, which is `s.2` too, each with its bytes or a
+/// fault in their place, and one file that can be written, of any other name.
 #[derive(Drop)]
 pub struct Files<'a> {
     pub program: Result<&'a [u8], ReadFault>,
@@ -72,10 +72,10 @@ impl<'a> Files<'a> {
     {
         if name == "f" {
             self.program
-        } else if name == "s" {
+        } else if name == "s" || name == "s.2" {
             self.schedule
         } else {
-            Err(ReadFault::NoRead)
+            Err(ReadFault::NotFound)
         }
     }
 
@@ -102,7 +102,7 @@ impl<'a> Files<'a> {
         ensures reads { self.new ≡ record self.old { written = self.new.written } }
         ensures other { OnOk result (known_in self.old.program self.old.schedule name.now ≡ None) }
     {
-        if name == "f" || name == "s" || !self.takes_writes {
+        if name == "f" || name == "s" || name == "s.2" || !self.takes_writes {
             return Err(WriteFault::NoWrite);
         }
         let Ok(copy) = Vec::from_slice(self.alloc, bytes) else {
@@ -139,6 +139,13 @@ impl FileSet for Files<'_> {
             self.last_fault = Some(*fault);
         }
         read
+    }
+
+    fn holds(&self, name: &str, bytes: &[u8]) -> bool {
+        match self.named(name) {
+            Ok(known) => known == bytes,
+            Err(_) => false,
+        }
     }
 
     fn write(&mut self, name: &str, bytes: &[u8]) -> Result<(), WriteFault> {

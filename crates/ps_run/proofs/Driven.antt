@@ -1,7 +1,6 @@
 -- What a command line comes to, for other words of what it asks.
-use Rattle.std.proofs.Common.{◌≡◌, ◌≢◌, ℕ, List, [], ◌∷◌, Bool, true, false, Option, Some, None, inl, inr, ap, subst}
-use Rattle.std.specs.Prelude.{◌⊎◌, codes, is_some}
-use Rattle.ps_options.specs.CommandLine.{IsOptional, named_in}
+use Rattle.std.proofs.Common.{◌≡◌, ◌≢◌, ℕ, List, [], ◌∷◌, Bool, Option, Some, None, inl, inr, refl, subst, ◌∙◌}
+use Rattle.std.specs.Prelude.{◌⊎◌, IfSome}
 use Rattle.ps_language.specs.Effect.{Around, Scene}
 use Rattle.ps_language.specs.World as world
 use Rattle.ps_acts.specs.Acts as acts
@@ -12,7 +11,9 @@ use Rattle.clap.specs.Values.{kind_of}
 use Rattle.clap.specs.declared.error.Error.{Error}
 use Rattle.clap.specs.declared.error.kind.ErrorKind.TheVariants as kind
 use Rattle.ps_run.specs.declared.statuses.Status.{Status}
-use Rattle.ps_run.specs.Driving.{Asked, Contents, Names, Outputs, IsBegun, IsDriven, IsRecordName, IsWritten}
+use Rattle.ps_run.specs.Driving.{Asked, Contents, KeepsProgram, Names, Outputs, IsBegun, IsDriven, IsRecordName, IsWritten}
+use Rattle.ps_run.specs.Telling.{Told}
+use Rattle.ps_run.proofs.ReadParts.{of_known}
 
 pub driven_more : (asks : world.Status → Around → Scene → acts.Asked) (names other : Names)
     (A B : Asked → Type 0) (F G : Type 0) (told : Status) (outputs : Outputs) → names ≡ other
@@ -37,7 +38,8 @@ driven_more asks names other A B F G told outputs same more fault driven =
 
     with_more : IsDriven asks other A F told outputs → IsDriven asks other B G told outputs
     with_more (inl usage) = inl (usage.0, usage.1, usage.2, fault usage.3)
-    with_more (inr (inl memory)) = inr (inl (memory.0, begun_more memory.1, memory.2))
+    with_more (inr (inl memory)) =
+        inr (inl (memory.0, begun_more memory.1, memory.2, memory.3))
     with_more (inr (inr (inl run))) = inr (inr (inl (record {
       asked = run.asked;
       is_asked = more run.asked run.is_asked;
@@ -46,6 +48,7 @@ driven_more asks names other A B F G told outputs same more fault driven =
       report = run.report;
       run = run.run;
       written = run.written;
+      keeps = run.keeps;
     })))
     with_more (inr (inr (inr runs))) = inr (inr (inr (record {
       asked = runs.asked;
@@ -58,30 +61,31 @@ driven_more asks names other A B F G told outputs same more fault driven =
       are = runs.are;
       entries = runs.entries;
       written = runs.written;
+      keeps = runs.keeps;
     })))
 
--- whether many are asked for, as the words tell it
-pub none_explored : (words : List Text) (explored : Option ℕ) → explored ≡ None
-    → IsOptional (codes "explore") words explored → is_some (named_in (codes "explore") words) ≡ false
-none_explored words None none given = ap is_some given
-none_explored words (Some count) none given = cc
-
-pub some_explored : (words : List Text) (explored : Option ℕ) (count : ℕ) → explored ≡ Some count
-    → IsOptional (codes "explore") words explored → is_some (named_in (codes "explore") words) ≡ true
-some_explored words None count some given = cc
-some_explored words (Some other) count some given = given.0
-
 -- the name of a record, by other words of it
-pub record_named : (recorded other : Option Text) (are_many many : Bool) (name : Text)
-    → recorded ≡ other → are_many ≡ many → IsRecordName recorded are_many name
-    → IsRecordName other many name
-record_named recorded other are_many many name same equal is =
-    subst (λ (m : Bool). IsRecordName other m name) equal
-    (subst (λ (r : Option Text). IsRecordName r are_many name) same is)
+pub record_named : (recorded other : Option Text) (many more : Option ℕ) (name : Text)
+    → recorded ≡ other → many ≡ more → IsRecordName recorded many name
+    → IsRecordName other more name
+record_named recorded other many more name same equal is =
+    subst (λ (m : Option ℕ). IsRecordName other m name) equal
+    (subst (λ (r : Option Text). IsRecordName r many name) same is)
+
+-- where only records are written, and none holds the program, those that hold it are let be
+pub keeps_program : (old new : Contents) (recorded : Option Text) (many : Option ℕ)
+    (program : List ℕ)
+    → ((name : Text) → IsRecordName recorded many name
+    → IfSome (old name) (λ known. known ≢ program))
+    → ((name : Text) → ¬ IsRecordName recorded many name → new name ≡ old name)
+    → KeepsProgram old new program
+keeps_program old new recorded many program apart others = λ name holds.
+    others name (λ is. of_known (old name) (λ known. known ≢ program) program holds (apart name is)
+    refl) ∙ holds
 
 -- what was written, where what stood before is told of what stood earlier
 pub written_from : (cut : Bool) (recorded : Option Text) (stats : Bool) (report : Report)
-    (told : Status) (outputs : Outputs) (err : Option (List ℕ)) (files : Contents)
+    (told : Status) (outputs : Outputs) (err : Told) (files : Contents)
     → outputs.err_old ≡ err → outputs.files_old ≡ files
     → IsWritten cut recorded stats report told outputs
     → IsWritten cut recorded stats report told

@@ -1,5 +1,5 @@
 -- What many runs leave behind.
-use Rattle.std.proofs.Common.{◌≡◌, ◌+◌, ◌<◌, ◌≤◌, ◌^◌, ℕ, suc, List, ◌++◌, length, Option, Some, true, Bor, inl, inr, sym, subst, arith}
+use Rattle.std.proofs.Common.{◌≡◌, ◌+◌, ◌<◌, ◌≤◌, ◌^◌, ℕ, suc, List, ◌++◌, length, Option, Some, None, Bor, inl, inr, sym, subst, arith}
 use Rattle.std.specs.Prelude.{All, codes, option_map, slice_index_or, IfSome}
 use Rattle.std.specs.Fmt.{decimal}
 use Rattle.std.proofs.Math.Nat.{eq-or-lt_of_le}
@@ -13,8 +13,9 @@ use Rattle.ps_schedules.specs.Texts.{AreEntries, text_of}
 use Rattle.ps_vault.specs.declared.reports.Report.{Report}
 use Rattle.ps_vault.specs.Endings.{AreEndings}
 use Rattle.ps_vault.proofs.Endings.{each_ending}
+use Rattle.ps_run.specs.Telling.{Told}
 use Rattle.ps_run.specs.declared.statuses.Status.{Status}
-use Rattle.ps_run.specs.Driving.{AreWritten, Contents, IsRecorded, IsRecordName, Outputs, numbered}
+use Rattle.ps_run.specs.Driving.{AreRecorded, AreWritten, Contents, IsRecorded, IsRecordName, Outputs, numbered}
 use Rattle.ps_run.proofs.Ranges.{are_entries}
 
 -- names of different numbers differ
@@ -25,21 +26,26 @@ numbered_same prefix a b few less same =
     (append_cancel_left (codes ".") (decimal a) (decimal b)
     (append_cancel_left prefix (codes "." ++ decimal a) (codes "." ++ decimal b) same))
 
--- the first so many have their records
-abbrev pub FirstRecorded : Contents → Text → List Report → (count : ℕ) → Type 0
-FirstRecorded contents prefix endings count =
-    (place : ℕ) (default : Report) → place < count
-    → IsRecorded contents (Some (numbered prefix (place + 1)))
-    (slice_index_or endings place default).schedule.items
+module _ (old new : Contents) (prefix : Text) (endings : List Report) (count : ℕ)
+    (few : length endings < 2 ^ 32) (less : count < length endings)
+    (before : AreRecorded old (Some prefix) endings count)
+    (kept : (other : Text) → ¬ (other ≡ numbered prefix (count + 1)) → new other ≡ old other) where
+  -- they stay when the next is written, or isn't
+  pub recorded_kept : AreRecorded new (Some prefix) endings count
+  recorded_kept = λ place default low.
+      subst (λ (known : Option (List ℕ)). IfSome known (λ bytes.
+      bytes ≡ text_of (slice_index_or endings place default).schedule.items))
+      (sym (kept (numbered prefix (place + 1)) (λ same.
+      let equal = numbered_same prefix (place + 1) (count + 1) (omega (arith, few, less, low))
+      (omega (arith, few, less)) same in
+      omega (arith, equal, low))))
+      (before place default low)
 
-module _ (old new : Contents) (prefix : Text) (endings : List Report) (count : ℕ) where
-  pub recorded_more : length endings < 2 ^ 32 → count < length endings
-      → FirstRecorded old prefix endings count
-      → ((other : Text) → ¬ (other ≡ numbered prefix (count + 1)) → new other ≡ old other)
-      → ((default : Report) → IsRecorded new (Some (numbered prefix (count + 1)))
+  -- and with the next there is one more
+  pub recorded_more : ((default : Report) → IsRecorded new (Some (numbered prefix (count + 1)))
       (slice_index_or endings count default).schedule.items)
-      → FirstRecorded new prefix endings (count + 1)
-  recorded_more few less before kept here = λ place default within.
+      → AreRecorded new (Some prefix) endings (count + 1)
+  recorded_more here = λ place default within.
       elim (eq-or-lt_of_le (let le : suc place ≤ suc count = omega (arith, within) in le)) [
         | inl same ↦
             let at : count ≡ place = omega (arith, same) in
@@ -47,13 +53,7 @@ module _ (old new : Contents) (prefix : Text) (endings : List Report) (count : �
             (slice_index_or endings k default).schedule.items) at (here default)
         | inr less_place ↦
             let low : place < count = omega (arith, less_place) in
-            subst (λ (known : Option (List ℕ)). IfSome known (λ bytes.
-            bytes ≡ text_of (slice_index_or endings place default).schedule.items))
-            (sym (kept (numbered prefix (place + 1)) (λ same.
-            let equal = numbered_same prefix (place + 1) (count + 1) (omega (arith, few, less, low))
-            (omega (arith, few, less)) same in
-            omega (arith, equal, low))))
-            (before place default low)
+            recorded_kept place default low
       ]
 
 -- their schedules can be read again
@@ -69,17 +69,25 @@ endings_entries asks program steps output runs endings few are = λ place defaul
 
 -- what was written, where what stood before is told of what stood earlier
 pub all_written_from : (recorded : Option Text) (runs : ℕ) (endings : List Report) (told : Status)
-    (outputs : Outputs) (err : Option (List ℕ)) (files : Contents) → outputs.err_old ≡ err
+    (outputs : Outputs) (err : Told) (files : Contents) → outputs.err_old ≡ err
     → outputs.files_old ≡ files → AreWritten recorded runs endings told outputs
     → AreWritten recorded runs endings told (record outputs { err_old = err; files_old = files })
 all_written_from recorded runs endings told outputs err files errs all written =
     subst (AreWritten recorded runs endings told)
     (λ i. record outputs { err_old = errs i; files_old = all i }) written
 
--- a name with a number is a record's, where the words give the name
+-- a name with such a number is a record's, where the words give the name
 pub named_record : (given : Option (Bor (List ℕ))) (prefix : Bor (List ℕ)) (name : Text)
-    (number : ℕ) → given ≡ Some prefix → name ≡ numbered prefix.now number
-    → IsRecordName (option_map (λ word. word.now) given) true name
-named_record given prefix name number is same =
-    subst (λ (g : Option (Bor (List ℕ))). IsRecordName (option_map (λ word. word.now) g) true name)
-    (sym is) (number, same)
+    (number count : ℕ) → given ≡ Some prefix → 1 ≤ number → number ≤ count
+    → name ≡ numbered prefix.now number
+    → IsRecordName (option_map (λ word. word.now) given) (Some count) name
+named_record given prefix name number count is some few same =
+    subst (λ (g : Option (Bor (List ℕ))). IsRecordName (option_map (λ word. word.now) g)
+    (Some count) name) (sym is) (number, some, few, same)
+
+-- and it is one of more records
+pub record_fewer : (recorded : Option Text) (few most : ℕ) (name : Text) → few ≤ most
+    → IsRecordName recorded (Some few) name → IsRecordName recorded (Some most) name
+record_fewer None few most name less is = is
+record_fewer (Some prefix) few most name less is =
+    (is.0, is.1, omega (arith, less, is.2), is.3)

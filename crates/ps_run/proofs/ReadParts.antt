@@ -1,7 +1,10 @@
 -- What is read of a file part by part is its beginning.
 use Rattle.std.proofs.Common.{◌≡◌, ◌⊎◌, inl, inr, ℕ, Option, Some, None, List, [], ◌∷◌, ◌++◌, length, arith, refl, sym, ap, subst, ◌∙◌, IfSome, length-append, append_assoc, append-nil}
 use Rattle.ps_run.specs.Driving as driving
+use Rattle.std.specs.Prelude.{⊤}
+use Rattle.clap.specs.Words.{Text}
 use Rattle.ps_run.specs.Parts.{ReadsNext}
+use Rattle.ps_run.specs.Telling.{Tells, Told}
 use Rattle.ps_run.specs.declared.files.ReadFault.{ReadFault}
 use Rattle.ps_run.specs.declared.files.ReadFault.TheVariants as fault
 use Rattle.ps_run.specs.declared.statuses.Status.{Status}
@@ -22,13 +25,25 @@ pub if_mapped : {A : Type 0} (found : Option A) (P Q : A → Type 0)
 if_mapped None P Q gives fact = tt
 if_mapped (Some known) P Q gives fact = gives known fact
 
--- the status of a file that was not read: a fault of a known file is want of memory
-pub unread_status : (why : ReadFault) (found : Option (List ℕ)) (P : List ℕ → Type 0)
-    (told : Status) → told ≡ driving.unread why → IfSome found (λ known. why ≡ fault.Memory)
-    → (told ≡ status.Memory) ⊎ ((told ≡ status.Usage) × IfSome found P)
-unread_status fault.Memory found P told is memory = inl is
-unread_status fault.NoRead None P told is memory = inr (is, tt)
-unread_status fault.NoRead (Some known) P told is memory = inl (is ∙ ap driving.unread memory)
+-- what a file comes to that was not read: a fault of a known file is want of memory
+abbrev pub Comes : (told : Status) → (old new : Told) → (Usage : Type 0) → Type 0
+Comes told old new Usage = ((told ≡ status.Memory) × Tells old new (driving.line_of status.Memory))
+    ⊎ ((told ≡ status.Usage) × Usage)
+
+pub unread_comes : (why : ReadFault) (found : Option (List ℕ)) (P : List ℕ → Type 0)
+    (told : Status) (old new : Told) (name : Text) → told ≡ driving.unread why
+    → Tells old new (driving.unread_lines why name)
+    → IfSome found (λ known. why ≡ fault.Memory) → Comes told old new (IfSome found P)
+unread_comes why (Some known) P told old new name is tells memory = inl (
+  is ∙ ap driving.unread memory,
+  subst (λ (w : ReadFault). Tells old new (driving.unread_lines w name)) memory tells,
+)
+unread_comes why None P told old new name is tells memory = by (driving.reason_of why) is tells
+  where
+    by : (reason : Option (List ℕ)) → told ≡ driving.status_for reason
+        → Tells old new (driving.lines_for reason name) → Comes told old new ⊤
+    by None is tells = inl (is, tells)
+    by (Some reason) is tells = inr (is, tt)
 
 -- so much of a file is read, and the rest is left
 pub record IsReadTo (known read : List ℕ) (left : Option (List ℕ)) : Type 0 where

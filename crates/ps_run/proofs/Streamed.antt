@@ -82,7 +82,7 @@ module _ (asks : world.Status → Around → Scene → acts.Asked) (names : Name
     (IsAsked : Asked → Type 0) (asked : Asked) (outputs : Outputs) (program : List ℕ)
     (before after : Sight) where
   pub begun_or_same : IsAsked asked → asked.explored ≡ None
-      → IsProgramIn outputs.files_old names.file program → before.watching ≡ asked.streamed
+      → IsProgramIn outputs.files_old names program → before.watching ≡ asked.streamed
       → outputs.out_old ≡ before.seen → outputs.out_new ≡ after.seen
       → (before.watching ≡ false → after ≡ before) → HasShownSome program before.seen after
       → (outputs.out_new ≡ outputs.out_old) ⊎ IsBegun asks names IsAsked outputs

@@ -59,20 +59,6 @@ wrote a b (Ok k) n bytes is took =
     subst (λ m. Appends a b (take m bytes)) (let same : k ≡ n = cc in same) took
 wrote a b (Err e) n bytes is took = cc
 
--- bytes that are behind one another
-pub joined_three : (a b c d : Option (List ℕ)) (xs ys zs : List ℕ) → Appends a b xs → Appends b c ys
-    → Appends c d zs → Appends a d (xs ++ (ys ++ zs))
-joined_three a b c d xs ys zs first second third =
-    Appends-trans a b d xs (ys ++ zs) first (Appends-trans b c d ys zs second third)
-
-pub on_ok : {A E : Type 0} {P : Type 0} (r : Result A E) → P → OnOk r P
-on_ok (Ok done) p = p
-on_ok (Err error) p = tt
-
-pub ok_map : {A E : Type 0} {P Q : Type 0} (r : Result A E) → (P → Q) → OnOk r P → OnOk r Q
-ok_map (Ok done) next p = next p
-ok_map (Err error) next p = tt
-
 pub ok_both : {A E : Type 0} (P Q : A → Type 0) (r : Result A E) → IfOk r P → IfOk r Q
     → IfOk r (λ done. P done × Q done)
 ok_both P Q (Ok done) p q = (p, q)

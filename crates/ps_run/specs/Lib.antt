@@ -1,2 +1,3 @@
 pub mod Driving
 pub mod Parts
+pub mod Telling

@@ -1,30 +1,28 @@
 //! A run from the words of a command line to an exit status.
 
-ghost use Rattle.std.specs.Prelude.{◌≡◌, ◌≢◌, ◌⊎◌, [], is_some, ℕ, List, true, false, Some, map, IfSome, None, codes};
-ghost use Rattle.ps_options.specs.CommandLine.{faults_in, named_in};
-ghost use Rattle.clap.specs.Values.{kind_of};
+ghost use Rattle.std.specs.Prelude.{◌≡◌, ◌≢◌, ◌⊎◌, [], ℕ, List, Option, true, false, map, IfSome, None, codes};
+ghost use Rattle.ps_options.specs.CommandLine.{IsOptional, faults_in, named_in};
 ghost use Rattle.ps_vault.specs.Reports.{IsWithin};
 ghost use Rattle.ps_run.specs.Driving as driving;
-ghost use Rattle.ps_run.specs.Driving.{AreAsked, AreOutOfRange, HasNoSchedule, IsDriven, IsRecordName, IsTooLong, asked_of, config_in, names_in, names_of};
+ghost use Rattle.ps_run.specs.Driving.{AreAsked, AreOutOfRange, IsDriven, IsFileFault, IsRecordName, IsUnread, asked_of, config_in, names_in, names_of};
 
 use crate::exploring::explore;
 use crate::files::FileSet;
 use crate::finishing::finish;
+use crate::keeping::keep_program;
 use crate::making::{config_of, make};
-use crate::outputs::Flushing;
+use crate::outputs::{Flushing, Telling};
 use crate::reading::{read_given, read_program};
 use crate::statuses::{Status, end, number_of};
 use crate::streams::{output_of, screen_of};
-use clap::Error;
-use clap::error::ErrorKind;
+use crate::telling::refuse;
 use ps_interpreter::interprets::Interpret;
-use ps_options::{Options, no_text, parse};
+use ps_options::{Options, parse};
 use ps_vault::{RunFault, Watched};
 use ps_workers::Job;
 use ps_world::deeds::Deeds;
 use std::alloc::Global;
 use std::hash::RandomState;
-use std::io::Write;
 use std::sync::Wait;
 use std::thread::Threads;
 
@@ -45,8 +43,9 @@ use std::thread::Threads;
 /// before the run or in it. Of many runs it is 0 where all ended alike, and 1 where they did not.
 /// With 2 the output has a beginning of what was printed, which is nothing where the words or a file
 /// that is read were at fault, and all of it where the record can't be written. After a run whose
-/// output took everything the output is flushed. A write to `err` that fails changes nothing else.
-/// No file changes but that of the record.
+/// output took everything the output is flushed. A write to `err` that fails changes nothing else, but
+/// that nothing more is told. No file changes but that of the record, and none that holds the
+/// program.
 ///
 /// Where the words ask for a stream, the output may be handed printed bytes while the run goes on,
 /// and is flushed behind them. If it fails then, the run is cut: it ends with 2, and is one with
@@ -59,7 +58,7 @@ pub fn drive<
     D: Deeds + Clone + Drop + Send,
     F: FileSet,
     W: Flushing + Drop + Send,
-    X: Write,
+    X: Telling,
     R: Threads + Wait + Sync,
 >(
     rt: &R,
@@ -76,29 +75,31 @@ pub fn drive<
         → ((result.0 ≡ 2) ⊎ (result.0 ≡ 5)) × (W.contents result.1 ≡ W.contents out)
         × (files.new ≡ files.old) }
     ensures files { (name : List ℕ)
-        → ¬ IsRecordName (named_in (codes "record") (map (λ word. word.now) words.now))
-        (is_some (named_in (codes "explore") (map (λ word. word.now) words.now))) name
+        → ((many : Option ℕ)
+        → IsOptional (codes "explore") (map (λ word. word.now) words.now) many
+        → ¬ IsRecordName (named_in (codes "record") (map (λ word. word.now) words.now)) many name)
         → F.contents files.new name ≡ F.contents files.old name }
     ensures unread { F.last_fault files.old ≡ None
-        → IfSome (F.last_fault files.new)
-        (λ fault. result.0 ≡ driving.number_of (driving.unread fault)) }
+        → IfSome (F.last_fault files.new) (λ fault. (told : Status)
+        × (result.0 ≡ driving.number_of told)
+        × IsUnread (names_in (map (λ word. word.now) words.now)) fault told
+        (X.told err.old) (X.told err.new)) }
     ensures unwritten { F.is_unwritten files.old ≡ false → F.is_unwritten files.new ≡ true
         → result.0 ≡ 2 }
     ensures run { (told : Status) × (result.0 ≡ driving.number_of told)
         × IsDriven S.asks (names_in (map (λ word. word.now) words.now))
         (AreAsked (map (λ word. word.now) words.now))
         ((faults_in (map (λ word. word.now) words.now) ≢ [])
-        ⊎ (IsTooLong
-        (F.contents files.old (names_in (map (λ word. word.now) words.now)).file)
-        ⊎ (HasNoSchedule (F.contents files.old)
-        (names_in (map (λ word. word.now) words.now)).replayed (X.contents err.old)
-        (X.contents err.new)
-        ⊎ AreOutOfRange (map (λ word. word.now) words.now)))) told
+        ⊎ (((many : Option ℕ)
+        × IsOptional (codes "explore") (map (λ word. word.now) words.now) many
+        × IsFileFault (F.contents files.old) (names_in (map (λ word. word.now) words.now)) many
+        (X.told err.old) (X.told err.new))
+        ⊎ AreOutOfRange (map (λ word. word.now) words.now))) told
         (record {
           out_old = W.contents out;
           out_new = W.contents result.1;
-          err_old = X.contents err.old;
-          err_new = X.contents err.new;
+          err_old = X.told err.old;
+          err_new = X.told err.new;
           files_old = F.contents files.old;
           files_new = F.contents files.new;
           flushed = W.is_flushed result.1;
@@ -119,31 +120,8 @@ pub fn drive<
                 (number_of(status), out)
             }
         },
-        Err(error) => (number_of(refuse(&error, err)), out),
+        Err(error) => (number_of(refuse(alloc, &error, err)), out),
     }
-}
-
-/// Tells that the words of a command line are no text, and gives the exit status: 2, or 5 where there
-/// is no memory to tell it.
-pub fn refuse_no_text<X: Write>(alloc: Global, err: &mut X) -> u8
-    ensures { (result ≡ 2) ⊎ (result ≡ 5) }
-{
-    match no_text(alloc) {
-        Ok(error) => number_of(refuse(&error, err)),
-        Err(_) => number_of(end(err, Status::Memory)),
-    }
-}
-
-/// Tells why the words were not read: a fault of theirs, or want of memory.
-fn refuse<X: Write>(error: &Error, err: &mut X) -> Status
-    ensures { (result ≡ Status.Memory)
-        ⊎ ((result ≡ Status.Usage) × ¬ (kind_of error.now ≡ ErrorKind.OutOfMemory)) }
-{
-    if error.kind() == ErrorKind::OutOfMemory {
-        return end(err, Status::Memory);
-    }
-    let _ = write!(err, "{error}");
-    Status::Usage
 }
 
 /// Reads the program, and the schedule where one is named, makes the steps and writes what they
@@ -153,7 +131,7 @@ fn run<
     D: Deeds + Drop + Send,
     F: FileSet,
     W: Flushing + Drop + Send,
-    X: Write,
+    X: Telling,
     R: Threads + Wait + Sync,
 >(
     rt: &R,
@@ -167,32 +145,35 @@ fn run<
     err: &mut X,
 ) -> (Status, W)
     requires single { options.now.explore ≡ None }
-    ensures files { (name : List ℕ) → ¬ IsRecordName (names_of options.now).recorded false name
+    ensures files { (name : List ℕ) → ¬ IsRecordName (names_of options.now).recorded None name
         → F.contents files.new name ≡ F.contents files.old name }
     ensures unread { F.last_fault files.old ≡ None
-        → IfSome (F.last_fault files.new) (λ fault. result.0 ≡ driving.unread fault) }
+        → IfSome (F.last_fault files.new) (λ fault. IsUnread (names_of options.now) fault result.0
+        (X.told err.old) (X.told err.new)) }
     ensures unwritten { F.is_unwritten files.old ≡ false → F.is_unwritten files.new ≡ true
         → result.0 ≡ Status.Usage }
     ensures run { IsDriven S.asks (names_of options.now)
         (λ asked. asked ≡ asked_of options.now)
-        (IsTooLong (F.contents files.old (names_of options.now).file)
-        ⊎ (HasNoSchedule (F.contents files.old) (names_of options.now).replayed
-        (X.contents err.old) (X.contents err.new)
-        ⊎ ¬ IsWithin (config_in options.now)))
+        (IsFileFault (F.contents files.old) (names_of options.now) options.now.explore
+        (X.told err.old) (X.told err.new) ⊎ ¬ IsWithin (config_in options.now))
         result.0 (record {
           out_old = W.contents out;
           out_new = W.contents result.1;
-          err_old = X.contents err.old;
-          err_new = X.contents err.new;
+          err_old = X.told err.old;
+          err_new = X.told err.new;
           files_old = F.contents files.old;
           files_new = F.contents files.new;
           flushed = W.is_flushed result.1;
         }) }
 {
-    let program = match read_program(alloc, options.file, files, err) {
+    let program = match read_program(alloc, options, files, err) {
         Ok(program) => program,
         Err(status) => return (status, out),
     };
+    let bytes = program.as_slice();
+    if let Err(status) = keep_program(alloc, options, bytes, files, err) {
+        return (status, out);
+    }
     let given = match read_given(alloc, options, files, err) {
         Ok(given) => given,
         Err(status) => return (status, out),
@@ -200,7 +181,7 @@ fn run<
     let job = Job {
         interpret,
         deeds,
-        program: program.as_slice(),
+        program: bytes,
         config: config_of(options),
         keys,
     };

@@ -1,25 +1,24 @@
 //! What is written at the end of many runs: the bytes that the first printed, a record of each
 //! ending, and how many there were.
 
-ghost use Rattle.std.specs.Prelude.{◌≡◌, ◌≤◌, ◌<◌, ◌^◌, ℕ, Bool, false, true, List, Some, Err, length, IsSome, OnOk, OnErr, IfErr};
-ghost use Rattle.std.specs.Io.KnownBytes.{Appends};
-ghost use Rattle.ps_vault.specs.Screens.{AppendsPart};
+ghost use Rattle.std.specs.Prelude.{◌≡◌, ◌≤◌, ◌<◌, ◌^◌, ℕ, Bool, false, true, List, Some, Err, length, option_map, ◌+◌, OnOk, IfErr};
 ghost use Rattle.ps_run.specs.Driving as driving;
-ghost use Rattle.ps_run.specs.Driving.{AreRecorded, AreWritten, IsRecorded, IsRecordName, IsUnwritten, names_of, numbered};
+ghost use Rattle.ps_run.specs.Driving.{AreRecorded, AreUnrecorded, AreWritten, IsRecorded, IsRecordName, TellsUnwritten, names_of, numbered};
+ghost use Rattle.ps_run.specs.Telling.{Tells};
 
 use crate::files::FileSet;
-use crate::finishing::write_schedule;
-use crate::outputs::Flushing;
+use crate::finishing::{tell_lost, write_schedule};
+use crate::outputs::{Flushing, Telling};
 use crate::statuses::{Status, end};
-use crate::writing::{hand_out, write_number};
+use crate::writing::{hand_out, tell_number};
 use ps_options::Options;
-use ps_vault::{Entry, Report};
+use ps_schedules::Entries;
+use ps_vault::Report;
 use std::alloc::Global;
-use std::io::{self, Write};
 
 /// Writes what the first of these endings printed, then the record of each where that is asked for,
 /// then how many runs and endings there were.
-pub(crate) fn finish_all<F: FileSet, W: Flushing, X: Write>(
+pub(crate) fn finish_all<F: FileSet, W: Flushing, X: Telling>(
     alloc: Global,
     endings: &[Report],
     runs: u32,
@@ -30,7 +29,8 @@ pub(crate) fn finish_all<F: FileSet, W: Flushing, X: Write>(
 ) -> Status
     requires some { 1 ≤ length endings.now }
     requires few { length endings.now < 2 ^ 32 }
-    ensures others { (other : List ℕ) → ¬ IsRecordName (names_of options.now).recorded true other
+    ensures others { (other : List ℕ) → ¬ IsRecordName (names_of options.now).recorded
+        (Some (length endings.now)) other
         → F.contents files.new other ≡ F.contents files.old other }
     ensures reads { F.last_fault files.new ≡ F.last_fault files.old }
     ensures unwritten { F.is_unwritten files.old ≡ false → F.is_unwritten files.new ≡ true
@@ -39,21 +39,20 @@ pub(crate) fn finish_all<F: FileSet, W: Flushing, X: Write>(
         endings.now result (record {
           out_old = W.contents out.old;
           out_new = W.contents out.new;
-          err_old = X.contents err.old;
-          err_new = X.contents err.new;
+          err_old = X.told err.old;
+          err_new = X.told err.new;
           files_old = F.contents files.old;
           files_new = F.contents files.new;
           flushed = W.is_flushed out.new;
         }) }
 {
     if hand_out(out, endings[0].printed.as_slice()).is_err() {
-        let _ = writeln!(err, "dpsrun: cannot write output");
-        return Status::Usage;
+        return tell_lost(err);
     }
     if let Err(status) = record_all(alloc, endings, options, files, err) {
         return status;
     }
-    let _ = tell_endings(runs, endings.len(), err);
+    tell_endings(runs, endings.len(), err);
     if endings.len() == 1 {
         Status::Finished
     } else {
@@ -63,8 +62,8 @@ pub(crate) fn finish_all<F: FileSet, W: Flushing, X: Write>(
 
 /// Writes the texts of the endings' schedules to files by their numbers, if they are asked for.
 /// Where one can't be written, or memory is wanted, that is told, and the status is the error;
-/// those before it are written then.
-fn record_all<F: FileSet, X: Write>(
+/// those before it are written then, and no more.
+fn record_all<F: FileSet, X: Telling>(
     alloc: Global,
     endings: &[Report],
     options: &Options<'_>,
@@ -73,11 +72,15 @@ fn record_all<F: FileSet, X: Write>(
 ) -> Result<(), Status>
     requires few { length endings.now < 2 ^ 32 }
     ensures recorded { OnOk result (AreRecorded (F.contents files.new)
-        (names_of options.now).recorded endings.now) }
+        (names_of options.now).recorded endings.now (length endings.now)) }
     ensures told { OnOk result (err.new ≡ err.old) }
-    ensures asked { OnErr result (IsSome (names_of options.now).recorded) }
-    ensures status { IfErr result IsUnwritten }
-    ensures others { (other : List ℕ) → ¬ IsRecordName (names_of options.now).recorded true other
+    ensures unrecorded { IfErr result (λ told. (place : ℕ) × (place < length endings.now)
+        × AreRecorded (F.contents files.new) (names_of options.now).recorded endings.now place
+        × TellsUnwritten
+        (option_map (λ prefix. numbered prefix (place + 1)) (names_of options.now).recorded)
+        told (X.told err.old) (X.told err.new)) }
+    ensures others { (other : List ℕ) → ¬ IsRecordName (names_of options.now).recorded
+        (Some (length endings.now)) other
         → F.contents files.new other ≡ F.contents files.old other }
     ensures reads { F.last_fault files.new ≡ F.last_fault files.old }
     ensures unwritten { F.is_unwritten files.old ≡ false → F.is_unwritten files.new ≡ true
@@ -88,7 +91,7 @@ fn record_all<F: FileSet, X: Write>(
     };
     let mut number = 0;
     while number < endings.len() {
-        let schedule = endings[number].schedule.as_slice();
+        let schedule = endings[number].schedule.entries();
         record_ending(alloc, prefix, number as u64 + 1, schedule, files, err)?;
         number += 1;
     }
@@ -97,18 +100,19 @@ fn record_all<F: FileSet, X: Write>(
 
 /// Writes the text of an ending's schedule to the file of its number. Where it can't be written, or
 /// memory is wanted, that is told, and the status is the error.
-fn record_ending<F: FileSet, X: Write>(
+fn record_ending<F: FileSet, X: Telling>(
     alloc: Global,
     prefix: &str,
     number: u64,
-    schedule: &[Entry],
+    schedule: Entries<'_>,
     files: &mut F,
     err: &mut X,
 ) -> Result<(), Status>
     ensures recorded { OnOk result (IsRecorded (F.contents files.new)
-        (Some (numbered prefix.now number)) schedule.now) }
+        (Some (numbered prefix.now number)) schedule.entry) }
     ensures told { OnOk result (err.new ≡ err.old) }
-    ensures status { IfErr result IsUnwritten }
+    ensures unrecorded { IfErr result (λ told.
+        TellsUnwritten (Some (numbered prefix.now number)) told (X.told err.old) (X.told err.new)) }
     ensures others { (other : List ℕ) → ¬ (other ≡ numbered prefix.now number)
         → F.contents files.new other ≡ F.contents files.old other }
     ensures reads { F.last_fault files.new ≡ F.last_fault files.old }
@@ -122,12 +126,10 @@ fn record_ending<F: FileSet, X: Write>(
     write_schedule(alloc, name.as_str(), schedule, files, err)
 }
 
-/// Writes how many runs and endings there were. Fails where a write fails; a beginning is written
-/// then.
-fn tell_endings<X: Write>(runs: u32, endings: usize, err: &mut X) -> io::Result<()>
-    ensures { AppendsPart (X.contents err.old) (X.contents err.new)
-        (driving.ending_lines runs endings) }
+/// Tells how many runs and endings there were.
+fn tell_endings<X: Telling>(runs: u32, endings: usize, err: &mut X)
+    ensures { Tells (X.told err.old) (X.told err.new) (driving.ending_lines runs endings) }
 {
-    write_number(err, b"runs ", u64::from(runs))?;
-    write_number(err, b"endings ", endings as u64)
+    tell_number(err, b"runs ", u64::from(runs));
+    tell_number(err, b"endings ", endings as u64);
 }

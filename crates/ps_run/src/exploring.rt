@@ -3,22 +3,22 @@
 ghost use Rattle.std.specs.Prelude.{◌≡◌, ◌≤◌, ◌⊎◌, ℕ, List, true, false, Some, None, IfSome};
 ghost use Rattle.ps_vault.specs.Reports.{IsWithin};
 ghost use Rattle.ps_run.specs.Driving as driving;
-ghost use Rattle.ps_run.specs.Driving.{HasNoSchedule, IsDriven, IsRecordName, IsTooLong, asked_of, config_in, names_of};
+ghost use Rattle.ps_run.specs.Driving.{IsDriven, IsFileFault, IsRecordName, IsUnread, asked_of, config_in, names_of};
 
 use crate::chances::Chances;
 use crate::endings::finish_all;
 use crate::files::FileSet;
+use crate::keeping::keep_program;
 use crate::making::config_of;
-use crate::outputs::Flushing;
+use crate::outputs::{Flushing, Telling};
 use crate::reading::read_program;
 use crate::statuses::{Status, end};
 use ps_interpreter::interprets::Interpret;
 use ps_options::Options;
-use ps_vault::Setup;
+use ps_vault::{Budget, Setup};
 use ps_world::deeds::Deeds;
 use std::alloc::Global;
 use std::hash::RandomState;
-use std::io::Write;
 
 /// Reads the program, runs it so many times, at least once, and writes what the first run printed,
 /// the record of each ending where that is asked for, and how many endings there were.
@@ -27,7 +27,7 @@ pub(crate) fn explore<
     D: Deeds + Clone + Drop,
     F: FileSet,
     W: Flushing,
-    X: Write,
+    X: Telling,
 >(
     alloc: Global,
     interpret: &S,
@@ -41,40 +41,46 @@ pub(crate) fn explore<
 ) -> Status
     requires some { 1 ≤ runs }
     requires many { options.now.explore ≡ Some runs }
-    ensures files { (name : List ℕ) → ¬ IsRecordName (names_of options.now).recorded true name
+    ensures files { (name : List ℕ) → ¬ IsRecordName (names_of options.now).recorded (Some runs) name
         → F.contents files.new name ≡ F.contents files.old name }
     ensures unread { F.last_fault files.old ≡ None
-        → IfSome (F.last_fault files.new) (λ fault. result ≡ driving.unread fault) }
+        → IfSome (F.last_fault files.new) (λ fault. IsUnread (names_of options.now) fault result
+        (X.told err.old) (X.told err.new)) }
     ensures unwritten { F.is_unwritten files.old ≡ false → F.is_unwritten files.new ≡ true
         → result ≡ Status.Usage }
     ensures run { IsDriven S.asks (names_of options.now)
         (λ asked. asked ≡ asked_of options.now)
-        (IsTooLong (F.contents files.old (names_of options.now).file)
-        ⊎ (HasNoSchedule (F.contents files.old) (names_of options.now).replayed
-        (X.contents err.old) (X.contents err.new)
-        ⊎ ¬ IsWithin (config_in options.now)))
+        (IsFileFault (F.contents files.old) (names_of options.now) options.now.explore
+        (X.told err.old) (X.told err.new) ⊎ ¬ IsWithin (config_in options.now))
         result (record {
           out_old = W.contents out.old;
           out_new = W.contents out.new;
-          err_old = X.contents err.old;
-          err_new = X.contents err.new;
+          err_old = X.told err.old;
+          err_new = X.told err.new;
           files_old = F.contents files.old;
           files_new = F.contents files.new;
           flushed = W.is_flushed out.new;
         }) }
 {
-    let program = match read_program(alloc, options.file, files, err) {
+    let program = match read_program(alloc, options, files, err) {
         Ok(program) => program,
         Err(status) => return status,
     };
+    let bytes = program.as_slice();
+    if let Err(status) = keep_program(alloc, options, bytes, files, err) {
+        return status;
+    }
     let config = config_of(options);
     let mut order = Chances::new(config.quantum);
     match ps_vault::explore(
         alloc,
         interpret,
         deeds,
-        program.as_slice(),
-        config.steps,
+        bytes,
+        Budget {
+            steps: config.steps,
+            entries: config.entries,
+        },
         runs,
         Setup {
             keys,

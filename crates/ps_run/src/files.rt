@@ -1,19 +1,57 @@
 //! The files that the program reads and writes, by name.
 
-ghost use Rattle.std.specs.Prelude.{◌≡◌, ◌≢◌, ◌≤◌, ℕ, Bool, true, List, Option, Some, None, OnOk, OnErr, IfErr, IfSome};
+ghost use Rattle.std.specs.Prelude.{◌≡◌, ◌≢◌, ◌≤◌, ℕ, Bool, true, List, Option, Some, None, OnOk, OnErr, IfErr, IfSome, option_map};
+ghost use Rattle.ps_run.specs.Driving as driving;
 
+use std::fmt;
 use thiserror::Error;
 
 /// The most bytes of a program file.
 pub const MOST_PROGRAM_BYTES: usize = 16_777_215;
 
 /// Why a file was not read.
-#[derive(Clone, Copy, Debug, PartialEq, Eq, Error)]
+#[derive(Clone, Copy, Debug, PartialEq, Eq)]
 pub enum ReadFault {
-    #[error("the file can't be read")]
+    /// No file has the name.
+    NotFound,
+    /// It is a folder.
+    Folder,
+    /// The name is empty.
+    Nameless,
+    /// It may not be read.
+    Denied,
+    /// It has more bytes than a program may.
+    TooLong,
+    /// It can't be opened, or a read fails, for another reason.
     NoRead,
-    #[error("out of memory")]
+    /// Memory is wanted for its bytes.
     Memory,
+}
+
+impl ReadFault {
+    /// What is said of the file; nothing, where memory is wanted.
+    pub fn reason(self) -> Option<&'static str>
+        ensures { option_map (λ reason. reason.now) result ≡ driving.reason_of self }
+    {
+        match self {
+            ReadFault::NotFound => Some("does not exist"),
+            ReadFault::Folder => Some("is a folder"),
+            ReadFault::Nameless => Some("is an empty name"),
+            ReadFault::Denied => Some("may not be read"),
+            ReadFault::TooLong => Some("is longer than 16777215 bytes"),
+            ReadFault::NoRead => Some("can't be opened or read"),
+            ReadFault::Memory => None,
+        }
+    }
+}
+
+impl fmt::Display for ReadFault {
+    fn fmt<W: fmt::Write>(&self, f: &mut fmt::Formatter<W>) -> fmt::Result {
+        match self.reason() {
+            Some(reason) => write!(f, "the file {reason}"),
+            None => f.write_str("out of memory"),
+        }
+    }
 }
 
 /// Why a file was not written.
@@ -27,6 +65,7 @@ pub enum WriteFault {
 pub trait FileSet {
     ghost use Rattle.ps_run.specs.declared.files.ReadFault.{ReadFault};
     ghost use Rattle.ps_run.specs.Parts.{ReadsNext};
+    ghost use Rattle.std.specs.Str.{bytes_eq};
 
     /// The bytes of the file of a name, where they are known: of the system's files they are not.
     ghost contents: { Self → List ℕ → Option (List ℕ) } = { λ _ _. None };
@@ -63,6 +102,12 @@ pub trait FileSet {
         ensures failed { IfErr result (λ fault. last_fault self.new ≡ Some fault) }
         ensures succeeded { OnOk result (last_fault self.new ≡ last_fault self.old) }
         ensures writes { is_unwritten self.new ≡ is_unwritten self.old };
+
+    /// Whether the file of a name has these bytes and no others. False where there is none, and where
+    /// that can't be told.
+    fn holds(&self, name: &str, bytes: &[u8]) -> bool
+        ensures { IfSome (contents self.now name.now)
+            (λ known. result ≡ bytes_eq known bytes.now) };
 
     /// Makes a file of these bytes, in the place of any that has the name. No other file changes.
     fn write(&mut self, name: &str, bytes: &[u8]) -> Result<(), WriteFault>

@@ -8,6 +8,10 @@
 //!   what `write_all` wrote before it failed.
 //! - `Flushing` tells whether all was handed on; `Flushed` makes one of any output, and that it
 //!   flushes the output below is for a reader to see.
+//! - What standard error is told goes through `Telling`, which remembers whether a write failed. So
+//!   clauses say that a line is told whole, unless one did; behind that nothing more is told.
+//! - The names of a program's file are compared in the words, and what files hold before anything is
+//!   written (`keep_program`): a link, another path or standard input have other names.
 //! - A file set remembers why a read failed and that a write did (`last_fault`, `is_unwritten`), so
 //!   that clauses tie the status to it.
 //! - The record is written whole, behind the printed bytes, so no file has half a record by our
@@ -32,13 +36,16 @@ mod endings;
 mod exploring;
 mod files;
 mod finishing;
+mod keeping;
 mod making;
 mod outputs;
 mod reading;
 mod statuses;
 mod streams;
+mod telling;
 mod writing;
 
-pub use driver::{drive, refuse_no_text};
+pub use driver::drive;
 pub use files::{FileSet, MOST_PROGRAM_BYTES, ReadFault, WriteFault};
-pub use outputs::{Flushed, Flushing};
+pub use outputs::{ErrorOutput, Flushed, Flushing, Telling};
+pub use telling::refuse_no_text;

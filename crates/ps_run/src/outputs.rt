@@ -1,9 +1,11 @@
-//! Outputs that tell whether all that they took was flushed.
+//! Outputs that tell whether all that they took was flushed, or whether they took all that they were
+//! told.
 
 ghost use Rattle.std.specs.Prelude.{◌≡◌, Bool, true, false, OnOk};
 ghost use Rattle.std.specs.Io.{WritesAtMost};
 ghost use Rattle.std.specs.Io.KnownBytes.{WriteAppends, Keeps};
 
+use crate::writing::write_part;
 use std::io::{self, Write};
 
 /// An output that can be flushed, and remembers whether it is.
@@ -73,5 +75,56 @@ impl<W: Write> Flushing for Flushed<W> {
 
     fn hand_on(&mut self) -> io::Result<()> {
         self.flush()
+    }
+}
+
+/// An output for lines of text, which remembers whether it did not take one whole. From then on it is
+/// left alone.
+pub trait Telling {
+    ghost use Rattle.ps_run.specs.Telling.{Tells, Told};
+
+    /// The bytes that it holds, where they are known, and whether it did not take all.
+    ghost told: { Self → Told };
+
+    /// Writes a text, or as much of it as the output takes.
+    fn tell(&mut self, text: &[u8])
+        ensures { Tells (told self.old) (told self.new) text.now };
+}
+
+/// Any output, with a note of whether a write to it failed.
+#[derive(Drop)]
+pub struct ErrorOutput<X: Write> {
+    output: X,
+    failed: bool,
+}
+
+impl<X: Write> ErrorOutput<X> {
+    /// An output to which no write has failed yet.
+    pub fn new(output: X) -> ErrorOutput<X>
+        ensures output { result.output ≡ output }
+        ensures not_yet { result.failed ≡ false }
+    {
+        ErrorOutput {
+            output,
+            failed: false,
+        }
+    }
+
+    /// The output itself.
+    pub fn into_inner(self) -> X
+        ensures { result ≡ self.output }
+    {
+        let ErrorOutput { output, .. } = self;
+        output
+    }
+}
+
+impl<X: Write> Telling for ErrorOutput<X> {
+    ghost told = { λ out. record { bytes = X.contents out.output; failed = out.failed } };
+
+    fn tell(&mut self, text: &[u8]) {
+        if !self.failed && write_part(&mut self.output, text).is_err() {
+            self.failed = true;
+        }
     }
 }

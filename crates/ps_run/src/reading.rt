@@ -1,19 +1,20 @@
 //! The files that a run is made of: the program's, and that of a schedule to follow, whose lines are
 //! judged while they are read.
 
-ghost use Rattle.std.specs.Prelude.{◌≡◌, ◌≢◌, ◌⊎◌, ◌≤◌, ℕ, Some, None, Ok, Err, OnOk, IfOk, IfErr, IfSome, option_map, vec_len};
+ghost use Rattle.std.specs.Prelude.{◌≡◌, ◌≢◌, ◌⊎◌, ◌≤◌, ℕ, Some, None, Ok, Err, OnOk, IfOk, IfErr, IfSome, option_map, vec_len, ◌<◌, codes, length};
 ghost use Rattle.ps_schedules.specs.Texts.{AreEntries, IsBadAt, text_of};
 ghost use Rattle.ps_run.specs.Driving as driving;
-ghost use Rattle.ps_run.specs.Driving.{HasNoSchedule, IsGiven, IsTooLong, most_program_bytes, names_of};
+ghost use Rattle.ps_run.specs.Driving.{HasNoProgram, HasNoSchedule, IsGiven, IsProgramIn, IsTooLong, IsUnread, most_program_bytes, names_of};
+ghost use Rattle.ps_run.specs.Telling.{Tells};
 
 use crate::files::{FileSet, MOST_PROGRAM_BYTES, ReadFault};
+use crate::outputs::Telling;
 use crate::statuses::{Status, end};
-use crate::writing::write_number;
-use ps_options::Options;
+use crate::writing::tell_number;
+use ps_options::{Options, Source};
 use ps_schedules::{ScheduleFault, read_entries};
 use ps_vault::Entry;
 use std::alloc::Global;
-use std::io::Write;
 
 /// The most bytes that are read at a time.
 const PART_BYTES: usize = 65_536;
@@ -25,17 +26,32 @@ enum NoSchedule {
     Bad(ScheduleFault),
 }
 
-/// Tells why a file was not read, and gives the status.
-fn tell_unread<X: Write>(fault: ReadFault, name: &str, err: &mut X) -> Status
-    ensures { result ≡ driving.unread fault }
+/// Tells why a file was not read, and that it was not, and gives the status.
+fn tell_unread<X: Telling>(fault: ReadFault, name: &str, err: &mut X) -> Status
+    ensures status { result ≡ driving.unread fault }
+    ensures told { Tells (X.told err.old) (X.told err.new)
+        (driving.unread_lines fault name.now) }
 {
-    match fault {
-        ReadFault::Memory => end(err, Status::Memory),
-        ReadFault::NoRead => {
-            let _ = writeln!(err, "dpsrun: cannot read {name}");
-            Status::Usage
-        }
-    }
+    let Some(reason) = fault.reason() else {
+        return end(err, Status::Memory);
+    };
+    tell_reason(reason, name, err);
+    err.tell(b"dpsrun: cannot read ");
+    err.tell(name.as_bytes());
+    err.tell(b"\n");
+    Status::Usage
+}
+
+/// Tells what is to be said of a file.
+fn tell_reason<X: Telling>(reason: &str, name: &str, err: &mut X)
+    ensures { Tells (X.told err.old) (X.told err.new)
+        (driving.reason_line reason.now name.now) }
+{
+    err.tell(b"dpsrun: '");
+    err.tell(name.as_bytes());
+    err.tell(b"' ");
+    err.tell(reason.as_bytes());
+    err.tell(b"\n");
 }
 
 /// The bytes of the file that is open; none where it has more than a program may. Fails where they
@@ -70,9 +86,58 @@ fn read_whole<F: FileSet>(alloc: Global, files: &mut F) -> Result<Option<Vec<u8>
     Err(ReadFault::Memory)
 }
 
+/// The bytes of the program, at most 16,777,215: its text, or those of its file. Where they can't be
+/// had that is told, and the status is the error.
+pub(crate) fn read_program<F: FileSet, X: Telling>(
+    alloc: Global,
+    options: &Options<'_>,
+    files: &mut F,
+    err: &mut X,
+) -> Result<Vec<u8>, Status>
+    ensures program { IfOk result
+        (λ bytes. IsProgramIn (F.contents files.old) (names_of options.now) bytes.items) }
+    ensures told { OnOk result (err.new ≡ err.old) }
+    ensures kept { F.contents files.new ≡ F.contents files.old }
+    ensures succeeded { OnOk result (F.last_fault files.new ≡ F.last_fault files.old) }
+    ensures writes { F.is_unwritten files.new ≡ F.is_unwritten files.old }
+    ensures unread { F.last_fault files.old ≡ None → IfErr result
+        (λ told. IfSome (F.last_fault files.new) (λ fault. IsUnread (names_of options.now) fault told
+        (X.told err.old) (X.told err.new))) }
+    ensures fault { IfErr result (λ told. ((told ≡ Status.Memory)
+        × Tells (X.told err.old) (X.told err.new) (driving.line_of Status.Memory))
+        ⊎ ((told ≡ Status.Usage) × HasNoProgram (F.contents files.old) (names_of options.now)
+        (X.told err.old) (X.told err.new))) }
+{
+    match options.source {
+        Source::File(name) => read_file(alloc, name, files, err),
+        Source::Text(text) => copy_text(alloc, text, err),
+    }
+}
+
+/// The bytes of a text that is a program. Where it is too long, or memory is wanted, that is told, and
+/// the status is the error.
+fn copy_text<X: Telling>(alloc: Global, text: &str, err: &mut X) -> Result<Vec<u8>, Status>
+    ensures few { IfOk result (λ bytes. vec_len bytes ≤ most_program_bytes) }
+    ensures bytes { IfOk result (λ bytes. bytes.items ≡ text.now) }
+    ensures told { OnOk result (err.new ≡ err.old) }
+    ensures fault { IfErr result (λ told. ((told ≡ Status.Memory)
+        × Tells (X.told err.old) (X.told err.new) (driving.line_of Status.Memory))
+        ⊎ ((told ≡ Status.Usage) × ((most_program_bytes < length text.now)
+        × Tells (X.told err.old) (X.told err.new)
+        (driving.unread_lines ReadFault.TooLong (codes "-e"))))) }
+{
+    if text.len() > MOST_PROGRAM_BYTES {
+        return Err(tell_unread(ReadFault::TooLong, "-e", err));
+    }
+    match Vec::from_slice(alloc, text.as_bytes()) {
+        Ok(bytes) => Ok(bytes),
+        Err(_) => Err(end(err, Status::Memory)),
+    }
+}
+
 /// The bytes of the program's file, of at most 16,777,215. Where they can't be read that is told,
 /// and the status is the error.
-pub(crate) fn read_program<F: FileSet, X: Write>(
+fn read_file<F: FileSet, X: Telling>(
     alloc: Global,
     name: &str,
     files: &mut F,
@@ -86,16 +151,21 @@ pub(crate) fn read_program<F: FileSet, X: Write>(
     ensures succeeded { OnOk result (F.last_fault files.new ≡ F.last_fault files.old) }
     ensures writes { F.is_unwritten files.new ≡ F.is_unwritten files.old }
     ensures unread { F.last_fault files.old ≡ None → IfErr result
-        (λ told. IfSome (F.last_fault files.new) (λ fault. told ≡ driving.unread fault)) }
-    ensures fault { IfErr result (λ told. (told ≡ Status.Memory)
-        ⊎ ((told ≡ Status.Usage) × IsTooLong (F.contents files.old name.now))) }
+        (λ told. IfSome (F.last_fault files.new) (λ fault. (told ≡ driving.unread fault)
+        × Tells (X.told err.old) (X.told err.new) (driving.unread_lines fault name.now))) }
+    ensures fault { IfErr result (λ told. ((told ≡ Status.Memory)
+        × Tells (X.told err.old) (X.told err.new) (driving.line_of Status.Memory))
+        ⊎ ((told ≡ Status.Usage) × IfSome (F.contents files.old name.now)
+        (λ known. (most_program_bytes < length known)
+        × Tells (X.told err.old) (X.told err.new)
+        (driving.unread_lines ReadFault.TooLong name.now)))) }
 {
     if let Err(fault) = files.open(name) {
         return Err(tell_unread(fault, name, err));
     }
     match read_whole(alloc, files) {
         Ok(Some(bytes)) => Ok(bytes),
-        Ok(None) => Err(tell_unread(ReadFault::NoRead, name, err)),
+        Ok(None) => Err(tell_unread(ReadFault::TooLong, name, err)),
         Err(fault) => Err(tell_unread(fault, name, err)),
     }
 }
@@ -141,7 +211,7 @@ fn read_schedule<F: FileSet>(alloc: Global, files: &mut F) -> Result<Vec<Entry>,
 
 /// The schedule to follow, if a file is named for one. Where it can't be read that is told, with
 /// the first bad line, and the status is the error.
-pub(crate) fn read_given<F: FileSet, X: Write>(
+pub(crate) fn read_given<F: FileSet, X: Telling>(
     alloc: Global,
     options: &Options<'_>,
     files: &mut F,
@@ -155,11 +225,13 @@ pub(crate) fn read_given<F: FileSet, X: Write>(
     ensures succeeded { OnOk result (F.last_fault files.new ≡ F.last_fault files.old) }
     ensures writes { F.is_unwritten files.new ≡ F.is_unwritten files.old }
     ensures unread { F.last_fault files.old ≡ None → IfErr result
-        (λ told. IfSome (F.last_fault files.new) (λ fault. told ≡ driving.unread fault)) }
-    ensures fault { IfErr result (λ told. (told ≡ Status.Memory)
+        (λ told. IfSome (F.last_fault files.new) (λ fault. IsUnread (names_of options.now) fault told
+        (X.told err.old) (X.told err.new))) }
+    ensures fault { IfErr result (λ told. ((told ≡ Status.Memory)
+        × Tells (X.told err.old) (X.told err.new) (driving.line_of Status.Memory))
         ⊎ ((told ≡ Status.Usage)
         × HasNoSchedule (F.contents files.old) (names_of options.now).replayed
-        (X.contents err.old) (X.contents err.new))) }
+        (X.told err.old) (X.told err.new))) }
 {
     let Some(name) = options.replay_file else {
         return Ok(None);
@@ -172,7 +244,7 @@ pub(crate) fn read_given<F: FileSet, X: Write>(
         Err(NoSchedule::Unread(fault)) => Err(tell_unread(fault, name, err)),
         Err(NoSchedule::Bad(ScheduleFault::Memory)) => Err(end(err, Status::Memory)),
         Err(NoSchedule::Bad(ScheduleFault::BadLine(line))) => {
-            let _ = write_number(err, b"dpsrun: bad schedule line ", line as u64);
+            tell_number(err, b"dpsrun: bad schedule line ", line as u64);
             Err(Status::Usage)
         }
     }

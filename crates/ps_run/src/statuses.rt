@@ -1,12 +1,11 @@
 //! How the program ends: the exit status, and the line that belongs to it.
 
 ghost use Rattle.std.specs.Prelude.{◌≡◌};
-ghost use Rattle.ps_vault.specs.Screens.{AppendsPart};
+ghost use Rattle.ps_run.specs.Telling.{Tells};
 ghost use Rattle.ps_run.specs.Driving as driving;
 
-use crate::writing::write_part;
+use crate::outputs::Telling;
 use ps_vault::Outcome;
-use std::io::Write;
 
 /// How the program ends, as an exit status.
 #[derive(Clone, Copy, Debug, PartialEq, Eq)]
@@ -40,12 +39,12 @@ pub(crate) fn status_of(outcome: Outcome) -> Status
     }
 }
 
-/// Writes the line that belongs to a status, where it has one.
-pub(crate) fn end<X: Write>(err: &mut X, status: Status) -> Status
+/// Tells the line that belongs to a status, where it has one.
+pub(crate) fn end<X: Telling>(err: &mut X, status: Status) -> Status
     ensures status { result ≡ status }
-    ensures told { AppendsPart (X.contents err.old) (X.contents err.new) (driving.line_of status) }
+    ensures told { Tells (X.told err.old) (X.told err.new) (driving.line_of status) }
 {
-    let _ = write_part(err, line_of(status).as_bytes());
+    err.tell(line_of(status).as_bytes());
     status
 }
 

@@ -1,17 +1,18 @@
-//! Bytes written as far as an output takes them.
+//! Bytes written as far as an output takes them, and lines that are told.
 
 ghost use Rattle.std.specs.Prelude.{◌≡◌, ◌++◌, true, OnOk, codes};
 ghost use Rattle.std.specs.Fmt.{decimal};
 ghost use Rattle.std.specs.Io.KnownBytes.{Appends};
 ghost use Rattle.ps_vault.specs.Screens.{AppendsPart};
 ghost use Rattle.ps_run.specs.Driving.{number_line, unwritten_line};
+ghost use Rattle.ps_run.specs.Telling.{Tells};
 
-use crate::outputs::Flushing;
+use crate::outputs::{Flushing, Telling};
 use itoa::Buffer;
 use std::io::{self, ErrorKind, Write};
 
 /// Writes bytes; where a write fails the output has a beginning of them.
-pub fn write_part<W: Write>(out: &mut W, bytes: &[u8]) -> io::Result<()>
+pub(crate) fn write_part<W: Write>(out: &mut W, bytes: &[u8]) -> io::Result<()>
     ensures part { AppendsPart (W.contents out.old) (W.contents out.new) bytes.now }
     ensures whole { OnOk result (Appends (W.contents out.old) (W.contents out.new) bytes.now) }
 {
@@ -41,26 +42,21 @@ pub(crate) fn hand_out<W: Flushing>(out: &mut W, bytes: &[u8]) -> io::Result<()>
     out.hand_on()
 }
 
-/// Writes that the file of a name can't be written; where a write fails the output has a beginning
-/// of the line.
-pub fn write_unwritten<W: Write>(out: &mut W, name: &str) -> io::Result<()>
-    ensures { AppendsPart (W.contents out.old) (W.contents out.new) (unwritten_line name.now) }
+/// Tells that the file of a name can't be written.
+pub(crate) fn tell_unwritten<X: Telling>(err: &mut X, name: &str)
+    ensures { Tells (X.told err.old) (X.told err.new) (unwritten_line name.now) }
 {
-    write_part(out, b"dpsrun: cannot write ")?;
-    write_part(out, name.as_bytes())?;
-    write_part(out, b"\n")
+    err.tell(b"dpsrun: cannot write ");
+    err.tell(name.as_bytes());
+    err.tell(b"\n");
 }
 
-/// Writes a label, a number and the end of the line; where a write fails the output has a beginning
-/// of them.
-pub fn write_number<W: Write>(out: &mut W, label: &[u8], number: u64) -> io::Result<()>
-    ensures part { AppendsPart (W.contents out.old) (W.contents out.new)
-        (number_line label.now number) }
-    ensures whole { OnOk result
-        (Appends (W.contents out.old) (W.contents out.new) (number_line label.now number)) }
+/// Tells a label, a number and the end of the line.
+pub(crate) fn tell_number<X: Telling>(err: &mut X, label: &[u8], number: u64)
+    ensures { Tells (X.told err.old) (X.told err.new) (number_line label.now number) }
 {
     let mut digits = Buffer::new();
-    write_part(out, label)?;
-    write_part(out, digits.format(number).as_bytes())?;
-    write_part(out, b"\n")
+    err.tell(label);
+    err.tell(digits.format(number).as_bytes());
+    err.tell(b"\n");
 }

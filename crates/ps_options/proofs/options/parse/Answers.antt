@@ -1,5 +1,5 @@
-use Rattle.std.proofs.Common.{◌≡◌, ◌<◌, ◌≤◌, ◌^◌, ℕ, ap, sym, subst, ◌∙◌, refl, arith, codes, rules, true, true≢false, map, List, [], ◌∷◌, Bool, false, Option, Some, None, is_some, IfSome, inl, inr}
-use Rattle.std.specs.Prelude.{◌||◌, find, option_and_then, option_map, slice_get, unwrap_or, Result, Err, if◌then◌else◌}
+use Rattle.std.proofs.Common.{◌≡◌, ◌<◌, ◌≤◌, ◌^◌, ℕ, ap, sym, subst, ◌∙◌, refl, arith, codes, rules, true, true≢false, map, List, [], ◌∷◌, Bool, false, Option, Some, None, is_ok, is_some, IfSome, inl, inr}
+use Rattle.std.specs.Prelude.{◌||◌, find, option_and_then, option_map, slice_get, unwrap_or, Result, Err}
 use Rattle.std.specs.List.{list_all}
 use Rattle.std.specs.Str.{bytes_eq}
 use Rattle.std.specs.Str.Parse.{IsNumeral, ParsesUnsigned, ExplainsUnsignedError, HasUnsignedDigitsIfOk, digits_value, without_leading_plus}
@@ -7,7 +7,6 @@ use Rattle.std.specs.Borrow.{Bor}
 use Rattle.clap.specs.Words.{App, BuildsTo, IsParsed, IsUnsignedIn, Row, Rule, Text, app_of, read_as, fault_of, found_of, first_value, first_of, one_text, one_of, is_simple, is_simple_and_free, matches_of, rows_of, HasKind, HasMatchesOf, Kinds, ReadsOne}
 use Rattle.clap.specs.Kinds.{or_else}
 use Rattle.clap.specs.declared.error.Error.{Error}
-use Rattle.clap.specs.declared.error.kind.ErrorKind.TheVariants.{ArgumentConflict}
 use Rattle.clap.specs.declared.builder.command.Command.{Command}
 use Rattle.clap.specs.declared.builder.command.Command.TheViews.{out-Command}
 use Rattle.clap.specs.declared.parser.matches.ArgMatches.{ArgMatches}
@@ -16,7 +15,8 @@ use Rattle.clap.specs.declared.builder.value_parser.Reading.{Reading}
 use Rattle.clap.proofs.OnLiterals.{clap_on_literals}
 use Rattle.clap.proofs.WalkLemmas.{first_value-rows, one_text-rows}
 use Rattle.clap.proofs.SimpleLemmas.{plain_fields, simple_groups}
-use Rattle.ps_options.specs.CommandLine.{IsOptional, command_line, faults_in, flag_in, excludes, is_excluded, overwrites, is_overwritten}
+use Rattle.ps_options.specs.CommandLine.{IsOptional, are_sized, are_sizes, command_line, faults_in, flag_in, excludes, is_excluded, named_in, overwrites, is_overwritten, own_faults, source_fault}
+use Rattle.ps_options.specs.Sizes.{size_of}
 use Rattle.ps_options.proofs.Ranges.{HasRange, IsOwn, text_in_range}
 use Rattle.ps_options.proofs.options.parse.Goals as goal
 
@@ -28,13 +28,6 @@ line_is_free = refl
 line_is_simple : is_simple command_line ≡ true
 unfolding clap_on_literals
 line_is_simple = refl
-
--- the text behind a reference, or behind another one where there is none
-behind_default : (found : Option (Bor Text)) (other : Bor Text) (text : Option Text)
-    → option_map (λ s. s.now) found ≡ text
-    → (unwrap_or found other).now ≡ unwrap_or text other.now
-behind_default None other text is = ap (λ (t : Option Text). unwrap_or t other.now) is
-behind_default (Some found) other text is = ap (λ (t : Option Text). unwrap_or t other.now) is
 
 -- a kind of the first faults is one of both, and where those are none, the others are left
 has_first : (first next : Kinds) (error : Error) → HasKind first error
@@ -89,15 +82,16 @@ excluded_is : (made : Command) (words : List Text) (m : ArgMatches) → app_of m
     → HasMatchesOf (app_of made) words m
     → excludes (first_value (found_of m) (codes "replay"))
     (first_value (found_of m) (codes "plain")) (first_value (found_of m) (codes "record"))
-    (first_value (found_of m) (codes "explore")) (first_value (found_of m) (codes "stream"))
-    ≡ is_excluded words
+    (first_value (found_of m) (codes "explore")) (first_value (found_of m) (codes "entries"))
+    (first_value (found_of m) (codes "stream")) ≡ is_excluded words
 excluded_is made words m is has =
     let replay = name_is made words m (codes "replay") is has in
     let plain = name_is made words m (codes "plain") is has in
     let recorded = name_is made words m (codes "record") is has in
     let explored = name_is made words m (codes "explore") is has in
+    let entries = name_is made words m (codes "entries") is has in
     let streamed = name_is made words m (codes "stream") is has in
-    λ i. excludes (replay i) (plain i) (recorded i) (explored i) (streamed i)
+    λ i. excludes (replay i) (plain i) (recorded i) (explored i) (entries i) (streamed i)
 
 -- whether a record is written over the program
 overwritten_is : (made : Command) (words : List Text) (m : ArgMatches)
@@ -111,34 +105,99 @@ overwritten_is made words m is has =
     let file = name_is made words m (codes "FILE") is has in
     λ i. overwrites (recorded i) (explored i) (file i)
 
--- the faults beside those by the rules
-abbrev others : (excluded overwritten : Bool) → Kinds
-others excluded overwritten = if excluded || overwritten then ArgumentConflict ∷ [] else []
+-- whether one program is named
+source_is : (made : Command) (words : List Text) (m : ArgMatches) → app_of made ≡ command_line
+    → HasMatchesOf (app_of made) words m
+    → source_fault (first_value (found_of m) (codes "FILE")) (first_value (found_of m) (codes "e"))
+    ≡ source_fault (named_in (codes "FILE") words) (named_in (codes "e") words)
+source_is made words m is has =
+    let file = name_is made words m (codes "FILE") is has in
+    let text = name_is made words m (codes "e") is has in
+    λ i. source_fault (file i) (text i)
+
+-- whether the sizes are in their ranges
+sizes_are : (made : Command) (words : List Text) (m : ArgMatches) → app_of made ≡ command_line
+    → HasMatchesOf (app_of made) words m
+    → are_sized (first_value (found_of m) (codes "space"))
+    (first_value (found_of m) (codes "steps")) (first_value (found_of m) (codes "output"))
+    (first_value (found_of m) (codes "entries")) ≡ are_sizes words
+sizes_are made words m is has =
+    let space = name_is made words m (codes "space") is has in
+    let steps = name_is made words m (codes "steps") is has in
+    let output = name_is made words m (codes "output") is has in
+    let entries = name_is made words m (codes "entries") is has in
+    λ i. are_sized (space i) (steps i) (output i) (entries i)
 
 or_true : (b : Bool) → (b || true) ≡ true
 or_true true = refl
 or_true false = refl
 
 -- words that the rules take have the others alone
-faults_are : (made : Command) (words : List Text) (excluded overwritten : Bool)
+faults_are : (made : Command) (words : List Text) (source : Kinds) (sized excluded overwritten : Bool)
     → app_of made ≡ command_line
     → (is_simple_and_free (app_of made) ≡ true → fault_of (app_of made) words ≡ [])
-    → is_excluded words ≡ excluded → is_overwritten words ≡ overwritten
-    → faults_in words ≡ others excluded overwritten
-faults_are made words excluded overwritten is none one two =
-    no_first (fault_of command_line words) (others (is_excluded words) (is_overwritten words))
+    → source_fault (named_in (codes "FILE") words) (named_in (codes "e") words) ≡ source
+    → are_sizes words ≡ sized → is_excluded words ≡ excluded → is_overwritten words ≡ overwritten
+    → faults_in words ≡ own_faults source sized (excluded || overwritten)
+faults_are made words source sized excluded overwritten is none given are one two =
+    no_first (fault_of command_line words) (own_faults (source_fault (named_in (codes "FILE") words)
+    (named_in (codes "e") words)) (are_sizes words) (is_excluded words || is_overwritten words))
     (no_fault made words is none)
-    ∙ (λ i. others (one i) (two i))
+    ∙ (λ i. own_faults (given i) (are i) (one i || two i))
+
+pub returns-in-Err-clause-fault : goal.returns-in-Err-clause-fault
+returns-in-Err-clause-fault c =
+    let words : List Text = map {A = Bor Text} {B = Text} (λ (word : Bor Text). word.now)
+    c.args.words.now in
+    let told = sym (source_is c.in_ok-line.line words c.in_ok-matches.matches c.in_ok-line.ensures
+    c.in_ok-matches.ensures.ok.2) ∙ c.in-Err.ensures.fault in
+    let faults = faults_are c.in_ok-line.line words _ _ _ _ c.in_ok-line.ensures
+    c.in_ok-matches.ensures.kinds told refl refl refl in
+    subst (λ (kinds : Kinds). HasKind kinds c.in_ok-error-in-Err.field-0) (sym faults)
+    (inr (inl c.in_ok-error-in-Err.ensures.kind))
+
+-- sizes that fail are one fault
+pub returns-in-Err-sizes_of-clause-fault : goal.returns-in-Err-sizes_of-clause-fault
+returns-in-Err-sizes_of-clause-fault c =
+    let words : List Text = map {A = Bor Text} {B = Text} (λ (word : Bor Text). word.now)
+    c.args.words.now in
+    let given = sym (source_is c.in_ok-line.line words c.in_ok-matches.matches c.in_ok-line.ensures
+    c.in_ok-matches.ensures.ok.2) ∙ c.in-Ok.ensures.one in
+    let bad : is_ok c.sizes_of.result ≡ false = search rules in
+    let told = sym (sizes_are c.in_ok-line.line words c.in_ok-matches.matches c.in_ok-line.ensures
+    c.in_ok-matches.ensures.ok.2) ∙ sym c.sizes_of.ensures.are ∙ bad in
+    let faults = faults_are c.in_ok-line.line words _ _ _ _ c.in_ok-line.ensures
+    c.in_ok-matches.ensures.kinds given told refl refl in
+    subst (λ (kinds : Kinds). HasKind kinds c.in_ok-bad_size-in-Err-sizes_of.field-0) (sym faults)
+    (inr (inl c.in_ok-bad_size-in-Err-sizes_of.ensures))
+
+-- words that name one program by the matches, with sizes in their ranges
+sized_faults : (made : Command) (words : List Text) (m : ArgMatches) (excluded overwritten : Bool)
+    → app_of made ≡ command_line
+    → (is_simple_and_free (app_of made) ≡ true → fault_of (app_of made) words ≡ [])
+    → HasMatchesOf (app_of made) words m
+    → source_fault (first_value (found_of m) (codes "FILE")) (first_value (found_of m) (codes "e"))
+    ≡ []
+    → are_sized (first_value (found_of m) (codes "space"))
+    (first_value (found_of m) (codes "steps")) (first_value (found_of m) (codes "output"))
+    (first_value (found_of m) (codes "entries")) ≡ true
+    → is_excluded words ≡ excluded → is_overwritten words ≡ overwritten
+    → faults_in words ≡ own_faults [] true (excluded || overwritten)
+sized_faults made words m excluded overwritten is none has one sized =
+    faults_are made words [] true excluded overwritten is none
+    (sym (source_is made words m is has) ∙ one) (sym (sizes_are made words m is has) ∙ sized)
 
 pub returns-in-Some-clause-fault : goal.returns-in-Some-clause-fault
 returns-in-Some-clause-fault c =
     let words : List Text = map {A = Bor Text} {B = Text} (λ (word : Bor Text). word.now)
     c.args.words.now in
+    let sized : is_ok c.sizes_of.result ≡ true = search rules in
     let told : is_excluded words ≡ true =
     sym (excluded_is c.in_ok-line.line words c.in_ok-matches.matches c.in_ok-line.ensures
     c.in_ok-matches.ensures.ok.2) ∙ sym c.excluded.ensures ∙ ap is_some c.in-Some.is in
-    let faults = faults_are c.in_ok-line.line words true (is_overwritten words)
-    c.in_ok-line.ensures c.in_ok-matches.ensures.kinds told refl in
+    let faults = sized_faults c.in_ok-line.line words c.in_ok-matches.matches true
+    (is_overwritten words) c.in_ok-line.ensures c.in_ok-matches.ensures.kinds
+    c.in_ok-matches.ensures.ok.2 c.in-Ok.ensures.one (sym c.sizes_of.ensures.are ∙ sized) told refl in
     subst (λ (kinds : Kinds). HasKind kinds c.in_ok-error.field-0) (sym faults)
     (inr (inl c.in_ok-error.ensures.kind))
 
@@ -146,12 +205,14 @@ pub returns-then-is_overwritten-clause-fault : goal.returns-then-is_overwritten-
 returns-then-is_overwritten-clause-fault c =
     let words : List Text = map {A = Bor Text} {B = Text} (λ (word : Bor Text). word.now)
     c.args.words.now in
+    let sized : is_ok c.sizes_of.result ≡ true = search rules in
     let told : is_overwritten words ≡ true =
     sym (overwritten_is c.in_ok-line.line words c.in_ok-matches.matches c.in_ok-line.ensures
     c.in_ok-matches.ensures.ok.2) ∙ sym c.is_overwritten.ensures ∙ c.if-is_overwritten.true in
-    let faults = faults_are c.in_ok-line.line words (is_excluded words) true
-    c.in_ok-line.ensures c.in_ok-matches.ensures.kinds refl told
-    ∙ ap (λ (b : Bool). if b then ArgumentConflict ∷ [] else []) (or_true (is_excluded words)) in
+    let faults = sized_faults c.in_ok-line.line words c.in_ok-matches.matches (is_excluded words)
+    true c.in_ok-line.ensures c.in_ok-matches.ensures.kinds c.in_ok-matches.ensures.ok.2
+    c.in-Ok.ensures.one (sym c.sizes_of.ensures.are ∙ sized) refl told
+    ∙ ap (own_faults [] true) (or_true (is_excluded words)) in
     subst (λ (kinds : Kinds). HasKind kinds c.in_ok-error-2.field-0) (sym faults)
     (inr (inl c.in_ok-error-2.ensures.kind))
 
@@ -159,6 +220,7 @@ pub returns-clause-fault : goal.returns-clause-fault
 returns-clause-fault c =
     let words : List Text = map {A = Bor Text} {B = Text} (λ (word : Bor Text). word.now)
     c.args.words.now in
+    let sized : is_ok c.sizes_of.result ≡ true = search rules in
     let none : c.excluded.result ≡ None = search rules in
     let free : is_excluded words ≡ false =
     sym (excluded_is c.in_ok-line.line words c.in_ok-matches.matches c.in_ok-line.ensures
@@ -166,8 +228,9 @@ returns-clause-fault c =
     let apart : is_overwritten words ≡ false =
     sym (overwritten_is c.in_ok-line.line words c.in_ok-matches.matches c.in_ok-line.ensures
     c.in_ok-matches.ensures.ok.2) ∙ sym c.is_overwritten.ensures ∙ c.if-is_overwritten.false in
-    faults_are c.in_ok-line.line words false false c.in_ok-line.ensures
-    c.in_ok-matches.ensures.kinds free apart
+    sized_faults c.in_ok-line.line words c.in_ok-matches.matches false false c.in_ok-line.ensures
+    c.in_ok-matches.ensures.kinds c.in_ok-matches.ensures.ok.2 c.in-Ok.ensures.one
+    (sym c.sizes_of.ensures.are ∙ sized) free apart
 
 pub returns-clause-record_file : goal.returns-clause-record_file
 returns-clause-record_file c = c.get_str.ensures
@@ -178,11 +241,23 @@ returns-clause-replay_file c = c.get_str-2.ensures
     ∙ name_is _ _ _ (codes "replay") c.in_ok-line.ensures c.in_ok-matches.ensures.ok.2
 
 pub returns-clause-file : goal.returns-clause-file
-returns-clause-file c =
-    let name = name_is _ _ _ (codes "FILE") c.in_ok-line.ensures
-    c.in_ok-matches.ensures.ok.2 in
-    ap (λ (s : Bor Text). s.now) c.unwrap_or-5.ensures
-    ∙ behind_default c.get_str-3.result _ _ (c.get_str-3.ensures ∙ name)
+returns-clause-file c = c.in-Ok.ensures.file
+    ∙ name_is _ _ _ (codes "FILE") c.in_ok-line.ensures c.in_ok-matches.ensures.ok.2
+
+pub returns-clause-text : goal.returns-clause-text
+returns-clause-text c = c.in-Ok.ensures.text
+    ∙ name_is _ _ _ (codes "e") c.in_ok-line.ensures c.in_ok-matches.ensures.ok.2
+
+-- the sizes
+pub returns-clause-output : goal.returns-clause-output
+returns-clause-output c = c.in-Ok-sizes_of.ensures.output
+    ∙ ap (option_and_then size_of) (name_is _ _ _ (codes "output") c.in_ok-line.ensures
+    c.in_ok-matches.ensures.ok.2)
+
+pub returns-clause-entries : goal.returns-clause-entries
+returns-clause-entries c = c.in-Ok-sizes_of.ensures.entries
+    ∙ ap (option_and_then size_of) (name_is _ _ _ (codes "entries") c.in_ok-line.ensures
+    c.in_ok-matches.ensures.ok.2)
 
 pub returns-clause-stats : goal.returns-clause-stats
 returns-clause-stats c =
@@ -223,25 +298,21 @@ returns-clause-numbers c =
     let made = c.in_ok-line.ensures in
     let found = c.in_ok-matches.ensures.ok.2 in
     record {
-      space = λ text is numeral small. c.unwrap_or.ensures
+      space = c.in-Ok-sizes_of.ensures.space
+          ∙ ap (λ text. unwrap_or (option_and_then size_of text) 65536)
+          (name_is _ _ _ (codes "space") made found);
+      workers = λ text is numeral small. c.unwrap_or.ensures
           ∙ number_read (λ t r. ExplainsUnsignedError 10 t r) (λ t r. HasUnsignedDigitsIfOk t r)
           text c.get_one.result _ (c.get_one.ensures.value text
-          (flag_is _ _ _ (codes "space") made found ∙ is)) numeral small;
-      workers = λ text is numeral small. c.unwrap_or-2.ensures
+          (flag_is _ _ _ (codes "workers") made found ∙ is)) numeral small;
+      quantum = λ text is numeral small. c.unwrap_or-2.ensures
           ∙ number_read (λ t r. ExplainsUnsignedError 10 t r) (λ t r. HasUnsignedDigitsIfOk t r)
           text c.get_one-2.result _
-          (c.get_one-2.ensures.value text (flag_is _ _ _ (codes "workers") made found ∙ is)) numeral
+          (c.get_one-2.ensures.value text (flag_is _ _ _ (codes "quantum") made found ∙ is)) numeral
           small;
-      quantum = λ text is numeral small. c.unwrap_or-3.ensures
-          ∙ number_read (λ t r. ExplainsUnsignedError 10 t r) (λ t r. HasUnsignedDigitsIfOk t r)
-          text c.get_one-3.result _
-          (c.get_one-3.ensures.value text (flag_is _ _ _ (codes "quantum") made found ∙ is)) numeral
-          small;
-      steps = λ text is numeral small. c.unwrap_or-4.ensures
-          ∙ number_read (λ t r. ExplainsUnsignedError 10 t r) (λ t r. HasUnsignedDigitsIfOk t r)
-          text c.get_one-4.result _
-          (c.get_one-4.ensures.value text (flag_is _ _ _ (codes "steps") made found ∙ is)) numeral
-          small;
+      steps = c.in-Ok-sizes_of.ensures.steps
+          ∙ ap (λ text. unwrap_or (option_and_then size_of text) 1000000000)
+          (name_is _ _ _ (codes "steps") made found);
     }
 
 -- an option whose text is read has a first text, and one whose text isn't has none
@@ -304,7 +375,7 @@ in_range None found none = subst IsInRange (sym none) tt
 in_range (Some text) found read =
     subst IsInRange (sym read.1) (rw read.3 read.2.2, rw read.3 read.2.3)
 
--- the rules of the line ask for such a number of schedules, and such a one of bytes
+-- the rules of the line ask for such a number of schedules
 explore_rules : HasRange (codes "explore") 1 65535 command_line.top.rules
 explore_rules = (
   λ e. cc,
@@ -326,40 +397,16 @@ explore_rules = (
                   λ e. cc,
                   (
                     λ e. cc,
-                    (λ e. refl, (λ e. cc, tt)),
-                  ),
-                ),
-              ),
-            ),
-          ),
-        ),
-      ),
-    ),
-  ),
-)
-
-output_rules : HasRange (codes "output") 0 4294967295 command_line.top.rules
-output_rules = (
-  λ e. cc,
-  (
-    λ e. cc,
-    (
-      λ e. cc,
-      (
-        λ e. cc,
-        (
-          λ e. refl,
-          (
-            λ e. cc,
-            (
-              λ e. cc,
-              (
-                λ e. cc,
-                (
-                  λ e. cc,
-                  (
-                    λ e. cc,
-                    (λ e. cc, (λ e. cc, tt)),
+                    (
+                      λ e. cc,
+                      (
+                        λ e. cc,
+                        (
+                          λ e. cc,
+                          (λ e. refl, tt),
+                        ),
+                      ),
+                    ),
                   ),
                 ),
               ),
@@ -406,31 +453,20 @@ pub returns-clause-explore : goal.returns-clause-explore
 returns-clause-explore c =
     let words : List Text = map {A = Bor Text} {B = Text} (λ (word : Bor Text). word.now)
     c.args.words.now in
-    optional (codes "explore") 1 65535 words _ c.get_one-5.result refl
+    optional (codes "explore") 1 65535 words _ c.get_one-3.result refl
     (number_or_none (codes "explore") 1 65535 c.in_ok-line.line _ words c.in_ok-matches.matches _
-    (λ t r. ExplainsUnsignedError 10 t r) (λ t r. HasUnsignedDigitsIfOk t r) c.get_one-5.result
+    (λ t r. ExplainsUnsignedError 10 t r) (λ t r. HasUnsignedDigitsIfOk t r) c.get_one-3.result
     explore_rules (record { named = λ e. cc; no_help = refl; no_version = refl }) (omega arith)
     c.in_ok-line.ensures c.in_ok-matches.ensures.ok.0 c.in_ok-matches.ensures.ok.1
-    c.in_ok-matches.ensures.ok.2 c.get_one-5.ensures.none c.get_one-5.ensures.value)
+    c.in_ok-matches.ensures.ok.2 c.get_one-3.ensures.none c.get_one-3.ensures.value)
 
 pub returns-clause-explore_range : goal.returns-clause-explore_range
 returns-clause-explore_range c =
     let words : List Text = map {A = Bor Text} {B = Text} (λ (word : Bor Text). word.now)
     c.args.words.now in
-    in_range _ c.get_one-5.result
+    in_range _ c.get_one-3.result
     (number_or_none (codes "explore") 1 65535 c.in_ok-line.line _ words c.in_ok-matches.matches _
-    (λ t r. ExplainsUnsignedError 10 t r) (λ t r. HasUnsignedDigitsIfOk t r) c.get_one-5.result
+    (λ t r. ExplainsUnsignedError 10 t r) (λ t r. HasUnsignedDigitsIfOk t r) c.get_one-3.result
     explore_rules (record { named = λ e. cc; no_help = refl; no_version = refl }) (omega arith)
     c.in_ok-line.ensures c.in_ok-matches.ensures.ok.0 c.in_ok-matches.ensures.ok.1
-    c.in_ok-matches.ensures.ok.2 c.get_one-5.ensures.none c.get_one-5.ensures.value)
-
-pub returns-clause-output : goal.returns-clause-output
-returns-clause-output c =
-    let words : List Text = map {A = Bor Text} {B = Text} (λ (word : Bor Text). word.now)
-    c.args.words.now in
-    optional (codes "output") 0 4294967295 words _ c.get_one-6.result refl
-    (number_or_none (codes "output") 0 4294967295 c.in_ok-line.line _ words c.in_ok-matches.matches
-    _ (λ t r. ExplainsUnsignedError 10 t r) (λ t r. HasUnsignedDigitsIfOk t r) c.get_one-6.result
-    output_rules (record { named = λ e. cc; no_help = refl; no_version = refl }) (omega arith)
-    c.in_ok-line.ensures c.in_ok-matches.ensures.ok.0 c.in_ok-matches.ensures.ok.1
-    c.in_ok-matches.ensures.ok.2 c.get_one-6.ensures.none c.get_one-6.ensures.value)
+    c.in_ok-matches.ensures.ok.2 c.get_one-3.ensures.none c.get_one-3.ensures.value)

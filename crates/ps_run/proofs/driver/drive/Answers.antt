@@ -3,8 +3,10 @@ use Rattle.std.specs.Prelude.{codes, ◌⊎◌}
 use Rattle.clap.specs.Words.{Text}
 use Rattle.ps_options.specs.CommandLine.{IsFlag, IsOptional}
 use Rattle.ps_vault.specs.Reports.{IsWithin}
-use Rattle.ps_run.specs.Driving.{AreAsked, AreOutOfRange, Asked, HasNoSchedule, IsTooLong, asked_of, config_in, names_in, names_of}
-use Rattle.ps_run.proofs.Driven.{driven_more, faulty, none_explored, record_named, some_explored}
+use Rattle.ps_run.specs.Driving.{AreAsked, AreOutOfRange, Asked, IsFileFault, IsUnread, Names, asked_of, config_in, names_in, names_of}
+use Rattle.ps_run.specs.Telling.{Told}
+use Rattle.ps_run.proofs.Driven.{driven_more, faulty, record_named}
+use Rattle.ps_run.proofs.ReadParts.{if_mapped}
 use Rattle.ps_run.proofs.driver.drive.Given as givens
 use Rattle.ps_run.proofs.driver.drive.Goals as goal
 use Rattle.ps_run.proofs.driver.drive.Goals.{In-Ok}
@@ -15,6 +17,7 @@ same_names : (g : givens.Over) (c : In-Ok g)
     → names_of c.in-Ok.options ≡ names_in (map (λ word. word.now) c.args.words.now)
 same_names g c = λ i. record {
   file = c.in-Ok.ensures.file i;
+  text = c.in-Ok.ensures.text i;
   recorded = c.in-Ok.ensures.record_file i;
   replayed = c.in-Ok.ensures.replay_file i;
 }
@@ -22,12 +25,8 @@ same_names g c = λ i. record {
 are_asked : (g : givens.Over) (c : In-Ok g) (asked : Asked) → asked ≡ asked_of c.in-Ok.options
     → AreAsked (map (λ word. word.now) c.args.words.now) asked
 are_asked g c asked is = (
-  λ text found numeral small.
-      ap (λ (a : Asked). a.space) is
-      ∙ c.in-Ok.ensures.numbers.space text found numeral small,
-  λ text found numeral small.
-      ap (λ (a : Asked). a.steps) is
-      ∙ c.in-Ok.ensures.numbers.steps text found numeral small,
+  ap (λ (a : Asked). a.space) is ∙ c.in-Ok.ensures.numbers.space,
+  ap (λ (a : Asked). a.steps) is ∙ c.in-Ok.ensures.numbers.steps,
   λ text found numeral small.
       ap (λ (a : Asked). a.quantum) is
       ∙ c.in-Ok.ensures.numbers.quantum text found numeral small,
@@ -39,36 +38,30 @@ are_asked g c asked is = (
       (sym (ap (λ (a : Asked). a.stats) is)) c.in-Ok.ensures.stats,
   subst (IsOptional (codes "explore") (map (λ word. word.now) c.args.words.now))
       (sym (ap (λ (a : Asked). a.explored) is)) c.in-Ok.ensures.explore,
-  subst (IsOptional (codes "output") (map (λ word. word.now) c.args.words.now))
-      (sym (ap (λ (a : Asked). a.output) is)) c.in-Ok.ensures.output,
+  ap (λ (a : Asked). a.output) is ∙ c.in-Ok.ensures.output,
 )
 
-is_fault : (g : givens.Over) (c : In-Ok g) (err : Option (List ℕ))
-    → IsTooLong
-    (g.F.FileSet.contents c.args.files.now (names_of c.in-Ok.options).file)
-    ⊎ (HasNoSchedule (g.F.FileSet.contents c.args.files.now) (names_of c.in-Ok.options).replayed
-    (g.X.Write.contents c.args.err.now) err ⊎ ¬ IsWithin (config_in c.in-Ok.options))
-    → IsTooLong (g.F.FileSet.contents c.args.files.now
-    (names_in (map (λ word. word.now) c.args.words.now)).file)
-    ⊎ (HasNoSchedule (g.F.FileSet.contents c.args.files.now)
-    (names_in (map (λ word. word.now) c.args.words.now)).replayed
-    (g.X.Write.contents c.args.err.now) err
-    ⊎ AreOutOfRange (map (λ word. word.now) c.args.words.now))
+is_fault : (g : givens.Over) (c : In-Ok g) (err : Told)
+    → IsFileFault (g.F.FileSet.contents c.args.files.now) (names_of c.in-Ok.options)
+    c.in-Ok.options.explore (g.X.Telling.told c.args.err.now) err
+    ⊎ ¬ IsWithin (config_in c.in-Ok.options)
+    → ((many : Option ℕ)
+    × IsOptional (codes "explore") (map (λ word. word.now) c.args.words.now) many
+    × IsFileFault (g.F.FileSet.contents c.args.files.now)
+    (names_in (map (λ word. word.now) c.args.words.now)) many (g.X.Telling.told c.args.err.now) err)
+    ⊎ AreOutOfRange (map (λ word. word.now) c.args.words.now)
 is_fault g c err fault = elim fault [
-  | inl long ↦
-      inl (subst (λ (name : Text). IsTooLong
-      (g.F.FileSet.contents c.args.files.now name)) c.in-Ok.ensures.file long)
-  | inr other ↦ inr (elim other [
-    | inl none ↦
-        inl (subst (λ (name : Option Text). HasNoSchedule
-        (g.F.FileSet.contents c.args.files.now) name (g.X.Write.contents c.args.err.now) err)
-        c.in-Ok.ensures.replay_file none)
-    | inr outside ↦ inr (record {
-      config = config_in c.in-Ok.options;
-      numbers = c.in-Ok.ensures.numbers;
-      outside = outside;
-    })
-  ])
+  | inl file ↦ inl (
+    c.in-Ok.options.explore,
+    c.in-Ok.ensures.explore,
+    subst (λ (names : Names). IsFileFault (g.F.FileSet.contents c.args.files.now) names
+        c.in-Ok.options.explore (g.X.Telling.told c.args.err.now) err) (same_names g c) file,
+  )
+  | inr outside ↦ inr (record {
+    config = config_in c.in-Ok.options;
+    numbers = c.in-Ok.ensures.numbers;
+    outside = outside;
+  })
 ]
 
 -- ---- one run
@@ -85,9 +78,19 @@ returns-in-None-clause-run g c =
 pub returns-in-None-clause-files : goal.returns-in-None-clause-files
 returns-in-None-clause-files g c = λ name other.
     c.run-status.ensures.files name (λ is.
-    other (record_named _ _ _ _ name c.in-Ok.ensures.record_file
-    (sym (none_explored (map (λ word. word.now) c.args.words.now) c.in-Ok.options.explore
-    c.in-None.is c.in-Ok.ensures.explore)) is))
+    other c.in-Ok.options.explore c.in-Ok.ensures.explore
+    (record_named _ _ _ _ name c.in-Ok.ensures.record_file (sym c.in-None.is) is))
+
+pub returns-in-None-clause-unread : goal.returns-in-None-clause-unread
+returns-in-None-clause-unread g c = λ none.
+    let at = (goal.at.returns-in-None-clause-unread g c).In-Ok in
+    if_mapped _ _ _ (λ fault is. (
+      c.run-status.result.0,
+      c.number_of.ensures,
+      subst (λ (names : Names). IsUnread names fault c.run-status.result.0
+          (g.X.Telling.told c.args.err.now) (g.X.Telling.told c.run-status.new.err)) (same_names g at)
+          is,
+    )) (c.run-status.ensures.unread none)
 
 -- ---- many
 
@@ -103,9 +106,19 @@ returns-in-Some-clause-run g c =
 pub returns-in-Some-clause-files : goal.returns-in-Some-clause-files
 returns-in-Some-clause-files g c = λ name other.
     c.explore-status.ensures.files name (λ is.
-    other (record_named _ _ _ _ name c.in-Ok.ensures.record_file
-    (sym (some_explored (map (λ word. word.now) c.args.words.now) c.in-Ok.options.explore
-    c.in-Some.runs c.in-Some.is c.in-Ok.ensures.explore)) is))
+    other c.in-Ok.options.explore c.in-Ok.ensures.explore
+    (record_named _ _ _ _ name c.in-Ok.ensures.record_file (sym c.in-Some.is) is))
+
+pub returns-in-Some-clause-unread : goal.returns-in-Some-clause-unread
+returns-in-Some-clause-unread g c = λ none.
+    let at = (goal.at.returns-in-Some-clause-unread g c).In-Ok in
+    if_mapped _ _ _ (λ fault is. (
+      c.explore-status.result,
+      c.number_of-in-Some.ensures,
+      subst (λ (names : Names). IsUnread names fault c.explore-status.result
+          (g.X.Telling.told c.args.err.now) (g.X.Telling.told c.explore-status.new.err))
+          (same_names g at) is,
+    )) (c.explore-status.ensures.unread none)
 
 -- ---- faulty words
 
@@ -114,7 +127,7 @@ returns-in-Err-clause-run g c = (
   c.refuse.result,
   c.number_of-in-Err.ensures,
   elim c.refuse.ensures [
-    | inl memory ↦ inr (inl (memory, inl refl, refl))
+    | inl memory ↦ inr (inl (memory.0, inl refl, refl, memory.1))
     | inr usage ↦
         inl (usage.0, refl, refl, inl (faulty _ c.in-Err.error c.in-Err.ensures.fault usage.1))
   ],

@@ -1,8 +1,10 @@
-use Rattle.std.proofs.Common.{◌≡◌, ℕ, List, Option, inl, inr, refl, sym, ap, subst, ◌∙◌, arith, length}
+use Rattle.std.proofs.Common.{◌≡◌, ℕ, List, Option, None, inl, inr, refl, sym, ap, subst, ◌∙◌, arith, length}
 use Rattle.std.specs.Prelude.{option_map}
 use Rattle.ps_vault.specs.Screens.{HasShown, HasShownSome}
-use Rattle.ps_run.specs.Driving.{Asked, Contents, IsGiven, asked_of, names_of}
-use Rattle.ps_run.proofs.Driven.{written_from}
+use Rattle.ps_run.specs.Driving.{Asked, Contents, IsGiven, asked_of, line_of, names_of}
+use Rattle.ps_run.specs.Telling.{Tells, Told}
+use Rattle.ps_run.specs.declared.statuses.Status.TheVariants as status
+use Rattle.ps_run.proofs.Driven.{keeps_program, record_named, written_from}
 use Rattle.ps_run.proofs.Streamed.{begun_or_same, cut_streamed, of_fault, of_report}
 use Rattle.ps_run.proofs.driver.run.Goals as goal
 
@@ -23,22 +25,14 @@ returns-in-Ok-report-clause-run g c =
       report = report;
       run = record {
         program = c.in-Ok.program.items;
-        is_program = (
-          c.in-Ok.ensures.bytes,
-          omega (
-            arith,
-            ap length c.as_slice.ensures.value,
-            c.as_slice.ensures.len,
-            c.in-Ok.ensures.few,
-          ),
-        );
+        is_program = c.in-Ok.ensures.program;
         given = option_map (λ schedule. schedule.items) c.in-Ok-read_given.given;
         is_given =
             subst (λ (contents : Contents). IsGiven contents
             (names_of c.args.options.now).replayed
             (option_map (λ schedule. schedule.items) c.in-Ok-read_given.given))
             c.in-Ok.ensures.kept c.in-Ok-read_given.ensures.given;
-        run = rw c.as_slice.ensures.value at
+        run = rw c.as_slice-bytes.ensures.value at
             (of_report _ _ report c.in-Ok-report.is c.make-report.ensures.made);
         bounded = of_report _ _ report c.in-Ok-report.is c.make-report.ensures.bounded;
         streamed = cut_streamed c.args.options.now.stream screen shown
@@ -47,9 +41,17 @@ returns-in-Ok-report-clause-run g c =
       };
       written =
           written_from _ _ _ report _ _ _ _
-          (ap g.X.Write.contents (c.in-Ok-read_given.ensures.told ∙ c.in-Ok.ensures.told))
+          (ap g.X.Telling.told (c.in-Ok-read_given.ensures.told
+          ∙ (c.in_default.ensures.told ∙ c.in-Ok.ensures.told)))
           (c.in-Ok-read_given.ensures.kept ∙ c.in-Ok.ensures.kept)
           (c.finish.ensures.written first seen);
+      keeps = keeps_program _ _ (names_of c.args.options.now).recorded None c.in-Ok.program.items
+          (λ name is. rw (c.as_slice-bytes.ensures.value, ← c.in-Ok.ensures.kept) at
+          (c.in_default.ensures.kept name
+          (record_named _ _ _ _ name refl (sym c.requires.single) is)))
+          (λ name other. c.finish.ensures.others name other
+          ∙ ap (λ (contents : Contents). contents name)
+          (c.in-Ok-read_given.ensures.kept ∙ c.in-Ok.ensures.kept));
     })))
 
 pub returns-in-Err-Memory-clause-run : goal.returns-in-Err-Memory-clause-run
@@ -57,21 +59,17 @@ returns-in-Err-Memory-clause-run g c =
     let screen = c.screen_of-screen.result in
     let shown = c.make-report.result.screen in
     let some : HasShownSome c.in-Ok.program.items screen.seen shown =
-    rw c.as_slice.ensures.value at
+    rw c.as_slice-bytes.ensures.value at
     (of_fault _ c.in-Err-Memory.field-0 c.in-Err-Memory.is c.make-report.ensures.unshown) in
     inr (inl (
       c.end.ensures.status,
       begun_or_same g.S.Interpret.asks (names_of c.args.options.now)
           (λ (asked : Asked). asked ≡ asked_of c.args.options.now) (asked_of c.args.options.now) _
-          c.in-Ok.program.items screen shown refl c.requires.single (
-            c.in-Ok.ensures.bytes,
-            omega (
-              arith,
-              ap length c.as_slice.ensures.value,
-              c.as_slice.ensures.len,
-              c.in-Ok.ensures.few,
-            ),
-          ) c.screen_of-screen.ensures.watching (sym c.screen_of-screen.ensures.seen)
+          c.in-Ok.program.items screen shown refl c.requires.single c.in-Ok.ensures.program
+          c.screen_of-screen.ensures.watching (sym c.screen_of-screen.ensures.seen)
           c.output_of.ensures c.make-report.ensures.still some,
       c.in-Ok-read_given.ensures.kept ∙ c.in-Ok.ensures.kept,
+      subst (λ (old : Told). Tells old (g.X.Telling.told c.end.new.err) (line_of status.Memory))
+          (ap g.X.Telling.told (c.in-Ok-read_given.ensures.told
+          ∙ (c.in_default.ensures.told ∙ c.in-Ok.ensures.told))) c.end.ensures.told,
     ))

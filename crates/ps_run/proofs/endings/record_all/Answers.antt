@@ -1,9 +1,10 @@
--- Each round writes one record, to a file of its own.
-use Rattle.std.proofs.Common.{◌+◌, Some, ap, subst, ◌∙◌, arith}
+-- Each round writes one record, to a file of its own, or is the last.
+use Rattle.std.proofs.Common.{◌≡◌, ◌+◌, Some, Err, rules, ap, subst, ◌∙◌, arith, length}
 use Rattle.std.proofs.lemmas.List.{get_or_default}
 use Rattle.ps_vault.specs.declared.reports.Report.{Report}
-use Rattle.ps_run.specs.Driving.{IsRecorded, numbered}
-use Rattle.ps_run.proofs.ManyRuns.{named_record, recorded_more}
+use Rattle.ps_run.specs.Driving.{IsRecorded, TellsUnwritten, numbered}
+use Rattle.ps_run.specs.Telling.{Told}
+use Rattle.ps_run.proofs.ManyRuns.{named_record, recorded_kept, recorded_more}
 use Rattle.ps_run.proofs.endings.record_all.Goals as goal
 
 pub loop-number-preserved : goal.loop-number-preserved
@@ -27,8 +28,26 @@ loop-number-preserved g c =
       others = λ other none.
           c.record_ending.ensures.others other (λ same.
           none (named_record c.args.options.now.record_file c.in-Some.prefix other (count + 1)
-          c.in-Some.is same))
+          (length endings) c.in-Some.is (omega arith) (omega (arith, c.loop-number-test.true)) same))
           ∙ c.loop-number.invariant.others other none;
       reads = c.record_ending.ensures.reads ∙ c.loop-number.invariant.reads;
       writes = c.in_ok-record_ending.ensures.writes ∙ c.loop-number.invariant.writes;
     }
+
+pub returns-in_err-record_ending-clause-unrecorded : goal.returns-in_err-record_ending-clause-unrecorded
+returns-in_err-record_ending-clause-unrecorded g c =
+    let endings = c.args.endings.now in
+    let count = c.loop-number.number in
+    let prefix = c.in-Some.prefix.now in
+    let same : c.from_residual.result ≡ Err c.in_err-record_ending.field-0.0 = search rules in
+    rw (same, c.in-Some.is) (
+      count,
+      c.loop-number-test.true,
+      recorded_kept (g.F.FileSet.contents c.loop-number.files)
+          (g.F.FileSet.contents c.record_ending.new.files) prefix endings count c.requires.few
+          c.loop-number-test.true c.loop-number.invariant.recorded c.record_ending.ensures.others,
+      subst (λ (old : Told). TellsUnwritten (Some (numbered prefix (count + 1)))
+          c.in_err-record_ending.field-0.0 old (g.X.Telling.told c.record_ending.new.err))
+          (ap g.X.Telling.told c.loop-number.invariant.told)
+          c.in_err-record_ending.ensures.unrecorded,
+    )

@@ -1,15 +1,15 @@
-use Rattle.std.proofs.Common.{◌≡◌, ◌≤◌, ◌-◌, ℕ, List, length, true}
-use Rattle.ps_run.specs.Driving.{IsRecordName, names_of}
-use Rattle.ps_run.proofs.ManyRuns.{FirstRecorded}
+use Rattle.std.proofs.Common.{◌≡◌, ◌≤◌, ◌-◌, ℕ, List, length, Some}
+use Rattle.ps_run.specs.Driving.{AreRecorded, IsRecordName, names_of}
 use Rattle.ps_run.proofs.endings.record_all.Given as goal
 
 -- those so far are recorded, and no other file has changed
 abbrev pub invariant-loop-number : goal.invariant-loop-number
 invariant-loop-number g l = record {
   within : l.number ≤ length l.endings;
-  recorded : FirstRecorded (g.F.FileSet.contents l.files) l.prefix l.endings l.number;
+  recorded : AreRecorded (g.F.FileSet.contents l.files) (Some l.prefix) l.endings l.number;
   told : l.err ≡ l.fn.err;
-  others : (other : List ℕ) → ¬ IsRecordName (names_of l.options).recorded true other
+  others : (other : List ℕ) → ¬ IsRecordName (names_of l.options).recorded
+      (Some (length l.endings)) other
       → g.F.FileSet.contents l.files other ≡ g.F.FileSet.contents l.fn.files other;
   reads : g.F.FileSet.last_fault l.files ≡ g.F.FileSet.last_fault l.fn.files;
   writes : g.F.FileSet.is_unwritten l.files ≡ g.F.FileSet.is_unwritten l.fn.files;

@@ -1,15 +1,11 @@
-use Rattle.ps_vault.proofs.Parts.{part_before, part_behind}
+use Rattle.ps_run.proofs.Tellings.{tells_both}
 use Rattle.ps_run.proofs.finishing.tell.Goals as goal
-use Rattle.ps_run.proofs.finishing.tell.Goals.{then-stats+in_ok-tell_counts, else-stats}
-
-pub returns-in_err-tell_counts : goal.returns-in_err-tell_counts
-returns-in_err-tell_counts g c = rw c.if-stats.true (part_before _ _ _ _ c.tell_counts.ensures.part)
+use Rattle.ps_run.proofs.finishing.tell.Goals.{then-stats, else-stats}
 
 pub returns : goal.returns
 returns g c = elim c.if-stats.branch [
-  | then-stats+in_ok-tell_counts w ↦
-      rw w.if-stats.true (part_behind _ _ _ _ _ w.in_ok-tell_counts.ensures.whole
-      (rw (w.err-is, c.as_bytes.ensures.value, c.line_of.ensures) at c.write_part.ensures.part))
-  | else-stats w ↦ rw w.if-stats.false
-      (rw (w.err-is, c.as_bytes.ensures.value, c.line_of.ensures) at c.write_part.ensures.part)
+  | then-stats w ↦
+      rw w.if-stats.true
+      (tells_both _ _ _ _ _ w.tell_counts.ensures (rw w.err-is at c.end.ensures.told))
+  | else-stats w ↦ rw w.if-stats.false (rw w.err-is at c.end.ensures.told)
 ]

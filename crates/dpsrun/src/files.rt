@@ -1,0 +1,258 @@
+//! The system's files, as the program reads and writes them.
+
+use ps_run::{FileSet, ReadFault, WriteFault};
+use std::fs::{self, File, Files, Metadata};
+use std::io::{self, ErrorKind, Lock, Read, StdinLock, Write};
+use std::os::unix::fs::{MetadataExt, fchown};
+
+/// The name that stands for standard input where a file is read.
+const STANDARD_INPUT: &str = "-";
+
+/// The most bytes that are read by one call.
+const PART_BYTES: usize = 65_536;
+
+/// How many names beside that of a file are tried.
+const BESIDE_NAMES: u32 = 16;
+
+/// The file that is open, if one is.
+#[derive(Drop)]
+enum Opened {
+    Nothing,
+    File(File),
+    Input(StdinLock<'static>),
+}
+
+impl Opened {
+    /// Appends the next bytes of the file, up to `most` of them.
+    fn read_part(&mut self, most: usize, bytes: &mut Vec<u8>) -> Result<(), ReadFault> {
+        match self {
+            Opened::Nothing => Err(ReadFault::NoRead),
+            Opened::File(file) => read_part(file, most, bytes),
+            Opened::Input(input) => read_part(input, most, bytes),
+        }
+    }
+}
+
+/// The files of the system. Where one is read, `-` is standard input.
+#[derive(Drop)]
+pub struct SystemFiles<'a> {
+    rt: &'a HostRuntime,
+    opened: Opened,
+    /// Why the last read that failed did.
+    last_fault: Option<ReadFault>,
+    /// Whether a write failed.
+    unwritten: bool,
+}
+
+impl<'a> SystemFiles<'a> {
+    /// Files of which none was read or written yet.
+    pub fn new(rt: &'a HostRuntime) -> SystemFiles<'a> {
+        SystemFiles {
+            rt,
+            opened: Opened::Nothing,
+            last_fault: None,
+            unwritten: false,
+        }
+    }
+
+    /// The file of a name, opened.
+    fn opened(&self, name: &str) -> Result<Opened, ReadFault> {
+        if name.is_empty() {
+            return Err(ReadFault::Nameless);
+        }
+        if name == STANDARD_INPUT {
+            return Ok(Opened::Input(self.rt.stdin().lock()));
+        }
+        match File::open(self.rt, name) {
+            Ok(file) => Ok(Opened::File(file)),
+            Err(error) => Err(fault_of(&error)),
+        }
+    }
+}
+
+/// Why a file was not read.
+fn fault_of(error: &io::Error) -> ReadFault {
+    match error.kind() {
+        ErrorKind::NotFound => ReadFault::NotFound,
+        ErrorKind::IsADirectory => ReadFault::Folder,
+        ErrorKind::PermissionDenied => ReadFault::Denied,
+        ErrorKind::OutOfMemory => ReadFault::Memory,
+        _ => ReadFault::NoRead,
+    }
+}
+
+/// Reads the next bytes of a reader, by one read that isn't interrupted.
+fn read_some<R: Read>(reader: &mut R, part: &mut [u8]) -> io::Result<usize> {
+    for _ in 0..u64::MAX {
+        match reader.read(part) {
+            Err(error) if error.kind() == ErrorKind::Interrupted => {}
+            answer => return answer,
+        }
+    }
+    Err(io::Error::from(ErrorKind::Interrupted))
+}
+
+/// Appends the next bytes of a reader, up to `most` of them.
+fn read_part<R: Read>(reader: &mut R, most: usize, bytes: &mut Vec<u8>) -> Result<(), ReadFault> {
+    let mut buffer = [0; PART_BYTES];
+    let part = &mut buffer[..most.min(PART_BYTES)];
+    match read_some(reader, part) {
+        Ok(count) => match bytes.extend_from_slice(&part[..count]) {
+            Ok(()) => Ok(()),
+            Err(_) => Err(ReadFault::Memory),
+        },
+        Err(error) => Err(fault_of(&error)),
+    }
+}
+
+/// Whether what is left of a reader is just these bytes.
+fn reads<R: Read>(reader: &mut R, bytes: &[u8]) -> io::Result<bool> {
+    let mut buffer = [0; PART_BYTES];
+    let mut left = bytes;
+    for _ in 0..u64::MAX {
+        let count = read_some(reader, &mut buffer)?;
+        if count == 0 {
+            return Ok(left.is_empty());
+        }
+        let Some(rest) = left.strip_prefix(&buffer[..count]) else {
+            return Ok(false);
+        };
+        left = rest;
+    }
+    Ok(false)
+}
+
+/// Whether an ordinary file has just these bytes, also one behind a link. No other is opened.
+fn is_file_of(rt: &HostRuntime, name: &str, bytes: &[u8]) -> io::Result<bool> {
+    let known = rt.metadata(name)?;
+    if !known.is_file() || known.len() != bytes.len() as u64 {
+        return Ok(false);
+    }
+    reads(&mut File::open(rt, name)?, bytes)
+}
+
+/// Makes a file beside that of a name, to be put in its place: of that name with `.part` and a
+/// number behind it, which no file had.
+fn file_beside(rt: &HostRuntime, name: &str) -> io::Result<(String, File)> {
+    for number in 1..=BESIDE_NAMES {
+        let beside = format!(in rt.alloc(); "{name}.part{number}")?;
+        match File::create_new(rt, beside.as_str()) {
+            Ok(file) => return Ok((beside, file)),
+            Err(error) if error.kind() == ErrorKind::AlreadyExists => {}
+            Err(error) => return Err(error),
+        }
+    }
+    Err(io::Error::from(ErrorKind::AlreadyExists))
+}
+
+/// Whether this failure to make a file beside one leaves it open that the one itself can be written:
+/// the folder takes no new file, or none of a longer name, or each name is taken.
+fn is_of_name(error: &io::Error) -> bool {
+    matches!(
+        error.kind(),
+        ErrorKind::PermissionDenied | ErrorKind::AlreadyExists | ErrorKind::InvalidFilename
+    )
+}
+
+/// Gives a file the owner, the group and the mode of another, as far as they differ.
+fn become_as(file: &File, old: &Metadata) -> io::Result<()> {
+    let new = file.metadata()?;
+    if new.uid() != old.uid() || new.gid() != old.gid() {
+        fchown(file, Some(old.uid()), Some(old.gid()))?;
+    }
+    file.set_permissions(old.permissions())
+}
+
+/// Writes these bytes and lets a file take a name.
+fn take_name(
+    rt: &HostRuntime,
+    file: &mut File,
+    names: (&str, &str),
+    bytes: &[u8],
+) -> io::Result<()> {
+    file.write_all(bytes)?;
+    fs::rename(rt, names.0, names.1)
+}
+
+/// Puts bytes in the place of a file, or makes it: they are written beside it, and what has them
+/// takes its name, with the owner and the mode of the old one. Where that fails, as on a full disk,
+/// the file is as it was. Where no such file can be made beside it, it is written itself.
+fn replace_file(
+    rt: &HostRuntime,
+    name: &str,
+    old: Option<&Metadata>,
+    bytes: &[u8],
+) -> io::Result<()> {
+    let (beside, mut file) = match file_beside(rt, name) {
+        Ok(made) => made,
+        Err(error) if is_of_name(&error) => return fs::write(rt, name, bytes),
+        Err(error) => return Err(error),
+    };
+    if let Some(old) = old {
+        if become_as(&file, old).is_err() {
+            fs::remove_file(rt, beside.as_str())?;
+            return fs::write(rt, name, bytes);
+        }
+    }
+    let written = take_name(rt, &mut file, (beside.as_str(), name), bytes);
+    if written.is_err() {
+        let _ = fs::remove_file(rt, beside.as_str());
+    }
+    written
+}
+
+/// Writes a file: an ordinary one that may be written, or one that isn't there, is replaced, and
+/// another takes the bytes: a device, a pipe, a link, or a file of several names, all of which are
+/// to have them. One that may only be read stays.
+fn write_file(rt: &HostRuntime, name: &str, bytes: &[u8]) -> io::Result<()> {
+    match rt.symlink_metadata(name) {
+        Ok(known) if known.is_file() && known.nlink() <= 1 => {
+            File::options().append(true).open(rt, name)?;
+            replace_file(rt, name, Some(&known), bytes)
+        }
+        Err(error) if error.kind() == ErrorKind::NotFound => replace_file(rt, name, None, bytes),
+        Ok(_) | Err(_) => fs::write(rt, name, bytes),
+    }
+}
+
+impl FileSet for SystemFiles<'_> {
+    ghost last_fault = { λ files. files.last_fault };
+
+    ghost is_unwritten = { λ files. files.unwritten };
+
+    fn open(&mut self, name: &str) -> Result<(), ReadFault> {
+        match self.opened(name) {
+            Ok(opened) => {
+                self.opened = opened;
+                Ok(())
+            }
+            Err(fault) => {
+                self.last_fault = Some(fault);
+                Err(fault)
+            }
+        }
+    }
+
+    fn read_on(&mut self, most: usize, bytes: &mut Vec<u8>) -> Result<(), ReadFault> {
+        let read = self.opened.read_part(most, bytes);
+        if let Err(fault) = &read {
+            self.last_fault = Some(*fault);
+        }
+        read
+    }
+
+    fn holds(&self, name: &str, bytes: &[u8]) -> bool {
+        match is_file_of(self.rt, name, bytes) {
+            Ok(is) => is,
+            Err(_) => false,
+        }
+    }
+
+    fn write(&mut self, name: &str, bytes: &[u8]) -> Result<(), WriteFault> {
+        if write_file(self.rt, name, bytes).is_err() {
+            self.unwritten = true;
+            return Err(WriteFault::NoWrite);
+        }
+        Ok(())
+    }
+}

@@ -1,0 +1,100 @@
+//! That no record is written over a file that holds the program, whatever its name.
+
+ghost use Rattle.std.specs.Prelude.{◌≡◌, ◌≢◌, ◌≤◌, ◌⊎◌, ℕ, List, Some, false, true, OnOk, IfErr, IfOk, IfSome};
+ghost use Rattle.ps_run.specs.Driving as driving;
+ghost use Rattle.ps_run.specs.Driving.{IsRecordName, names_of, numbered};
+ghost use Rattle.ps_run.specs.Telling.{Tells};
+
+use crate::files::FileSet;
+use crate::outputs::Telling;
+use crate::statuses::{Status, end};
+use crate::telling::refuse;
+use ps_options::{Options, overwritten};
+use std::alloc::{AllocError, Global};
+
+/// Fails where a record that is asked for would be written over a file that holds the program, or
+/// where memory is wanted for its name. That is told, and the status is the error.
+pub(crate) fn keep_program<F: FileSet, X: Telling>(
+    alloc: Global,
+    options: &Options<'_>,
+    program: &[u8],
+    files: &F,
+    err: &mut X,
+) -> Result<(), Status>
+    ensures told { OnOk result (err.new ≡ err.old) }
+    ensures kept { OnOk result ((name : List ℕ)
+        → IsRecordName (names_of options.now).recorded options.now.explore name
+        → IfSome (F.contents files.now name) (λ known. known ≢ program.now)) }
+    ensures over { IfErr result (λ told. ((told ≡ Status.Memory)
+        × Tells (X.told err.old) (X.told err.new) (driving.line_of Status.Memory))
+        ⊎ ((told ≡ Status.Usage) × (name : List ℕ)
+        × IsRecordName (names_of options.now).recorded options.now.explore name
+        × IfSome (F.contents files.now name) (λ known. known ≡ program.now))) }
+{
+    match writes_over(alloc, options, program, files) {
+        Ok(false) => Ok(()),
+        Ok(true) => Err(tell_over(alloc, err)),
+        Err(_) => Err(end(err, Status::Memory)),
+    }
+}
+
+/// Tells that a record would be written over the program, as a command line is told that names one
+/// file for both.
+fn tell_over<X: Telling>(alloc: Global, err: &mut X) -> Status
+    ensures { ((result ≡ Status.Memory)
+        × Tells (X.told err.old) (X.told err.new) (driving.line_of Status.Memory))
+        ⊎ (result ≡ Status.Usage) }
+{
+    match overwritten(alloc) {
+        Ok(error) => refuse(alloc, &error, err),
+        Err(_) => end(err, Status::Memory),
+    }
+}
+
+/// Whether a record that is asked for would be written over a file that holds the program. Fails for
+/// want of memory.
+fn writes_over<F: FileSet>(
+    alloc: Global,
+    options: &Options<'_>,
+    program: &[u8],
+    files: &F,
+) -> Result<bool, AllocError>
+    ensures kept { IfOk result (λ is. is ≡ false → (name : List ℕ)
+        → IsRecordName (names_of options.now).recorded options.now.explore name
+        → IfSome (F.contents files.now name) (λ known. known ≢ program.now)) }
+    ensures over { IfOk result (λ is. is ≡ true → (name : List ℕ)
+        × IsRecordName (names_of options.now).recorded options.now.explore name
+        × IfSome (F.contents files.now name) (λ known. known ≡ program.now)) }
+{
+    match (options.record_file, options.explore) {
+        (None, _) => Ok(false),
+        (Some(name), None) => Ok(files.holds(name, program)),
+        (Some(prefix), Some(runs)) => numbered_over(alloc, prefix, runs, program, files),
+    }
+}
+
+/// Whether the record of an ending, by a number from 1 to `most`, would be written over a file that
+/// holds the program. Fails for want of memory.
+fn numbered_over<F: FileSet>(
+    alloc: Global,
+    prefix: &str,
+    most: u32,
+    program: &[u8],
+    files: &F,
+) -> Result<bool, AllocError>
+    ensures kept { IfOk result (λ is. is ≡ false → (number : ℕ) → 1 ≤ number → number ≤ most
+        → IfSome (F.contents files.now (numbered prefix.now number))
+        (λ known. known ≢ program.now)) }
+    ensures over { IfOk result (λ is. is ≡ true → (number : ℕ) × (1 ≤ number) × (number ≤ most)
+        × IfSome (F.contents files.now (numbered prefix.now number))
+        (λ known. known ≡ program.now)) }
+{
+    for place in 0..most {
+        let number = u64::from(place) + 1;
+        let name = format!(in alloc; "{prefix}.{number}")?;
+        if files.holds(name.as_str(), program) {
+            return Ok(true);
+        }
+    }
+    Ok(false)
+}
