@@ -14,7 +14,8 @@ use Rattle.ps_vault.specs.declared.reports.Config.{Config}
 use Rattle.ps_vault.specs.declared.reports.Outcome.{Outcome}
 use Rattle.ps_vault.specs.declared.reports.Outcome.TheVariants.{Finished, Faulted, AllWaiting, StepsOut, Memory}
 use Rattle.ps_vault.specs.declared.reports.Report.{Report}
-use Rattle.ps_vault.specs.Reports.{IsReplayOf, IsRunIn, IsWithin, is_memory}
+use Rattle.ps_vault.specs.declared.reports.TheConstants.{ANY_ENTRIES}
+use Rattle.ps_vault.specs.Reports.{bounds_of, IsBounded, IsReplayOf, IsRunIn, IsWithin, is_memory}
 use Rattle.ps_hosting.specs.declared.hosting.Refusal.{Refusal}
 use Rattle.ps_hosting.specs.declared.hosting.Refusal.TheVariants.{OutOfRange, NoRoom, OtherSchedule, BadEntry}
 use Rattle.ps_hosting.specs.declared.numbers.Settings.{Settings}
@@ -37,7 +38,7 @@ config_in settings = record {
   quantum = settings.quantum;
   steps = settings.steps;
   output = most_output settings.output;
-  entries = bound_in settings.entries (2 ^ 64 - 1);
+  entries = bound_in settings.entries ANY_ENTRIES;
 }
 
 -- the space: one that is collected, or memory that grows
@@ -113,14 +114,13 @@ abbrev pub IsHandedOut : Result Report Refusal → (old new : Rooms) → (code :
 IsHandedOut (Ok report) old new code = IsHanded report old new code
 IsHandedOut (Err refusal) old new code = (new ≡ old) × (code ≡ code_of_refusal refusal)
 
--- a run of a program by these settings, with a budget of so many steps, which prints no more than
--- it
--- may. Asks: what a step asks for that the language doesn't say
+-- a run of a program by these settings, with a budget of so many steps, within its bounds. Asks:
+-- what a step asks for that the language doesn't say
 abbrev pub IsRunFor : (asks : Status → Around → Scene → Asked) → (program : List ℕ) → Settings
     → (steps : ℕ) → Report → Type 0
 IsRunFor asks program settings steps report =
     IsRunIn asks (space_in settings) program steps report
-    × (length report.printed.items ≤ most_output settings.output)
+    × IsBounded (bounds_of (config_in settings)) report
 
 -- what is made where a host asks for a run of a program: a number is out of its range, or there is
 -- no

@@ -21,12 +21,16 @@ fn hand_bytes(bytes: &[u8], room: &mut [u8])
 }
 
 /// Writes as many of these entries as there is room for.
-fn hand_entries(entries: &[Entry], room: &mut [HostEntry])
-    ensures { room.new ≡ handed (map hosts.handed_entry entries.now) room.old }
+fn hand_entries(entries: Entries<'_>, room: &mut [HostEntry])
+    ensures { room.new ≡ handed (map hosts.handed_entry entries.entry) room.old }
 {
-    let count = entries.len().min(room.len());
+    let mut left = entries;
+    let count = room.len();
     for place in 0..count {
-        room[place] = handed_entry(&entries[place]);
+        let Some(entry) = left.next() else {
+            return;
+        };
+        room[place] = handed_entry(&entry);
     }
 }
 
@@ -84,11 +88,11 @@ fn hand_report(
         (record { printed = printed.new; schedule = schedule.new; counts = counts.new }) result }
 {
     hand_bytes(report.printed.as_slice(), printed);
-    hand_entries(report.schedule.as_slice(), schedule);
+    hand_entries(report.schedule.entries(), schedule);
     *counts = Counts {
         bytes: report.printed.len() as u64,
         entries: report.schedule.len() as u64,
-        steps: steps_of(Entries::of(report.schedule.as_slice())),
+        steps: steps_of(report.schedule.entries()),
         flips: u64::from(report.flips),
         taken: report.taken,
     };

@@ -1,7 +1,7 @@
 //! Runs that a host asks for.
 
-ghost use Rattle.std.specs.Prelude.{◌≡◌, ◌≤◌, ◌↔◌, length, map, IfOk, IsTrue};
-ghost use Rattle.ps_vault.specs.Reports.{IsRunIn};
+ghost use Rattle.std.specs.Prelude.{◌≡◌, ◌↔◌, map, IfOk, IsTrue};
+ghost use Rattle.ps_vault.specs.Reports.{bounds_of, IsBounded, IsRunIn};
 ghost use Rattle.ps_hosting.specs.Hosts as hosts;
 ghost use Rattle.ps_hosting.specs.Hosts.{GoesOnFrom, IsFollowed, IsGoneOn, IsMade, space_in};
 
@@ -68,9 +68,8 @@ fn budget_behind(given: &[Entry], settings: &Settings) -> u32
 fn goes_on_from(given: &[Entry], report: &Report) -> bool
     ensures { IsTrue result ↔ GoesOnFrom given.now report.now }
 {
-    let made = report.schedule.as_slice();
-    begins(Entries::of(given), Entries::of(made))
-        || report.outcome.is_memory() && begins(Entries::of(made), Entries::of(given))
+    begins(Entries::of(given), report.schedule.entries())
+        || report.outcome.is_memory() && begins(report.schedule.entries(), Entries::of(given))
 }
 
 /// Goes on from a schedule: a run of the program by these settings, of the steps that were given
@@ -146,8 +145,7 @@ fn make<S: Interpret + Drop, D: Deeds + Drop>(
 ) -> Result<Report, RunFault>
     ensures run { IfOk result
         (IsRunIn S.asks (space_in settings.now) program.now settings.now.steps) }
-    ensures bounded { IfOk result
-        (λ report. length report.printed.items ≤ hosts.most_output settings.now.output) }
+    ensures bounded { IfOk result (IsBounded (bounds_of (hosts.config_in settings.now))) }
 {
     let Ok(keys) = keys_of(&settings.keys) else {
         return Err(RunFault::Memory);

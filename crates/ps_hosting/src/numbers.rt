@@ -6,10 +6,7 @@ ghost use Rattle.ps_hosting.specs.Hosts as hosts;
 use crate::hosting::Refusal;
 use crate::keys::Keys;
 use ps_language::schedules::Entry;
-use ps_vault::{ANY_OUTPUT, Config, Outcome};
-
-/// The bound on the entries of a schedule that is none.
-const ANY_ENTRIES: u64 = u64::MAX;
+use ps_vault::{ANY_ENTRIES, ANY_OUTPUT, Config, Outcome};
 
 /// What a host asks for.
 #[repr(C)]

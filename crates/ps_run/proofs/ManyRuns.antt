@@ -12,6 +12,7 @@ use Rattle.ps_acts.specs.Acts as acts
 use Rattle.ps_schedules.specs.Texts.{AreEntries, text_of}
 use Rattle.ps_vault.specs.declared.reports.Report.{Report}
 use Rattle.ps_vault.specs.Endings.{AreEndings}
+use Rattle.ps_vault.specs.Reports.{Bounds}
 use Rattle.ps_vault.proofs.Endings.{each_ending}
 use Rattle.ps_run.specs.Telling.{Told}
 use Rattle.ps_run.specs.declared.statuses.Status.{Status}
@@ -58,11 +59,11 @@ module _ (old new : Contents) (prefix : Text) (endings : List Report) (count : �
 
 -- their schedules can be read again
 pub endings_entries : (asks : world.Status → Around → Scene → acts.Asked) (program : List ℕ)
-    (steps output runs : ℕ) (endings : List Report) → steps ≤ 4294967295
-    → AreEndings asks program steps output runs endings
+    (steps : ℕ) (most : Bounds) (runs : ℕ) (endings : List Report) → steps ≤ 4294967295
+    → AreEndings asks program steps most runs endings
     → All (λ ending. AreEntries ending.schedule.items) endings
-endings_entries asks program steps output runs endings few are = λ place default less.
-    let ending = each_ending asks program steps output runs endings are place default less in
+endings_entries asks program steps most runs endings few are = λ place default less.
+    let ending = each_ending asks program steps most runs endings are place default less in
     are_entries program (slice_index_or endings place default).schedule.items
     (omega (arith, few, ending.run.run.within)) ending.run.run.longest ending.run.run.proper
     ending.run.run.fits

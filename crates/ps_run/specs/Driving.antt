@@ -21,10 +21,11 @@ use Rattle.ps_start.specs.declared.start.TheConstants.{ANY_OUTPUT}
 use Rattle.ps_vault.specs.declared.reports.Config.{Config}
 use Rattle.ps_vault.specs.declared.reports.Outcome.{Outcome}
 use Rattle.ps_vault.specs.declared.reports.Report.{Report}
+use Rattle.ps_vault.specs.declared.reports.TheConstants.{ANY_ENTRIES}
 use Rattle.ps_vault.specs.declared.reports.Outcome.TheVariants.{Finished, Faulted, AllWaiting, StepsOut, Memory}
 use Rattle.ps_vault.specs.Endings.{AreEndings}
 use Rattle.ps_vault.specs.Order.{InOrder}
-use Rattle.ps_vault.specs.Reports.{IsReplayOf, IsRunIn, IsUncollected, IsWithin, UnderPart, WithBudget, are_ordinary}
+use Rattle.ps_vault.specs.Reports.{Bounds, IsReplayOf, IsRunIn, IsUncollected, IsWithin, UnderPart, WithBudget, are_ordinary}
 use Rattle.ps_vault.specs.Screens.{AppendsPart}
 use Rattle.ps_run.specs.Telling.{Tells, Told}
 use Rattle.ps_run.specs.declared.files.ReadFault.{ReadFault}
@@ -147,6 +148,10 @@ AreAsked words asked = (asked.space ≡ unwrap_or (size_in (codes "space") words
     × IsOptional (codes "explore") words asked.explored
     × (asked.output ≡ size_in (codes "output") words)
 
+-- the bounds of its run
+abbrev pub most_asked : Asked → Bounds
+most_asked asked = record { output = most_output asked.output; entries = ANY_ENTRIES }
+
 -- the space of its memory
 abbrev pub space_of : Asked → Space
 space_of asked = if asked.plain then plain_space else bounded_space asked.space
@@ -175,6 +180,7 @@ config_in options = record {
   quantum = options.quantum;
   steps = options.steps;
   output = most_output options.output;
+  entries = ANY_ENTRIES;
 }
 
 abbrev pub asked_of : Options → Asked
@@ -448,7 +454,7 @@ module _ (asks : world.Status → Around → Scene → acts.Asked) (names : Name
     pub program : List ℕ
     pub is_program : IsProgramIn outputs.files_old names program
     pub endings : List Report
-    pub are : AreEndings asks program asked.steps (most_output asked.output) runs endings
+    pub are : AreEndings asks program asked.steps (most_asked asked) runs endings
     pub entries : All (λ ending. AreEntries ending.schedule.items) endings
     pub written : AreWritten names.recorded runs endings told outputs
     pub keeps : KeepsProgram outputs.files_old outputs.files_new program

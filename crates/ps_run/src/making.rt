@@ -4,14 +4,14 @@ ghost use Rattle.std.specs.Prelude.{◌≡◌, ◌≢◌, ◌≤◌, length, ℕ
 ghost use Rattle.ps_language.specs.Schedules.{moves};
 ghost use Rattle.ps_language.specs.Worlds.{starting_world};
 ghost use Rattle.ps_vault.specs.Order.{InOrder};
-ghost use Rattle.ps_vault.specs.Reports.{IsReplayOf, IsRunOf, IsUncollected, IsWithin, UnderPart, WithBudget};
+ghost use Rattle.ps_vault.specs.Reports.{bounds_of, IsBounded, IsReplayOf, IsRunOf, IsUncollected, IsWithin, UnderPart, WithBudget};
 ghost use Rattle.ps_vault.specs.Screens.{HasShown, HasShownSome};
 ghost use Rattle.ps_run.specs.Driving.{IsMade, asked_of, config_in, most_output};
 
 use ps_interpreter::interprets::Interpret;
 use ps_options::Options;
 use ps_vault::{
-    ANY_OUTPUT, Config, Entry, RunFault, Screen, Setup, Viewer, Watched, replay_shown,
+    ANY_ENTRIES, ANY_OUTPUT, Config, Entry, RunFault, Screen, Setup, Viewer, Watched, replay_shown,
     run_plain_shown,
 };
 use ps_workers::{Job, run_shown};
@@ -106,8 +106,7 @@ fn run_plainly<S: Interpret + Drop, D: Deeds + Drop, V: Viewer + Drop>(
     ensures order { IfOk result.report (λ report. InOrder job.entry.config.quantum
         (starting_world job.entry.program.now) (moves report.schedule.items)) }
     ensures uncollected { IfOk result.report IsUncollected }
-    ensures bounded { IfOk result.report
-        (λ report. length report.printed.items ≤ job.entry.config.output) }
+    ensures bounded { IfOk result.report (IsBounded (bounds_of job.entry.config)) }
     ensures shown { IfOk result.report
         (λ report. HasShown screen.seen result.screen report.printed.items) }
     ensures unshown { OnErr result.report (result.screen ≡ screen) }
@@ -138,5 +137,6 @@ pub(crate) fn config_of(options: &Options<'_>) -> Config
             Some(most) => u64::from(most),
             None => ANY_OUTPUT,
         },
+        entries: ANY_ENTRIES,
     }
 }

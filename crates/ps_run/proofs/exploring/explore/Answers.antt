@@ -1,7 +1,8 @@
 use Rattle.std.proofs.Common.{◌≡◌, ◌≤◌, ◌∙◌, ℕ, Some, inr, refl, sym, ap, subst, arith, length}
-use Rattle.ps_run.specs.Driving.{Contents, asked_of, most_output, names_of}
+use Rattle.ps_run.specs.Driving.{Contents, asked_of, most_asked, names_of}
 use Rattle.ps_vault.specs.declared.reports.Config.{Config}
 use Rattle.ps_vault.specs.Endings.{AreEndings}
+use Rattle.ps_vault.specs.Reports.{Bounds, bounds_of}
 use Rattle.ps_vault.proofs.Endings.{endings_few}
 use Rattle.ps_run.proofs.Driven.{keeps_program, record_named}
 use Rattle.ps_run.proofs.ManyRuns.{all_written_from, endings_entries, record_fewer}
@@ -17,10 +18,10 @@ pub returns-in-Ok-explore-clause-run : goal.returns-in-Ok-explore-clause-run
 returns-in-Ok-explore-clause-run g c =
     let steps : c.config_of-config.result.steps ≡ c.args.options.now.steps =
     ap (λ (config : Config). config.steps) c.config_of-config.ensures in
-    let output : c.config_of-config.result.output ≡ most_output c.args.options.now.output =
-    ap (λ (config : Config). config.output) c.config_of-config.ensures in
+    let most : bounds_of c.config_of-config.result ≡ most_asked (asked_of c.args.options.now) =
+    ap bounds_of c.config_of-config.ensures in
     let made : AreEndings g.S.Interpret.asks c.in-Ok.program.items c.config_of-config.result.steps
-    c.config_of-config.result.output c.args.runs c.in-Ok-explore.endings.items =
+    (bounds_of c.config_of-config.result) c.args.runs c.in-Ok-explore.endings.items =
     rw c.as_slice-bytes.ensures.value at c.in-Ok-explore.ensures in
     let few = endings_few _ _ _ _ _ _ c.in-Ok-explore.ensures in
     let same = ap length c.as_slice-in-Ok-explore.ensures.value in
@@ -35,9 +36,9 @@ returns-in-Ok-explore-clause-run g c =
       is_program = c.in-Ok.ensures.program;
       endings = c.in-Ok-explore.endings.items;
       are = subst (λ (n : ℕ). AreEndings g.S.Interpret.asks c.in-Ok.program.items n
-          (most_output c.args.options.now.output) c.args.runs c.in-Ok-explore.endings.items) steps
-          (subst (λ (n : ℕ). AreEndings g.S.Interpret.asks c.in-Ok.program.items
-          c.config_of-config.result.steps n c.args.runs c.in-Ok-explore.endings.items) output made);
+          (most_asked (asked_of c.args.options.now)) c.args.runs c.in-Ok-explore.endings.items) steps
+          (subst (λ (n : Bounds). AreEndings g.S.Interpret.asks c.in-Ok.program.items
+          c.config_of-config.result.steps n c.args.runs c.in-Ok-explore.endings.items) most made);
       entries = endings_entries _ _ _ _ _ _ (omega (arith, c.config_of-config.type_inv)) made;
       written =
           all_written_from _ _ _ _ _ _ _

@@ -1,5 +1,5 @@
 -- A run with a budget: its schedule has a text, and a plain one has its turns in order.
-use Rattle.std.proofs.Common.{◌≡◌, ℕ, List, ap, arith, refl, rules, sym, subst, ◌∙◌, true≢false}
+use Rattle.std.proofs.Common.{◌≡◌, ℕ, List, length, ap, arith, refl, rules, sym, subst, ◌∙◌, true≢false}
 use Rattle.std.specs.Prelude.{◌≤◌}
 use Rattle.std.proofs.lemmas.Result.{IfOk-weaker}
 use Rattle.ps_language.specs.Effect.{Around, Scene}
@@ -66,3 +66,17 @@ returns-in-None-2-clause-made g c =
           (omega (arith, few, most)) run) made,
       λ plain. absurd (true≢false (sym plain ∙ c.if-options.false)),
     )) c.run_shown.ensures.ended.run)
+
+pub returns-in-None-clause-bounded : goal.returns-in-None-clause-bounded
+returns-in-None-clause-bounded g c =
+    IfOk-weaker c.run_plainly.result.report _ _ (λ report most.
+    subst (λ (n : ℕ). length report.printed.items ≤ n)
+    (ap (λ (it : Config). it.output) c.requires.numbers) most.printed)
+    c.run_plainly.ensures.bounded
+
+pub returns-in-None-2-clause-bounded : goal.returns-in-None-2-clause-bounded
+returns-in-None-2-clause-bounded g c =
+    IfOk-weaker c.run_shown.result.report _ _ (λ report most.
+    subst (λ (n : ℕ). length report.printed.items ≤ n)
+    (ap (λ (it : Config). it.output) c.requires.numbers) most.printed)
+    c.run_shown.ensures.ended.bounded
