@@ -1,6 +1,6 @@
 -- What an output holds after writes.
 use Rattle.std.proofs.Common.{◌≡◌, ◌+◌, ◌-◌, ◌≤◌, ℕ, zero, suc, List, [], ◌∷◌, ◌++◌, Option, take, drop, length, refl, sym, ap, ◌∙◌, subst, arith, take-append-drop, length-drop}
-use Rattle.std.specs.Prelude.{Result, Ok, Err, OnOk, IfOk}
+use Rattle.std.specs.Prelude.{Result, Ok, Err, IfOk}
 use Rattle.std.specs.Io.KnownBytes.{Appends, WriteAppends}
 use Rattle.std.proofs.KnownBytes.{Appends-trans}
 use Rattle.ps_vault.specs.Screens.{AppendsPart}

@@ -1,5 +1,5 @@
 -- What a run from a command line is, its exit status, and what is written.
-use Rattle.std.specs.Prelude.{◌≡◌, ◌<◌, ◌≤◌, ◌+◌, ◌⊎◌, ◌++◌, ◌-◌, ◌^◌, ⊤, min, unwrap_or, ℕ, Bool, true, false, All, List, [], ◌∷◌, slice_index_or, Option, Some, None, IsSome, IfSome, option_map, option_and_then, length, codes, if◌then◌else◌}
+use Rattle.std.specs.Prelude.{◌≡◌, ◌<◌, ◌≤◌, ◌+◌, ◌⊎◌, ◌++◌, ◌-◌, ◌^◌, ⊤, min, unwrap_or, ℕ, Bool, true, false, All, List, [], ◌∷◌, slice_index_or, Option, Some, None, IfSome, option_map, option_and_then, length, codes, if◌then◌else◌}
 use Rattle.std.specs.Option.{option_or}
 use Rattle.std.specs.Fmt.{decimal}
 use Rattle.std.specs.Io.KnownBytes.{Appends}

@@ -1,10 +1,12 @@
-use Rattle.std.proofs.Common.{◌≡◌, List, ℕ, Option, map, inl, inr, refl, sym, ap, subst, ◌∙◌}
+use Rattle.std.proofs.Common.{◌≡◌, ℕ, Option, map, inl, inr, refl, sym, ap, subst, ◌∙◌}
 use Rattle.std.specs.Prelude.{codes, ◌⊎◌}
-use Rattle.clap.specs.Words.{Text}
 use Rattle.ps_options.specs.CommandLine.{IsFlag, IsOptional}
 use Rattle.ps_vault.specs.Reports.{IsWithin}
 use Rattle.ps_run.specs.Driving.{AreAsked, AreOutOfRange, Asked, IsFileFault, IsUnread, Names, asked_of, config_in, names_in, names_of}
+use Rattle.ps_run.specs.Driving as driving
 use Rattle.ps_run.specs.Telling.{Told}
+use Rattle.ps_run.specs.declared.files.ReadFault.{ReadFault}
+use Rattle.ps_run.specs.declared.statuses.Status.{Status}
 use Rattle.ps_run.proofs.Driven.{driven_more, faulty, record_named}
 use Rattle.ps_run.proofs.ReadParts.{if_mapped}
 use Rattle.ps_run.proofs.driver.drive.Given as givens
@@ -84,13 +86,19 @@ returns-in-None-clause-files g c = λ name other.
 pub returns-in-None-clause-unread : goal.returns-in-None-clause-unread
 returns-in-None-clause-unread g c = λ none.
     let at = (goal.at.returns-in-None-clause-unread g c).In-Ok in
-    if_mapped _ _ _ (λ fault is. (
+    let old = g.X.Telling.told c.args.err.now in
+    let new = g.X.Telling.told c.run-status.new.err in
+    let more : (fault : ReadFault)
+    → IsUnread (names_of c.in-Ok.options) fault c.run-status.result.0 old new
+    → (told : Status) × (c.number_of.result ≡ driving.number_of told)
+    × IsUnread (names_in (map (λ word. word.now) c.args.words.now)) fault told old new =
+    λ fault is. (
       c.run-status.result.0,
       c.number_of.ensures,
-      subst (λ (names : Names). IsUnread names fault c.run-status.result.0
-          (g.X.Telling.told c.args.err.now) (g.X.Telling.told c.run-status.new.err)) (same_names g at)
-          is,
-    )) (c.run-status.ensures.unread none)
+      subst (λ (names : Names). IsUnread names fault c.run-status.result.0 old new)
+          (same_names g at) is,
+    ) in
+    if_mapped _ _ _ more (c.run-status.ensures.unread none)
 
 -- ---- many
 
@@ -112,13 +120,19 @@ returns-in-Some-clause-files g c = λ name other.
 pub returns-in-Some-clause-unread : goal.returns-in-Some-clause-unread
 returns-in-Some-clause-unread g c = λ none.
     let at = (goal.at.returns-in-Some-clause-unread g c).In-Ok in
-    if_mapped _ _ _ (λ fault is. (
+    let old = g.X.Telling.told c.args.err.now in
+    let new = g.X.Telling.told c.explore-status.new.err in
+    let more : (fault : ReadFault)
+    → IsUnread (names_of c.in-Ok.options) fault c.explore-status.result old new
+    → (told : Status) × (c.number_of-in-Some.result ≡ driving.number_of told)
+    × IsUnread (names_in (map (λ word. word.now) c.args.words.now)) fault told old new =
+    λ fault is. (
       c.explore-status.result,
       c.number_of-in-Some.ensures,
-      subst (λ (names : Names). IsUnread names fault c.explore-status.result
-          (g.X.Telling.told c.args.err.now) (g.X.Telling.told c.explore-status.new.err))
+      subst (λ (names : Names). IsUnread names fault c.explore-status.result old new)
           (same_names g at) is,
-    )) (c.explore-status.ensures.unread none)
+    ) in
+    if_mapped _ _ _ more (c.explore-status.ensures.unread none)
 
 -- ---- faulty words
 

@@ -1,4 +1,4 @@
-use Rattle.std.proofs.Common.{◌≡◌, ℕ, List, Option, None, inl, inr, refl, sym, ap, subst, ◌∙◌, arith, length}
+use Rattle.std.proofs.Common.{◌≡◌, ℕ, List, Option, None, inl, inr, refl, sym, ap, subst, ◌∙◌}
 use Rattle.std.specs.Prelude.{option_map}
 use Rattle.ps_vault.specs.Screens.{HasShown, HasShownSome}
 use Rattle.ps_run.specs.Driving.{Asked, Contents, IsGiven, asked_of, line_of, names_of}
@@ -46,7 +46,7 @@ returns-in-Ok-report-clause-run g c =
           (c.in-Ok-read_given.ensures.kept ∙ c.in-Ok.ensures.kept)
           (c.finish.ensures.written first seen);
       keeps = keeps_program _ _ (names_of c.args.options.now).recorded None c.in-Ok.program.items
-          (λ name is. rw (c.as_slice-bytes.ensures.value, ← c.in-Ok.ensures.kept) at
+          (λ name is. rw (c.as_slice-bytes.ensures.value, c.in-Ok.ensures.kept) at
           (c.in_default.ensures.kept name
           (record_named _ _ _ _ name refl (sym c.requires.single) is)))
           (λ name other. c.finish.ensures.others name other

@@ -11,7 +11,7 @@ use Rattle.ps_run.proofs.exploring.explore.Goals as goal
 pub finish_all-requires-clause-few : goal.finish_all-requires-clause-few
 finish_all-requires-clause-few g c =
     let few = endings_few _ _ _ _ _ _ c.in-Ok-explore.ensures in
-    let same = ap length c.as_slice-in-Ok-explore.ensures.value in
+    let same = ap length c.as_slice.ensures.value in
     omega (arith, few, same, c.ranges.runs.fits)
 
 pub returns-in-Ok-explore-clause-run : goal.returns-in-Ok-explore-clause-run
@@ -24,8 +24,8 @@ returns-in-Ok-explore-clause-run g c =
     (bounds_of c.config_of-config.result) c.args.runs c.in-Ok-explore.endings.items =
     rw c.as_slice-bytes.ensures.value at c.in-Ok-explore.ensures in
     let few = endings_few _ _ _ _ _ _ c.in-Ok-explore.ensures in
-    let same = ap length c.as_slice-in-Ok-explore.ensures.value in
-    let fewer : length c.as_slice-in-Ok-explore.result.now ≤ c.args.runs =
+    let same = ap length c.as_slice.ensures.value in
+    let fewer : length c.as_slice.result.now ≤ c.args.runs =
     omega (arith, few, same) in
     inr (inr (inr (record {
       asked = asked_of c.args.options.now;
@@ -43,11 +43,11 @@ returns-in-Ok-explore-clause-run g c =
       written =
           all_written_from _ _ _ _ _ _ _
           (ap g.X.Telling.told (c.in_default.ensures.told ∙ c.in-Ok.ensures.told))
-          c.in-Ok.ensures.kept (rw c.as_slice-in-Ok-explore.ensures.value at c.finish_all.ensures.written);
+          c.in-Ok.ensures.kept (rw c.as_slice.ensures.value at c.finish_all.ensures.written);
       keeps =
           keeps_program _ _ (names_of c.args.options.now).recorded (Some c.args.runs)
           c.in-Ok.program.items
-          (λ name is. rw (c.as_slice-bytes.ensures.value, ← c.in-Ok.ensures.kept) at
+          (λ name is. rw (c.as_slice-bytes.ensures.value, c.in-Ok.ensures.kept) at
           (c.in_default.ensures.kept name
           (record_named _ _ _ _ name refl (sym c.requires.many) is)))
           (λ name other. c.finish_all.ensures.others name (λ is.
@@ -58,8 +58,8 @@ returns-in-Ok-explore-clause-run g c =
 pub returns-in-Ok-explore-clause-files : goal.returns-in-Ok-explore-clause-files
 returns-in-Ok-explore-clause-files g c = λ name other.
     let few = endings_few _ _ _ _ _ _ c.in-Ok-explore.ensures in
-    let same = ap length c.as_slice-in-Ok-explore.ensures.value in
-    let fewer : length c.as_slice-in-Ok-explore.result.now ≤ c.args.runs =
+    let same = ap length c.as_slice.ensures.value in
+    let fewer : length c.as_slice.result.now ≤ c.args.runs =
     omega (arith, few, same) in
     c.finish_all.ensures.others name (λ is. other (record_fewer _ _ c.args.runs name fewer is))
     ∙ ap (λ (contents : Contents). contents name) c.in-Ok.ensures.kept

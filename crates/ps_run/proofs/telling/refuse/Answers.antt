@@ -1,6 +1,6 @@
 use Rattle.std.proofs.Common.{inr, refl, sym, ◌∙◌}
 use Rattle.std.proofs.lemmas.Bool.{true≢false}
-use Rattle.ps_run.proofs.driver.refuse.Goals as goal
+use Rattle.ps_run.proofs.telling.refuse.Goals as goal
 
 pub returns : goal.returns
 returns g c = inr (
