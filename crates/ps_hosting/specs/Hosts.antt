@@ -32,6 +32,7 @@ config_in settings = record {
   quantum = settings.quantum;
   steps = settings.steps;
   output = most_output settings.output;
+  entries = 2 ^ 64 - 1;
 }
 
 -- the space: one that is collected, or memory that grows

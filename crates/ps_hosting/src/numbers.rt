@@ -70,6 +70,7 @@ pub(crate) fn config_in(settings: &Settings) -> Config
         quantum: settings.quantum,
         steps: settings.steps,
         output: most_output(settings),
+        entries: u64::MAX,
     }
 }
 

@@ -89,6 +89,7 @@ fn config_of(numbers: &[u32]) -> Option<Config> {
         quantum: *quantum,
         steps: *steps,
         output: ANY_OUTPUT,
+        entries: u64::MAX,
     })
 }
 

@@ -17,6 +17,7 @@ pub const CONFIG: Config = Config {
     quantum: 100,
     steps: 1000000,
     output: ANY_OUTPUT,
+    entries: u64::MAX,
 };
 
 /// The words of a command line.

@@ -123,8 +123,8 @@ most_program_bytes = 16777215
 
 -- what the words ask for of a run; plain: whether over memory that is never collected, whatever the
 -- space; streamed: whether printed bytes may go out while it goes on; explored: under how many
--- schedules, if they are chosen by chance; output: the most bytes that it may print, if there is a
--- bound
+-- schedules, if they are chosen by chance; output, entries: the most bytes that it may print, and the
+-- most entries of its schedule, if there is a bound
 pub record Asked : Type 0 where
   pub space : ℕ
   pub steps : ℕ
@@ -134,10 +134,15 @@ pub record Asked : Type 0 where
   pub stats : Bool
   pub explored : Option ℕ
   pub output : Option ℕ
+  pub entries : Option ℕ
 
 -- the most bytes that may be printed
 abbrev pub most_output : Option ℕ → ℕ
 most_output asked = unwrap_or asked ANY_OUTPUT
+
+-- the most entries of the schedule
+abbrev pub most_entries : Option ℕ → ℕ
+most_entries asked = unwrap_or asked (2 ^ 64 - 1)
 
 abbrev pub AreAsked : List Text → Asked → Type 0
 AreAsked words asked = (asked.space ≡ unwrap_or (size_in (codes "space") words) 65536)
@@ -146,6 +151,7 @@ AreAsked words asked = (asked.space ≡ unwrap_or (size_in (codes "space") words
     × IsFlag (codes "stream") words asked.streamed × IsFlag (codes "stats") words asked.stats
     × IsOptional (codes "explore") words asked.explored
     × (asked.output ≡ size_in (codes "output") words)
+    × (asked.entries ≡ size_in (codes "entries") words)
 
 -- the space of its memory
 abbrev pub space_of : Asked → Space
@@ -175,6 +181,7 @@ config_in options = record {
   quantum = options.quantum;
   steps = options.steps;
   output = most_output options.output;
+  entries = most_entries options.entries;
 }
 
 abbrev pub asked_of : Options → Asked
@@ -187,6 +194,7 @@ asked_of options = record {
   stats = options.stats;
   explored = options.explore;
   output = options.output;
+  entries = options.entries;
 }
 
 abbrev pub names_of : Options → Names

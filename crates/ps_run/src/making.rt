@@ -138,5 +138,9 @@ pub(crate) fn config_of(options: &Options<'_>) -> Config
             Some(most) => u64::from(most),
             None => ANY_OUTPUT,
         },
+        entries: match options.entries {
+            Some(most) => u64::from(most),
+            None => u64::MAX,
+        },
     }
 }

@@ -23,6 +23,8 @@ pub struct Config {
     pub steps: u32,
     /// The most bytes that the program may print.
     pub output: u64,
+    /// The most entries that its schedule may have.
+    pub entries: u64,
 }
 
 impl Config {
