@@ -25,7 +25,7 @@ use Rattle.ps_vault.specs.declared.reports.TheConstants.{ANY_ENTRIES}
 use Rattle.ps_vault.specs.declared.reports.Outcome.TheVariants.{Finished, Faulted, AllWaiting, StepsOut, Memory}
 use Rattle.ps_vault.specs.Endings.{AreEndings}
 use Rattle.ps_vault.specs.Order.{InOrder}
-use Rattle.ps_vault.specs.Reports.{Bounds, IsReplayOf, IsRunIn, IsUncollected, IsWithin, UnderPart, WithBudget, are_ordinary}
+use Rattle.ps_vault.specs.Reports.{Bounds, IsBounded, IsReplayOf, IsRunIn, IsUncollected, IsWithin, UnderPart, WithBudget, are_ordinary}
 use Rattle.ps_vault.specs.Screens.{AppendsPart}
 use Rattle.ps_run.specs.Telling.{Tells, Told}
 use Rattle.ps_run.specs.declared.files.ReadFault.{ReadFault}
@@ -124,8 +124,8 @@ most_program_bytes = 16777215
 
 -- what the words ask for of a run; plain: whether over memory that is never collected, whatever the
 -- space; streamed: whether printed bytes may go out while it goes on; explored: under how many
--- schedules, if they are chosen by chance; output: the most bytes that it may print, if there is a
--- bound
+-- schedules, if they are chosen by chance; output, entries: the most bytes that it may print, and the
+-- most entries of its schedule, if there is a bound
 pub record Asked : Type 0 where
   pub space : ℕ
   pub steps : ℕ
@@ -135,10 +135,15 @@ pub record Asked : Type 0 where
   pub stats : Bool
   pub explored : Option ℕ
   pub output : Option ℕ
+  pub entries : Option ℕ
 
 -- the most bytes that may be printed
 abbrev pub most_output : Option ℕ → ℕ
 most_output asked = unwrap_or asked ANY_OUTPUT
+
+-- the most entries of the schedule
+abbrev pub most_entries : Option ℕ → ℕ
+most_entries asked = unwrap_or asked ANY_ENTRIES
 
 abbrev pub AreAsked : List Text → Asked → Type 0
 AreAsked words asked = (asked.space ≡ unwrap_or (size_in (codes "space") words) 65536)
@@ -147,10 +152,12 @@ AreAsked words asked = (asked.space ≡ unwrap_or (size_in (codes "space") words
     × IsFlag (codes "stream") words asked.streamed × IsFlag (codes "stats") words asked.stats
     × IsOptional (codes "explore") words asked.explored
     × (asked.output ≡ size_in (codes "output") words)
+    × (asked.entries ≡ size_in (codes "entries") words)
 
 -- the bounds of its run
 abbrev pub most_asked : Asked → Bounds
-most_asked asked = record { output = most_output asked.output; entries = ANY_ENTRIES }
+most_asked asked =
+    record { output = most_output asked.output; entries = most_entries asked.entries }
 
 -- the space of its memory
 abbrev pub space_of : Asked → Space
@@ -180,7 +187,7 @@ config_in options = record {
   quantum = options.quantum;
   steps = options.steps;
   output = most_output options.output;
-  entries = ANY_ENTRIES;
+  entries = most_entries options.entries;
 }
 
 abbrev pub asked_of : Options → Asked
@@ -193,6 +200,7 @@ asked_of options = record {
   stats = options.stats;
   explored = options.explore;
   output = options.output;
+  entries = options.entries;
 }
 
 abbrev pub names_of : Options → Names
@@ -264,6 +272,12 @@ module _ (asks : world.Status → Around → Scene → acts.Asked) (program : Li
   IsMade cut (Some given) asked report =
       UnderPart cut given (λ part. IsReplayOf asks program part report)
 
+-- no more bytes were printed than may be, nor does its schedule have more entries; one that is given
+-- has as many as it has
+abbrev pub IsBoundedAs : Option (List Entry) → Asked → Report → Type 0
+IsBoundedAs None asked report = IsBounded (most_asked asked) report
+IsBoundedAs (Some given) asked report = length report.printed.items ≤ most_output asked.output
+
 -- these are the program's bytes, as far as they are known
 abbrev pub IsProgramIn : Contents → Names → List ℕ → Type 0
 IsProgramIn contents names program =
@@ -283,7 +297,7 @@ pub record IsFileRun (asks : world.Status → Around → Scene → acts.Asked) (
   pub given : Option (List Entry)
   pub is_given : IsGiven contents names.replayed given
   pub run : IsMade asks program cut given asked report
-  pub bounded : length report.printed.items ≤ most_output asked.output
+  pub bounded : IsBoundedAs given asked report
   pub streamed : cut ≡ true → asked.streamed ≡ true
 
 -- what outputs and files hold before and after, where it is known; flushed: whether the first

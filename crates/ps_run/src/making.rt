@@ -6,7 +6,7 @@ ghost use Rattle.ps_language.specs.Worlds.{starting_world};
 ghost use Rattle.ps_vault.specs.Order.{InOrder};
 ghost use Rattle.ps_vault.specs.Reports.{bounds_of, IsBounded, IsReplayOf, IsRunOf, IsUncollected, IsWithin, UnderPart, WithBudget};
 ghost use Rattle.ps_vault.specs.Screens.{HasShown, HasShownSome};
-ghost use Rattle.ps_run.specs.Driving.{IsMade, asked_of, config_in, most_output};
+ghost use Rattle.ps_run.specs.Driving.{IsBoundedAs, IsMade, asked_of, config_in};
 
 use ps_interpreter::interprets::Interpret;
 use ps_options::Options;
@@ -41,8 +41,8 @@ pub(crate) fn make<
     ensures config { result.report ≡ Err RunFault.Config → ¬ IsWithin (config_in options.now) }
     ensures made { IfOk result.report (IsMade S.asks job.entry.program.now result.screen.failed
         (option_map (λ schedule. schedule.items) given) (asked_of options.now)) }
-    ensures bounded { IfOk result.report
-        (λ report. length report.printed.items ≤ most_output options.now.output) }
+    ensures bounded { IfOk result.report (IsBoundedAs
+        (option_map (λ schedule. schedule.items) given) (asked_of options.now)) }
     ensures shown { IfOk result.report
         (λ report. HasShown screen.seen result.screen report.printed.items) }
     ensures unshown { OnErr result.report
@@ -137,6 +137,9 @@ pub(crate) fn config_of(options: &Options<'_>) -> Config
             Some(most) => u64::from(most),
             None => ANY_OUTPUT,
         },
-        entries: ANY_ENTRIES,
+        entries: match options.entries {
+            Some(most) => u64::from(most),
+            None => ANY_ENTRIES,
+        },
     }
 }

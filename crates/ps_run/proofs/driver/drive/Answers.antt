@@ -41,6 +41,7 @@ are_asked g c asked is = (
   subst (IsOptional (codes "explore") (map (λ word. word.now) c.args.words.now))
       (sym (ap (λ (a : Asked). a.explored) is)) c.in-Ok.ensures.explore,
   ap (λ (a : Asked). a.output) is ∙ c.in-Ok.ensures.output,
+  ap (λ (a : Asked). a.entries) is ∙ c.in-Ok.ensures.entries,
 )
 
 is_fault : (g : givens.Over) (c : In-Ok g) (err : Told)

@@ -20,7 +20,7 @@ loop-number-preserved g c =
           (λ default.
           subst (λ (entries : _). IsRecorded (g.F.FileSet.contents c.record_ending.new.files)
           (Some (numbered prefix (count + 1))) entries)
-          (c.as_slice-schedule.ensures.value ∙ ap (λ (r : Report). r.schedule.items)
+          (c.entries-schedule.ensures ∙ ap (λ (r : Report). r.schedule.items)
           (get_or_default endings count c.index-endings-number.result default
           c.loop-number-test.true))
           c.in_ok-record_ending.ensures.recorded);

@@ -13,7 +13,7 @@ use Rattle.ps_mem.specs.Plain.{plain_space}
 use Rattle.ps_vault.specs.declared.reports.Config.{Config}
 use Rattle.ps_vault.specs.declared.reports.Report.{Report}
 use Rattle.ps_vault.specs.Order.{InOrder}
-use Rattle.ps_vault.specs.Reports.{IsRunIn}
+use Rattle.ps_vault.specs.Reports.{Bounds, bounds_of, IsBounded, IsRunIn}
 use Rattle.ps_run.specs.Driving.{IsRecordable, asked_of, space_of}
 use Rattle.ps_run.proofs.Ranges.{are_entries}
 use Rattle.ps_run.proofs.Streamed.{with_budget}
@@ -67,16 +67,20 @@ returns-in-None-2-clause-made g c =
       λ plain. absurd (true≢false (sym plain ∙ c.if-options.false)),
     )) c.run_shown.ensures.ended.run)
 
+pub returns-in-Some-clause-bounded : goal.returns-in-Some-clause-bounded
+returns-in-Some-clause-bounded g c =
+    rw c.in-Some.is (IfOk-weaker c.follow.result.report _ _ (λ report few.
+    subst (λ (n : ℕ). length report.printed.items ≤ n)
+    (ap (λ (it : Config). it.output) c.requires.numbers) few) c.follow.ensures.bounded)
+
 pub returns-in-None-clause-bounded : goal.returns-in-None-clause-bounded
 returns-in-None-clause-bounded g c =
-    IfOk-weaker c.run_plainly.result.report _ _ (λ report most.
-    subst (λ (n : ℕ). length report.printed.items ≤ n)
-    (ap (λ (it : Config). it.output) c.requires.numbers) most.printed)
-    c.run_plainly.ensures.bounded
+    rw c.in-None.is (IfOk-weaker c.run_plainly.result.report _ _ (λ report few.
+    subst (λ (most : Bounds). IsBounded most report) (ap bounds_of c.requires.numbers) few)
+    c.run_plainly.ensures.bounded)
 
 pub returns-in-None-2-clause-bounded : goal.returns-in-None-2-clause-bounded
 returns-in-None-2-clause-bounded g c =
-    IfOk-weaker c.run_shown.result.report _ _ (λ report most.
-    subst (λ (n : ℕ). length report.printed.items ≤ n)
-    (ap (λ (it : Config). it.output) c.requires.numbers) most.printed)
-    c.run_shown.ensures.ended.bounded
+    rw c.in-None.is (IfOk-weaker c.run_shown.result.report _ _ (λ report few.
+    subst (λ (most : Bounds). IsBounded most report) (ap bounds_of c.requires.numbers) few)
+    c.run_shown.ensures.ended.bounded)
