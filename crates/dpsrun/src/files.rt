@@ -1,5 +1,7 @@
 //! The system's files, as the program reads and writes them.
 
+ghost use Rattle.std.specs.Io.{ReadsAtMost};
+
 use ps_run::{FileSet, ReadFault, WriteFault};
 use std::fs::{self, File, Files, Metadata};
 use std::io::{self, ErrorKind, Lock, Read, StdinLock, Write};
@@ -82,7 +84,9 @@ fn fault_of(error: &io::Error) -> ReadFault {
 }
 
 /// Reads the next bytes of a reader, by one read that isn't interrupted.
-fn read_some<R: Read>(reader: &mut R, part: &mut [u8]) -> io::Result<usize> {
+fn read_some<R: Read>(reader: &mut R, part: &mut [u8]) -> io::Result<usize>
+    ensures { ReadsAtMost result part.new }
+{
     for _ in 0..u64::MAX {
         match reader.read(part) {
             Err(error) if error.kind() == ErrorKind::Interrupted => {}
