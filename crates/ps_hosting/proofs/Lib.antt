@@ -1,2 +1,3 @@
+mod Examples
 pub mod Entries
 pub mod Rooms
