@@ -1,17 +1,17 @@
 //! The system's files, as the program reads and writes them.
 
-ghost use Rattle.std.specs.Io.{ReadsAtMost};
+ghost use Rattle.std.specs.Prelude.{◌≡◌, ◌≤◌};
+ghost use Rattle.std.specs.IoError.{error_kind};
+ghost use Rattle.dpsrun.specs.Faults as faults;
 
+use crate::readers::{read_part, reads};
 use ps_run::{FileSet, ReadFault, WriteFault};
 use std::fs::{self, File, Files, Metadata};
-use std::io::{self, ErrorKind, Lock, Read, StdinLock, Write};
+use std::io::{self, ErrorKind, Lock, StdinLock, Write};
 use std::os::unix::fs::{MetadataExt, fchown};
 
 /// The name that stands for standard input where a file is read.
 const STANDARD_INPUT: &str = "-";
-
-/// The most bytes that are read by one call.
-const PART_BYTES: usize = 65_536;
 
 /// How many names beside that of a file are tried.
 const BESIDE_NAMES: u32 = 16;
@@ -26,12 +26,15 @@ enum Opened {
 
 impl Opened {
     /// Appends the next bytes of the file, up to `most` of them.
-    fn read_part(&mut self, most: usize, bytes: &mut Vec<u8>) -> Result<(), ReadFault> {
-        match self {
-            Opened::Nothing => Err(ReadFault::NoRead),
+    fn read_part(&mut self, most: usize, bytes: &mut Vec<u8>) -> Result<(), ReadFault>
+        requires { 1 ≤ most }
+    {
+        let read = match self {
+            Opened::Nothing => return Err(ReadFault::NoRead),
             Opened::File(file) => read_part(file, most, bytes),
             Opened::Input(input) => read_part(input, most, bytes),
-        }
+        };
+        read.map_err(|error| fault_of(&error))
     }
 }
 
@@ -72,8 +75,10 @@ impl<'a> SystemFiles<'a> {
     }
 }
 
-/// Why a file was not read.
-fn fault_of(error: &io::Error) -> ReadFault {
+/// Why a file was not read, by the system's answer.
+fn fault_of(error: &io::Error) -> ReadFault
+    ensures { result ≡ faults.fault_of (error_kind error.now) }
+{
     match error.kind() {
         ErrorKind::NotFound => ReadFault::NotFound,
         ErrorKind::IsADirectory => ReadFault::Folder,
@@ -81,49 +86,6 @@ fn fault_of(error: &io::Error) -> ReadFault {
         ErrorKind::OutOfMemory => ReadFault::Memory,
         _ => ReadFault::NoRead,
     }
-}
-
-/// Reads the next bytes of a reader, by one read that isn't interrupted.
-fn read_some<R: Read>(reader: &mut R, part: &mut [u8]) -> io::Result<usize>
-    ensures { ReadsAtMost result part.new }
-{
-    for _ in 0..u64::MAX {
-        match reader.read(part) {
-            Err(error) if error.kind() == ErrorKind::Interrupted => {}
-            answer => return answer,
-        }
-    }
-    Err(io::Error::from(ErrorKind::Interrupted))
-}
-
-/// Appends the next bytes of a reader, up to `most` of them.
-fn read_part<R: Read>(reader: &mut R, most: usize, bytes: &mut Vec<u8>) -> Result<(), ReadFault> {
-    let mut buffer = [0; PART_BYTES];
-    let part = &mut buffer[..most.min(PART_BYTES)];
-    match read_some(reader, part) {
-        Ok(count) => match bytes.extend_from_slice(&part[..count]) {
-            Ok(()) => Ok(()),
-            Err(_) => Err(ReadFault::Memory),
-        },
-        Err(error) => Err(fault_of(&error)),
-    }
-}
-
-/// Whether what is left of a reader is just these bytes.
-fn reads<R: Read>(reader: &mut R, bytes: &[u8]) -> io::Result<bool> {
-    let mut buffer = [0; PART_BYTES];
-    let mut left = bytes;
-    for _ in 0..u64::MAX {
-        let count = read_some(reader, &mut buffer)?;
-        if count == 0 {
-            return Ok(left.is_empty());
-        }
-        let Some(rest) = left.strip_prefix(&buffer[..count]) else {
-            return Ok(false);
-        };
-        left = rest;
-    }
-    Ok(false)
 }
 
 /// Whether an ordinary file has just these bytes, also one behind a link. No other is opened.
@@ -151,7 +113,9 @@ fn file_beside(rt: &HostRuntime, name: &str) -> io::Result<(String, File)> {
 
 /// Whether this failure to make a file beside one leaves it open that the one itself can be written:
 /// the folder takes no new file, or none of a longer name, or each name is taken.
-fn is_of_name(error: &io::Error) -> bool {
+fn is_of_name(error: &io::Error) -> bool
+    ensures { result ≡ faults.is_of_name (error_kind error.now) }
+{
     matches!(
         error.kind(),
         ErrorKind::PermissionDenied | ErrorKind::AlreadyExists | ErrorKind::InvalidFilename

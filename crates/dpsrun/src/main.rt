@@ -1,20 +1,24 @@
 //! `dpsrun`: runs a program in the PostScript language, in one context or many.
 //!
 //! Why so:
-//! - This crate brings together, as the tests of `ps_rows` do, who makes steps (`Steps` over
-//!   `Operators`) and who does the operators of the world. So runs and vaults are proved beside the
-//!   operators.
+//! - This crate brings together, as the tests of `ps_test_programs` do, who makes steps (`Steps`
+//!   over `Operators`) and who does the operators of the world. So runs and vaults are proved beside
+//!   the operators.
+//! - What reads, compares or waits takes any reader or output (`readers`, `outputs`), so its
+//!   contracts are exact where bytes are known. The system's are not, and what is done with names,
+//!   owners and links is tried.
 #![tactic(auto)]
 
 mod files;
 mod outputs;
+mod readers;
 
 use files::SystemFiles;
-use outputs::Patient;
-use ps_context::steps::Steps;
-use ps_deeds::operators::WorldOperators;
-use ps_dispatch::operators::Operators;
+use outputs::{Patient, TerminalLine};
+use ps_ctx_operators::operators::WorldOperators;
+use ps_ops::operators::Operators;
 use ps_run::{ErrorOutput, Flushed, drive, refuse_no_text};
+use ps_step::steps::Steps;
 use std::hash::RandomState;
 use std::process::ExitCode;
 use std::sync::Wait;
@@ -25,7 +29,7 @@ use std::{env, io};
 /// status. Fails where the command line, or the keys of the table of names, can't be had.
 fn run<R: Threads + Wait + Sync>(rt: &HostRuntime, workers: &R) -> io::Result<u8> {
     let alloc = rt.alloc();
-    let mut err = ErrorOutput::new(Patient::new(rt, rt.stderr()));
+    let mut err = ErrorOutput::new(Patient::new(rt, rt.stderr()), TerminalLine::new(rt));
     let given = match env::args(rt) {
         Err(error) if error.kind() == io::ErrorKind::InvalidData => {
             return Ok(refuse_no_text(alloc, &mut err));

@@ -6,27 +6,28 @@
 
 ghost use Rattle.std.specs.Bool.{Decides};
 ghost use Rattle.std.specs.Prelude.{◌≡◌, ◌+◌, ◌<◌, ◌^◌, IfOk, OnOk, MatchBool, length, slice_index};
-ghost use Rattle.ps_core_parts.specs.Bounds.{Bounded, CanStep, IsSlot};
-ghost use Rattle.ps_core_parts.specs.Conditions as conditions;
-ghost use Rattle.ps_core_parts.specs.Conditions.{Permitted, BothMay};
-ghost use Rattle.ps_core_parts.specs.declared.events.Event.TheVariants.{TakeLoad, HandOver};
-ghost use Rattle.ps_core_parts.specs.declared.events.Event.TheVariants.{ClearLoad, ClearStore};
-ghost use Rattle.ps_core_parts.specs.declared.events.Event.TheVariants.{HeaderStore, FieldStore};
-ghost use Rattle.ps_core_parts.specs.declared.events.Event.TheVariants.{RecordStore, EpochStore};
-ghost use Rattle.ps_core_parts.specs.declared.events.Event.TheVariants.{ReplicaHeaderStore};
-ghost use Rattle.ps_core_parts.specs.declared.events.Event.TheVariants.{ReplicaFieldStore};
-ghost use Rattle.ps_core_parts.specs.declared.events.Event.TheVariants.{ForwardStore, HeadStore};
-ghost use Rattle.ps_core_parts.specs.declared.events.Event.TheVariants.{CycleStore};
-ghost use Rattle.ps_core_parts.specs.Objects as objects;
-ghost use Rattle.ps_core_parts.specs.Steps as steps;
+ghost use Rattle.ps_core_machine.specs.Bounds.{Bounded, CanStep, IsSlot};
+ghost use Rattle.ps_core_machine.specs.Conditions as conditions;
+ghost use Rattle.ps_core_machine.specs.Conditions.{Permitted, BothMay};
+ghost use Rattle.ps_core_machine.specs.declared.events.Event.TheVariants.{TakeLoad, HandOver};
+ghost use Rattle.ps_core_machine.specs.declared.events.Event.TheVariants.{ClearLoad, ClearStore};
+ghost use Rattle.ps_core_machine.specs.declared.events.Event.TheVariants.{HeaderStore, FieldStore};
+ghost use Rattle.ps_core_machine.specs.declared.events.Event.TheVariants.{RecordStore, EpochStore};
+ghost use Rattle.ps_core_machine.specs.declared.events.Event.TheVariants.{ReplicaHeaderStore};
+ghost use Rattle.ps_core_machine.specs.declared.events.Event.TheVariants.{ReplicaFieldStore};
+ghost use Rattle.ps_core_machine.specs.declared.events.Event.TheVariants.{ForwardStore, HeadStore};
+ghost use Rattle.ps_core_machine.specs.declared.events.Event.TheVariants.{CycleStore};
+ghost use Rattle.ps_core_machine.specs.Objects as objects;
+ghost use Rattle.ps_core_machine.specs.Steps as steps;
 ghost use Rattle.ps_record.specs.Format as layout;
-ghost use Rattle.ps_core_parts.specs.Steps.{State, happens};
+ghost use Rattle.ps_core_machine.specs.Steps.{State, happens};
 
-use ps_core_parts::events::{Event, Roots};
-use ps_core_parts::lists::{load, load_field, same_logs, store, store_field};
-use ps_core_seats::collector::Collector;
-use ps_core_seats::mutator::Mutator;
-use ps_record::{Record, SLOTS, SPACES_START, head_place, ring_place};
+use crate::collector::Collector;
+use crate::mutator::Mutator;
+use ps_core_machine::events::{Event, Roots};
+use ps_core_machine::lists::{load, load_field, same_logs, store, store_field};
+use ps_record::slots::Slot;
+use ps_record::{Record, SPACES_START, head_place, ring_place};
 use std::alloc::{AllocError, Global};
 use std::marker::Model;
 
@@ -39,7 +40,7 @@ pub struct Machine {
 }
 
 impl Model for Machine {
-    ghost use Rattle.ps_core_parts.specs.Steps.{State};
+    ghost use Rattle.ps_core_machine.specs.Steps.{State};
 
     ghost Value = { State };
 
@@ -83,12 +84,11 @@ impl Machine {
         load_field(self.words.as_slice(), address, field) == word
     }
 
-    fn finds_record(&self, slot: u64, word: u64) -> bool
-        requires { slot < SLOTS }
+    fn finds_record(&self, slot: Slot, word: u64) -> bool
         ensures { Decides result (BothMay self.now.words self.now.vm self.now.gc
             (TakeLoad slot word)) }
     {
-        self.word(ring_place(slot, self.gc.length_of(slot))) == word
+        self.word(ring_place(slot, self.gc.length_of(slot.index() as u64))) == word
     }
 
     fn finds_clear(&self) -> bool
@@ -114,7 +114,7 @@ impl Machine {
         match event {
             Event::VmLoad { place, word } => self.word(*place) == *word,
             Event::GcLoad { place, word } => self.word(*place) == *word,
-            Event::TakeLoad { slot, word } => self.finds_record(*slot, *word),
+            Event::TakeLoad { slot, word } => self.finds_record(Slot::numbered(*slot), *word),
             Event::CopyLoad {
                 address,
                 field,
@@ -177,19 +177,19 @@ impl Machine {
         self.vm.store_field(address, field, word)
     }
 
-    fn log(&mut self, slot: u64, logged: Record) -> Result<(), AllocError>
-        requires slot { slot < SLOTS }
+    fn log(&mut self, slot: Slot, logged: Record) -> Result<(), AllocError>
         requires logs { slot < length self.old.vm.logs }
         requires fits { layout.IsRecord logged }
         ensures { OnOk result (self.new ≡ happens self.old (RecordStore slot logged)) }
     {
-        let number = self.vm.length_of(slot);
+        let place = slot.index() as u64;
+        let number = self.vm.length_of(place);
         store(
             &mut self.words,
             ring_place(slot, number),
             logged.pack(number).0,
         );
-        self.vm.log(slot, logged)
+        self.vm.log(place, logged)
     }
 
     fn open(&mut self)
@@ -245,7 +245,7 @@ impl Machine {
     {
         if let Some(slot) = self.gc.taking_slot() {
             let head = self.next_head(slot);
-            store(&mut self.words, head_place(slot), head);
+            store(&mut self.words, head_place(Slot::numbered(slot)), head);
         }
         self.gc.take()
     }
@@ -298,7 +298,7 @@ impl Machine {
                 field,
                 word,
             } => self.store_field(*address, *field, *word),
-            Event::RecordStore { slot, record } => self.log(*slot, *record),
+            Event::RecordStore { slot, record } => self.log(Slot::numbered(*slot), *record),
             Event::EpochStore => {
                 self.open();
                 Ok(())

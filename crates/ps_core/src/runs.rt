@@ -7,13 +7,13 @@
 
 ghost use Rattle.std.specs.Bool.{Decides};
 ghost use Rattle.std.specs.Prelude.{◌≡◌, ◌∷◌, [], IfErr, IfOk, MatchBool, OnOk, slice_index};
-ghost use Rattle.ps_core_parts.specs.Steps.{happens};
-ghost use Rattle.ps_core_parts.specs.Conditions.{Permitted};
+ghost use Rattle.ps_core_machine.specs.Steps.{happens};
+ghost use Rattle.ps_core_machine.specs.Conditions.{Permitted};
 ghost use Rattle.ps_core_laws.specs.Runs.{IsSpace, run};
 ghost use Rattle.ps_core.specs.declared.runs.Refused.TheVariants.{NotNow, Memory};
 
 use crate::machine::Machine;
-use ps_core_parts::events::Event;
+use ps_core_machine::events::Event;
 use std::alloc::{AllocError, Global};
 use std::marker::Model;
 

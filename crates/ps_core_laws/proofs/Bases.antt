@@ -6,9 +6,9 @@ use Rattle.std.proofs.Math.ListN.{drop_of_length-le}
 use native.Mathlib.Decide.{ℕ_discrete}
 use Rattle.ps_record.specs.declared.Record.{Record}
 use Rattle.ps_record.specs.declared.Record.TheVariants.{Place}
-use Rattle.ps_core_parts.specs.declared.events.Written.{Written}
-use Rattle.ps_core_parts.specs.Objects.{names, is_written, adjoins, widened}
-use Rattle.ps_core_parts.specs.Steps.{table_size, space_base, other_base}
+use Rattle.ps_core_machine.specs.declared.events.Written.{Written}
+use Rattle.ps_core_machine.specs.Objects.{names, is_written, adjoins, widened}
+use Rattle.ps_core_machine.specs.Steps.{table_size, space_base, other_base}
 use Rattle.ps_core_laws.proofs.Heap.{put2}
 use Rattle.ps_core_laws.proofs.HeapTests.{and_parts, and_both, clash, number_is, at_place, eq_true, le_true, lt_true}
 use Rattle.ps_core_laws.proofs.HeapTests.{le_is, lt_is}

@@ -2,18 +2,18 @@
 use Rattle.std.proofs.Common.{◌≡◌, ◌≢◌, ℕ, ◌<◌, ◌≤◌, ◌&&◌, true, false, nat_eq, List, [], ◌∷◌, Some, None, refl, sym}
 use Rattle.std.proofs.Common.{ap, ◌∙◌, inl, inr, subst, arith}
 use Rattle.ps_word.specs.Headers.{kind_in, birth_in}
-use Rattle.ps_core_parts.specs.declared.events.Event.{Event}
-use Rattle.ps_core_parts.specs.declared.events.Event.TheVariants.{VmLoad, GcLoad, TakeLoad, CopyLoad, HandOver}
-use Rattle.ps_core_parts.specs.declared.events.Event.TheVariants.{ClearLoad, ClearStore, HeaderStore, FieldStore}
-use Rattle.ps_core_parts.specs.declared.events.Event.TheVariants.{RecordStore, EpochStore, ReplicaHeaderStore}
-use Rattle.ps_core_parts.specs.declared.events.Event.TheVariants.{ReplicaFieldStore, ForwardStore, HeadStore}
-use Rattle.ps_core_parts.specs.declared.events.Event.TheVariants.{CycleStore}
-use Rattle.ps_core_parts.specs.declared.events.Object.{Object}
-use Rattle.ps_core_parts.specs.declared.events.Pair.{Pair}
-use Rattle.ps_core_parts.specs.declared.events.Vm.{Vm}
-use Rattle.ps_core_parts.specs.Objects.{object_at, pair_of, pair_to, stored, with_field, as_object, replicas}
-use Rattle.ps_core_parts.specs.Steps.{State, happens, next_birth_after}
-use Rattle.ps_core_parts.specs.Conditions.{Permitted, IsBirth, dictionary_stands}
+use Rattle.ps_core_machine.specs.declared.events.Event.{Event}
+use Rattle.ps_core_machine.specs.declared.events.Event.TheVariants.{VmLoad, GcLoad, TakeLoad, CopyLoad, HandOver}
+use Rattle.ps_core_machine.specs.declared.events.Event.TheVariants.{ClearLoad, ClearStore, HeaderStore, FieldStore}
+use Rattle.ps_core_machine.specs.declared.events.Event.TheVariants.{RecordStore, EpochStore, ReplicaHeaderStore}
+use Rattle.ps_core_machine.specs.declared.events.Event.TheVariants.{ReplicaFieldStore, ForwardStore, HeadStore}
+use Rattle.ps_core_machine.specs.declared.events.Event.TheVariants.{CycleStore}
+use Rattle.ps_core_machine.specs.declared.events.Object.{Object}
+use Rattle.ps_core_machine.specs.declared.events.Pair.{Pair}
+use Rattle.ps_core_machine.specs.declared.events.Vm.{Vm}
+use Rattle.ps_core_machine.specs.Objects.{object_at, pair_of, pair_to, stored, with_field, as_object, replicas}
+use Rattle.ps_core_machine.specs.Steps.{State, happens, next_birth_after}
+use Rattle.ps_core_machine.specs.Conditions.{Permitted, IsBirth, dictionary_stands}
 use Rattle.ps_core_laws.specs.Kept.{HasDictionary, IsNumbered}
 use Rattle.ps_core_laws.specs.Places.{AreDistinct}
 use Rattle.ps_core_laws.specs.Runs.{run, IsRun, IsSpace}

@@ -7,18 +7,18 @@ use Rattle.std.specs.Prelude.{if◌then◌else◌, slice_set, slice_index, repli
 use Rattle.std.proofs.lemmas.List.{get_or-set_same, get_or-set_other, get_or-replicate, length-replicate}
 use native.Mathlib.Decide.{ℕ_discrete}
 use Rattle.ps_word.specs.Headers.{fields_in}
-use Rattle.ps_core_parts.specs.declared.events.Object.{Object}
-use Rattle.ps_core_parts.specs.declared.events.Pair.{Pair}
-use Rattle.ps_core_parts.specs.declared.events.Seen.{Seen}
-use Rattle.ps_core_parts.specs.Objects.{object_at, pair_of, pair_to, seen_at, with_copy, end_of, is_in_replica}
-use Rattle.ps_core_parts.specs.Objects.{end_of_replicas, replicas, all_filled, copied_to, as_object}
+use Rattle.ps_core_machine.specs.declared.events.Object.{Object}
+use Rattle.ps_core_machine.specs.declared.events.Pair.{Pair}
+use Rattle.ps_core_machine.specs.declared.events.Seen.{Seen}
+use Rattle.ps_core_machine.specs.Objects.{object_at, pair_of, pair_to, seen_at, with_copy, end_of, is_in_replica}
+use Rattle.ps_core_machine.specs.Objects.{end_of_replicas, replicas, all_filled, copied_to, as_object}
 use Rattle.ps_core_laws.specs.Laws.{AreSingle}
-use Rattle.ps_core_parts.specs.Steps.{new_pair}
+use Rattle.ps_core_machine.specs.Steps.{new_pair}
 use Rattle.ps_core_laws.proofs.HeapTests.{bool_cases, clash, number_not, at_number, eq_true}
 use Rattle.ps_core_laws.proofs.Lookups.{pair_of-original, pair_to-replica, pair_of-to, pair_to-of, pair_to-with_copy}
 use Rattle.ps_core_laws.proofs.Lookups.{off_replica, not_in_replica, end_of_replicas-above, end_of_replicas-high}
 use Rattle.ps_core_laws.proofs.Lookups.{object_at-replicas, all_filled_at}
-use Rattle.ps_core_parts.proofs.Ends.{end_of_replicas-low}
+use Rattle.ps_core_machine.proofs.Ends.{end_of_replicas-low}
 use Rattle.ps_core_laws.proofs.Shown.{some_map, ShowsIt, SpaceIs, Off, end_of_object}
 
 -- the words show the replica: its first header, and its fields as far as the scan has stored them

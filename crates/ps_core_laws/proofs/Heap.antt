@@ -4,8 +4,8 @@ use Rattle.std.proofs.Common.{◌≡◌, ◌≢◌, ◌⊎◌, ℕ, ◌<◌, Boo
 use Rattle.std.proofs.Common.{Option, Some, None}
 use Rattle.std.specs.Prelude.{if◌then◌else◌}
 use Rattle.ps_record.specs.declared.Record.{Record}
-use Rattle.ps_core_parts.specs.declared.events.Half.{Half}
-use Rattle.ps_core_parts.specs.Objects.{names, named_in, is_left, with_load, is_loaded}
+use Rattle.ps_core_machine.specs.declared.events.Half.{Half}
+use Rattle.ps_core_machine.specs.Objects.{names, named_in, is_left, with_load, is_loaded}
 
 -- a value that is no reference, or an address and what else the word says
 pub data Word : Type 0 where

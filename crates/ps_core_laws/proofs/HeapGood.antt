@@ -2,7 +2,7 @@
 use Rattle.std.proofs.Common.{◌≡◌, ◌⊎◌, ℕ, ◌<◌, Bool, true, false, nat_eq, not, ◌&&◌, List, [], ◌∷◌, ◌++◌, Some}
 use Rattle.std.proofs.Common.{None, refl, sym, ap, ◌∙◌, inl, inr, subst}
 use Rattle.ps_record.specs.declared.Record.{Record}
-use Rattle.ps_core_parts.specs.Objects.{names, named_in}
+use Rattle.ps_core_machine.specs.Objects.{names, named_in}
 use Rattle.ps_core_laws.proofs.Heap.{Word, Heap, Load, empty, nowhere, put, put2, named_by, named_among, renamed}
 use Rattle.ps_core_laws.proofs.Heap.{IsCovered, Stands, AllStand}
 use Rattle.ps_core_laws.proofs.Heap.{acted, IsDue, IsCopying}

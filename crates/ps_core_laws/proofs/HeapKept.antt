@@ -3,8 +3,8 @@ use Rattle.std.proofs.Common.{◌≡◌, ◌≢◌, ◌⊎◌, ℕ, ◌<◌, Boo
 use Rattle.std.proofs.Common.{None, Option, refl, sym, ap, ◌∙◌, inl, inr, subst}
 use Rattle.std.specs.Prelude.{if◌then◌else◌}
 use Rattle.ps_record.specs.declared.Record.{Record}
-use Rattle.ps_core_parts.specs.declared.events.Half.{Half}
-use Rattle.ps_core_parts.specs.Objects.{names, named_in, is_left}
+use Rattle.ps_core_machine.specs.declared.events.Half.{Half}
+use Rattle.ps_core_machine.specs.Objects.{names, named_in, is_left}
 use Rattle.ps_core_laws.proofs.Heap.{Word, Act, Heap, Load, nowhere, put, put2, named_by, renamed}
 use Rattle.ps_core_laws.proofs.Heap.{redirected, IsCovered, rest, first_half, filled_copy}
 use Rattle.ps_core_laws.proofs.Heap.{filled_with, is_there, or_zero, acted, May, IsDue, IsCopying, IsDone, CanFill}

@@ -6,8 +6,8 @@ use native.Mathlib.Decide.{ℕ_discrete}
 use Rattle.std.proofs.Common.{◌+◌, ◌-◌, ◌<◌, ◌≤◌, nat_le, nat_lt}
 use Rattle.ps_record.specs.declared.Record.{Record}
 use Rattle.ps_record.specs.declared.Record.TheVariants.{Place, Close}
-use Rattle.ps_core_parts.specs.declared.events.Half.{Half}
-use Rattle.ps_core_parts.specs.Objects.{names, named_in, left_of, is_left, is_next, with_load, is_loaded}
+use Rattle.ps_core_machine.specs.declared.events.Half.{Half}
+use Rattle.ps_core_machine.specs.Objects.{names, named_in, left_of, is_left, is_next, with_load, is_loaded}
 use Rattle.ps_core_laws.proofs.Heap.{Word, put, put2, renamed, redirected, IsCovered}
 use Rattle.ps_core_laws.proofs.Heap.Word.{Plain, Ref}
 

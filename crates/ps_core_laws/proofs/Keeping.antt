@@ -5,18 +5,18 @@ use Rattle.std.proofs.Common.{map}
 use Rattle.std.specs.Prelude.{if◌then◌else◌, slice_index, slice_get, replicate, MatchOption}
 use Rattle.ps_record.specs.declared.Record.{Record}
 use Rattle.ps_record.specs.Format.{ring_place, read_record}
-use Rattle.ps_core_parts.specs.declared.events.Event.TheVariants.{VmLoad, GcLoad, TakeLoad, CopyLoad, HandOver}
-use Rattle.ps_core_parts.specs.declared.events.Object.{Object}
-use Rattle.ps_core_parts.specs.declared.events.Pair.{Pair}
-use Rattle.ps_core_parts.specs.declared.events.Written.{Written}
-use Rattle.ps_core_parts.specs.declared.events.Half.{Half}
-use Rattle.ps_core_parts.specs.declared.events.Seen.{Seen}
-use Rattle.ps_core_parts.specs.Objects.{among, object_at, pair_of, seen_at, log_of, holds_values, address_named}
-use Rattle.ps_core_parts.specs.Objects.{addresses_named, is_next, with_load, half_of}
-use Rattle.ps_core_parts.specs.Steps.{State, start, happens, table_size, space_base, other_base, is_open, taken_up}
-use Rattle.ps_core_parts.specs.Steps.{header_of}
-use Rattle.ps_core_parts.specs.Bounds.{IsShort}
-use Rattle.ps_core_parts.specs.Conditions.{Permitted}
+use Rattle.ps_core_machine.specs.declared.events.Event.TheVariants.{VmLoad, GcLoad, TakeLoad, CopyLoad, HandOver}
+use Rattle.ps_core_machine.specs.declared.events.Object.{Object}
+use Rattle.ps_core_machine.specs.declared.events.Pair.{Pair}
+use Rattle.ps_core_machine.specs.declared.events.Written.{Written}
+use Rattle.ps_core_machine.specs.declared.events.Half.{Half}
+use Rattle.ps_core_machine.specs.declared.events.Seen.{Seen}
+use Rattle.ps_core_machine.specs.Objects.{among, object_at, pair_of, seen_at, log_of, holds_values, address_named}
+use Rattle.ps_core_machine.specs.Objects.{addresses_named, is_next, with_load, half_of}
+use Rattle.ps_core_machine.specs.Steps.{State, start, happens, table_size, space_base, other_base, is_open, taken_up}
+use Rattle.ps_core_machine.specs.Steps.{header_of}
+use Rattle.ps_core_machine.specs.Bounds.{IsShort}
+use Rattle.ps_core_machine.specs.Conditions.{Permitted}
 use Rattle.ps_core_laws.specs.Laws.{AreSingle, ahead_of}
 use Rattle.ps_core_laws.proofs.Heap as heap
 use Rattle.ps_core_laws.proofs.Heap.{named_by, acted}

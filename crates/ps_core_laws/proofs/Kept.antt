@@ -5,20 +5,20 @@ use Rattle.std.specs.Prelude.{slice_set, MatchOption}
 use Rattle.std.specs.Option.{option_map}
 use Rattle.std.proofs.lemmas.List.{get_or-set_same, get_or-set_other}
 use Rattle.ps_record.specs.declared.Record.{Record}
-use Rattle.ps_core_parts.specs.declared.events.Event.{Event}
-use Rattle.ps_core_parts.specs.declared.events.Event.TheVariants.{VmLoad, GcLoad, TakeLoad, CopyLoad, HandOver}
-use Rattle.ps_core_parts.specs.declared.events.Event.TheVariants.{ClearLoad, ClearStore, HeaderStore, FieldStore}
-use Rattle.ps_core_parts.specs.declared.events.Event.TheVariants.{RecordStore, EpochStore, ReplicaHeaderStore}
-use Rattle.ps_core_parts.specs.declared.events.Event.TheVariants.{ReplicaFieldStore, ForwardStore, HeadStore}
-use Rattle.ps_core_parts.specs.declared.events.Event.TheVariants.{CycleStore}
-use Rattle.ps_core_parts.specs.declared.events.Object.{Object}
-use Rattle.ps_core_parts.specs.declared.events.Pair.{Pair}
-use Rattle.ps_core_parts.specs.declared.events.Written.{Written}
-use Rattle.ps_core_parts.specs.declared.events.Half.{Half}
-use Rattle.ps_core_parts.specs.Objects.{object_at, pair_of, pair_to, log_of, is_written, half_of, replicas, stored}
-use Rattle.ps_core_parts.specs.Objects.{as_object}
-use Rattle.ps_core_parts.specs.Steps.{State, happens, table_size, space_base, other_base}
-use Rattle.ps_core_parts.specs.Conditions.{Permitted}
+use Rattle.ps_core_machine.specs.declared.events.Event.{Event}
+use Rattle.ps_core_machine.specs.declared.events.Event.TheVariants.{VmLoad, GcLoad, TakeLoad, CopyLoad, HandOver}
+use Rattle.ps_core_machine.specs.declared.events.Event.TheVariants.{ClearLoad, ClearStore, HeaderStore, FieldStore}
+use Rattle.ps_core_machine.specs.declared.events.Event.TheVariants.{RecordStore, EpochStore, ReplicaHeaderStore}
+use Rattle.ps_core_machine.specs.declared.events.Event.TheVariants.{ReplicaFieldStore, ForwardStore, HeadStore}
+use Rattle.ps_core_machine.specs.declared.events.Event.TheVariants.{CycleStore}
+use Rattle.ps_core_machine.specs.declared.events.Object.{Object}
+use Rattle.ps_core_machine.specs.declared.events.Pair.{Pair}
+use Rattle.ps_core_machine.specs.declared.events.Written.{Written}
+use Rattle.ps_core_machine.specs.declared.events.Half.{Half}
+use Rattle.ps_core_machine.specs.Objects.{object_at, pair_of, pair_to, log_of, is_written, half_of, replicas, stored}
+use Rattle.ps_core_machine.specs.Objects.{as_object}
+use Rattle.ps_core_machine.specs.Steps.{State, happens, table_size, space_base, other_base}
+use Rattle.ps_core_machine.specs.Conditions.{Permitted}
 use Rattle.ps_core_laws.specs.Runs.{run, IsRun, IsSpace}
 use Rattle.ps_core_laws.proofs.Heap as heap
 use Rattle.ps_core_laws.proofs.Heap.{acted}
@@ -150,7 +150,7 @@ module _ (space : ℕ) (s : State) (h : Good space s) where
         rings = rings_near s.words s.vm.logs 0 (s.gc.cycle + 1) (omega arith) h.rings;
         logs = h.logs;
         current = subst (λ (z : ℕ). SpaceIs (slice_set s.words 0 (s.gc.cycle + 1))
-            (replicas s.gc.pairs) (Rattle.ps_core_parts.specs.Objects.end_of_replicas
+            (replicas s.gc.pairs) (Rattle.ps_core_machine.specs.Objects.end_of_replicas
             (other_base z s.vm.cycle) s.gc.pairs) 0 (space_base space (s.vm.cycle + 1))
             (space_base space (s.vm.cycle + 1) + space)) (sym vm_space)
             (space_flipped (slice_set s.words 0 (s.gc.cycle + 1)) s.gc.pairs s.gc.placed

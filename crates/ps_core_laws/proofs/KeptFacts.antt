@@ -1,11 +1,11 @@
 -- What the seats know of their parts, and what ties them, from what every run keeps.
 use Rattle.std.proofs.Common.{◌≡◌, ◌⊎◌, ℕ, ◌+◌, ◌<◌, ◌≤◌, true, false, List, length, Some, None, Option, refl, sym, ap}
 use Rattle.std.proofs.Common.{◌∙◌, inl, inr, subst, arith, is_some, length-append}
-use Rattle.ps_core_parts.specs.declared.events.Event.{Event}
-use Rattle.ps_core_parts.specs.declared.events.Object.{Object}
-use Rattle.ps_core_parts.specs.declared.events.Pair.{Pair}
-use Rattle.ps_core_parts.specs.Objects.{among, object_at, pair_of, pair_to, log_of}
-use Rattle.ps_core_parts.specs.Steps.{State, space_base, other_base, forwarding}
+use Rattle.ps_core_machine.specs.declared.events.Event.{Event}
+use Rattle.ps_core_machine.specs.declared.events.Object.{Object}
+use Rattle.ps_core_machine.specs.declared.events.Pair.{Pair}
+use Rattle.ps_core_machine.specs.Objects.{among, object_at, pair_of, pair_to, log_of}
+use Rattle.ps_core_machine.specs.Steps.{State, space_base, other_base, forwarding}
 use Rattle.ps_core_laws.specs.Kept.{CycleKept, LogsKept, VmKnows, KnownLie, HeadersKept, TakingKept, CopyingKept}
 use Rattle.ps_core_laws.specs.Kept.{GcKnows, KnownStand, PartsMeet, Kept}
 use Rattle.ps_core_laws.specs.Places.{IsHeaded, ObjectsLie, ObjectsApart, ReplicasLie, ReplicasApart}

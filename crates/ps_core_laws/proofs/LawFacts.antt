@@ -4,13 +4,13 @@ use Rattle.std.proofs.Common.{◌∙◌, inl, inr, subst, is_some}
 use Rattle.std.specs.Prelude.{slice_index, MatchOption, if◌then◌else◌}
 use Rattle.ps_word.specs.Format.{address_in}
 use Rattle.ps_record.specs.declared.Record.{Record}
-use Rattle.ps_core_parts.specs.declared.events.Event.TheVariants.{CycleStore, ForwardStore}
-use Rattle.ps_core_parts.specs.declared.events.Object.{Object}
-use Rattle.ps_core_parts.specs.declared.events.Pair.{Pair}
-use Rattle.ps_core_parts.specs.declared.events.Carried.{Carried}
-use Rattle.ps_core_parts.specs.Objects.{among, object_at, pair_of, log_of, renamed, replicas, as_object}
-use Rattle.ps_core_parts.specs.Steps.{State, happens, is_open, space_base, other_base, forwarding}
-use Rattle.ps_core_parts.specs.Conditions.{Permitted}
+use Rattle.ps_core_machine.specs.declared.events.Event.TheVariants.{CycleStore, ForwardStore}
+use Rattle.ps_core_machine.specs.declared.events.Object.{Object}
+use Rattle.ps_core_machine.specs.declared.events.Pair.{Pair}
+use Rattle.ps_core_machine.specs.declared.events.Carried.{Carried}
+use Rattle.ps_core_machine.specs.Objects.{among, object_at, pair_of, log_of, renamed, replicas, as_object}
+use Rattle.ps_core_machine.specs.Steps.{State, happens, is_open, space_base, other_base, forwarding}
+use Rattle.ps_core_machine.specs.Conditions.{Permitted}
 use Rattle.ps_core_laws.specs.Laws as laws
 use Rattle.ps_core_laws.specs.Reach.{Carries}
 use Rattle.ps_core_laws.specs.Runs.{IsSpace}
@@ -82,7 +82,7 @@ module _ (space : ℕ) (size : IsSpace space) (s : State) (h : Good space s) whe
         a = k.address;
         i = k.field;
         w =
-            word_of (Rattle.ps_core_parts.specs.Steps.header_of (pair_of s.gc.pairs k.address)) k.word;
+            word_of (Rattle.ps_core_machine.specs.Steps.header_of (pair_of s.gc.pairs k.address)) k.word;
       }) (ap (load_of s.gc.pairs) is) in
       let q = Rattle.ps_core_laws.proofs.Replicating.carried_pair space s h k is in
       let o = original space s h k.address q.0 q.1 in
@@ -91,7 +91,7 @@ module _ (space : ℕ) (size : IsSpace space) (s : State) (h : Good space s) whe
       (elim c.same [
         | inl e ↦ inl (word_of-same o.0.header k.word (slice_index o.0.fields k.field)
             (ap (λ (z : ℕ). word_of z k.word)
-            (o.2.header ∙ sym (ap Rattle.ps_core_parts.specs.Steps.header_of q.1))
+            (o.2.header ∙ sym (ap Rattle.ps_core_machine.specs.Steps.header_of q.1))
             ∙ (e ∙ ap (λ (x : Option Object). word_in x k.field) o.1)))
         | inr due ↦ inr due
       ])
@@ -115,7 +115,7 @@ module _ (space : ℕ) (size : IsSpace space) (s : State) (h : Good space s) whe
 
   pub words_follow : laws.WordsFollow s
   words_follow = record {
-    table = h.control.wide ∙ ap Rattle.ps_core_parts.specs.Steps.table_size
+    table = h.control.wide ∙ ap Rattle.ps_core_machine.specs.Steps.table_size
         (sym h.counted.vm_space_is);
     cycle = h.control.cycle_word;
     epoch = h.control.epoch_word;

@@ -5,11 +5,11 @@ use Rattle.std.proofs.Common.{arith}
 use Rattle.std.specs.Prelude.{if◌then◌else◌, nat_le, nat_lt, max}
 use Rattle.std.specs.Option.{option_map}
 use Rattle.std.specs.Prelude.{find, map}
-use Rattle.ps_core_parts.specs.declared.events.Object.{Object}
-use Rattle.ps_core_parts.specs.declared.events.Pair.{Pair}
-use Rattle.ps_core_parts.specs.Objects.{among, object_at, pair_of, pair_to, stored, with_field, copied_to, with_copy}
-use Rattle.ps_core_parts.specs.Objects.{as_object, end_of, is_in_replica, end_of_replicas, replicas, all_true}
-use Rattle.ps_core_parts.specs.Objects.{all_filled}
+use Rattle.ps_core_machine.specs.declared.events.Object.{Object}
+use Rattle.ps_core_machine.specs.declared.events.Pair.{Pair}
+use Rattle.ps_core_machine.specs.Objects.{among, object_at, pair_of, pair_to, stored, with_field, copied_to, with_copy}
+use Rattle.ps_core_machine.specs.Objects.{as_object, end_of, is_in_replica, end_of_replicas, replicas, all_true}
+use Rattle.ps_core_machine.specs.Objects.{all_filled}
 use Rattle.ps_core_laws.specs.Laws.{AreSingle}
 use Rattle.ps_core_laws.proofs.HeapTests.{bool_cases, and_parts, clash, same_number, number_not, at_number, eq_true}
 use Rattle.ps_core_laws.proofs.HeapTests.{lt_is, le_not, lt_not}

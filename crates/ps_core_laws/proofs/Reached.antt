@@ -4,21 +4,21 @@ use Rattle.std.proofs.Common.{None, Option, refl, sym, ap, ◌∙◌, inl, inr, 
 use Rattle.std.specs.Prelude.{if◌then◌else◌, slice_index}
 use Rattle.ps_word.specs.Format.{address_in}
 use Rattle.ps_word.specs.Readers.{is_reference}
-use Rattle.ps_core_parts.specs.declared.events.Event.{Event}
-use Rattle.ps_core_parts.specs.declared.events.Event.TheVariants.{VmLoad, GcLoad, TakeLoad, CopyLoad, HandOver}
-use Rattle.ps_core_parts.specs.declared.events.Event.TheVariants.{ClearLoad, ClearStore, HeaderStore, FieldStore}
-use Rattle.ps_core_parts.specs.declared.events.Event.TheVariants.{RecordStore, EpochStore, ReplicaHeaderStore}
-use Rattle.ps_core_parts.specs.declared.events.Event.TheVariants.{ReplicaFieldStore, ForwardStore, HeadStore}
-use Rattle.ps_core_parts.specs.declared.events.Event.TheVariants.{CycleStore}
-use Rattle.ps_core_parts.specs.declared.events.Object.{Object}
-use Rattle.ps_core_parts.specs.declared.events.Pair.{Pair}
-use Rattle.ps_core_parts.specs.declared.events.Carried.{Carried}
-use Rattle.ps_core_parts.specs.declared.events.Vm.{Vm}
-use Rattle.ps_core_parts.specs.declared.events.Gc.{Gc}
-use Rattle.ps_core_parts.specs.Objects.{among, pair_of, holds_values, address_named, addresses_named}
-use Rattle.ps_core_parts.specs.Objects.{values_have_replicas, value_has_replica, copied_to}
-use Rattle.ps_core_parts.specs.Steps.{State, happens, is_open, header_of, field_stored, copied, word_stored}
-use Rattle.ps_core_parts.specs.Conditions.{Permitted}
+use Rattle.ps_core_machine.specs.declared.events.Event.{Event}
+use Rattle.ps_core_machine.specs.declared.events.Event.TheVariants.{VmLoad, GcLoad, TakeLoad, CopyLoad, HandOver}
+use Rattle.ps_core_machine.specs.declared.events.Event.TheVariants.{ClearLoad, ClearStore, HeaderStore, FieldStore}
+use Rattle.ps_core_machine.specs.declared.events.Event.TheVariants.{RecordStore, EpochStore, ReplicaHeaderStore}
+use Rattle.ps_core_machine.specs.declared.events.Event.TheVariants.{ReplicaFieldStore, ForwardStore, HeadStore}
+use Rattle.ps_core_machine.specs.declared.events.Event.TheVariants.{CycleStore}
+use Rattle.ps_core_machine.specs.declared.events.Object.{Object}
+use Rattle.ps_core_machine.specs.declared.events.Pair.{Pair}
+use Rattle.ps_core_machine.specs.declared.events.Carried.{Carried}
+use Rattle.ps_core_machine.specs.declared.events.Vm.{Vm}
+use Rattle.ps_core_machine.specs.declared.events.Gc.{Gc}
+use Rattle.ps_core_machine.specs.Objects.{among, pair_of, holds_values, address_named, addresses_named}
+use Rattle.ps_core_machine.specs.Objects.{values_have_replicas, value_has_replica, copied_to}
+use Rattle.ps_core_machine.specs.Steps.{State, happens, is_open, header_of, field_stored, copied, word_stored}
+use Rattle.ps_core_machine.specs.Conditions.{Permitted}
 use Rattle.ps_core_laws.specs.Reach.{Reach, Notes, AreNoted, CopiesReachable, NameTheSame}
 use Rattle.ps_core_laws.specs.Reach.Reach.{root, through}
 use Rattle.ps_core_laws.specs.Runs.{run, IsRun, IsSpace}

@@ -15,10 +15,10 @@ use Rattle.ps_word.specs.Readers.{address_of, with_address, is_reference, readdr
 use Rattle.ps_word.proofs.Packing.{content_bits-below, type-of_sum, access_number-below}
 use Rattle.ps_word.proofs.Changes.{readdressed-sum}
 use Rattle.ps_word.proofs.HeaderPlaces.{kind_in-packed}
-use Rattle.ps_core_parts.specs.declared.events.Pair.{Pair}
-use Rattle.ps_core_parts.specs.Objects.{pair_of, renamed, redirected, holds_values}
-use Rattle.ps_core_parts.specs.Steps.{State}
-use Rattle.ps_core_parts.specs.Bounds.{AllLow}
+use Rattle.ps_core_machine.specs.declared.events.Pair.{Pair}
+use Rattle.ps_core_machine.specs.Objects.{pair_of, renamed, redirected, holds_values}
+use Rattle.ps_core_machine.specs.Steps.{State}
+use Rattle.ps_core_machine.specs.Bounds.{AllLow}
 use Rattle.ps_core_laws.specs.Renaming.{RenamesValue, renamed_in, Renames}
 
 bit-below : (b : Bool) → bit_of b < 2

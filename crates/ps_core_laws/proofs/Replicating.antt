@@ -7,18 +7,18 @@ use Rattle.std.proofs.lemmas.List.{length-replicate}
 use Rattle.ps_word.specs.Headers.{fields_in}
 use Rattle.ps_record.specs.declared.Record.{Record}
 use Rattle.ps_record.specs.declared.Record.TheVariants.{Place, Close}
-use Rattle.ps_core_parts.specs.declared.events.Event.TheVariants.{ReplicaHeaderStore, ForwardStore}
-use Rattle.ps_core_parts.specs.declared.events.Object.{Object}
-use Rattle.ps_core_parts.specs.declared.events.Pair.{Pair}
-use Rattle.ps_core_parts.specs.declared.events.Half.{Half}
-use Rattle.ps_core_parts.specs.declared.events.Carried.{Carried}
-use Rattle.ps_core_parts.specs.Objects.{among, object_at, pair_of, pair_to, seen_at, log_of, holds_values, with_copy}
-use Rattle.ps_core_parts.specs.Objects.{names, is_loaded, is_copied_from, lacks_replica, is_done, half_of}
-use Rattle.ps_core_parts.specs.Objects.{end_of_replicas, copied_to}
-use Rattle.ps_core_parts.specs.Steps.{State, happens, space_base, other_base, is_open, header_of, replica_of}
-use Rattle.ps_core_parts.specs.Steps.{word_stored, new_pair, forwarding, copied, copy_stored, head_stored, taken_after}
-use Rattle.ps_core_parts.specs.Bounds.{AllLow}
-use Rattle.ps_core_parts.specs.Conditions.{Permitted, IsReady}
+use Rattle.ps_core_machine.specs.declared.events.Event.TheVariants.{ReplicaHeaderStore, ForwardStore}
+use Rattle.ps_core_machine.specs.declared.events.Object.{Object}
+use Rattle.ps_core_machine.specs.declared.events.Pair.{Pair}
+use Rattle.ps_core_machine.specs.declared.events.Half.{Half}
+use Rattle.ps_core_machine.specs.declared.events.Carried.{Carried}
+use Rattle.ps_core_machine.specs.Objects.{among, object_at, pair_of, pair_to, seen_at, log_of, holds_values, with_copy}
+use Rattle.ps_core_machine.specs.Objects.{names, is_loaded, is_copied_from, lacks_replica, is_done, half_of}
+use Rattle.ps_core_machine.specs.Objects.{end_of_replicas, copied_to}
+use Rattle.ps_core_machine.specs.Steps.{State, happens, space_base, other_base, is_open, header_of, replica_of}
+use Rattle.ps_core_machine.specs.Steps.{word_stored, new_pair, forwarding, copied, copy_stored, head_stored, taken_after}
+use Rattle.ps_core_machine.specs.Bounds.{AllLow}
+use Rattle.ps_core_machine.specs.Conditions.{Permitted, IsReady}
 use Rattle.ps_core_laws.specs.Runs.{IsSpace}
 use Rattle.ps_core_laws.proofs.Heap as heap
 use Rattle.ps_core_laws.proofs.Heap.{Load, put2, acted}
@@ -117,7 +117,7 @@ module _ (space : ℕ) (s : State) (h : Good space s) where
           (q, refl, omega arith)
 
   pub copies_at : (scans : Bool) (o : Option Carried) → IsSpace space → s.gc.copying ≡ o
-      → Rattle.ps_core_parts.specs.Conditions.CanStore s.gc o
+      → Rattle.ps_core_machine.specs.Conditions.CanStore s.gc o
       → Good space (record {
         words = copy_stored s.words s.gc o;
         vm = s.vm;

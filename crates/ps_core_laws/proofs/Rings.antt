@@ -9,10 +9,10 @@ use Rattle.ps_record.specs.declared.Record.{Record}
 use Rattle.ps_record.specs.declared.Record.TheVariants.{Place, Close}
 use Rattle.ps_record.specs.Format.{ring_place, lap_of, lap_in, packed, record_in, close_in, address_in, first_in}
 use Rattle.ps_record.specs.Format.{count_in, IsRecord}
-use Rattle.ps_core_parts.specs.declared.events.Half.{Half}
-use Rattle.ps_core_parts.specs.Objects.{log_of}
+use Rattle.ps_core_machine.specs.declared.events.Half.{Half}
+use Rattle.ps_core_machine.specs.Objects.{log_of}
 use Rattle.ps_core_laws.specs.Laws.{IsBeginningOf}
-use Rattle.ps_core_parts.specs.Steps.{table_size}
+use Rattle.ps_core_machine.specs.Steps.{table_size}
 use Rattle.ps_core_laws.proofs.Lists.{get_snoc, get_front}
 
 -- ---- what is kept

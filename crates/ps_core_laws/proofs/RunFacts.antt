@@ -2,11 +2,11 @@
 use Rattle.std.proofs.Common.{◌≡◌, ◌++◌, ◌∷◌, [], ℕ, List, subst}
 use Rattle.std.specs.Prelude.{reverse}
 use Rattle.std.proofs.lemmas.List.{reverse-append}
-use Rattle.ps_core_parts.specs.declared.events.Event.{Event}
-use Rattle.ps_core_parts.specs.Bounds.{Bounded, CanStep}
-use Rattle.ps_core_parts.specs.Conditions.{Permitted}
+use Rattle.ps_core_machine.specs.declared.events.Event.{Event}
+use Rattle.ps_core_machine.specs.Bounds.{Bounded, CanStep}
+use Rattle.ps_core_machine.specs.Conditions.{Permitted}
 use Rattle.ps_core_laws.specs.Runs.{IsRun, IsSpace, run}
-use Rattle.ps_core_parts.specs.Steps.{State}
+use Rattle.ps_core_machine.specs.Steps.{State}
 use Rattle.ps_core_laws.proofs.Keeping.{Good}
 use Rattle.ps_core_laws.proofs.Kept.{good}
 use Rattle.ps_core_laws.proofs.Spaced.{SpacedOf, spaced}

@@ -7,8 +7,8 @@ use Rattle.std.specs.Option.{option_map}
 use Rattle.std.proofs.lemmas.List.{get_or-set_same, get_or-set_other, get_or-replicate, length-replicate}
 use native.Mathlib.Decide.{ℕ_discrete}
 use Rattle.ps_word.specs.Headers.{fields_in}
-use Rattle.ps_core_parts.specs.declared.events.Object.{Object}
-use Rattle.ps_core_parts.specs.Objects.{object_at, with_field, stored}
+use Rattle.ps_core_machine.specs.declared.events.Object.{Object}
+use Rattle.ps_core_machine.specs.Objects.{object_at, with_field, stored}
 use Rattle.ps_core_laws.proofs.HeapTests.{clash, number_not, at_number, eq_true}
 use Rattle.ps_core_laws.proofs.Lookups.{object_at-address, object_at-with_field}
 

@@ -2,18 +2,18 @@
 use Rattle.std.proofs.Common.{◌≡◌, ℕ, ◌+◌, ◌^◌, ◌<◌, true, false, Some, None, Option, refl, sym, inl, inr, subst, arith}
 use Rattle.std.proofs.Common.{is_some}
 use native.Mathlib.Decide.{ℕ_discrete}
-use Rattle.ps_core_parts.specs.declared.events.Event.{Event}
-use Rattle.ps_core_parts.specs.declared.events.Event.TheVariants.{VmLoad, GcLoad, TakeLoad, CopyLoad, HandOver}
-use Rattle.ps_core_parts.specs.declared.events.Event.TheVariants.{ClearLoad, ClearStore, HeaderStore, FieldStore}
-use Rattle.ps_core_parts.specs.declared.events.Event.TheVariants.{RecordStore, EpochStore, ReplicaHeaderStore}
-use Rattle.ps_core_parts.specs.declared.events.Event.TheVariants.{ReplicaFieldStore, ForwardStore, HeadStore}
-use Rattle.ps_core_parts.specs.declared.events.Event.TheVariants.{CycleStore}
-use Rattle.ps_core_parts.specs.declared.events.Object.{Object}
-use Rattle.ps_core_parts.specs.declared.events.Half.{Half}
-use Rattle.ps_core_parts.specs.Objects.{object_at, seen_at, end_of_replicas}
-use Rattle.ps_core_parts.specs.Steps.{State, other_base}
-use Rattle.ps_core_parts.specs.Conditions.{Permitted, HasField, IsReady}
-use Rattle.ps_core_parts.specs.Bounds.{Bounded, CanStep, HasSlot}
+use Rattle.ps_core_machine.specs.declared.events.Event.{Event}
+use Rattle.ps_core_machine.specs.declared.events.Event.TheVariants.{VmLoad, GcLoad, TakeLoad, CopyLoad, HandOver}
+use Rattle.ps_core_machine.specs.declared.events.Event.TheVariants.{ClearLoad, ClearStore, HeaderStore, FieldStore}
+use Rattle.ps_core_machine.specs.declared.events.Event.TheVariants.{RecordStore, EpochStore, ReplicaHeaderStore}
+use Rattle.ps_core_machine.specs.declared.events.Event.TheVariants.{ReplicaFieldStore, ForwardStore, HeadStore}
+use Rattle.ps_core_machine.specs.declared.events.Event.TheVariants.{CycleStore}
+use Rattle.ps_core_machine.specs.declared.events.Object.{Object}
+use Rattle.ps_core_machine.specs.declared.events.Half.{Half}
+use Rattle.ps_core_machine.specs.Objects.{object_at, seen_at, end_of_replicas}
+use Rattle.ps_core_machine.specs.Steps.{State, other_base}
+use Rattle.ps_core_machine.specs.Conditions.{Permitted, HasField, IsReady}
+use Rattle.ps_core_machine.specs.Bounds.{Bounded, CanStep, HasSlot}
 use Rattle.ps_core_laws.specs.Runs.{IsSpace}
 use Rattle.ps_core_laws.proofs.Bases.{spaces_wide, some_match}
 use Rattle.ps_core_laws.proofs.Lookups.{object_at-address, end_of_replicas-high}

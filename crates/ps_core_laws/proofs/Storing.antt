@@ -10,19 +10,19 @@ use Rattle.ps_word.specs.Headers.{fields_in}
 use Rattle.ps_record.specs.declared.Record.{Record}
 use Rattle.ps_record.specs.declared.Record.TheVariants.{Place, Close}
 use Rattle.ps_record.specs.Format.{ring_place, packed}
-use Rattle.ps_core_parts.specs.declared.events.Event.TheVariants.{ClearLoad, ClearStore, HeaderStore, FieldStore}
-use Rattle.ps_core_parts.specs.declared.events.Event.TheVariants.{RecordStore, EpochStore}
-use Rattle.ps_core_parts.specs.declared.events.Object.{Object}
-use Rattle.ps_core_parts.specs.declared.events.Pair.{Pair}
-use Rattle.ps_core_parts.specs.declared.events.Written.{Written}
-use Rattle.ps_core_parts.specs.declared.events.Half.{Half}
-use Rattle.ps_core_parts.specs.declared.events.Vm.{Vm}
-use Rattle.ps_core_parts.specs.Objects.{among, object_at, log_of, holds_values, with_field, word_stands, names}
-use Rattle.ps_core_parts.specs.Objects.{is_written, widened, half_of, stored}
-use Rattle.ps_core_parts.specs.Steps.{State, happens, table_size, space_base, other_base, is_open, next_word}
-use Rattle.ps_core_parts.specs.Steps.{field_stored}
-use Rattle.ps_core_parts.specs.Bounds.{IsShort}
-use Rattle.ps_core_parts.specs.Conditions.{Permitted, CanClear, HasField}
+use Rattle.ps_core_machine.specs.declared.events.Event.TheVariants.{ClearLoad, ClearStore, HeaderStore, FieldStore}
+use Rattle.ps_core_machine.specs.declared.events.Event.TheVariants.{RecordStore, EpochStore}
+use Rattle.ps_core_machine.specs.declared.events.Object.{Object}
+use Rattle.ps_core_machine.specs.declared.events.Pair.{Pair}
+use Rattle.ps_core_machine.specs.declared.events.Written.{Written}
+use Rattle.ps_core_machine.specs.declared.events.Half.{Half}
+use Rattle.ps_core_machine.specs.declared.events.Vm.{Vm}
+use Rattle.ps_core_machine.specs.Objects.{among, object_at, log_of, holds_values, with_field, word_stands, names}
+use Rattle.ps_core_machine.specs.Objects.{is_written, widened, half_of, stored}
+use Rattle.ps_core_machine.specs.Steps.{State, happens, table_size, space_base, other_base, is_open, next_word}
+use Rattle.ps_core_machine.specs.Steps.{field_stored}
+use Rattle.ps_core_machine.specs.Bounds.{IsShort}
+use Rattle.ps_core_machine.specs.Conditions.{Permitted, CanClear, HasField}
 use Rattle.ps_core_laws.proofs.Heap as heap
 use Rattle.ps_core_laws.proofs.Heap.{put2, acted}
 use Rattle.ps_core_laws.proofs.Heap.Word.{Plain}
@@ -151,8 +151,8 @@ module _ (space : ℕ) (s : State) (h : Good space s) where
             (heap_keeps (view s) (heap.Act.Make s.vm.end n) h.heap (ap is_some none));
       }
     where
-      births_after : Rattle.ps_core_parts.specs.Conditions.IsBirth s.vm header
-          → Rattle.ps_core_parts.specs.Steps.next_birth_after s.vm.next_birth header ≤ 2 ^ 40
+      births_after : Rattle.ps_core_machine.specs.Conditions.IsBirth s.vm header
+          → Rattle.ps_core_machine.specs.Steps.next_birth_after s.vm.next_birth header ≤ 2 ^ 40
       births_after b = elim (bool_cases (nat_eq (Rattle.ps_word.specs.Headers.kind_in header) 11)) [
         | inl t ↦ rw t h.births
         | inr f ↦ let b' = rw f at b in rw f (omega arith)
@@ -376,13 +376,13 @@ module _ (space : ℕ) (s : State) (h : Good space s) where
             (heap_keeps (view s) (heap.Act.Log slot r) h.heap p.vm.opened);
       }
     where
-      short_logged : (r : Record) → IsShort (Rattle.ps_core_parts.specs.Steps.unlogged_after s.vm.written r)
+      short_logged : (r : Record) → IsShort (Rattle.ps_core_machine.specs.Steps.unlogged_after s.vm.written r)
       short_logged (Place a first count) = tt
       short_logged Close = h.counted.range
 
-      logged_is : (r : Record) → Rattle.ps_core_parts.specs.Conditions.IsNamed s.vm.written r → (b j : ℕ)
+      logged_is : (r : Record) → Rattle.ps_core_machine.specs.Conditions.IsNamed s.vm.written r → (b j : ℕ)
           → (is_written s.vm.written b j && not (names r b j))
-          ≡ is_written (Rattle.ps_core_parts.specs.Steps.unlogged_after s.vm.written r) b j
+          ≡ is_written (Rattle.ps_core_machine.specs.Steps.unlogged_after s.vm.written r) b j
       logged_is (Place a first count) e b j = logged_all s.vm.written a first count b j e
       logged_is Close e b j = logged_none (is_written s.vm.written b j)
 

@@ -8,10 +8,10 @@ use Rattle.std.specs.Prelude.{slice_get, slice_index, slice_set, nat_le, nat_lt,
 use native.Mathlib.Decide.{ℕ_discrete, dec_lt}
 use Rattle.ps_record.specs.declared.Record.{Record}
 use Rattle.ps_record.specs.Format.{ring_place, lap_of, lap_in, read_record, record_in}
-use Rattle.ps_core_parts.specs.declared.events.Half.{Half}
-use Rattle.ps_core_parts.specs.Objects.{log_of}
+use Rattle.ps_core_machine.specs.declared.events.Half.{Half}
+use Rattle.ps_core_machine.specs.Objects.{log_of}
 use Rattle.ps_core_laws.specs.Laws.{IsBeginningOf}
-use Rattle.ps_core_parts.specs.Steps.{heads_after, taken_up}
+use Rattle.ps_core_machine.specs.Steps.{heads_after, taken_up}
 use Rattle.ps_core_laws.proofs.Lists.{next, get_some}
 use Rattle.ps_core_laws.proofs.HeapTests.{bool_cases, and_parts, le_is, lt_is}
 use Rattle.ps_core_laws.proofs.Rings.{ControlIs, IsTaking, LogsAre, RingsAre, lap_of-packed, log_of-other, log_of-same}

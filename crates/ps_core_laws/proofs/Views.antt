@@ -8,15 +8,15 @@ use Rattle.std.proofs.lemmas.List.{get_or-set_same, get_or-set_other}
 use Rattle.ps_word.specs.Format.{address_in}
 use Rattle.ps_word.specs.Readers.{is_reference, readdressed}
 use Rattle.ps_word.proofs.Changes.{readdressed-same, address_in-readdressed, readdressed-twice, type-readdressed}
-use Rattle.ps_core_parts.specs.declared.events.Object.{Object}
-use Rattle.ps_core_parts.specs.declared.events.Pair.{Pair}
-use Rattle.ps_core_parts.specs.declared.events.Carried.{Carried}
-use Rattle.ps_core_parts.specs.Objects.{among, object_at, pair_of, pair_to, holds_values, with_field, with_copy}
-use Rattle.ps_core_parts.specs.Objects.{address_named, addresses_named, redirected, renamed_value, renamed}
-use Rattle.ps_core_parts.specs.Objects.{word_has_replica, value_stands, word_stands, values_stand, is_written, stored}
-use Rattle.ps_core_parts.specs.Objects.{copied_to}
-use Rattle.ps_core_parts.specs.Steps.{State, is_open, header_of}
-use Rattle.ps_core_parts.specs.Bounds.{AllLow}
+use Rattle.ps_core_machine.specs.declared.events.Object.{Object}
+use Rattle.ps_core_machine.specs.declared.events.Pair.{Pair}
+use Rattle.ps_core_machine.specs.declared.events.Carried.{Carried}
+use Rattle.ps_core_machine.specs.Objects.{among, object_at, pair_of, pair_to, holds_values, with_field, with_copy}
+use Rattle.ps_core_machine.specs.Objects.{address_named, addresses_named, redirected, renamed_value, renamed}
+use Rattle.ps_core_machine.specs.Objects.{word_has_replica, value_stands, word_stands, values_stand, is_written, stored}
+use Rattle.ps_core_machine.specs.Objects.{copied_to}
+use Rattle.ps_core_machine.specs.Steps.{State, is_open, header_of}
+use Rattle.ps_core_machine.specs.Bounds.{AllLow}
 use Rattle.ps_core_laws.specs.Laws.{AreSingle, ahead_of}
 use Rattle.ps_core_laws.proofs.Heap.{Word, Heap, Load, put2, named_by, named_among, IsCovered, Stands, AllStand}
 use Rattle.ps_core_laws.proofs.Heap.Word.{Plain, Ref}

@@ -5,14 +5,14 @@ use Rattle.ps_word.specs.Headers.{kind_in, birth_in, birth_limit, cycle_limit}
 use Rattle.ps_record.specs.declared.Record.{Record}
 use Rattle.ps_record.specs.Format.{slots, ring_length, ring_place, lap_in, lap_of, IsRecord}
 use Rattle.ps_record.specs.Format.{log_limit}
-use Rattle.ps_core_parts.specs.declared.events.Object.{Object}
-use Rattle.ps_core_parts.specs.declared.events.Carried.{Carried}
-use Rattle.ps_core_parts.specs.declared.events.Half.{Half}
-use Rattle.ps_core_parts.specs.declared.events.Vm.{Vm}
-use Rattle.ps_core_parts.specs.declared.events.Gc.{Gc}
-use Rattle.ps_core_parts.specs.Objects.{among, object_at, seen_at, log_of, closes, is_close}
-use Rattle.ps_core_parts.specs.Steps.{State, is_open, space_base}
-use Rattle.ps_core_parts.specs.Conditions.{IsPairField}
+use Rattle.ps_core_machine.specs.declared.events.Object.{Object}
+use Rattle.ps_core_machine.specs.declared.events.Carried.{Carried}
+use Rattle.ps_core_machine.specs.declared.events.Half.{Half}
+use Rattle.ps_core_machine.specs.declared.events.Vm.{Vm}
+use Rattle.ps_core_machine.specs.declared.events.Gc.{Gc}
+use Rattle.ps_core_machine.specs.Objects.{among, object_at, seen_at, log_of, closes, is_close}
+use Rattle.ps_core_machine.specs.Steps.{State, is_open, space_base}
+use Rattle.ps_core_machine.specs.Conditions.{IsPairField}
 use Rattle.ps_core_laws.specs.Runs.{IsSpace}
 use Rattle.ps_core_laws.specs.Places.{IsHeaded, ObjectsLie, ObjectsApart, AreDistinct, IsTight}
 use Rattle.ps_core_laws.specs.Places.{ReplicasLie, ReplicasApart, AreTight, LeadBack}

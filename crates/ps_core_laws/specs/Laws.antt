@@ -5,15 +5,15 @@ use Rattle.std.specs.Prelude.{slice_index, slice_index_or}
 use Rattle.ps_word.specs.Headers.{cycle_in}
 use Rattle.ps_record.specs.declared.Record.{Record}
 use Rattle.ps_record.specs.Format.{slots, ring_length, ring_place, packed, head_place}
-use Rattle.ps_core_parts.specs.declared.events.Event.{Event}
-use Rattle.ps_core_parts.specs.declared.events.Event.TheVariants.{CycleStore}
-use Rattle.ps_core_parts.specs.declared.events.Object.{Object}
-use Rattle.ps_core_parts.specs.declared.events.Pair.{Pair}
-use Rattle.ps_core_parts.specs.declared.events.Carried.{Carried}
-use Rattle.ps_core_parts.specs.Objects.{among, object_at, pair_of, pair_to, log_of, renamed_value}
-use Rattle.ps_core_parts.specs.Objects.{renamed, values_have_replicas, closes, named_in, is_written}
-use Rattle.ps_core_parts.specs.Objects.{is_left, half_of, all_filled, replicas}
-use Rattle.ps_core_parts.specs.Steps.{State, happens, forwarding, is_open, table_size}
+use Rattle.ps_core_machine.specs.declared.events.Event.{Event}
+use Rattle.ps_core_machine.specs.declared.events.Event.TheVariants.{CycleStore}
+use Rattle.ps_core_machine.specs.declared.events.Object.{Object}
+use Rattle.ps_core_machine.specs.declared.events.Pair.{Pair}
+use Rattle.ps_core_machine.specs.declared.events.Carried.{Carried}
+use Rattle.ps_core_machine.specs.Objects.{among, object_at, pair_of, pair_to, log_of, renamed_value}
+use Rattle.ps_core_machine.specs.Objects.{renamed, values_have_replicas, closes, named_in, is_written}
+use Rattle.ps_core_machine.specs.Objects.{is_left, half_of, all_filled, replicas}
+use Rattle.ps_core_machine.specs.Steps.{State, happens, forwarding, is_open, table_size}
 use Rattle.ps_core_laws.specs.Reach.{Refers, named_by}
 use Rattle.ps_core_laws.specs.Runs.{run, IsRun}
 

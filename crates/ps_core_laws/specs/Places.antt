@@ -3,12 +3,12 @@ use Rattle.std.specs.Prelude.{◌≡◌, ◌≢◌, ◌⊎◌, ℕ, ◌+◌, ◌
 use Rattle.std.specs.Prelude.{None, slice_index}
 use Rattle.std.specs.List.{sum_by}
 use Rattle.ps_word.specs.Headers.{fields_in, kind_in}
-use Rattle.ps_core_parts.specs.declared.events.Object.{Object}
-use Rattle.ps_core_parts.specs.declared.events.Pair.{Pair}
-use Rattle.ps_core_parts.specs.declared.events.Vm.{Vm}
-use Rattle.ps_core_parts.specs.declared.events.Gc.{Gc}
-use Rattle.ps_core_parts.specs.Objects.{object_at, pair_of, end_of, end_of_replicas, replicas}
-use Rattle.ps_core_parts.specs.Steps.{State, forwarding, space_base, other_base}
+use Rattle.ps_core_machine.specs.declared.events.Object.{Object}
+use Rattle.ps_core_machine.specs.declared.events.Pair.{Pair}
+use Rattle.ps_core_machine.specs.declared.events.Vm.{Vm}
+use Rattle.ps_core_machine.specs.declared.events.Gc.{Gc}
+use Rattle.ps_core_machine.specs.Objects.{object_at, pair_of, end_of, end_of_replicas, replicas}
+use Rattle.ps_core_machine.specs.Steps.{State, forwarding, space_base, other_base}
 
 -- a first header has one of the six kinds, and so few fields that a record can name each
 pub record IsHeaded (header : ℕ) : Type 0 where

@@ -8,9 +8,9 @@ use Rattle.ps_word.specs.declared.values.Value.{Value}
 use Rattle.ps_word.specs.Format.{packed, IsInFormat}
 use Rattle.ps_word.specs.Headers.{header_packed, IsHeader}
 use Rattle.ps_word.specs.Readers.{address_of, with_address}
-use Rattle.ps_core_parts.specs.declared.events.Pair.{Pair}
-use Rattle.ps_core_parts.specs.Objects.{pair_of, renamed_value, renamed}
-use Rattle.ps_core_parts.specs.Steps.{State}
+use Rattle.ps_core_machine.specs.declared.events.Pair.{Pair}
+use Rattle.ps_core_machine.specs.Objects.{pair_of, renamed_value, renamed}
+use Rattle.ps_core_machine.specs.Steps.{State}
 
 -- the value, naming another address
 abbrev pub led_to : Value → ℕ → Value

@@ -1,8 +1,8 @@
 -- Runs: lists of events from two empty spaces, the newest event first.
 use Rattle.std.specs.Prelude.{ℕ, ◌≤◌, List, [], ◌∷◌}
-use Rattle.ps_core_parts.specs.declared.events.Event.{Event}
-use Rattle.ps_core_parts.specs.Steps.{State, start, happens}
-use Rattle.ps_core_parts.specs.Conditions.{Permitted}
+use Rattle.ps_core_machine.specs.declared.events.Event.{Event}
+use Rattle.ps_core_machine.specs.Steps.{State, start, happens}
+use Rattle.ps_core_machine.specs.Conditions.{Permitted}
 
 -- the state after them
 abbrev pub run : ℕ → List Event → State

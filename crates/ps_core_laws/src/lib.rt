@@ -18,8 +18,8 @@
 #![tactic(auto)]
 
 ghost use Rattle.std.specs.Prelude.{ℕ};
-ghost use Rattle.ps_core_parts.specs.declared.events.Event.TheVariants.{CycleStore, ForwardStore};
-ghost use Rattle.ps_core_parts.specs.declared.events.Event.TheVariants.{HeaderStore};
+ghost use Rattle.ps_core_machine.specs.declared.events.Event.TheVariants.{CycleStore, ForwardStore};
+ghost use Rattle.ps_core_machine.specs.declared.events.Event.TheVariants.{HeaderStore};
 ghost use Rattle.ps_core_laws.specs.Laws.{PairsHold, ReplicasAgree, CopyAgrees, NamesStanding};
 ghost use Rattle.ps_core_laws.specs.Laws.{TakenBegins, NoneAfterClose, IsOld};
 ghost use Rattle.ps_core_laws.specs.Laws.{IsReadyToFlip, Flips, SecondsLead, WordsFollow};

@@ -16,12 +16,12 @@ use crate::changes::natural_word;
 use crate::dictionaries::{COUNT, body, capacity, length};
 use crate::index::free_place;
 use ps_language::kinds::Kind;
-use ps_mem::Memory;
+use ps_mem::{Memory, Slot};
 use ps_word::words::Word;
 
 /// Puts the positions of new pairs, given by their words, into the index of a dictionary, as they
 /// will stand behind its pairs: one record for each in a cycle.
-fn index_pairs<M: Memory>(memory: &mut M, slot: u32, address: u32, words: &[Word])
+fn index_pairs<M: Memory>(memory: &mut M, slot: Slot, address: u32, words: &[Word])
     requires granted { length words.now / 2 ≤ (M.grants memory.old).records slot }
     requires sound { IsSound (M.heap memory.old) }
     requires known { StandsAs (M.heap memory.old) Kind.Dictionary address 4 }
@@ -59,7 +59,7 @@ fn count_with(count: u32, words: &[Word]) -> Word
 /// room for them: in a cycle one record for each position in the index, one for the pairs, and one
 /// for their number.
 #[inline(never)]
-pub(crate) fn append_pairs<M: Memory>(memory: &mut M, slot: u32, address: u32, words: &[Word])
+pub(crate) fn append_pairs<M: Memory>(memory: &mut M, slot: Slot, address: u32, words: &[Word])
     requires granted { length words.now / 2 + 2 ≤ (M.grants memory.old).records slot }
     requires some { 1 ≤ length words.now }
     requires even { 2 * (length words.now / 2) ≡ length words.now }

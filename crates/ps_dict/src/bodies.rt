@@ -18,7 +18,7 @@ use crate::dictionaries::{ACCESS, COUNT, body};
 use crate::fills::fill_words;
 use crate::index::{first_place, free_in};
 use ps_language::kinds::Kind;
-use ps_mem::Memory;
+use ps_mem::{Memory, Slot};
 use ps_word::values::Content;
 use ps_word::words::Word;
 use std::alloc::AllocError;
@@ -76,7 +76,7 @@ pub(crate) fn complete_body<M: Memory>(
 /// in a cycle one record each. The words are those of a body of its capacity, with so many pairs.
 pub(crate) fn write_over<M: Memory>(
     memory: &mut M,
-    slot: u32,
+    slot: Slot,
     address: u32,
     count: u32,
     words: &[Word],
@@ -117,7 +117,7 @@ pub(crate) fn write_over<M: Memory>(
 /// cycle one record. The words are those of a body of that capacity, with so many pairs.
 pub(crate) fn write_new<M: Memory>(
     memory: &mut M,
-    slot: u32,
+    slot: Slot,
     address: u32,
     count: u32,
     capacity: u32,

@@ -21,7 +21,7 @@ use crate::fills::new_body;
 use crate::plans::PutPlan;
 use ps_language::access::Access;
 use ps_language::kinds::Kind;
-use ps_mem::Memory;
+use ps_mem::{Memory, Slot};
 use ps_word::values::{Content, access_number};
 use ps_word::words::Word;
 
@@ -39,7 +39,7 @@ pub(crate) fn natural_word(number: u32) -> Word
 
 /// Gives a dictionary another access, which all references to it share, with one record in a cycle
 /// (PLRM2, 3.3.2 and 8: readonly, noaccess).
-pub fn set_access<M: Memory>(memory: &mut M, slot: u32, address: u32, access: Access)
+pub fn set_access<M: Memory>(memory: &mut M, slot: Slot, address: u32, access: Access)
     requires granted { 1 ≤ (M.grants memory.old).records slot }
     requires sound { IsSound (M.heap memory.old) }
     requires known { StandsAs (M.heap memory.old) Kind.Dictionary address 4 }
@@ -60,7 +60,7 @@ pub fn set_access<M: Memory>(memory: &mut M, slot: u32, address: u32, access: Ac
 #[inline(always)]
 pub(crate) fn replace_value<M: Memory>(
     memory: &mut M,
-    slot: u32,
+    slot: Slot,
     address: u32,
     place: u32,
     value: Word,
@@ -94,7 +94,7 @@ pub(crate) fn replace_value<M: Memory>(
 #[inline(never)]
 fn grow_with<M: Memory>(
     memory: &mut M,
-    slot: u32,
+    slot: Slot,
     address: u32,
     capacity: u32,
     key: Word,
@@ -144,7 +144,7 @@ fn grow_with<M: Memory>(
 #[inline(always)]
 pub fn put<M: Memory>(
     memory: &mut M,
-    slot: u32,
+    slot: Slot,
     address: u32,
     plan: PutPlan,
     key: Word,

@@ -21,7 +21,7 @@ use crate::dictionaries::{capacity, length};
 use crate::merges::{merge_words, merged_count};
 use crate::plans::{CAPACITY_LIMIT, next_capacity};
 use ps_language::kinds::Kind;
-use ps_mem::Memory;
+use ps_mem::{Memory, Slot};
 use ps_word::words::Word;
 use std::alloc::AllocError;
 
@@ -196,7 +196,7 @@ pub fn count_merge<M: Memory>(memory: &mut M, to: u32, from: u32) -> MergePlan
 /// records, at most two, are granted in the slot, and its words.
 pub fn put_merged<M: Memory>(
     memory: &mut M,
-    slot: u32,
+    slot: Slot,
     to: u32,
     _from: u32,
     plan: MergePlan,

@@ -21,7 +21,7 @@ use crate::appends::append_pairs;
 use crate::changes::replace_value;
 use crate::dictionaries::{capacity, length, position};
 use ps_language::kinds::Kind;
-use ps_mem::Memory;
+use ps_mem::{Memory, Slot};
 use ps_word::words::Word;
 
 /// The entries of an error: each a key with its value.
@@ -136,7 +136,7 @@ impl Waiting {
 /// waits, where so many pairs have room.
 fn put_entry<M: Memory>(
     memory: &mut M,
-    slot: u32,
+    slot: Slot,
     address: u32,
     place: Option<u32>,
     room: u32,
@@ -165,7 +165,7 @@ fn put_entry<M: Memory>(
 }
 
 /// Puts the pairs that wait behind those of a dictionary that has room for them.
-fn append_waiting<M: Memory>(memory: &mut M, slot: u32, address: u32, waiting: &Waiting)
+fn append_waiting<M: Memory>(memory: &mut M, slot: Slot, address: u32, waiting: &Waiting)
     requires granted { added_records (length (take waiting.now.count waiting.now.words) / 2) ≤
         (M.grants memory.old).records slot }
     requires even { 2 * (length (take waiting.now.count waiting.now.words) / 2) ≡ length
@@ -206,7 +206,7 @@ fn append_waiting<M: Memory>(memory: &mut M, slot: u32, address: u32, waiting: &
 /// five, are granted in the slot.
 pub fn put_error<M: Memory>(
     memory: &mut M,
-    slot: u32,
+    slot: Slot,
     address: u32,
     plan: ErrorPlan,
     entries: ErrorEntries,

@@ -20,7 +20,7 @@ use crate::changes::natural_word;
 use crate::dictionaries::{COUNT, body, capacity, length};
 use crate::index::{first_place, free_in};
 use ps_language::kinds::Kind;
-use ps_mem::Memory;
+use ps_mem::{Memory, Slot};
 use ps_word::words::Word;
 use std::alloc::AllocError;
 
@@ -41,7 +41,7 @@ pub fn removal_records<M: Memory>(memory: &mut M, address: u32, place: u32) -> u
 /// Moves the pairs behind a place one place down, with one record in a cycle; the last one stands
 /// twice then. Where there is none behind it,
 /// nothing is done. The index is no longer that of the pairs.
-fn move_down<M: Memory>(memory: &mut M, slot: u32, address: u32, place: u32)
+fn move_down<M: Memory>(memory: &mut M, slot: Slot, address: u32, place: u32)
     requires granted { place + 1 ≢ count_at (M.heap memory.old) address
         → 1 ≤ (M.grants memory.old).records slot }
     requires place { place < count_at (M.heap memory.old) address }
@@ -69,7 +69,7 @@ fn move_down<M: Memory>(memory: &mut M, slot: u32, address: u32, place: u32)
 /// for as many words as the capacity, and its growth was refused; nothing has changed.
 pub fn remove<M: Memory>(
     memory: &mut M,
-    slot: u32,
+    slot: Slot,
     address: u32,
     place: u32,
     scratch: &mut Vec<Word>,

@@ -11,23 +11,23 @@ use Rattle.std.proofs.lemmas.List.Sums.{sum_by-append}
 use Rattle.ps_record.specs.declared.Record.{Record}
 use Rattle.ps_record.specs.declared.Record.TheVariants.{Close}
 use Rattle.ps_record.specs.Format.{read_record}
-use Rattle.ps_core_parts.specs.declared.events.Event.{Event}
-use Rattle.ps_core_parts.specs.declared.events.Event.TheVariants.{VmLoad, RecordStore}
-use Rattle.ps_core_parts.specs.declared.events.Vm.{Vm}
-use Rattle.ps_core_parts.specs.declared.events.Gc.{Gc}
-use Rattle.ps_core_parts.specs.declared.events.Pair.{Pair}
-use Rattle.ps_core_parts.specs.Objects.{pair_of, log_of, closes, is_close}
-use Rattle.ps_core_parts.specs.Steps.{is_open}
+use Rattle.ps_core_machine.specs.declared.events.Event.{Event}
+use Rattle.ps_core_machine.specs.declared.events.Event.TheVariants.{VmLoad, RecordStore}
+use Rattle.ps_core_machine.specs.declared.events.Vm.{Vm}
+use Rattle.ps_core_machine.specs.declared.events.Gc.{Gc}
+use Rattle.ps_core_machine.specs.declared.events.Pair.{Pair}
+use Rattle.ps_core_machine.specs.Objects.{pair_of, log_of, closes, is_close}
+use Rattle.ps_core_machine.specs.Steps.{is_open}
 use Rattle.ps_core_laws.specs.Kept.{VmKnows, ends_closed}
 use Rattle.ps_core_laws.specs.Laws.{IsBeginningOf}
 use Rattle.ps_core_laws.specs.Runs.{run, IsRun, IsSpace}
 use Rattle.ps_core_laws.proofs.HeapTests.{bool_cases, and_parts, and_both, eq_true, number_is, number_not}
 use Rattle.ps_core_laws.proofs.KeptFacts.{kept}
 use Rattle.ps_mem.proofs.Lists.{slice_get-append_end}
-use Rattle.ps_parts_memory.specs.declared.closing.Closing.{Closing}
-use Rattle.ps_parts_memory.specs.declared.closing.Closing.TheVariants.{LogFull, Closed as Closed'}
-use Rattle.ps_parts_memory.specs.Memory.{is_shut}
-use Rattle.ps_parts_memory.proofs.Logged.{length_here, log_there}
+use Rattle.ps_core_memory.specs.declared.closing.Closing.{Closing}
+use Rattle.ps_core_memory.specs.declared.closing.Closing.TheVariants.{LogFull, Closed as Closed'}
+use Rattle.ps_core_memory.specs.Memory.{is_shut}
+use Rattle.ps_core_memory.proofs.Logged.{length_here, log_there}
 use Rattle.ps_table.specs.declared.plays.View.{View}
 use Rattle.ps_table.specs.Mirrored.{KeepsGc, KeepsVm}
 use Rattle.ps_table.specs.Shown.{BothRun, GcRuns, vm_did}

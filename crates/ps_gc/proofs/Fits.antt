@@ -4,9 +4,9 @@ use Rattle.std.proofs.Common.{◌∙◌, inl, inr, arith}
 use Rattle.std.specs.Prelude.{if◌then◌else◌}
 use Rattle.std.specs.List.{sum_by}
 use Rattle.std.proofs.lemmas.List.Sums.{sum_by-cons}
-use Rattle.ps_core_parts.specs.declared.events.Object.{Object}
-use Rattle.ps_core_parts.specs.declared.events.Pair.{Pair}
-use Rattle.ps_core_parts.specs.Objects.{object_at, pair_of, replicas, as_object}
+use Rattle.ps_core_machine.specs.declared.events.Object.{Object}
+use Rattle.ps_core_machine.specs.declared.events.Pair.{Pair}
+use Rattle.ps_core_machine.specs.Objects.{object_at, pair_of, replicas, as_object}
 use Rattle.ps_core_laws.specs.Places.{size_of}
 use Rattle.ps_core_laws.specs.Laws.{AreSingle}
 use Rattle.ps_core_laws.proofs.HeapTests.{bool_cases, number_is, number_not, same_number}

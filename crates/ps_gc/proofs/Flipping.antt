@@ -8,13 +8,13 @@ use Rattle.ps_word.specs.declared.words.Word.{Word}
 use Rattle.ps_word.specs.Format.{address_in}
 use Rattle.ps_word.specs.Readers.{is_reference}
 use Rattle.ps_record.specs.declared.Record.{Record}
-use Rattle.ps_core_parts.specs.declared.events.Event.{Event}
-use Rattle.ps_core_parts.specs.declared.events.Event.TheVariants.{CycleStore, HandOver}
-use Rattle.ps_core_parts.specs.declared.events.Vm.{Vm}
-use Rattle.ps_core_parts.specs.declared.events.Gc.{Gc}
-use Rattle.ps_core_parts.specs.Objects.{among, addresses_named, log_of, closes}
-use Rattle.ps_core_parts.specs.Conditions.{AllClosed, VmMay, GcMay, Permitted}
-use Rattle.ps_core_parts.specs.Steps.{State, is_open, knows_open, other_base, vm_after, gc_after}
+use Rattle.ps_core_machine.specs.declared.events.Event.{Event}
+use Rattle.ps_core_machine.specs.declared.events.Event.TheVariants.{CycleStore, HandOver}
+use Rattle.ps_core_machine.specs.declared.events.Vm.{Vm}
+use Rattle.ps_core_machine.specs.declared.events.Gc.{Gc}
+use Rattle.ps_core_machine.specs.Objects.{among, addresses_named, log_of, closes}
+use Rattle.ps_core_machine.specs.Conditions.{AllClosed, VmMay, GcMay, Permitted}
+use Rattle.ps_core_machine.specs.Steps.{State, is_open, knows_open, other_base, vm_after, gc_after}
 use Rattle.ps_core_laws.specs.Laws.{IsBeginningOf}
 use Rattle.ps_core_laws.specs.Runs.{run}
 use Rattle.ps_core_laws.proofs.HeapTests.{bool_cases, and_parts, and_both, or_left, or_right, eq_true, number_is}
@@ -23,12 +23,12 @@ use Rattle.ps_core_laws.proofs.Kept.{good}
 use Rattle.ps_core_laws.proofs.Lookups.{among-append}
 use Rattle.ps_core_laws.proofs.KeptFacts.{kept}
 use Rattle.ps_core_laws.proofs.LawFacts.{pairs_hold, carries_so, flips_so}
-use Rattle.ps_parts_memory.specs.Memory.{heap_of, grants_of, is_shut}
-use Rattle.ps_parts_memory.specs.Stores.{number_of, numbers}
-use Rattle.ps_flips.specs.Flips.{AfterFlip, replica_at, as_words}
-use Rattle.ps_flips.specs.Moves.{IsMovedTo}
-use Rattle.ps_flips.proofs.Moved.{moves-memory}
-use Rattle.ps_flips.proofs.Flipped.{opens-logs}
+use Rattle.ps_core_memory.specs.Memory.{heap_of, grants_of, is_shut}
+use Rattle.ps_core_memory.specs.Stores.{number_of, numbers}
+use Rattle.ps_core_flips.specs.Flips.{AfterFlip, replica_at, as_words}
+use Rattle.ps_core_flips.specs.Moves.{IsMovedTo}
+use Rattle.ps_core_flips.proofs.Moved.{moves-memory}
+use Rattle.ps_core_flips.proofs.Flipped.{opens-logs}
 use Rattle.ps_table.specs.Shown.{BothRun}
 use Rattle.ps_table.proofs.Facts.{taken}
 use Rattle.ps_table.specs.declared.plays.View.{View}

@@ -6,19 +6,19 @@ use Rattle.std.specs.Option.{option_map}
 use native.Mathlib.Decide.{ℕ_discrete}
 use Rattle.ps_record.specs.declared.Record.{Record}
 use Rattle.ps_record.specs.declared.Record.TheVariants.{Place, Close}
-use Rattle.ps_core_parts.specs.declared.events.Event.{Event}
-use Rattle.ps_core_parts.specs.declared.events.Event.TheVariants.{VmLoad, GcLoad, TakeLoad, CopyLoad, HandOver}
-use Rattle.ps_core_parts.specs.declared.events.Event.TheVariants.{ClearLoad, ClearStore, HeaderStore, FieldStore}
-use Rattle.ps_core_parts.specs.declared.events.Event.TheVariants.{RecordStore, EpochStore, ReplicaHeaderStore}
-use Rattle.ps_core_parts.specs.declared.events.Event.TheVariants.{ReplicaFieldStore, ForwardStore, HeadStore}
-use Rattle.ps_core_parts.specs.declared.events.Event.TheVariants.{CycleStore}
-use Rattle.ps_core_parts.specs.declared.events.Object.{Object}
-use Rattle.ps_core_parts.specs.declared.events.Written.{Written}
-use Rattle.ps_core_parts.specs.declared.events.Half.{Half}
-use Rattle.ps_core_parts.specs.declared.events.Vm.{Vm}
-use Rattle.ps_core_parts.specs.Objects.{among, object_at, stored, with_field, log_of, adjoins, widened}
-use Rattle.ps_core_parts.specs.Steps.{State, happens, is_open, with_record, taken_after, new_object, unlogged_after}
-use Rattle.ps_core_parts.specs.Conditions.{Permitted, HasField, IsNamed}
+use Rattle.ps_core_machine.specs.declared.events.Event.{Event}
+use Rattle.ps_core_machine.specs.declared.events.Event.TheVariants.{VmLoad, GcLoad, TakeLoad, CopyLoad, HandOver}
+use Rattle.ps_core_machine.specs.declared.events.Event.TheVariants.{ClearLoad, ClearStore, HeaderStore, FieldStore}
+use Rattle.ps_core_machine.specs.declared.events.Event.TheVariants.{RecordStore, EpochStore, ReplicaHeaderStore}
+use Rattle.ps_core_machine.specs.declared.events.Event.TheVariants.{ReplicaFieldStore, ForwardStore, HeadStore}
+use Rattle.ps_core_machine.specs.declared.events.Event.TheVariants.{CycleStore}
+use Rattle.ps_core_machine.specs.declared.events.Object.{Object}
+use Rattle.ps_core_machine.specs.declared.events.Written.{Written}
+use Rattle.ps_core_machine.specs.declared.events.Half.{Half}
+use Rattle.ps_core_machine.specs.declared.events.Vm.{Vm}
+use Rattle.ps_core_machine.specs.Objects.{among, object_at, stored, with_field, log_of, adjoins, widened}
+use Rattle.ps_core_machine.specs.Steps.{State, happens, is_open, with_record, taken_after, new_object, unlogged_after}
+use Rattle.ps_core_machine.specs.Conditions.{Permitted, HasField, IsNamed}
 use Rattle.ps_core_laws.specs.Kept.{Kept}
 use Rattle.ps_core_laws.specs.Runs.{run, IsRun, IsSpace}
 use Rattle.ps_core_laws.proofs.Closes.{stored_only}
@@ -26,7 +26,7 @@ use Rattle.ps_core_laws.proofs.HeapTests.{bool_cases, at_number, and_parts, numb
 use Rattle.ps_core_laws.proofs.KeptFacts.{kept}
 use Rattle.ps_core_laws.proofs.Lists.{get_snoc}
 use Rattle.ps_core_laws.proofs.Lookups.{object_at-with_field}
-use Rattle.ps_parts_memory.proofs.Logged.{log_here, log_there}
+use Rattle.ps_core_memory.proofs.Logged.{log_here, log_there}
 
 -- an object with at least so many fields stands there
 pub record HasFields (os : List Object) (a n : ℕ) : Type 0 where

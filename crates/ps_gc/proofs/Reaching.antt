@@ -11,22 +11,22 @@ use Rattle.ps_word.proofs.Places.{by_type}
 use Rattle.std.proofs.lemmas.Bool.Decides.{nat_tests}
 use Rattle.ps_mem.specs.Heap as memory
 use Rattle.ps_mem.specs.Objects.{kind_of_number, word_of}
-use Rattle.ps_core_parts.specs.declared.events.Event.TheVariants.{CycleStore}
-use Rattle.ps_core_parts.specs.declared.events.Pair.{Pair}
-use Rattle.ps_core_parts.specs.declared.events.Vm.{Vm}
-use Rattle.ps_core_parts.specs.declared.events.Gc.{Gc}
-use Rattle.ps_core_parts.specs.Objects.{among, addresses_named, object_at, pair_of}
-use Rattle.ps_core_parts.specs.Conditions.{VmMay, GcMay, Permitted}
-use Rattle.ps_core_parts.specs.Steps.{State, is_open}
+use Rattle.ps_core_machine.specs.declared.events.Event.TheVariants.{CycleStore}
+use Rattle.ps_core_machine.specs.declared.events.Pair.{Pair}
+use Rattle.ps_core_machine.specs.declared.events.Vm.{Vm}
+use Rattle.ps_core_machine.specs.declared.events.Gc.{Gc}
+use Rattle.ps_core_machine.specs.Objects.{among, addresses_named, object_at, pair_of}
+use Rattle.ps_core_machine.specs.Conditions.{VmMay, GcMay, Permitted}
+use Rattle.ps_core_machine.specs.Steps.{State, is_open}
 use Rattle.ps_core_laws.specs.Reach.{Reach, NameTheSame}
 use Rattle.ps_core_laws.specs.Reach.Reach.{root, through}
 use Rattle.ps_core_laws.specs.Runs.{run}
 use Rattle.ps_core_laws.proofs.HeapTests.{bool_cases, or_parts, clash, number_is}
 use Rattle.ps_core_laws.proofs.Reached.{exact, noted}
-use Rattle.ps_parts_memory.specs.Memory.{standing, heap_of}
-use Rattle.ps_flips.specs.Flips.{replica_at, as_words}
+use Rattle.ps_core_memory.specs.Memory.{standing, heap_of}
+use Rattle.ps_core_flips.specs.Flips.{replica_at, as_words}
 use Rattle.ps_table.specs.Shown.{BothRun}
-use Rattle.ps_flips.specs.Reached.{IsReached, by_root, by_field, MovesReached}
+use Rattle.ps_core_flips.specs.Reached.{IsReached, by_root, by_field, MovesReached}
 
 -- ---- words among words
 

@@ -7,18 +7,18 @@ use Rattle.std.proofs.Props.{props}
 use Rattle.ps_word.specs.declared.words.Word.{Word}
 use Rattle.ps_word.specs.Headers.{cycle_limit}
 use Rattle.ps_mem.specs.Shows.{AreValues}
-use Rattle.ps_core_parts.specs.declared.events.Vm.{Vm}
-use Rattle.ps_core_parts.specs.declared.events.Gc.{Gc}
-use Rattle.ps_core_parts.specs.Objects.{value_stands, values_stand}
+use Rattle.ps_core_machine.specs.declared.events.Vm.{Vm}
+use Rattle.ps_core_machine.specs.declared.events.Gc.{Gc}
+use Rattle.ps_core_machine.specs.Objects.{value_stands, values_stand}
 use Rattle.ps_core_laws.proofs.HeapTests.{and_both, bool_cases}
 use Rattle.ps_core_laws.proofs.KeptFacts.{kept}
-use Rattle.ps_parts_memory.specs.Memory.{heap_of}
-use Rattle.ps_parts_memory.specs.Shown.{VmRuns}
-use Rattle.ps_parts_memory.specs.Stores.{numbers}
-use Rattle.ps_parts_memory.proofs.Written.{known_stands}
-use Rattle.ps_flips.specs.Collected.{may_open}
-use Rattle.ps_core_parts.specs.declared.events.Event.{Event}
-use Rattle.ps_core_parts.specs.Steps.{is_open, knows_open}
+use Rattle.ps_core_memory.specs.Memory.{heap_of}
+use Rattle.ps_core_memory.specs.Shown.{VmRuns}
+use Rattle.ps_core_memory.specs.Stores.{numbers}
+use Rattle.ps_core_memory.proofs.Written.{known_stands}
+use Rattle.ps_core_flips.specs.Collected.{may_open}
+use Rattle.ps_core_machine.specs.declared.events.Event.{Event}
+use Rattle.ps_core_machine.specs.Steps.{is_open, knows_open}
 use Rattle.ps_table.specs.declared.plays.View.{View}
 use Rattle.ps_table.specs.Events.{gc_did_all}
 use Rattle.ps_table.specs.Mirrored.{KeepsVm}

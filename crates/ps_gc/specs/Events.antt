@@ -5,14 +5,14 @@ use Rattle.ps_word.specs.Format.{address_in}
 use Rattle.ps_word.specs.Readers.{is_reference}
 use Rattle.ps_record.specs.declared.Record.{Record}
 use Rattle.ps_record.specs.Format.{read_record}
-use Rattle.ps_core_parts.specs.declared.events.Event.{Event}
-use Rattle.ps_core_parts.specs.declared.events.Event.TheVariants.{GcLoad, TakeLoad}
-use Rattle.ps_core_parts.specs.declared.events.Event.TheVariants.{ReplicaHeaderStore, ForwardStore}
-use Rattle.ps_core_parts.specs.declared.events.Gc.{Gc}
-use Rattle.ps_core_parts.specs.declared.events.Pair.{Pair}
-use Rattle.ps_core_parts.specs.Objects.{among, pair_of, log_of, closes, with_load, with_copy}
-use Rattle.ps_core_parts.specs.Objects.{renamed, word_has_replica, end_of_replicas}
-use Rattle.ps_core_parts.specs.Steps.{other_base, forwarding, new_pair, seen_word, with_record}
+use Rattle.ps_core_machine.specs.declared.events.Event.{Event}
+use Rattle.ps_core_machine.specs.declared.events.Event.TheVariants.{GcLoad, TakeLoad}
+use Rattle.ps_core_machine.specs.declared.events.Event.TheVariants.{ReplicaHeaderStore, ForwardStore}
+use Rattle.ps_core_machine.specs.declared.events.Gc.{Gc}
+use Rattle.ps_core_machine.specs.declared.events.Pair.{Pair}
+use Rattle.ps_core_machine.specs.Objects.{among, pair_of, log_of, closes, with_load, with_copy}
+use Rattle.ps_core_machine.specs.Objects.{renamed, word_has_replica, end_of_replicas}
+use Rattle.ps_core_machine.specs.Steps.{other_base, forwarding, new_pair, seen_word, with_record}
 use Rattle.ps_table.specs.declared.plays.View.{View}
 use Rattle.ps_table.specs.Shown.{gc_did}
 

@@ -1,9 +1,9 @@
 -- When a flip can come, and what it makes of the memory.
 use Rattle.std.specs.Prelude.{◌≡◌, ◌≢◌, ℕ, true, false, List}
-use Rattle.ps_core_parts.specs.declared.events.Vm.{Vm}
-use Rattle.ps_core_parts.specs.declared.events.Gc.{Gc}
-use Rattle.ps_core_parts.specs.Conditions.{AllClosed}
-use Rattle.ps_core_parts.specs.Objects.{all_filled, values_have_replicas}
+use Rattle.ps_core_machine.specs.declared.events.Vm.{Vm}
+use Rattle.ps_core_machine.specs.declared.events.Gc.{Gc}
+use Rattle.ps_core_machine.specs.Conditions.{AllClosed}
+use Rattle.ps_core_machine.specs.Objects.{all_filled, values_have_replicas}
 use Rattle.ps_gc.specs.declared.flips.Flip.{Flip}
 use Rattle.ps_gc.specs.declared.flips.Flip.TheVariants.{Done, NotReady}
 use Rattle.ps_gc.specs.declared.flips.Unready.{Unready}

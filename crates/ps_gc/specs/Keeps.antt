@@ -5,10 +5,10 @@ use Rattle.std.specs.Prelude.{slice_index_or, if◌then◌else◌}
 use Rattle.std.specs.List.{sum_by}
 use Rattle.ps_record.specs.declared.Record.{Record}
 use Rattle.ps_record.specs.Format.{slots}
-use Rattle.ps_core_parts.specs.declared.events.Gc.{Gc}
-use Rattle.ps_core_parts.specs.declared.events.Pair.{Pair}
-use Rattle.ps_core_parts.specs.Objects.{pair_of, pair_to, log_of, closes, end_of, end_of_replicas}
-use Rattle.ps_core_parts.specs.Steps.{other_base}
+use Rattle.ps_core_machine.specs.declared.events.Gc.{Gc}
+use Rattle.ps_core_machine.specs.declared.events.Pair.{Pair}
+use Rattle.ps_core_machine.specs.Objects.{pair_of, pair_to, log_of, closes, end_of, end_of_replicas}
+use Rattle.ps_core_machine.specs.Steps.{other_base}
 use Rattle.ps_gc.specs.declared.to_space.ToSpace.{ToSpace}
 use Rattle.ps_gc.specs.declared.taken.Taken.{Taken}
 

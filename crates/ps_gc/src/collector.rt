@@ -4,20 +4,21 @@
 //! copied; and its numbers are the part's (`Copies`, `Takes`).
 ghost use Rattle.std.specs.Prelude.{◌≡◌, ◌<◌, ◌+◌, ℕ, true, false, not, None, Some, List, length};
 ghost use Rattle.std.specs.Prelude.{slice_index_or};
-ghost use Rattle.ps_core_parts.specs.declared.events.Event.{Event};
-ghost use Rattle.ps_core_parts.specs.declared.events.Event.TheVariants.{GcLoad, ReplicaHeaderStore};
-ghost use Rattle.ps_core_parts.specs.declared.events.Pair.{Pair};
-ghost use Rattle.ps_core_parts.specs.Objects.{pair_of, log_of, closes, is_close, all_filled};
-ghost use Rattle.ps_core_parts.specs.Objects.{renamed_value, value_has_replica};
-ghost use Rattle.ps_core_parts.specs.Objects.{values_have_replicas};
-ghost use Rattle.ps_core_parts.specs.Steps.{start, knows_open};
+ghost use Rattle.ps_core_machine.specs.declared.events.Event.{Event};
+ghost use Rattle.ps_core_machine.specs.declared.events.Event.TheVariants.{GcLoad, ReplicaHeaderStore};
+ghost use Rattle.ps_core_machine.specs.declared.events.Pair.{Pair};
+ghost use Rattle.ps_core_machine.specs.Objects.{pair_of, log_of, closes, is_close, all_filled};
+ghost use Rattle.ps_core_machine.specs.Objects.{renamed_value, value_has_replica};
+ghost use Rattle.ps_core_machine.specs.Objects.{values_have_replicas};
+ghost use Rattle.ps_core_machine.specs.Steps.{start, knows_open};
 ghost use Rattle.ps_core_laws.specs.Kept.{ends_closed};
 ghost use Rattle.ps_core_laws.specs.Runs.{IsSpace};
-ghost use Rattle.ps_parts_memory.specs.Stores.{numbers};
+ghost use Rattle.ps_core_memory.specs.Stores.{numbers};
 ghost use Rattle.ps_table.specs.Events.{gc_did_all};
 ghost use Rattle.ps_table.specs.Shown.{gc_did};
 ghost use Rattle.ps_gc.specs.Events.{word_replicated, Adds, IsKnown, AreKnown, Copied, DrainedOf};
 ghost use Rattle.ps_gc.specs.Events.{is_drained, FindsNothing, is_free, other_word};
+ghost use Rattle.ps_record.specs.Format.{slots};
 ghost use Rattle.ps_record.specs.declared.Record.{Record};
 ghost use Rattle.ps_gc.specs.Ending.{FindsNext, Scans};
 ghost use Rattle.ps_gc.specs.Keeps.{Copies, GoesOnward, IsAtField, Takes};
@@ -28,6 +29,7 @@ use crate::replicas::replicate;
 use crate::scans::{scan_on, scanned_pairing};
 use crate::taken::Taken;
 use crate::to_space::ToSpace;
+use ps_record::slots::Slot;
 use ps_record::{PackedRecord, Record, SLOTS, SPACES_START};
 use ps_table::{GcSeat, SharedWords, Words};
 use ps_word::headers::fields_in;
@@ -101,11 +103,10 @@ impl<W: Words> Collector<W> {
     }
 
     /// How many records of a slot's log were taken.
-    pub fn taken(&self, slot: u32) -> u64
-        requires { slot < SLOTS }
+    pub fn taken(&self, slot: Slot) -> u64
         ensures { result ≡ length (log_of self.now.gc.seat.me.0.gc.taken slot) }
     {
-        self.taken.numbers[slot as usize]
+        self.taken.numbers[slot.index()]
     }
 
     /// The word, naming the replica of what it names, which is made where there is none. A word
@@ -201,8 +202,7 @@ impl<W: Words> Collector<W> {
     /// Looks for the next record of a slot's log, and takes it; the fields that it names are copied
     /// before, where their object has a replica. A log whose close was taken in the open cycle is
     /// left as it is. A seat that has both sides finds the record wherever the log has one.
-    pub fn drain_one(&mut self, slot: u32) -> Drained
-        requires slot { slot < SLOTS }
+    pub fn drain_one(&mut self, slot: Slot) -> Drained
         requires open { knows_open self.old.gc.seat.me.0.gc ≡ true }
         ensures nothing { result ≡ Drained.Nothing
             → FindsNothing self.old.gc.seat.me.0 self.new.gc.seat.me.0 slot }
@@ -226,22 +226,17 @@ impl<W: Words> Collector<W> {
         ensures did { (es : List Event) × (self.new.gc.seat.me.0
             ≡ gc_did_all self.old.gc.seat.me.0 es) }
         ensures same { W.id self.new.gc.table ≡ W.id self.old.gc.table }
+        ensures within { slot < slots }
     {
-        if self.taken.closed[slot as usize] {
+        if self.taken.closed[slot.index()] {
             return Drained::Closed;
         }
-        let number = self.taken.numbers[slot as usize];
-        let word = self.gc.take(slot as u64, number);
+        let number = self.taken.numbers[slot.index()];
+        let word = self.gc.take(slot, number);
         match PackedRecord(word).read(number) {
             None => Drained::Nothing,
             Some(what) => {
-                take_record(
-                    &mut self.gc,
-                    &mut self.to,
-                    &mut self.taken,
-                    slot as u64,
-                    what,
-                );
+                take_record(&mut self.gc, &mut self.to, &mut self.taken, slot, what);
                 match what {
                     Record::Close => Drained::Closed,
                     _ => Drained::Took(what),

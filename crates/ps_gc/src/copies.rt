@@ -1,10 +1,10 @@
 //! Fields of originals that are copied to their replicas.
 ghost use Rattle.std.specs.Prelude.{◌≡◌, ◌+◌, ◌<◌, true, false, None, Some, List, length};
-ghost use Rattle.ps_core_parts.specs.declared.events.Event.{Event};
-ghost use Rattle.ps_core_parts.specs.declared.events.Pair.{Pair};
-ghost use Rattle.ps_core_parts.specs.Objects as objects;
-ghost use Rattle.ps_core_parts.specs.Objects.{pair_of, renamed, word_has_replica};
-ghost use Rattle.ps_core_parts.specs.Steps.{knows_open};
+ghost use Rattle.ps_core_machine.specs.declared.events.Event.{Event};
+ghost use Rattle.ps_core_machine.specs.declared.events.Pair.{Pair};
+ghost use Rattle.ps_core_machine.specs.Objects as objects;
+ghost use Rattle.ps_core_machine.specs.Objects.{pair_of, renamed, word_has_replica};
+ghost use Rattle.ps_core_machine.specs.Steps.{knows_open};
 ghost use Rattle.ps_table.specs.Events.{gc_did_all};
 ghost use Rattle.ps_gc.specs.Events.{Copied, Adds, IsKnown};
 ghost use Rattle.ps_gc.specs.Keeps.{Copies, IsAtField, Stays};

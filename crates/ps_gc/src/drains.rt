@@ -2,12 +2,12 @@
 ghost use Rattle.std.specs.Prelude.{◌≡◌, ◌+◌, ◌<◌, ◌≤◌, ℕ, true, false, None, Some, List, length};
 ghost use Rattle.std.specs.Prelude.{slice_index_or};
 ghost use Rattle.ps_record.specs.declared.Record.TheVariants.{Place};
-ghost use Rattle.ps_core_parts.specs.declared.events.Event.{Event};
-ghost use Rattle.ps_core_parts.specs.declared.events.Event.TheVariants.{HeadStore};
-ghost use Rattle.ps_core_parts.specs.declared.events.Half.{Half};
-ghost use Rattle.ps_core_parts.specs.declared.events.Pair.{Pair};
-ghost use Rattle.ps_core_parts.specs.Objects.{pair_of, is_close, is_done};
-ghost use Rattle.ps_core_parts.specs.Steps.{knows_open};
+ghost use Rattle.ps_core_machine.specs.declared.events.Event.{Event};
+ghost use Rattle.ps_core_machine.specs.declared.events.Event.TheVariants.{HeadStore};
+ghost use Rattle.ps_core_machine.specs.declared.events.Half.{Half};
+ghost use Rattle.ps_core_machine.specs.declared.events.Pair.{Pair};
+ghost use Rattle.ps_core_machine.specs.Objects.{pair_of, is_close, is_done};
+ghost use Rattle.ps_core_machine.specs.Steps.{knows_open};
 ghost use Rattle.ps_table.specs.Events.{gc_did_all};
 ghost use Rattle.ps_table.specs.Shown.{gc_did};
 ghost use Rattle.ps_gc.specs.Events.{Applied, DrainedOf};
@@ -17,7 +17,8 @@ use crate::copies::{Pairing, copy_field};
 use crate::replicas::forward_of;
 use crate::taken::Taken;
 use crate::to_space::ToSpace;
-use ps_record::{Record, SLOTS};
+use ps_record::Record;
+use ps_record::slots::Slot;
 use ps_table::{GcSeat, Words};
 
 /// Copies the fields of an original that the record being taken names.
@@ -93,8 +94,7 @@ pub(crate) fn apply<W: Words>(
 }
 
 /// The record being taken, of which nothing is left to copy, is taken.
-fn advance<W: Words>(gc: &mut GcSeat<W>, taken: &mut Taken, slot: u64, closes: bool)
-    requires slot { slot < SLOTS }
+fn advance<W: Words>(gc: &mut GcSeat<W>, taken: &mut Taken, slot: Slot, closes: bool)
     requires taking { (h : Half) × (gc.old.seat.me.0.gc.taking ≡ Some h) × (h.slot ≡ slot)
         × (is_close h.what ≡ closes) }
     requires done { is_done gc.old.seat.me.0.gc.pairs gc.old.seat.me.0.gc.copying
@@ -106,10 +106,10 @@ fn advance<W: Words>(gc: &mut GcSeat<W>, taken: &mut Taken, slot: u64, closes: b
     ensures shut { slice_index_or taken.new.closed slot false ≡ closes }
     ensures same { W.id gc.new.table ≡ W.id gc.old.table }
 {
-    let number = taken.numbers[slot as usize];
+    let number = taken.numbers[slot.index()];
     gc.advance_head(slot, number);
-    taken.numbers[slot as usize] = number + 1;
-    taken.closed[slot as usize] = closes;
+    taken.numbers[slot.index()] = number + 1;
+    taken.closed[slot.index()] = closes;
 }
 
 /// Takes the record that is being taken; the fields that it names are copied first.
@@ -117,10 +117,9 @@ pub(crate) fn take_record<W: Words>(
     gc: &mut GcSeat<W>,
     to: &mut ToSpace,
     taken: &mut Taken,
-    slot: u64,
+    slot: Slot,
     what: Record,
 )
-    requires slot { slot < SLOTS }
     requires open { knows_open gc.old.seat.me.0.gc ≡ true }
     requires idle { gc.old.seat.me.0.gc.copying ≡ None }
     requires taking { gc.old.seat.me.0.gc.taking

@@ -2,20 +2,21 @@
 ghost use Rattle.std.specs.Prelude.{◌≡◌, ◌<◌, ◌+◌, ◌++◌, ℕ, true, false};
 ghost use Rattle.ps_record.specs.Format.{slots};
 ghost use Rattle.ps_mem.specs.Shows.{AreValues};
-ghost use Rattle.ps_core_parts.specs.Objects.{values_have_replicas};
-ghost use Rattle.ps_core_parts.specs.Steps.{is_open, knows_open};
+ghost use Rattle.ps_core_machine.specs.Objects.{values_have_replicas};
+ghost use Rattle.ps_core_machine.specs.Steps.{is_open, knows_open};
 ghost use Rattle.ps_core_laws.specs.Reach.{NameTheSame};
-ghost use Rattle.ps_parts_memory.specs.Memory.{heap_of, grants_of, is_shut};
-ghost use Rattle.ps_parts_memory.specs.Stores.{numbers};
-ghost use Rattle.ps_flips.specs.Collected.{IsCollected, IsExact, IsQuiet, may_open, one_more_if};
+ghost use Rattle.ps_core_memory.specs.Memory.{heap_of, grants_of, is_shut};
+ghost use Rattle.ps_core_memory.specs.Stores.{numbers};
+ghost use Rattle.ps_core_flips.specs.Collected.{IsCollected, IsExact, IsQuiet, may_open, one_more_if};
 ghost use Rattle.ps_table.specs.Mirrored.{KeepsVm, Sits};
 ghost use Rattle.ps_gc.specs.Ending.{IsEnded, KeepsReplicas, StaysBut};
 ghost use Rattle.ps_gc.specs.Events.{is_drained};
 
 use crate::collector::{Collector, Drained};
 use crate::flips::Flip;
-use ps_mem::SLOTS;
-use ps_parts_memory::Closing;
+use ps_core_memory::Closing;
+use ps_record::SLOTS;
+use ps_record::slots::Slot;
 use ps_table::{Mirror, VmSeat, Words, join, part};
 use ps_word::words::Word;
 
@@ -43,9 +44,8 @@ pub(crate) fn hand<W: Words>(collector: &mut Collector<W>, mirror: &mut Mirror, 
 }
 
 /// Closes the log of a slot; where its ring is full, a record is taken of it first.
-fn close_one<W: Words>(collector: &mut Collector<W>, mirror: &mut Mirror, slot: u32)
+fn close_one<W: Words>(collector: &mut Collector<W>, mirror: &mut Mirror, slot: Slot)
     requires sits { Sits (W.id collector.old.gc.table).words collector.old.gc.seat.me mirror.old }
-    requires slot { slot < SLOTS }
     requires open { is_open collector.old.gc.seat.me.0.vm ≡ true }
     requires knows { knows_open collector.old.gc.seat.me.0.gc ≡ true }
     ensures sits { Sits (W.id collector.new.gc.table).words collector.new.gc.seat.me mirror.new }
@@ -66,9 +66,8 @@ fn close_one<W: Words>(collector: &mut Collector<W>, mirror: &mut Mirror, slot: 
 }
 
 /// Takes the records of a slot's log, which is closed, up to its close.
-fn drain_closed<W: Words>(collector: &mut Collector<W>, slot: u32)
+fn drain_closed<W: Words>(collector: &mut Collector<W>, slot: Slot)
     requires acts { collector.old.gc.seat.me.0.acts_vm ≡ true }
-    requires slot { slot < SLOTS }
     requires shut { is_shut collector.old.gc.seat.me.0.vm slot ≡ true }
     requires knows { knows_open collector.old.gc.seat.me.0.gc ≡ true }
     ensures same { W.id collector.new.gc.table ≡ W.id collector.old.gc.table }
@@ -105,6 +104,7 @@ fn end_logs<W: Words>(collector: &mut Collector<W>, mirror: &mut Mirror)
         ≡ collector.old.gc.seat.me.0.vm.stored }
 {
     for slot in 0..SLOTS {
+        let slot = Slot::numbered(slot);
         close_one(collector, mirror, slot);
         drain_closed(collector, slot);
     }

@@ -2,14 +2,14 @@
 ghost use Rattle.std.specs.Prelude.{◌≡◌, ◌≤◌, ◌+◌, ◌<◌, ◌↔◌, ℕ, IsTrue, true, false, length};
 ghost use Rattle.std.specs.Prelude.{slice_index};
 ghost use Rattle.ps_record.specs.Format.{slots};
-ghost use Rattle.ps_core_parts.specs.declared.events.Event.TheVariants.{CycleStore, HandOver};
-ghost use Rattle.ps_core_parts.specs.Conditions.{AllClosed};
-ghost use Rattle.ps_core_parts.specs.Objects.{log_of, values_have_replicas, values_stand};
-ghost use Rattle.ps_core_parts.specs.Steps.{is_open, knows_open, vm_after, gc_after};
-ghost use Rattle.ps_parts_memory.specs.Memory.{heap_of, grants_of};
-ghost use Rattle.ps_parts_memory.specs.Stores.{numbers};
-ghost use Rattle.ps_flips.specs.Collected.{IsCollected, IsExact};
-ghost use Rattle.ps_flips.specs.Flips.{AfterFlip};
+ghost use Rattle.ps_core_machine.specs.declared.events.Event.TheVariants.{CycleStore, HandOver};
+ghost use Rattle.ps_core_machine.specs.Conditions.{AllClosed};
+ghost use Rattle.ps_core_machine.specs.Objects.{log_of, values_have_replicas, values_stand};
+ghost use Rattle.ps_core_machine.specs.Steps.{is_open, knows_open, vm_after, gc_after};
+ghost use Rattle.ps_core_memory.specs.Memory.{heap_of, grants_of};
+ghost use Rattle.ps_core_memory.specs.Stores.{numbers};
+ghost use Rattle.ps_core_flips.specs.Collected.{IsCollected, IsExact};
+ghost use Rattle.ps_core_flips.specs.Flips.{AfterFlip};
 ghost use Rattle.ps_table.specs.Events.{OnlyLooks, gc_did_all, root_looks};
 ghost use Rattle.ps_table.specs.Mirrored.{Mirrors, Sits};
 ghost use Rattle.ps_table.specs.Shown.{AreJoined, BothDo, BothRun, both_did};
@@ -21,6 +21,7 @@ use crate::collector::Collector;
 use crate::taken::Taken;
 use atomic_table::Seat;
 use ps_record::SLOTS;
+use ps_record::slots::Slot;
 use ps_table::{GcSeat, Mirror, View, VmSeat, Words, join, part};
 use ps_word::words::Word;
 
@@ -52,7 +53,8 @@ fn all_closed(mirror: &Mirror, seat: &Seat<(), View>) -> bool
     requires open { is_open seat.now.me.0.vm ≡ true }
     ensures { IsTrue result ↔ AllClosed seat.now.me.0.vm }
 {
-    for slot in 0..SLOTS as u32 {
+    for slot in 0..SLOTS {
+        let slot = Slot::numbered(slot);
         if !mirror.is_closed(seat, slot) {
             return false;
         }
@@ -67,8 +69,9 @@ fn all_taken(taken: &Taken, mirror: &Mirror, seat: &Seat<(), View>) -> bool
     ensures { IsTrue result ↔ ((slot : ℕ) → slot < slots → slice_index taken.now.numbers slot
         ≡ length (log_of seat.now.me.0.vm.logs slot)) }
 {
-    for slot in 0..SLOTS as u32 {
-        if taken.numbers[slot as usize] != mirror.logged(seat, slot) {
+    for slot in 0..SLOTS {
+        let slot = Slot::numbered(slot);
+        if taken.numbers[slot.index()] != mirror.logged(seat, slot) {
             return false;
         }
     }

@@ -1,9 +1,9 @@
 //! Replicas: an original is led to its replica, which is made where there is none.
 ghost use Rattle.std.specs.Prelude.{◌≡◌, ◌==◌, ◌+◌, ◌<◌, ◌^◌, ℕ, true, None, Some, if◌then◌else◌};
 ghost use Rattle.ps_word.specs.Headers.{cycle_in, forward_address_in};
-ghost use Rattle.ps_core_parts.specs.declared.events.Pair.{Pair};
-ghost use Rattle.ps_core_parts.specs.Objects.{among, pair_of, renamed_value, value_has_replica};
-ghost use Rattle.ps_core_parts.specs.Steps.{knows_open};
+ghost use Rattle.ps_core_machine.specs.declared.events.Pair.{Pair};
+ghost use Rattle.ps_core_machine.specs.Objects.{among, pair_of, renamed_value, value_has_replica};
+ghost use Rattle.ps_core_machine.specs.Steps.{knows_open};
 ghost use Rattle.ps_table.specs.Events.{gc_did_all};
 ghost use Rattle.ps_gc.specs.Events.{replica_made, object_replicated, word_replicated};
 ghost use Rattle.ps_gc.specs.Events.{with_replica, Adds, IsKnown};

@@ -1,8 +1,8 @@
 //! The scan: it fills the fields of the replicas, one after another.
 ghost use Rattle.std.specs.Prelude.{◌≡◌, ◌≢◌, ◌+◌, ◌<◌, ◌≤◌, ℕ, Some, List, length};
-ghost use Rattle.ps_core_parts.specs.declared.events.Event.{Event};
-ghost use Rattle.ps_core_parts.specs.declared.events.Pair.{Pair};
-ghost use Rattle.ps_core_parts.specs.Objects.{pair_of};
+ghost use Rattle.ps_core_machine.specs.declared.events.Event.{Event};
+ghost use Rattle.ps_core_machine.specs.declared.events.Pair.{Pair};
+ghost use Rattle.ps_core_machine.specs.Objects.{pair_of};
 ghost use Rattle.ps_table.specs.Events.{gc_did_all};
 ghost use Rattle.ps_gc.specs.Keeps.{Copies, IsAtField};
 

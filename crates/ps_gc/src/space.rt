@@ -3,22 +3,23 @@
 //! One seat has both, at words of any kind. The numbers of the mutator's side are its part's
 //! (`Sits`), and the slot that is drained next is one.
 ghost use Rattle.std.specs.Prelude.{◌≡◌, ◌<◌, ◌+◌, ◌-◌, ◌^◌, ℕ, min, true, false, IfOk, refl};
-ghost use Rattle.ps_record.specs.Format.{slots};
 ghost use Rattle.ps_mem.specs.Heap.{empty_heap};
 ghost use Rattle.ps_mem.specs.Bounded.{bounded_space};
-ghost use Rattle.ps_core_parts.specs.Objects.{all_filled};
-ghost use Rattle.ps_core_parts.specs.Steps.{is_open, knows_open};
+ghost use Rattle.ps_core_machine.specs.Objects.{all_filled};
+ghost use Rattle.ps_core_machine.specs.Steps.{is_open, knows_open};
 ghost use Rattle.ps_core_laws.specs.Runs.{IsSpace};
-ghost use Rattle.ps_parts_memory.specs.Memory.{heap_of, grants_of};
+ghost use Rattle.ps_core_memory.specs.Memory.{heap_of, grants_of};
 ghost use Rattle.ps_table.specs.Mirrored.{KeepsVm, Sits};
 ghost use Rattle.ps_gc.specs.Keeps.{taken_in_all};
 
 use crate::collector::{ACTIONS_A_LOOK, Collector, Drained};
-use ps_flips::collected::{CollectedMemory, Counts};
-use ps_flips::sides::LoggedMemory;
+use ps_core_flips::collected::{CollectedMemory, Counts};
+use ps_core_flips::sides::LoggedMemory;
+use ps_core_memory::Closing;
 use ps_language::kinds::Kind;
-use ps_mem::{Memory, NeedFault, Permit, SLOTS};
-use ps_parts_memory::Closing;
+use ps_mem::{Memory, NeedFault, Permit};
+use ps_record::SLOTS;
+use ps_record::slots::Slot;
 use ps_table::{GcSeat, Mirror, PlainWords, SharedWords, Words};
 use ps_word::headers::Header;
 use ps_word::words::Word;
@@ -32,11 +33,10 @@ pub struct CollectedSpace<W: Words> {
     /// The numbers of the mutator's side.
     pub(crate) mirror: Mirror,
     /// The slot whose log is looked at next.
-    slot: u32,
+    slot: Slot,
     /// How many looks in a row found nothing.
     idle: u32,
     ghost sits: { Sits (W.id collector.gc.table).words collector.gc.seat.me mirror },
-    ghost is_slot: { slot < slots },
 }
 
 /// Over shared words, each step an atomic one.
@@ -59,7 +59,7 @@ impl<W: Words> CollectedSpace<W> {
         Ok(CollectedSpace {
             collector: Collector::new(gc, space),
             mirror,
-            slot: 0,
+            slot: Slot::of(0),
             idle: 0,
         })
     }
@@ -75,7 +75,7 @@ impl<W: Words> CollectedSpace<W> {
             return;
         }
         self.idle = self.idle.saturating_add(1);
-        self.slot = (self.slot + 1) % SLOTS;
+        self.slot = self.slot.next();
     }
 
     /// So many looks at logs.
@@ -159,13 +159,13 @@ impl<W: Words> Memory for CollectedSpace<W> {
             .fill(&mut gc.table, &mut gc.seat, address, place, word);
     }
 
-    fn store(&mut self, slot: u32, address: u32, place: u32, items: &[Word]) {
+    fn store(&mut self, slot: Slot, address: u32, place: u32, items: &[Word]) {
         let gc = &mut self.collector.gc;
         self.mirror
             .store(&mut gc.table, &mut gc.seat, slot, address, place, items);
     }
 
-    fn copy(&mut self, slot: u32, from: u32, from_place: u32, to: u32, to_place: u32, count: u32) {
+    fn copy(&mut self, slot: Slot, from: u32, from_place: u32, to: u32, to_place: u32, count: u32) {
         let gc = &mut self.collector.gc;
         self.mirror.copy(
             &mut gc.table,
@@ -179,7 +179,7 @@ impl<W: Words> Memory for CollectedSpace<W> {
         );
     }
 
-    fn permit(&mut self, slot: u32, count: u32) -> Permit {
+    fn permit(&mut self, slot: Slot, count: u32) -> Permit {
         let gc = &mut self.collector.gc;
         self.mirror.permit(&mut gc.table, &mut gc.seat, slot, count)
     }
@@ -195,7 +195,7 @@ impl<W: Words> LoggedMemory for CollectedSpace<W> {
         self.mirror.open_cycle(&mut gc.table, &mut gc.seat)
     }
 
-    fn close_log(&mut self, slot: u32) -> Closing {
+    fn close_log(&mut self, slot: Slot) -> Closing {
         let gc = &mut self.collector.gc;
         self.mirror.close(&mut gc.table, &mut gc.seat, slot)
     }
@@ -215,6 +215,7 @@ impl<W: Words> LoggedMemory for CollectedSpace<W> {
         self.collector.gc.meet(&self.mirror);
         let mut taken: u64 = 0;
         for slot in 0..SLOTS {
+            let slot = Slot::numbered(slot);
             taken = taken.saturating_add(self.collector.taken(slot));
         }
         Counts {
@@ -250,6 +251,6 @@ impl<W: Words> CollectedMemory for CollectedSpace<W> {
         }
         // The scan that found no field was an action too, and so may be the one below.
         self.drain_some(left.saturating_sub(2));
-        self.idle < SLOTS || self.collector.scan_one()
+        self.idle < SLOTS as u32 || self.collector.scan_one()
     }
 }

@@ -21,7 +21,7 @@ pub struct ToSpace {
 
 impl ToSpace {
     ghost use Rattle.std.specs.Prelude.{◌≡◌, ◌<◌, ◌^◌};
-    ghost use Rattle.ps_core_parts.specs.Steps.{other_base};
+    ghost use Rattle.ps_core_machine.specs.Steps.{other_base};
 
     /// The lowest word of that space.
     pub(crate) fn low(&self) -> u64

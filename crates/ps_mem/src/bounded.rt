@@ -6,8 +6,10 @@ ghost use Rattle.ps_mem.specs.Objects.{heap_in};
 ghost use Rattle.ps_mem.specs.Bounded.{Logs, bounded_space, bounded_grants, records_of, no_logs, open_logs, IsWithLogs};
 
 use crate::region::Region;
-use crate::{Memory, NeedFault, Permit, SLOTS};
+use crate::{Memory, NeedFault, Permit};
 use ps_language::kinds::Kind;
+use ps_record::SLOTS;
+use ps_record::slots::Slot;
 use ps_word::headers::Header;
 use ps_word::words::Word;
 use std::alloc::{AllocError, Global};
@@ -83,16 +85,8 @@ impl BoundedMemory {
         self.put = [0; SLOTS as usize];
     }
 
-    /// Whether a cycle is open.
-    pub fn is_cycle_open(&self) -> bool
-        ensures { result ≡ self.now.cycle_open }
-    {
-        self.cycle_open
-    }
-
     /// Closes the log of a slot until the cycle ends.
-    pub fn close(&mut self, slot: u32)
-        requires { slot < SLOTS }
+    pub fn close(&mut self, slot: Slot)
         ensures heap { ⟦<BoundedMemory as Memory>⟧.heap self.new ≡ ⟦<BoundedMemory as Memory>⟧.heap
             self.old }
         ensures logs { IsWithLogs (⟦<BoundedMemory as Memory>⟧.grants self.old)
@@ -108,12 +102,11 @@ impl BoundedMemory {
         ensures kept { (self.new.cycle_open ≡ self.old.cycle_open)
             × (self.new.places ≡ self.old.places) × (self.new.put ≡ self.old.put) }
     {
-        self.closed[slot as usize] = true;
+        self.closed[slot.index()] = true;
     }
 
     /// Leaves places for so many records in the log of a slot, and counts its records anew.
-    pub fn leave(&mut self, slot: u32, records: u32)
-        requires { slot < SLOTS }
+    pub fn leave(&mut self, slot: Slot, records: u32)
         ensures heap { ⟦<BoundedMemory as Memory>⟧.heap self.new ≡ ⟦<BoundedMemory as Memory>⟧.heap
             self.old }
         ensures logs { IsWithLogs (⟦<BoundedMemory as Memory>⟧.grants self.old)
@@ -131,8 +124,8 @@ impl BoundedMemory {
         ensures kept { (self.new.cycle_open ≡ self.old.cycle_open)
             × (self.new.closed ≡ self.old.closed) }
     {
-        self.places[slot as usize] = records;
-        self.put[slot as usize] = 0;
+        self.places[slot.index()] = records;
+        self.put[slot.index()] = 0;
     }
 
     /// Whether so many words and birth numbers are left.
@@ -147,7 +140,7 @@ impl BoundedMemory {
     /// Counts a record of a slot where a cycle is open and the object at an address may not be
     /// filled, and ends the time in which what
     /// stands may be filled.
-    fn log(&mut self, slot: u32, address: u32)
+    fn log(&mut self, slot: Slot, address: u32)
         requires { 1 ≤ records_of
             (record {
               cycle_open = self.old.cycle_open;
@@ -167,10 +160,10 @@ impl BoundedMemory {
         let may_be_filled = self.fresh_from <= address;
         self.fresh_from = self.region.used();
         if self.cycle_open && !may_be_filled {
-            let places = self.places[slot as usize];
-            let put = self.put[slot as usize];
+            let places = self.places[slot.index()];
+            let put = self.put[slot.index()];
             if put < places {
-                self.put[slot as usize] = put + 1;
+                self.put[slot.index()] = put + 1;
             }
         }
     }
@@ -227,19 +220,18 @@ impl Memory for BoundedMemory {
         self.region.put(address, place, word);
     }
 
-    fn store(&mut self, slot: u32, address: u32, place: u32, items: &[Word]) {
+    fn store(&mut self, slot: Slot, address: u32, place: u32, items: &[Word]) {
         self.log(slot, address);
         self.region.write(address, place, items);
     }
 
-    fn copy(&mut self, slot: u32, from: u32, from_place: u32, to: u32, to_place: u32, count: u32) {
+    fn copy(&mut self, slot: Slot, from: u32, from_place: u32, to: u32, to_place: u32, count: u32) {
         self.log(slot, to);
         self.region.copy(from, from_place, to, to_place, count);
     }
 
     /// Of this memory no log is drained but by `leave`: asking changes nothing.
-    fn permit(&mut self, slot: u32, count: u32) -> Permit
-        requires slot { slot < SLOTS }
+    fn permit(&mut self, slot: Slot, count: u32) -> Permit
         ensures heap { ⟦<BoundedMemory as Memory>⟧.heap self.new ≡ ⟦<BoundedMemory as Memory>⟧.heap
             self.old }
         ensures grants { ⟦<BoundedMemory as Memory>⟧.grants self.new
@@ -257,12 +249,12 @@ impl Memory for BoundedMemory {
         ensures closed { (result ≡ Permit.LogClosed) ↔
             ((1 ≤ count) × IsTrue ((⟦<BoundedMemory as Memory>⟧.grants self.old).closed slot)) }
     {
-        let places = self.places[slot as usize];
-        let put = self.put[slot as usize];
+        let places = self.places[slot.index()];
+        let put = self.put[slot.index()];
         if !self.cycle_open || count == 0 {
             return Permit::Yes;
         }
-        if self.closed[slot as usize] {
+        if self.closed[slot.index()] {
             return Permit::LogClosed;
         }
         if count <= places.saturating_sub(put) {

@@ -38,11 +38,9 @@ mod region;
 
 use marks::Mark;
 use ps_language::kinds::Kind;
+pub use ps_record::slots::Slot;
 use ps_word::headers::Header;
 use ps_word::words::Word;
-
-/// The slots of logs, those of the records' rings: a slot is a number below it.
-pub const SLOTS: u32 = ps_record::SLOTS as u32;
 
 /// Why room was not granted.
 #[derive(Clone, Copy, Debug, PartialEq, Eq)]
@@ -189,7 +187,7 @@ pub trait Memory {
     /// Puts one word or more into the fields from a place on, with one record in a cycle, if the
     /// object may not be filled. From here on no object may be filled but those
     /// that are made later. What the words refer to stands.
-    fn store(&mut self, slot: u32, address: u32, place: u32, items: &[Word])
+    fn store(&mut self, slot: Slot, address: u32, place: u32, items: &[Word])
         requires granted { 1 ≤ (grants self.old).records slot }
         requires some { 1 ≤ length items.now }
         requires known { NamesStanding (heap self.old) address items.now }
@@ -202,7 +200,7 @@ pub trait Memory {
     /// Copies `count` words, at least one, from the fields of one object from a place on to those
     /// of another or the same, as if all were
     /// read before any was written; else as `store`.
-    fn copy(&mut self, slot: u32, from: u32, from_place: u32, to: u32, to_place: u32, count: u32)
+    fn copy(&mut self, slot: Slot, from: u32, from_place: u32, to: u32, to_place: u32, count: u32)
         requires granted { 1 ≤ (grants self.old).records slot }
         requires some { 1 ≤ count }
         requires source { from_place + count ≤ length (fields_at (heap self.old) from) }
@@ -219,8 +217,7 @@ pub trait Memory {
     /// `LogClosed`: one at least is asked for, and
     /// the log is closed. `LogFull`: fewer can be put. Nothing that stands changes, and nothing
     /// that was granted is lost.
-    fn permit(&mut self, slot: u32, count: u32) -> Permit
-        requires slot { slot < SLOTS }
+    fn permit(&mut self, slot: Slot, count: u32) -> Permit
         ensures heap { heap self.new ≡ heap self.old }
         ensures grants { grants self.new ≡ record (grants self.old)
             { records = (grants self.new).records } }

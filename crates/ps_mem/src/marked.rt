@@ -13,6 +13,7 @@ use crate::marks::{Mark, Marks};
 use crate::plain::PlainMemory;
 use crate::{Memory, NeedFault, Permit};
 use ps_language::kinds::Kind;
+use ps_record::slots::Slot;
 use ps_word::headers::Header;
 use ps_word::words::Word;
 use std::alloc::Global;
@@ -201,19 +202,19 @@ impl<M: Memory + Drop> Memory for Marked<M> {
     }
 
     #[inline(always)]
-    fn store(&mut self, slot: u32, address: u32, place: u32, items: &[Word]) {
+    fn store(&mut self, slot: Slot, address: u32, place: u32, items: &[Word]) {
         self.mark_stored(address, place, items);
         self.memory.store(slot, address, place, items);
     }
 
-    fn copy(&mut self, slot: u32, from: u32, from_place: u32, to: u32, to_place: u32, count: u32) {
+    fn copy(&mut self, slot: Slot, from: u32, from_place: u32, to: u32, to_place: u32, count: u32) {
         self.mark_copied(from, from_place, to, to_place, count);
         self.memory
             .copy(slot, from, from_place, to, to_place, count);
     }
 
     #[inline]
-    fn permit(&mut self, slot: u32, count: u32) -> Permit {
+    fn permit(&mut self, slot: Slot, count: u32) -> Permit {
         self.memory.permit(slot, count)
     }
 

@@ -8,6 +8,7 @@ ghost use Rattle.ps_mem.specs.Plain.{plain_space, plain_grants};
 use crate::region::{REGION_LIMIT, Region};
 use crate::{Memory, NeedFault, Permit};
 use ps_language::kinds::Kind;
+use ps_record::slots::Slot;
 use ps_word::headers::Header;
 use ps_word::words::Word;
 use std::alloc::{AllocError, Global};
@@ -106,16 +107,24 @@ impl Memory for PlainMemory {
     }
 
     #[inline]
-    fn store(&mut self, _slot: u32, address: u32, place: u32, items: &[Word]) {
+    fn store(&mut self, _slot: Slot, address: u32, place: u32, items: &[Word]) {
         self.region.write(address, place, items);
     }
 
-    fn copy(&mut self, _slot: u32, from: u32, from_place: u32, to: u32, to_place: u32, count: u32) {
+    fn copy(
+        &mut self,
+        _slot: Slot,
+        from: u32,
+        from_place: u32,
+        to: u32,
+        to_place: u32,
+        count: u32,
+    ) {
         self.region.copy(from, from_place, to, to_place, count);
     }
 
     #[inline]
-    fn permit(&mut self, _slot: u32, _count: u32) -> Permit {
+    fn permit(&mut self, _slot: Slot, _count: u32) -> Permit {
         Permit::Yes
     }
 }

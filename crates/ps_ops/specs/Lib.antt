@@ -1,2 +1,7 @@
-pub mod ArrayRows
-pub mod Does
+pub mod Alone
+pub mod Exits
+pub mod Few
+pub mod Frugal
+pub mod Joins
+pub mod Operators
+pub mod Turns

@@ -1,20 +1,27 @@
-//! The operators that read and change memory (PLRM2, 8).
+//! Each operator by its own function, and a step by an operator with the error that it notes
+//! (PLRM2, 3.5, 3.10, 8 'Operators').
 //!
 //! Why so:
-//! - An operator asks for room and records before it writes, and says which it lacked. `LogFull`
-//!   speaks of what is granted after the call, since a memory may go by an old head of the log.
-//! - `IsReasonFor` is the one table of why a step is not made. A reason for records alone has a
-//!   case for words in it, to which nothing can come.
-//! - The rows of `ArrayRows` are cut from the language's whole rows, so that each operator on arrays
-//!   alone is exact for every operand. They cost a short definition each.
-//! - An operator puts at most `most_records` records, which is five: an error's entries take so
-//!   many. Each operator's own clause says what it asks for.
+//! - One `match` names the function of each operator, so a new operator touches this crate and its
+//!   own. Most crates of operators don't stand on each other, so they are proved side by side.
+//! - `get`, `put` and `copy` test the container once and call the operator of its type, whose
+//!   contract has the whole row under that case.
+//! - `Operators` answers an operator of the world before its `match` (`is_for_world`), so whoever
+//!   makes steps of one context needs no world.
+//! - What raises no error on operands alone is done in `operate_ahead`, and what neither sees nor
+//!   changes frames in `operate_under`. What raises is found twice, and such an operator has two
+//!   places.
+//! - No clause says which operators those two take up. A body that leaves all of them is right, and
+//!   slow.
+//! - `frugal_operators` names the operators that ask for nothing, by the same function that says
+//!   what each asks for.
 #![tactic(auto)]
 
-pub mod arrays;
-pub mod changes;
-pub mod failure;
-pub mod makes;
-pub mod readers;
-
-pub use ps_operands::Operands;
+pub mod ahead;
+pub mod dispatch;
+pub mod exits;
+pub mod joins;
+pub mod laws;
+pub mod operators;
+pub mod turns;
+pub mod under;

@@ -14,6 +14,10 @@ ghost use Rattle.std.specs.Prelude.{◌≡◌, ◌≢◌, ◌<◌, ◌+◌, ◌=
 ghost use Rattle.ps_record.specs.Format as layout;
 ghost use Rattle.ps_record.specs.declared.Record.{Record};
 
+pub mod slots;
+
+use slots::Slot;
+
 /// How many slots there are, each with a ring of its own.
 pub const SLOTS: u64 = 32;
 
@@ -174,20 +178,18 @@ pub fn lap_of(number: u64) -> u64
 
 /// The word of the table at which the head of a slot stands.
 #[inline]
-pub fn head_place(slot: u64) -> u64
-    requires { slot < SLOTS }
+pub fn head_place(slot: Slot) -> u64
     ensures { result ≡ layout.head_place slot }
 {
-    HEADS_START + slot
+    HEADS_START + slot.index() as u64
 }
 
 /// The word of the table at which record `number` of a slot's log stands.
 #[inline]
-pub fn ring_place(slot: u64, number: u64) -> u64
-    requires { slot < SLOTS }
+pub fn ring_place(slot: Slot, number: u64) -> u64
     ensures { result ≡ layout.ring_place slot number }
 {
-    CONTROL_WORDS + RING * slot + number % RING
+    CONTROL_WORDS + RING * slot.index() as u64 + number % RING
 }
 
 /// The laws of the layout: a packed record gives its fields back, and is read as itself; a ring

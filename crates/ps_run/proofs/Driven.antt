@@ -3,7 +3,7 @@ use Rattle.std.proofs.Common.{◌≡◌, ◌≢◌, ℕ, List, [], ◌∷◌, Bo
 use Rattle.std.specs.Prelude.{◌⊎◌, IfSome}
 use Rattle.ps_language.specs.Effect.{Around, Scene}
 use Rattle.ps_language.specs.World as world
-use Rattle.ps_acts.specs.Acts as acts
+use Rattle.ps_ops_state.specs.Acts as acts
 use Rattle.ps_vault.specs.declared.reports.Report.{Report}
 use Rattle.clap.specs.Words.{HasKind, Text}
 use Rattle.clap.specs.Kinds.{Kinds, IsAmong}

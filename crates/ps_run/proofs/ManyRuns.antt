@@ -8,8 +8,8 @@ use Rattle.std.proofs.lemmas.List.{append_cancel_left}
 use Rattle.clap.specs.Words.{Text}
 use Rattle.ps_language.specs.Effect.{Around, Scene}
 use Rattle.ps_language.specs.World as world
-use Rattle.ps_acts.specs.Acts as acts
-use Rattle.ps_schedules.specs.Texts.{AreEntries, text_of}
+use Rattle.ps_ops_state.specs.Acts as acts
+use Rattle.ps_run_schedules.specs.Texts.{AreEntries, text_of}
 use Rattle.ps_vault.specs.declared.reports.Report.{Report}
 use Rattle.ps_vault.specs.Endings.{AreEndings}
 use Rattle.ps_vault.specs.Reports.{Bounds}

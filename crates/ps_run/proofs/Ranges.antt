@@ -8,9 +8,9 @@ use Rattle.ps_language.specs.Locks.{is_ready}
 use Rattle.ps_language.specs.Schedules.{Move, count_of, is_longest, joins, last_move, moves, moves_of, plain_move}
 use Rattle.ps_language.specs.World.{World}
 use Rattle.ps_language.specs.Worlds.{after_move, all_ready, IsProper, starting_world}
-use Rattle.ps_schedules.specs.Texts.{AreEntries, IsShown, IsUpTo, IsWords}
+use Rattle.ps_run_schedules.specs.Texts.{AreEntries, IsShown, IsUpTo, IsWords}
 use Rattle.ps_vault.specs.Reports.{all_fit, are_words, fits, is_number_of_words}
-use Rattle.ps_schedules.proofs.Counting.{length_moves_of}
+use Rattle.ps_run_schedules.proofs.Counting.{length_moves_of}
 
 -- ---- each step
 

@@ -6,7 +6,7 @@ use Rattle.std.proofs.KnownBytes.{Appends-trans}
 use Rattle.ps_language.specs.Effect.{Around, Scene}
 use Rattle.ps_language.specs.World as world
 use Rattle.ps_language.specs.Worlds.{printed}
-use Rattle.ps_acts.specs.Acts as acts
+use Rattle.ps_ops_state.specs.Acts as acts
 use Rattle.ps_vault.specs.Reports.{WithBudget}
 use Rattle.ps_vault.specs.Screens.{AppendsPart, AreSeen, HasShown, HasShownSome, Sight}
 use Rattle.ps_vault.proofs.Parts.{part_behind}

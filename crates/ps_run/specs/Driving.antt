@@ -8,16 +8,16 @@ use Rattle.ps_language.specs.Effect.{Around, Scene}
 use Rattle.ps_language.specs.Schedules.{count_of, moves}
 use Rattle.ps_language.specs.World as world
 use Rattle.ps_language.specs.Worlds as worlds
-use Rattle.ps_acts.specs.Acts as acts
+use Rattle.ps_ops_state.specs.Acts as acts
 use Rattle.ps_mem.specs.Bounded.{bounded_space}
 use Rattle.ps_mem.specs.Heap.{Space}
 use Rattle.ps_mem.specs.Plain.{plain_space}
-use Rattle.ps_options.specs.declared.options.Options.{Options}
-use Rattle.ps_options.specs.CommandLine.{IsNumber, IsFlag, IsOptional, AreNumbers, named_in, size_in}
-use Rattle.ps_options.specs.Sources.{file_of, text_of as program_text}
-use Rattle.ps_schedules.specs.Texts.{AreEntries, IsBadAt, text_of}
+use Rattle.ps_run_options.specs.declared.options.Options.{Options}
+use Rattle.ps_run_options.specs.CommandLine.{IsNumber, IsFlag, IsOptional, AreNumbers, named_in, size_in}
+use Rattle.ps_run_options.specs.Sources.{file_of, text_of as program_text}
+use Rattle.ps_run_schedules.specs.Texts.{AreEntries, IsBadAt, text_of}
 use Rattle.clap.specs.Words.{Text}
-use Rattle.ps_start.specs.declared.start.TheConstants.{ANY_OUTPUT}
+use Rattle.ps_ctx_start.specs.declared.start.TheConstants.{ANY_OUTPUT}
 use Rattle.ps_vault.specs.declared.reports.Config.{Config}
 use Rattle.ps_vault.specs.declared.reports.Outcome.{Outcome}
 use Rattle.ps_vault.specs.declared.reports.Report.{Report}

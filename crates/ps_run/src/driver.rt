@@ -1,7 +1,7 @@
 //! A run from the words of a command line to an exit status.
 
 ghost use Rattle.std.specs.Prelude.{◌≡◌, ◌≢◌, ◌⊎◌, [], ℕ, List, Option, true, false, map, IfSome, None, codes};
-ghost use Rattle.ps_options.specs.CommandLine.{IsOptional, faults_in, named_in};
+ghost use Rattle.ps_run_options.specs.CommandLine.{IsOptional, faults_in, named_in};
 ghost use Rattle.ps_vault.specs.Reports.{IsWithin};
 ghost use Rattle.ps_run.specs.Driving as driving;
 ghost use Rattle.ps_run.specs.Driving.{AreAsked, AreOutOfRange, IsDriven, IsFileFault, IsRecordName, IsUnread, asked_of, config_in, names_in, names_of};
@@ -16,11 +16,11 @@ use crate::reading::{read_given, read_program};
 use crate::statuses::{Status, end, number_of};
 use crate::streams::{output_of, screen_of};
 use crate::telling::refuse;
-use ps_interpreter::interprets::Interpret;
-use ps_options::{Options, parse};
+use ps_ctx::deeds::Deeds;
+use ps_run_options::{Options, parse};
+use ps_run_workers::Job;
+use ps_step_interpreter::interprets::Interpret;
 use ps_vault::{RunFault, Watched};
-use ps_workers::Job;
-use ps_world::deeds::Deeds;
 use std::alloc::Global;
 use std::hash::RandomState;
 use std::sync::Wait;

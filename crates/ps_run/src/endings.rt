@@ -11,8 +11,8 @@ use crate::finishing::{tell_lost, write_schedule};
 use crate::outputs::{Flushing, Telling};
 use crate::statuses::{Status, end};
 use crate::writing::{hand_out, tell_number};
-use ps_options::Options;
-use ps_schedules::Entries;
+use ps_run_options::Options;
+use ps_run_schedules::Entries;
 use ps_vault::Report;
 use std::alloc::Global;
 

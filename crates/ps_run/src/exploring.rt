@@ -13,10 +13,10 @@ use crate::making::config_of;
 use crate::outputs::{Flushing, Telling};
 use crate::reading::read_program;
 use crate::statuses::{Status, end};
-use ps_interpreter::interprets::Interpret;
-use ps_options::Options;
+use ps_ctx::deeds::Deeds;
+use ps_run_options::Options;
+use ps_step_interpreter::interprets::Interpret;
 use ps_vault::{Budget, Setup};
-use ps_world::deeds::Deeds;
 use std::alloc::Global;
 use std::hash::RandomState;
 
@@ -71,7 +71,7 @@ pub(crate) fn explore<
         return status;
     }
     let config = config_of(options);
-    let mut order = Chances::new(config.quantum);
+    let mut order = Chances::new(config.quantum, runs, err.progress());
     match ps_vault::explore(
         alloc,
         interpret,
@@ -88,7 +88,13 @@ pub(crate) fn explore<
         },
         &mut order,
     ) {
-        Ok(endings) => finish_all(alloc, endings.as_slice(), runs, options, files, out, err),
-        Err(_) => end(err, Status::Memory),
+        Ok(endings) => {
+            order.clear();
+            finish_all(alloc, endings.as_slice(), runs, options, files, out, err)
+        }
+        Err(_) => {
+            order.clear();
+            end(err, Status::Memory)
+        }
     }
 }

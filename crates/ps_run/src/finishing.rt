@@ -12,8 +12,8 @@ use crate::outputs::{Flushing, Telling};
 use crate::statuses::{Status, end, status_of};
 use crate::streams::{Stream, write_rest};
 use crate::writing::{tell_number, tell_unwritten};
-use ps_options::Options;
-use ps_schedules::{Entries, append_schedule, steps_of};
+use ps_run_options::Options;
+use ps_run_schedules::{Entries, append_schedule, steps_of};
 use ps_vault::{Outcome, Report, Screen};
 use std::alloc::Global;
 

@@ -9,7 +9,7 @@ use crate::files::FileSet;
 use crate::outputs::Telling;
 use crate::statuses::{Status, end};
 use crate::telling::refuse;
-use ps_options::{Options, overwritten};
+use ps_run_options::{Options, overwritten};
 use std::alloc::{AllocError, Global};
 
 /// Fails where a record that is asked for would be written over a file that holds the program, or

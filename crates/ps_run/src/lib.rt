@@ -9,7 +9,8 @@
 //! - `Flushing` tells whether all was handed on; `Flushed` makes one of any output, and that it
 //!   flushes the output below is for a reader to see.
 //! - What standard error is told goes through `Telling`, which remembers whether a write failed. So
-//!   clauses say that a line is told whole, unless one did; behind that nothing more is told.
+//!   clauses say that a line is told whole, unless one did; behind that nothing more is told. How
+//!   far many runs are is shown beside it (`Progress`), as a line that goes again.
 //! - The names of a program's file are compared in the words, and what files hold before anything is
 //!   written (`keep_program`): a link, another path or standard input have other names.
 //! - A file set remembers why a read failed and that a write did (`last_fault`, `is_unwritten`), so
@@ -39,6 +40,7 @@ mod finishing;
 mod keeping;
 mod making;
 mod outputs;
+mod progress;
 mod reading;
 mod statuses;
 mod streams;
@@ -48,4 +50,5 @@ mod writing;
 pub use driver::drive;
 pub use files::{FileSet, MOST_PROGRAM_BYTES, ReadFault, WriteFault};
 pub use outputs::{ErrorOutput, Flushed, Flushing, Telling};
+pub use progress::{NoProgress, Progress};
 pub use telling::refuse_no_text;

@@ -8,14 +8,14 @@ ghost use Rattle.ps_vault.specs.Reports.{bounds_of, IsBounded, IsReplayOf, IsRun
 ghost use Rattle.ps_vault.specs.Screens.{HasShown, HasShownSome};
 ghost use Rattle.ps_run.specs.Driving.{IsBoundedAs, IsMade, asked_of, config_in};
 
-use ps_interpreter::interprets::Interpret;
-use ps_options::Options;
+use ps_ctx::deeds::Deeds;
+use ps_run_options::Options;
+use ps_run_workers::{Job, run_shown};
+use ps_step_interpreter::interprets::Interpret;
 use ps_vault::{
     ANY_ENTRIES, ANY_OUTPUT, Config, Entry, RunFault, Screen, Setup, Viewer, Watched, replay_shown,
     run_plain_shown,
 };
-use ps_workers::{Job, run_shown};
-use ps_world::deeds::Deeds;
 use std::alloc::Global;
 use std::sync::Wait;
 use std::thread::Threads;

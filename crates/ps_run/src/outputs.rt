@@ -5,6 +5,7 @@ ghost use Rattle.std.specs.Prelude.{◌≡◌, Bool, true, false, OnOk};
 ghost use Rattle.std.specs.Io.{WritesAtMost};
 ghost use Rattle.std.specs.Io.KnownBytes.{WriteAppends, Keeps};
 
+use crate::progress::Progress;
 use crate::writing::write_part;
 use std::io::{self, Write};
 
@@ -86,27 +87,36 @@ pub trait Telling {
     /// The bytes that it holds, where they are known, and whether it did not take all.
     ghost told: { Self → Told };
 
+    /// Who is shown how far long work is.
+    type Progress: Progress + Drop;
+
+    /// Who is shown how far long work is, beside what is told.
+    fn progress(&self) -> Self::Progress;
+
     /// Writes a text, or as much of it as the output takes.
     fn tell(&mut self, text: &[u8])
         ensures { Tells (told self.old) (told self.new) text.now };
 }
 
-/// Any output, with a note of whether a write to it failed.
+/// Any output, with a note of whether a write to it failed, and with who is shown how far long work
+/// is.
 #[derive(Drop)]
-pub struct ErrorOutput<X: Write> {
+pub struct ErrorOutput<X: Write, P: Progress + Copy + Drop> {
     output: X,
     failed: bool,
+    progress: P,
 }
 
-impl<X: Write> ErrorOutput<X> {
+impl<X: Write, P: Progress + Copy + Drop> ErrorOutput<X, P> {
     /// An output to which no write has failed yet.
-    pub fn new(output: X) -> ErrorOutput<X>
+    pub fn new(output: X, progress: P) -> ErrorOutput<X, P>
         ensures output { result.output ≡ output }
         ensures not_yet { result.failed ≡ false }
     {
         ErrorOutput {
             output,
             failed: false,
+            progress,
         }
     }
 
@@ -119,8 +129,14 @@ impl<X: Write> ErrorOutput<X> {
     }
 }
 
-impl<X: Write> Telling for ErrorOutput<X> {
+impl<X: Write, P: Progress + Copy + Drop> Telling for ErrorOutput<X, P> {
     ghost told = { λ out. record { bytes = X.contents out.output; failed = out.failed } };
+
+    type Progress = P;
+
+    fn progress(&self) -> P {
+        self.progress
+    }
 
     fn tell(&mut self, text: &[u8]) {
         if !self.failed && write_part(&mut self.output, text).is_err() {

@@ -2,7 +2,7 @@
 //! judged while they are read.
 
 ghost use Rattle.std.specs.Prelude.{◌≡◌, ◌≢◌, ◌⊎◌, ◌≤◌, ℕ, Some, None, Ok, Err, OnOk, IfOk, IfErr, IfSome, option_map, vec_len, ◌<◌, codes, length};
-ghost use Rattle.ps_schedules.specs.Texts.{AreEntries, IsBadAt, text_of};
+ghost use Rattle.ps_run_schedules.specs.Texts.{AreEntries, IsBadAt, text_of};
 ghost use Rattle.ps_run.specs.Driving as driving;
 ghost use Rattle.ps_run.specs.Driving.{HasNoProgram, HasNoSchedule, IsGiven, IsProgramIn, IsTooLong, IsUnread, most_program_bytes, names_of};
 ghost use Rattle.ps_run.specs.Telling.{Tells};
@@ -11,8 +11,8 @@ use crate::files::{FileSet, MOST_PROGRAM_BYTES, ReadFault};
 use crate::outputs::Telling;
 use crate::statuses::{Status, end};
 use crate::writing::tell_number;
-use ps_options::{Options, Source};
-use ps_schedules::{ScheduleFault, read_entries};
+use ps_run_options::{Options, Source};
+use ps_run_schedules::{ScheduleFault, read_entries};
 use ps_vault::Entry;
 use std::alloc::Global;
 

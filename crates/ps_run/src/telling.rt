@@ -9,7 +9,7 @@ use crate::outputs::Telling;
 use crate::statuses::{Status, end, number_of};
 use clap::Error;
 use clap::error::ErrorKind;
-use ps_options::no_text;
+use ps_run_options::no_text;
 use std::alloc::Global;
 
 /// Tells that the words of a command line are no text, and gives the exit status: 2, or 5 where there

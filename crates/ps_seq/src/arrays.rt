@@ -13,7 +13,7 @@ ghost use Rattle.ps_mem.specs.Shows.{IsValue, AreValues, IsSound, IsWithin, AreW
 
 use ps_language::access::Access;
 use ps_language::kinds::Kind;
-use ps_mem::Memory;
+use ps_mem::{Memory, Slot};
 use ps_word::values::Part;
 use ps_word::words::Word;
 
@@ -60,7 +60,7 @@ pub fn element<M: Memory>(memory: &mut M, part: Part, index: u16) -> Word
 
 /// Puts a value at an index of a part of an array, with one record in a cycle.
 #[inline]
-pub fn set_element<M: Memory>(memory: &mut M, slot: u32, part: Part, index: u16, word: Word)
+pub fn set_element<M: Memory>(memory: &mut M, slot: Slot, part: Part, index: u16, word: Word)
     requires granted { 1 ≤ (M.grants memory.old).records slot }
     requires sound { IsSound (M.heap memory.old) }
     requires known { StandsAs (M.heap memory.old) Kind.Array part.address
@@ -86,7 +86,7 @@ pub fn set_element<M: Memory>(memory: &mut M, slot: u32, part: Part, index: u16,
 
 /// Puts values, at least one, into a part of an array from a place on, by one store with one record
 /// in a cycle.
-pub fn set_elements<M: Memory>(memory: &mut M, slot: u32, part: Part, place: u16, words: &[Word])
+pub fn set_elements<M: Memory>(memory: &mut M, slot: Slot, part: Part, place: u16, words: &[Word])
     requires granted { 1 ≤ (M.grants memory.old).records slot }
     requires some { 1 ≤ length words.now }
     requires sound { IsSound (M.heap memory.old) }
@@ -124,7 +124,7 @@ pub fn interval(part: Part, place: u16, count: u16) -> Part
 /// Copies all elements of one part into another, from a place on, as if all were read first, with
 /// one record in a cycle; the two may be of one array. Where there are none, nothing is done and no
 /// record is put.
-pub fn copy_elements<M: Memory>(memory: &mut M, slot: u32, from: Part, to: Part, place: u16)
+pub fn copy_elements<M: Memory>(memory: &mut M, slot: Slot, from: Part, to: Part, place: u16)
     requires granted { 1 ≤ from.length → 1 ≤ (M.grants memory.old).records slot }
     requires sound { IsSound (M.heap memory.old) }
     requires source { StandsAs (M.heap memory.old) Kind.Array from.address

@@ -17,7 +17,7 @@ ghost use Rattle.ps_mem.specs.Shows.{IsSound, Shows};
 use crate::reads::read_run;
 use ps_language::access::Access;
 use ps_language::kinds::Kind;
-use ps_mem::Memory;
+use ps_mem::{Memory, Slot};
 use ps_word::values::Part;
 use ps_word::words::Word;
 use std::alloc::AllocError;
@@ -191,7 +191,7 @@ pub fn make_string<M: Memory>(memory: &mut M, bytes: &[u8]) -> Part
 
 /// Puts a byte at an index of a part of a string, with one record in a cycle.
 #[inline]
-pub fn set_byte<M: Memory>(memory: &mut M, slot: u32, part: Part, index: u16, byte: u8)
+pub fn set_byte<M: Memory>(memory: &mut M, slot: Slot, part: Part, index: u16, byte: u8)
     requires granted { 1 ≤ (M.grants memory.old).records slot }
     requires sound { IsSound (M.heap memory.old) }
     requires known { StandsAs (M.heap memory.old) Kind.Text part.address (words_for
@@ -308,7 +308,7 @@ fn changed_words<M: Memory>(
 /// refused; nothing has changed.
 pub fn set_bytes<M: Memory>(
     memory: &mut M,
-    slot: u32,
+    slot: Slot,
     part: Part,
     place: u16,
     text: &[u8],
@@ -356,7 +356,7 @@ pub fn set_bytes<M: Memory>(
 /// growth was refused; nothing has changed.
 pub fn copy_bytes<M: Memory>(
     memory: &mut M,
-    slot: u32,
+    slot: Slot,
     from: Part,
     to: Part,
     place: u16,

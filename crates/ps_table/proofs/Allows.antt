@@ -6,15 +6,15 @@ use mathlib.Core.Option.{some}
 use lib.ListN.{get_elem?}
 use Rattle.atomic_table.specs.Table as table
 use Rattle.atomic_table.proofs.Lists.{at_set}
-use Rattle.ps_core_parts.specs.declared.events.Event.{Event}
-use Rattle.ps_core_parts.specs.declared.events.Event.TheVariants.{VmLoad}
-use Rattle.ps_core_parts.specs.declared.events.Vm.{Vm}
-use Rattle.ps_core_parts.specs.declared.events.Gc.{Gc}
-use Rattle.ps_core_parts.specs.Steps.{State, vm_after, gc_after, words_after}
-use Rattle.ps_core_parts.specs.Conditions.{Permitted}
+use Rattle.ps_core_machine.specs.declared.events.Event.{Event}
+use Rattle.ps_core_machine.specs.declared.events.Event.TheVariants.{VmLoad}
+use Rattle.ps_core_machine.specs.declared.events.Vm.{Vm}
+use Rattle.ps_core_machine.specs.declared.events.Gc.{Gc}
+use Rattle.ps_core_machine.specs.Steps.{State, vm_after, gc_after, words_after}
+use Rattle.ps_core_machine.specs.Conditions.{Permitted}
 use Rattle.ps_core_laws.specs.Runs.{run, IsRun, IsSpace}
 use Rattle.ps_core_laws.proofs.Kept.{good}
-use Rattle.ps_parts_memory.specs.Shown.{VmRuns, VmFinds}
+use Rattle.ps_core_memory.specs.Shown.{VmRuns, VmFinds}
 use Rattle.ps_table.specs.declared.plays.View.{View}
 use Rattle.ps_table.specs.Shown.{by_vm, by_gc, Fits, Shows, GcRuns, GcFinds, BothFind, BothRun, BothLook, VmDoes}
 use Rattle.ps_table.specs.Shown.{VmStores, GcDoes, GcStores, BothDo, longer, vm_did, gc_did, both_did, SeatState}

@@ -6,19 +6,19 @@ use Rattle.std.specs.Option.{option_map}
 use Rattle.std.proofs.lemmas.Option.{slice_get_within, slice_get-map}
 use Rattle.ps_word.specs.declared.words.Word.{Word}
 use Rattle.ps_mem.specs.Heap.{fields_at}
-use Rattle.ps_core_parts.specs.declared.events.Event.TheVariants.{FieldStore}
-use Rattle.ps_core_parts.specs.declared.events.Vm.{Vm}
-use Rattle.ps_core_parts.specs.Conditions.{VmMay}
-use Rattle.ps_core_parts.specs.Steps.{field_stored, table_size}
+use Rattle.ps_core_machine.specs.declared.events.Event.TheVariants.{FieldStore}
+use Rattle.ps_core_machine.specs.declared.events.Vm.{Vm}
+use Rattle.ps_core_machine.specs.Conditions.{VmMay}
+use Rattle.ps_core_machine.specs.Steps.{field_stored, table_size}
 use Rattle.ps_core_laws.proofs.Lists.{get_some}
-use Rattle.ps_parts_memory.specs.Memory.{heap_of}
-use Rattle.ps_parts_memory.specs.Shown.{VmRuns, VmFinds}
-use Rattle.ps_parts_memory.specs.Stores.{number_of, numbers, fields_stored, MayStoreFields, fields_stored_down}
-use Rattle.ps_parts_memory.specs.Stores.{MayStoreFieldsDown}
-use Rattle.ps_parts_memory.specs.Laws.{StaysAfterLoad, words_copied, word_at, CanCopy, CopiesWords}
-use Rattle.ps_parts_memory.proofs.Copied.{copies}
-use Rattle.ps_parts_memory.proofs.Loads.{field_loads}
-use Rattle.ps_parts_memory.proofs.Stored.{stores}
+use Rattle.ps_core_memory.specs.Memory.{heap_of}
+use Rattle.ps_core_memory.specs.Shown.{VmRuns, VmFinds}
+use Rattle.ps_core_memory.specs.Stores.{number_of, numbers, fields_stored, MayStoreFields, fields_stored_down}
+use Rattle.ps_core_memory.specs.Stores.{MayStoreFieldsDown}
+use Rattle.ps_core_memory.specs.Laws.{StaysAfterLoad, words_copied, word_at, CanCopy, CopiesWords}
+use Rattle.ps_core_memory.proofs.Copied.{copies}
+use Rattle.ps_core_memory.proofs.Loads.{field_loads}
+use Rattle.ps_core_memory.proofs.Stored.{stores}
 use Rattle.ps_table.proofs.Facts.{words, vm_facts}
 
 -- ---- the words that are stored, one of them

@@ -7,12 +7,12 @@ use Rattle.std.specs.Prelude.{nat_le, slice_index}
 use Rattle.ps_record.specs.declared.Record.{Record}
 use Rattle.ps_record.specs.declared.Record.TheVariants.{Place, Close}
 use Rattle.ps_record.specs.Format.{IsRecord}
-use Rattle.ps_core_parts.specs.declared.events.Object.{Object}
-use Rattle.ps_core_parts.specs.declared.events.Vm.{Vm}
-use Rattle.ps_core_parts.specs.declared.events.Event.TheVariants.{FieldStore, HeaderStore}
-use Rattle.ps_core_parts.specs.Objects.{log_of, object_at}
-use Rattle.ps_core_parts.specs.Steps.{table_size, next_word}
-use Rattle.ps_core_parts.specs.Conditions.{CanClear, HasField, VmMay}
+use Rattle.ps_core_machine.specs.declared.events.Object.{Object}
+use Rattle.ps_core_machine.specs.declared.events.Vm.{Vm}
+use Rattle.ps_core_machine.specs.declared.events.Event.TheVariants.{FieldStore, HeaderStore}
+use Rattle.ps_core_machine.specs.Objects.{log_of, object_at}
+use Rattle.ps_core_machine.specs.Steps.{table_size, next_word}
+use Rattle.ps_core_machine.specs.Conditions.{CanClear, HasField, VmMay}
 use Rattle.ps_core_laws.specs.Kept.{VmKnows, LogKept}
 use Rattle.ps_core_laws.specs.Places.{AreDistinct}
 use Rattle.ps_core_laws.specs.Laws.{WordsFollow, TakenBegins}
@@ -22,8 +22,8 @@ use Rattle.ps_core_laws.proofs.HeapTests.{bool_cases, le_is, le_true}
 use Rattle.ps_core_laws.proofs.Kept.{good}
 use Rattle.ps_core_laws.proofs.KeptFacts.{kept}
 use Rattle.ps_core_laws.proofs.LawFacts.{words_follow}
-use Rattle.ps_parts_memory.specs.Shown.{VmRuns}
-use Rattle.ps_parts_memory.proofs.Facts.{VmFacts, facts, part_knows}
+use Rattle.ps_core_memory.specs.Shown.{VmRuns}
+use Rattle.ps_core_memory.proofs.Facts.{VmFacts, facts, part_knows}
 
 -- ---- a run that is known to be there tells all that the run would tell
 

@@ -7,20 +7,20 @@ use Rattle.ps_word.specs.Format.{address_in}
 use Rattle.ps_word.specs.Headers.{IsForward, forward_packed}
 use Rattle.ps_word.specs.declared.headers.Forward.{Forward}
 use Rattle.ps_word.specs.Readers.{is_reference, readdressed}
-use Rattle.ps_core_parts.specs.declared.events.Event.{Event}
-use Rattle.ps_core_parts.specs.declared.events.Event.TheVariants.{GcLoad, CycleStore}
-use Rattle.ps_core_parts.specs.declared.events.Pair.{Pair}
-use Rattle.ps_core_parts.specs.declared.events.Vm.{Vm}
-use Rattle.ps_core_parts.specs.declared.events.Gc.{Gc}
-use Rattle.ps_core_parts.specs.Objects.{among, pair_of, redirected, renamed_value, value_has_replica, end_of_replicas}
-use Rattle.ps_core_parts.specs.Steps.{State, table_size, space_base, other_base, gc_after, vm_after, forwarding}
-use Rattle.ps_core_parts.specs.Steps.{replica_of}
-use Rattle.ps_core_parts.specs.Conditions.{VmMay}
+use Rattle.ps_core_machine.specs.declared.events.Event.{Event}
+use Rattle.ps_core_machine.specs.declared.events.Event.TheVariants.{GcLoad, CycleStore}
+use Rattle.ps_core_machine.specs.declared.events.Pair.{Pair}
+use Rattle.ps_core_machine.specs.declared.events.Vm.{Vm}
+use Rattle.ps_core_machine.specs.declared.events.Gc.{Gc}
+use Rattle.ps_core_machine.specs.Objects.{among, pair_of, redirected, renamed_value, value_has_replica, end_of_replicas}
+use Rattle.ps_core_machine.specs.Steps.{State, table_size, space_base, other_base, gc_after, vm_after, forwarding}
+use Rattle.ps_core_machine.specs.Steps.{replica_of}
+use Rattle.ps_core_machine.specs.Conditions.{VmMay}
 use Rattle.ps_core_laws.specs.Runs.{run}
 use Rattle.ps_core_laws.proofs.Bases.{bases}
 use Rattle.ps_core_laws.proofs.HeapTests.{bool_cases, number_is, number_not, le_is}
-use Rattle.ps_parts_memory.proofs.Facts.{VmFacts}
-use Rattle.ps_parts_memory.specs.Memory.{is_shut}
+use Rattle.ps_core_memory.proofs.Facts.{VmFacts}
+use Rattle.ps_core_memory.specs.Memory.{is_shut}
 use Rattle.ps_table.specs.declared.mirror.Mirror.{Mirror}
 use Rattle.ps_table.specs.declared.plays.View.{View}
 use Rattle.ps_table.specs.Events.{gc_did_all, root_look}

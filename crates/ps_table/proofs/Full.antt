@@ -2,16 +2,16 @@
 use Rattle.std.proofs.Common.{◌≡◌, ℕ, ◌+◌, ◌<◌, ◌&&◌, true, not, length, inl, inr, subst, refl, arith}
 use Rattle.std.specs.Prelude.{slice_index, slice_set, nat_lt, ◌==◌}
 use Rattle.std.proofs.lemmas.List.{get_or-set_same}
-use Rattle.ps_core_parts.specs.declared.events.Vm.{Vm}
-use Rattle.ps_core_parts.specs.declared.events.Gc.{Gc}
-use Rattle.ps_core_parts.specs.Conditions.{HasRoom}
-use Rattle.ps_core_parts.specs.Objects.{closes, log_of}
-use Rattle.ps_core_parts.specs.Steps.{is_open}
+use Rattle.ps_core_machine.specs.declared.events.Vm.{Vm}
+use Rattle.ps_core_machine.specs.declared.events.Gc.{Gc}
+use Rattle.ps_core_machine.specs.Conditions.{HasRoom}
+use Rattle.ps_core_machine.specs.Objects.{closes, log_of}
+use Rattle.ps_core_machine.specs.Steps.{is_open}
 use Rattle.ps_core_laws.specs.Kept.{VmKnows}
 use Rattle.ps_core_laws.proofs.HeapTests.{bool_cases}
-use Rattle.ps_parts_memory.specs.Laws.{SeesHead, seen}
-use Rattle.ps_parts_memory.specs.Memory.{records_left}
-use Rattle.ps_parts_memory.proofs.Room.{part_seen}
+use Rattle.ps_core_memory.specs.Laws.{SeesHead, seen}
+use Rattle.ps_core_memory.specs.Memory.{records_left}
+use Rattle.ps_core_memory.proofs.Room.{part_seen}
 
 -- a full ring takes no record
 pub full_left : (v : Vm) (slot : ℕ) → is_open v ≡ true → (HasRoom v slot → ⊥)

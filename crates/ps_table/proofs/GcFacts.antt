@@ -8,13 +8,15 @@ use Rattle.std.proofs.Math.Logic.{∥∥₁_elim}
 use Rattle.std.proofs.Props.{props}
 use Rattle.ps_word.specs.Headers.{forward_address_in, forward_packed}
 use Rattle.ps_word.proofs.HeaderPlaces.{forward_address_in-packed}
-use Rattle.ps_core_parts.specs.declared.events.Event.TheVariants.{ForwardStore}
-use Rattle.ps_core_parts.specs.declared.events.Gc.{Gc}
-use Rattle.ps_core_parts.specs.declared.events.Pair.{Pair}
-use Rattle.ps_core_parts.specs.declared.events.Carried.{Carried}
-use Rattle.ps_core_parts.specs.Objects.{among, pair_of, seen_at, end_of}
-use Rattle.ps_core_parts.specs.Steps.{State, table_size, other_base, replica_of, forwarding}
-use Rattle.ps_core_parts.specs.Conditions.{GcMay, IsPairField, IsReady}
+use Rattle.ps_core_machine.specs.declared.events.Event.TheVariants.{ForwardStore}
+use Rattle.ps_core_machine.specs.declared.events.Gc.{Gc}
+use Rattle.ps_core_machine.specs.declared.events.Pair.{Pair}
+use Rattle.ps_core_machine.specs.declared.events.Carried.{Carried}
+use Rattle.ps_core_machine.specs.declared.events.Half.{Half}
+use Rattle.ps_record.specs.Format.{slots}
+use Rattle.ps_core_machine.specs.Objects.{among, pair_of, seen_at, end_of}
+use Rattle.ps_core_machine.specs.Steps.{State, table_size, other_base, replica_of, forwarding}
+use Rattle.ps_core_machine.specs.Conditions.{GcMay, IsPairField, IsReady}
 use Rattle.ps_core_laws.specs.Runs.{run, IsSpace}
 use Rattle.ps_core_laws.proofs.Bases.{spaces_wide, some_match}
 use Rattle.ps_core_laws.proofs.KeptFacts.{kept}
@@ -33,6 +35,7 @@ pub record GcFacts (g : Gc) : Type 0 where
       → end_of p ≤ table_size g.space
   pub copying : (k : Carried) → g.copying ≡ Some k
       → replica_of (pair_of g.pairs k.address) + 2 + k.field < table_size g.space
+  pub taking : (h : Half) → g.taking ≡ Some h → h.slot < slots
 
 state_facts : (s : State) → Lawful s → GcFacts s.gc
 state_facts s k =
@@ -52,6 +55,7 @@ state_facts s k =
           let top = (replica_inside s k w.address m.0 m.1).1 in
           let there = ap replica_of m.1 in
           omega arith;
+      taking = λ h is. (c.taking h is).0;
     }
 
 runs_know : (g : Gc) → GcRuns g → GcFacts g

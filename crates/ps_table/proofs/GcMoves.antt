@@ -2,18 +2,18 @@
 use Rattle.std.proofs.Common.{◌≡◌, ℕ, ◌+◌, ◌<◌, Bool, List, length, Some, None, Option, refl, sym, ap, ◌∙◌, subst, true}
 use Rattle.std.specs.Prelude.{slice_index, slice_set}
 use Rattle.ps_record.specs.Format.{ring_place}
-use Rattle.ps_core_parts.specs.declared.events.Event.{Event}
-use Rattle.ps_core_parts.specs.declared.events.Event.TheVariants.{GcLoad, TakeLoad, CopyLoad, HandOver}
-use Rattle.ps_core_parts.specs.declared.events.Event.TheVariants.{ReplicaHeaderStore, ReplicaFieldStore, ForwardStore}
-use Rattle.ps_core_parts.specs.declared.events.Event.TheVariants.{HeadStore, CycleStore}
-use Rattle.ps_core_parts.specs.declared.events.Vm.{Vm}
-use Rattle.ps_core_parts.specs.declared.events.Gc.{Gc}
-use Rattle.ps_core_parts.specs.declared.events.Half.{Half}
-use Rattle.ps_core_parts.specs.declared.events.Carried.{Carried}
-use Rattle.ps_core_parts.specs.Objects.{log_of, pair_of, values_stand}
-use Rattle.ps_core_parts.specs.Steps.{State, table_size, words_after, forwarding, replica_of, word_stored, copy_stored}
-use Rattle.ps_core_parts.specs.Steps.{head_stored}
-use Rattle.ps_core_parts.specs.Conditions.{Permitted, VmMay, GcMay, IsPairField}
+use Rattle.ps_core_machine.specs.declared.events.Event.{Event}
+use Rattle.ps_core_machine.specs.declared.events.Event.TheVariants.{GcLoad, TakeLoad, CopyLoad, HandOver}
+use Rattle.ps_core_machine.specs.declared.events.Event.TheVariants.{ReplicaHeaderStore, ReplicaFieldStore, ForwardStore}
+use Rattle.ps_core_machine.specs.declared.events.Event.TheVariants.{HeadStore, CycleStore}
+use Rattle.ps_core_machine.specs.declared.events.Vm.{Vm}
+use Rattle.ps_core_machine.specs.declared.events.Gc.{Gc}
+use Rattle.ps_core_machine.specs.declared.events.Half.{Half}
+use Rattle.ps_core_machine.specs.declared.events.Carried.{Carried}
+use Rattle.ps_core_machine.specs.Objects.{log_of, pair_of, values_stand}
+use Rattle.ps_core_machine.specs.Steps.{State, table_size, words_after, forwarding, replica_of, word_stored, copy_stored}
+use Rattle.ps_core_machine.specs.Steps.{head_stored}
+use Rattle.ps_core_machine.specs.Conditions.{Permitted, VmMay, GcMay, IsPairField}
 use Rattle.ps_table.proofs.Allows.{GcAlone, GcStep, BothStep}
 use Rattle.ps_table.proofs.Moves.{same_word}
 

@@ -1,9 +1,9 @@
 -- What the mutator's events leave of the collector's side, and the collector's of the mutator's.
 use Rattle.std.proofs.Common.{◌≡◌, ℕ, Bool, true, false, List, [], ◌∷◌, refl, sym, ap, ◌∙◌, subst}
 use Rattle.std.specs.Prelude.{if◌then◌else◌}
-use Rattle.ps_core_parts.specs.declared.events.Event.{Event}
-use Rattle.ps_core_parts.specs.declared.events.Vm.{Vm}
-use Rattle.ps_parts_memory.specs.Shown.{VmRuns}
+use Rattle.ps_core_machine.specs.declared.events.Event.{Event}
+use Rattle.ps_core_machine.specs.declared.events.Vm.{Vm}
+use Rattle.ps_core_memory.specs.Shown.{VmRuns}
 use Rattle.ps_table.specs.declared.mirror.Mirror.{Mirror}
 use Rattle.ps_table.specs.declared.plays.View.{View}
 use Rattle.ps_table.specs.Events.{did_all, gc_did_all}

@@ -11,24 +11,24 @@ use Rattle.ps_word.specs.Headers.{fields_in}
 use Rattle.ps_record.specs.declared.Record.{Record}
 use Rattle.ps_record.specs.declared.Record.TheVariants.{Place, Close}
 use Rattle.ps_mem.specs.Heap.{AfterStore, Grants}
-use Rattle.ps_core_parts.specs.declared.events.Event.{Event}
-use Rattle.ps_core_parts.specs.declared.events.Event.TheVariants.{RecordStore, EpochStore}
-use Rattle.ps_core_parts.specs.declared.events.Object.{Object}
-use Rattle.ps_core_parts.specs.declared.events.Vm.{Vm}
-use Rattle.ps_core_parts.specs.declared.events.Gc.{Gc}
-use Rattle.ps_core_parts.specs.Objects.{among, object_at, log_of, stored}
-use Rattle.ps_core_parts.specs.Steps.{start, space_base, vm_after, field_stored, next_birth_after, table_size}
-use Rattle.ps_core_parts.specs.Steps.{with_record}
+use Rattle.ps_core_machine.specs.declared.events.Event.{Event}
+use Rattle.ps_core_machine.specs.declared.events.Event.TheVariants.{RecordStore, EpochStore}
+use Rattle.ps_core_machine.specs.declared.events.Object.{Object}
+use Rattle.ps_core_machine.specs.declared.events.Vm.{Vm}
+use Rattle.ps_core_machine.specs.declared.events.Gc.{Gc}
+use Rattle.ps_core_machine.specs.Objects.{among, object_at, log_of, stored}
+use Rattle.ps_core_machine.specs.Steps.{start, space_base, vm_after, field_stored, next_birth_after, table_size}
+use Rattle.ps_core_machine.specs.Steps.{with_record}
 use Rattle.ps_core_laws.proofs.HeapTests.{bool_cases, le_true, le_is, eq_true, number_not}
 use Rattle.ps_core_laws.proofs.Headed.{stored_objects}
 use Rattle.ps_core_laws.proofs.Lookups.{object_at-with_field}
-use Rattle.ps_parts_memory.specs.Memory.{grants_of, records_left}
-use Rattle.ps_parts_memory.specs.Shown.{VmRuns}
-use Rattle.ps_parts_memory.specs.Stores.{fields_stored, part_made}
-use Rattle.ps_parts_memory.specs.Laws.{OpensCycle, ClosesLog, SeesHead, AfterClose, seen}
-use Rattle.ps_parts_memory.proofs.Facts.{VmFacts}
-use Rattle.ps_parts_memory.proofs.Logged.{part_logged, after_record, length_here, log_there}
-use Rattle.ps_parts_memory.proofs.Written.{only}
+use Rattle.ps_core_memory.specs.Memory.{grants_of, records_left}
+use Rattle.ps_core_memory.specs.Shown.{VmRuns}
+use Rattle.ps_core_memory.specs.Stores.{fields_stored, part_made}
+use Rattle.ps_core_memory.specs.Laws.{OpensCycle, ClosesLog, SeesHead, AfterClose, seen}
+use Rattle.ps_core_memory.proofs.Facts.{VmFacts}
+use Rattle.ps_core_memory.proofs.Logged.{part_logged, after_record, length_here, log_there}
+use Rattle.ps_core_memory.proofs.Written.{only}
 use Rattle.ps_table.specs.declared.mirror.Mirror.{Mirror}
 use Rattle.ps_table.specs.Mirrored.{Mirrors, Sits}
 use Rattle.ps_table.specs.Shown.{SeatState, vm_did}

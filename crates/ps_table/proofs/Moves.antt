@@ -4,13 +4,13 @@ use Rattle.std.specs.Prelude.{slice_index, slice_set}
 use Rattle.std.proofs.lemmas.List.{set-get_or}
 use Rattle.ps_record.specs.declared.Record.{Record}
 use Rattle.ps_record.specs.Format.{ring_place, packed}
-use Rattle.ps_core_parts.specs.declared.events.Event.{Event}
-use Rattle.ps_core_parts.specs.declared.events.Event.TheVariants.{VmLoad, ClearLoad, ClearStore, HeaderStore}
-use Rattle.ps_core_parts.specs.declared.events.Event.TheVariants.{FieldStore, RecordStore, EpochStore}
-use Rattle.ps_core_parts.specs.declared.events.Vm.{Vm}
-use Rattle.ps_core_parts.specs.Objects.{log_of}
-use Rattle.ps_core_parts.specs.Steps.{State, table_size, next_word, words_after}
-use Rattle.ps_core_parts.specs.Conditions.{Permitted, CanClear, VmMay}
+use Rattle.ps_core_machine.specs.declared.events.Event.{Event}
+use Rattle.ps_core_machine.specs.declared.events.Event.TheVariants.{VmLoad, ClearLoad, ClearStore, HeaderStore}
+use Rattle.ps_core_machine.specs.declared.events.Event.TheVariants.{FieldStore, RecordStore, EpochStore}
+use Rattle.ps_core_machine.specs.declared.events.Vm.{Vm}
+use Rattle.ps_core_machine.specs.Objects.{log_of}
+use Rattle.ps_core_machine.specs.Steps.{State, table_size, next_word, words_after}
+use Rattle.ps_core_machine.specs.Conditions.{Permitted, CanClear, VmMay}
 use Rattle.ps_table.specs.Shown.{looked, slot_at}
 use Rattle.ps_core_laws.proofs.HeapTests.{bool_cases, number_is}
 use Rattle.ps_table.proofs.Allows.{VmAlone, VmStep}

@@ -3,12 +3,12 @@ use Rattle.std.proofs.Common.{◌≡◌, ℕ, ◌+◌, ◌<◌, ◌≤◌, true,
 use Rattle.std.proofs.Common.{inl, inr, subst, arith}
 use Rattle.std.specs.Prelude.{slice_index}
 use Rattle.ps_word.specs.Headers.{cycle_in}
-use Rattle.ps_core_parts.specs.declared.events.Event.{Event}
-use Rattle.ps_core_parts.specs.declared.events.Object.{Object}
-use Rattle.ps_core_parts.specs.declared.events.Pair.{Pair}
-use Rattle.ps_core_parts.specs.declared.events.Gc.{Gc}
-use Rattle.ps_core_parts.specs.Objects.{among, object_at, pair_of, end_of}
-use Rattle.ps_core_parts.specs.Steps.{State, table_size, other_base, forwarding}
+use Rattle.ps_core_machine.specs.declared.events.Event.{Event}
+use Rattle.ps_core_machine.specs.declared.events.Object.{Object}
+use Rattle.ps_core_machine.specs.declared.events.Pair.{Pair}
+use Rattle.ps_core_machine.specs.declared.events.Gc.{Gc}
+use Rattle.ps_core_machine.specs.Objects.{among, object_at, pair_of, end_of}
+use Rattle.ps_core_machine.specs.Steps.{State, table_size, other_base, forwarding}
 use Rattle.ps_core_laws.specs.Kept.{Kept}
 use Rattle.ps_core_laws.specs.Laws.{PairsHold, IsPair, SecondsLead, IsForwarded, WordsFollow, TakenBegins}
 use Rattle.ps_core_laws.specs.Runs.{run, IsRun, IsSpace}

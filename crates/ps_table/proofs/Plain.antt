@@ -4,7 +4,7 @@ use Rattle.std.specs.Prelude.{Option, Some, None, is_some, slice_index, slice_se
 use mathlib.Core.Option.{some, some-ne-none, some-injective}
 use lib.ListN.{get_elem?}
 use Rattle.atomic_table.specs.Table as table
-use Rattle.ps_core_parts.specs.declared.events.Event.{Event}
+use Rattle.ps_core_machine.specs.declared.events.Event.{Event}
 use Rattle.ps_core_laws.specs.Runs.{run, IsRun}
 use Rattle.ps_table.specs.declared.plays.View.{View}
 use Rattle.ps_table.specs.Shown.{Fits, Shows, SeatState}

@@ -8,13 +8,13 @@ use Rattle.ps_word.specs.declared.headers.Forward.{Forward}
 use Rattle.ps_word.proofs.HeaderPlaces.{cycle_in-packed, forward_address_in-packed, forward_packed-parts}
 use Rattle.ps_word.specs.Format.{address_in}
 use Rattle.ps_word.specs.Readers.{is_reference}
-use Rattle.ps_core_parts.specs.declared.events.Event.TheVariants.{GcLoad}
-use Rattle.ps_core_parts.specs.declared.events.Object.{Object}
-use Rattle.ps_core_parts.specs.declared.events.Pair.{Pair}
-use Rattle.ps_core_parts.specs.declared.events.Vm.{Vm}
-use Rattle.ps_core_parts.specs.declared.events.Gc.{Gc}
-use Rattle.ps_core_parts.specs.Objects.{among, object_at, pair_of, value_has_replica, value_stands}
-use Rattle.ps_core_parts.specs.Steps.{State, gc_after, forwarding, is_open}
+use Rattle.ps_core_machine.specs.declared.events.Event.TheVariants.{GcLoad}
+use Rattle.ps_core_machine.specs.declared.events.Object.{Object}
+use Rattle.ps_core_machine.specs.declared.events.Pair.{Pair}
+use Rattle.ps_core_machine.specs.declared.events.Vm.{Vm}
+use Rattle.ps_core_machine.specs.declared.events.Gc.{Gc}
+use Rattle.ps_core_machine.specs.Objects.{among, object_at, pair_of, value_has_replica, value_stands}
+use Rattle.ps_core_machine.specs.Steps.{State, gc_after, forwarding, is_open}
 use Rattle.ps_core_laws.specs.Runs.{run}
 use Rattle.ps_core_laws.proofs.HeapTests.{bool_cases, clash, eq_true, number_is, number_not}
 use Rattle.ps_table.specs.Shown.{GcFinds, BothFind}

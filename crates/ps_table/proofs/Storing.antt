@@ -6,22 +6,22 @@ use native.Mathlib.Decide.{ℕ_discrete}
 use Rattle.ps_word.specs.declared.words.Word.{Word}
 use Rattle.ps_record.specs.declared.Record.TheVariants.{Place}
 use Rattle.ps_mem.specs.Heap.{AfterStore, records_put, stored}
-use Rattle.ps_core_parts.specs.declared.events.Event.TheVariants.{RecordStore, FieldStore}
-use Rattle.ps_core_parts.specs.declared.events.Event.{Event}
-use Rattle.ps_core_parts.specs.declared.events.Vm.{Vm}
-use Rattle.ps_core_parts.specs.declared.events.Gc.{Gc}
-use Rattle.ps_core_parts.specs.Objects.{among, log_of}
-use Rattle.ps_core_parts.specs.Steps.{is_open, vm_after}
-use Rattle.ps_core_parts.specs.Conditions.{VmMay}
+use Rattle.ps_core_machine.specs.declared.events.Event.TheVariants.{RecordStore, FieldStore}
+use Rattle.ps_core_machine.specs.declared.events.Event.{Event}
+use Rattle.ps_core_machine.specs.declared.events.Vm.{Vm}
+use Rattle.ps_core_machine.specs.declared.events.Gc.{Gc}
+use Rattle.ps_core_machine.specs.Objects.{among, log_of}
+use Rattle.ps_core_machine.specs.Steps.{is_open, vm_after}
+use Rattle.ps_core_machine.specs.Conditions.{VmMay}
 use Rattle.ps_core_laws.proofs.HeapTests.{bool_cases, le_true, le_is, lt_is, lt_true, and_parts}
-use Rattle.ps_parts_memory.specs.Memory.{heap_of, grants_of, records_left}
-use Rattle.ps_parts_memory.specs.Shown.{VmRuns}
-use Rattle.ps_parts_memory.specs.Stores.{numbers, fields_stored}
-use Rattle.ps_parts_memory.specs.Laws.{CanStore, StoresWords, StoresRecord, logged}
-use Rattle.ps_parts_memory.proofs.Facts.{VmFacts}
-use Rattle.ps_parts_memory.proofs.Logged.{Target, target, length_numbers, Granted, granted}
-use Rattle.ps_parts_memory.proofs.Stored.{stores, logs}
-use Rattle.ps_parts_memory.proofs.Written.{only, new_same, old_after}
+use Rattle.ps_core_memory.specs.Memory.{heap_of, grants_of, records_left}
+use Rattle.ps_core_memory.specs.Shown.{VmRuns}
+use Rattle.ps_core_memory.specs.Stores.{numbers, fields_stored}
+use Rattle.ps_core_memory.specs.Laws.{CanStore, StoresWords, StoresRecord, logged}
+use Rattle.ps_core_memory.proofs.Facts.{VmFacts}
+use Rattle.ps_core_memory.proofs.Logged.{Target, target, length_numbers, Granted, granted}
+use Rattle.ps_core_memory.proofs.Stored.{stores, logs}
+use Rattle.ps_core_memory.proofs.Written.{only, new_same, old_after}
 use Rattle.ps_table.specs.declared.mirror.Mirror.{Mirror}
 use Rattle.ps_table.specs.declared.plays.View.{View}
 use Rattle.ps_table.specs.Events.{did_all, field_stores}

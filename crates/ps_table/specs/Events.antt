@@ -5,13 +5,13 @@ use Rattle.std.specs.List.{list_all}
 use Rattle.ps_word.specs.Format.{address_in}
 use Rattle.ps_record.specs.Format.{head_place}
 use Rattle.ps_word.specs.Readers.{is_reference}
-use Rattle.ps_core_parts.specs.declared.events.Event.{Event}
-use Rattle.ps_core_parts.specs.declared.events.Event.TheVariants.{VmLoad, GcLoad, ClearStore}
-use Rattle.ps_core_parts.specs.declared.events.Event.TheVariants.{HeaderStore, FieldStore}
-use Rattle.ps_core_parts.specs.declared.events.Event.TheVariants.{CycleStore}
-use Rattle.ps_core_parts.specs.declared.events.Gc.{Gc}
-use Rattle.ps_core_parts.specs.Objects.{pair_of}
-use Rattle.ps_core_parts.specs.Steps.{forwarding, replica_of}
+use Rattle.ps_core_machine.specs.declared.events.Event.{Event}
+use Rattle.ps_core_machine.specs.declared.events.Event.TheVariants.{VmLoad, GcLoad, ClearStore}
+use Rattle.ps_core_machine.specs.declared.events.Event.TheVariants.{HeaderStore, FieldStore}
+use Rattle.ps_core_machine.specs.declared.events.Event.TheVariants.{CycleStore}
+use Rattle.ps_core_machine.specs.declared.events.Gc.{Gc}
+use Rattle.ps_core_machine.specs.Objects.{pair_of}
+use Rattle.ps_core_machine.specs.Steps.{forwarding, replica_of}
 use Rattle.ps_table.specs.declared.plays.View.{View}
 use Rattle.ps_table.specs.Shown.{vm_did, gc_did, looked}
 

@@ -2,12 +2,12 @@
 use Rattle.std.specs.Prelude.{◌≡◌, ℕ, ◌+◌, ◌<◌, ◌≤◌, Bool, true, nat_le, nat_lt, ◌&&◌, [], length}
 use Rattle.std.specs.Prelude.{Some, None, slice_index, slice_index_or, slice_set, if◌then◌else◌}
 use Rattle.ps_record.specs.Format.{slots}
-use Rattle.ps_core_parts.specs.declared.events.Object.{Object}
-use Rattle.ps_core_parts.specs.declared.events.Vm.{Vm}
-use Rattle.ps_core_parts.specs.Objects.{among, object_at, log_of}
-use Rattle.ps_core_parts.specs.Steps.{is_open, space_base, table_size}
-use Rattle.ps_parts_memory.specs.Memory.{is_shut}
-use Rattle.ps_parts_memory.specs.Shown.{VmRuns}
+use Rattle.ps_core_machine.specs.declared.events.Object.{Object}
+use Rattle.ps_core_machine.specs.declared.events.Vm.{Vm}
+use Rattle.ps_core_machine.specs.Objects.{among, object_at, log_of}
+use Rattle.ps_core_machine.specs.Steps.{is_open, space_base, table_size}
+use Rattle.ps_core_memory.specs.Memory.{is_shut}
+use Rattle.ps_core_memory.specs.Shown.{VmRuns}
 use Rattle.ps_table.specs.declared.mirror.Mirror.{Mirror}
 use Rattle.ps_table.specs.declared.plays.View.{View}
 use Rattle.ps_table.specs.Shown.{SeatState}

@@ -7,7 +7,7 @@ use Rattle.std.specs.Coded.{Coded-set, coded_‚Ñï, coded_bool, coded_list, coded√
 use Rattle.atomic_table.specs.Seated.{TableId, table_id_coded}
 use Rattle.atomic_table.specs.declared.shared.Seat.{Seat}
 use Rattle.atomic_table.specs.Table as table
-use Rattle.ps_core_parts.specs.declared.events.Event.{Event}
+use Rattle.ps_core_machine.specs.declared.events.Event.{Event}
 use Rattle.ps_core_laws.specs.Runs.{run, IsRun, IsSpace}
 use Rattle.ps_table.specs.declared.plays.View.{View}
 use Rattle.ps_table.specs.Shown.{Fits, SeatState}

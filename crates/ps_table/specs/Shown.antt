@@ -9,19 +9,19 @@ use lib.ListN.{get_elem?}
 use Rattle.atomic_table.specs.Table as table
 use Rattle.ps_record.specs.Format.{control_words, ring_length, record_in}
 use Rattle.ps_word.specs.Headers.{forward_address_in}
-use Rattle.ps_core_parts.specs.declared.events.Event.{Event}
-use Rattle.ps_core_parts.specs.declared.events.Event.TheVariants.{VmLoad, GcLoad, TakeLoad}
-use Rattle.ps_core_parts.specs.declared.events.Event.TheVariants.{CopyLoad, HandOver, ClearLoad}
-use Rattle.ps_core_parts.specs.declared.events.Event.TheVariants.{ClearStore, HeaderStore}
-use Rattle.ps_core_parts.specs.declared.events.Event.TheVariants.{FieldStore, RecordStore}
-use Rattle.ps_core_parts.specs.declared.events.Event.TheVariants.{EpochStore, ReplicaHeaderStore}
-use Rattle.ps_core_parts.specs.declared.events.Event.TheVariants.{ReplicaFieldStore, ForwardStore}
-use Rattle.ps_core_parts.specs.declared.events.Event.TheVariants.{HeadStore, CycleStore}
-use Rattle.ps_core_parts.specs.declared.events.Vm.{Vm}
-use Rattle.ps_core_parts.specs.declared.events.Gc.{Gc}
-use Rattle.ps_core_parts.specs.Steps.{start, vm_after, gc_after}
+use Rattle.ps_core_machine.specs.declared.events.Event.{Event}
+use Rattle.ps_core_machine.specs.declared.events.Event.TheVariants.{VmLoad, GcLoad, TakeLoad}
+use Rattle.ps_core_machine.specs.declared.events.Event.TheVariants.{CopyLoad, HandOver, ClearLoad}
+use Rattle.ps_core_machine.specs.declared.events.Event.TheVariants.{ClearStore, HeaderStore}
+use Rattle.ps_core_machine.specs.declared.events.Event.TheVariants.{FieldStore, RecordStore}
+use Rattle.ps_core_machine.specs.declared.events.Event.TheVariants.{EpochStore, ReplicaHeaderStore}
+use Rattle.ps_core_machine.specs.declared.events.Event.TheVariants.{ReplicaFieldStore, ForwardStore}
+use Rattle.ps_core_machine.specs.declared.events.Event.TheVariants.{HeadStore, CycleStore}
+use Rattle.ps_core_machine.specs.declared.events.Vm.{Vm}
+use Rattle.ps_core_machine.specs.declared.events.Gc.{Gc}
+use Rattle.ps_core_machine.specs.Steps.{start, vm_after, gc_after}
 use Rattle.ps_core_laws.specs.Runs.{run, IsRun, IsSpace}
-use Rattle.ps_parts_memory.specs.Shown.{VmRuns, VmFinds}
+use Rattle.ps_core_memory.specs.Shown.{VmRuns, VmFinds}
 use Rattle.ps_table.specs.declared.plays.View.{View}
 
 -- ---- who makes an event: one seat, or both joined

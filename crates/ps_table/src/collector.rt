@@ -3,20 +3,20 @@
 //! Its part is that of some run of the machine, whatever the mutator's seat did meanwhile.
 ghost use Rattle.std.specs.Prelude.{◌≡◌, ◌<◌, ◌+◌, ◌^◌, ℕ, true, [], ◌∷◌, length, IfOk, Some};
 ghost use Rattle.std.specs.Prelude.{slice_get};
-ghost use Rattle.ps_record.specs.Format.{slots, ring_place, read_record};
-ghost use Rattle.ps_core_parts.specs.declared.events.Half.{Half};
-ghost use Rattle.ps_core_parts.specs.declared.events.Carried.{Carried};
-ghost use Rattle.ps_core_parts.specs.declared.events.Event.TheVariants.{GcLoad, TakeLoad, CopyLoad};
-ghost use Rattle.ps_core_parts.specs.declared.events.Event.TheVariants.{ReplicaHeaderStore};
-ghost use Rattle.ps_core_parts.specs.declared.events.Event.TheVariants.{ReplicaFieldStore};
-ghost use Rattle.ps_core_parts.specs.declared.events.Event.TheVariants.{ForwardStore, HeadStore};
-ghost use Rattle.ps_core_parts.specs.Objects.{log_of, pair_of};
-ghost use Rattle.ps_core_parts.specs.Conditions.{GcMay};
-ghost use Rattle.ps_core_parts.specs.Steps.{table_size, knows_open, replica_of, word_stored};
+ghost use Rattle.ps_record.specs.Format.{ring_place, read_record};
+ghost use Rattle.ps_core_machine.specs.declared.events.Half.{Half};
+ghost use Rattle.ps_core_machine.specs.declared.events.Carried.{Carried};
+ghost use Rattle.ps_core_machine.specs.declared.events.Event.TheVariants.{GcLoad, TakeLoad, CopyLoad};
+ghost use Rattle.ps_core_machine.specs.declared.events.Event.TheVariants.{ReplicaHeaderStore};
+ghost use Rattle.ps_core_machine.specs.declared.events.Event.TheVariants.{ReplicaFieldStore};
+ghost use Rattle.ps_core_machine.specs.declared.events.Event.TheVariants.{ForwardStore, HeadStore};
+ghost use Rattle.ps_core_machine.specs.Objects.{log_of, pair_of};
+ghost use Rattle.ps_core_machine.specs.Conditions.{GcMay};
+ghost use Rattle.ps_core_machine.specs.Steps.{table_size, knows_open, replica_of, word_stored};
 ghost use Rattle.ps_core_laws.specs.Runs.{IsSpace};
 ghost use Rattle.ps_mem.specs.Heap.{empty_heap};
 ghost use Rattle.ps_mem.specs.Bounded.{bounded_space};
-ghost use Rattle.ps_parts_memory.specs.Memory.{heap_of};
+ghost use Rattle.ps_core_memory.specs.Memory.{heap_of};
 ghost use Rattle.ps_table.specs.Mirrored.{Sits};
 ghost use Rattle.ps_table.specs.Shown.{BothRun, GcRuns, GcFinds, first_view, gc_did};
 
@@ -25,6 +25,7 @@ use crate::mirror::Mirror;
 use crate::plays::{Advances, Forwards, GcLoads, PlacesHeader, Takes, View};
 use crate::words::{SharedWords, Words};
 use atomic_table::Seat;
+use ps_record::slots::Slot;
 use ps_record::{head_place, ring_place};
 use std::alloc::{AllocError, Global};
 
@@ -83,7 +84,7 @@ impl<W: Words> GcSeat<W> {
     /// Loads the ring place of a slot's next record, which has this number in its log. Where that
     /// record stands there, it is being taken from then on. A seat that has both sides finds it
     /// wherever the log has it.
-    pub fn take(&mut self, slot: u64, number: u64) -> u64
+    pub fn take(&mut self, slot: Slot, number: u64) -> u64
         requires next { number ≡ length (log_of self.old.seat.me.0.gc.taken slot) }
         requires may { GcMay self.old.seat.me.0.gc (TakeLoad slot 0) }
         ensures did { self.new.seat.me.0 ≡ gc_did self.old.seat.me.0 (TakeLoad slot result) }
@@ -148,11 +149,11 @@ impl<W: Words> GcSeat<W> {
     }
 
     /// The record being taken, which has this number in its slot's log, is taken.
-    pub fn advance_head(&mut self, slot: u64, number: u64)
+    pub fn advance_head(&mut self, slot: Slot, number: u64)
         requires takes { (h : Half) × (self.old.seat.me.0.gc.taking ≡ Some h) × (slot ≡ h.slot)
             × (number ≡ length (log_of self.old.seat.me.0.gc.taken slot)) }
         requires may { GcMay self.old.seat.me.0.gc HeadStore }
-        requires few { (slot < slots) × (number + 1 < 2 ^ 64) }
+        requires few { number + 1 < 2 ^ 64 }
         ensures did { self.new.seat.me.0 ≡ gc_did self.old.seat.me.0 HeadStore }
         ensures same { W.id self.new.table ≡ W.id self.old.table }
     {

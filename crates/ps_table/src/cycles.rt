@@ -2,15 +2,15 @@
 ghost use Rattle.std.specs.Prelude.{not, nat_lt, ◌&&◌, ◌≡◌, ◌≢◌, ◌<◌, ◌≤◌, ◌+◌, ◌↔◌, ℕ, true};
 ghost use Rattle.std.specs.Prelude.{false, IsTrue, length};
 ghost use Rattle.ps_word.specs.Headers.{cycle_limit};
-ghost use Rattle.ps_record.specs.Format.{head_place, ring_length};
+ghost use Rattle.ps_record.specs.Format.{head_place, ring_length, slots};
 ghost use Rattle.ps_mem.specs.Heap.{IsLogBounded};
-ghost use Rattle.ps_core_parts.specs.Conditions.{HasRoom};
-ghost use Rattle.ps_core_parts.specs.Objects.{log_of};
-ghost use Rattle.ps_core_parts.specs.Steps.{is_open};
-ghost use Rattle.ps_core_parts.specs.declared.events.Event.TheVariants.{VmLoad, RecordStore};
-ghost use Rattle.ps_core_parts.specs.declared.events.Event.TheVariants.{EpochStore};
-ghost use Rattle.ps_parts_memory.specs.Memory.{heap_of, grants_of, is_shut};
-ghost use Rattle.ps_parts_memory.specs.Laws.{AfterOpen, AfterClose, CanClose};
+ghost use Rattle.ps_core_machine.specs.Conditions.{HasRoom};
+ghost use Rattle.ps_core_machine.specs.Objects.{log_of};
+ghost use Rattle.ps_core_machine.specs.Steps.{is_open};
+ghost use Rattle.ps_core_machine.specs.declared.events.Event.TheVariants.{VmLoad, RecordStore};
+ghost use Rattle.ps_core_machine.specs.declared.events.Event.TheVariants.{EpochStore};
+ghost use Rattle.ps_core_memory.specs.Memory.{heap_of, grants_of, is_shut};
+ghost use Rattle.ps_core_memory.specs.Laws.{AfterOpen, AfterClose, CanClose};
 ghost use Rattle.ps_table.specs.Shown.{BothRun, vm_did};
 ghost use Rattle.ps_table.specs.Mirrored.{Sits, KeepsGc};
 
@@ -19,9 +19,10 @@ use crate::plays::View;
 use crate::steps::{vm_epoch, vm_record};
 use crate::words::Words;
 use atomic_table::Seat;
-use ps_mem::{Permit, SLOTS};
-use ps_parts_memory::Closing;
-use ps_record::Record;
+use ps_core_memory::Closing;
+use ps_mem::Permit;
+use ps_record::slots::Slot;
+use ps_record::{Record, SLOTS};
 use ps_word::headers::CYCLE_LIMIT;
 
 impl Mirror {
@@ -66,11 +67,10 @@ impl Mirror {
         &mut self,
         words: &mut W,
         seat: &mut Seat<(), View>,
-        slot: u32,
+        slot: Slot,
     ) -> Closing
         requires sits { W.seats words.old seat.old
             × Sits (W.id words.old).words seat.old.me self.old }
-        requires slot { slot < SLOTS }
         requires open { is_open seat.old.me.0.vm ≡ true }
         ensures sits { W.seats words.new seat.new
             × Sits (W.id words.new).words seat.new.me self.new }
@@ -99,20 +99,21 @@ impl Mirror {
         ensures kept { result ≡ Closing.LogFull
             → grants_of seat.new.me.0.vm ≡ grants_of seat.old.me.0.vm }
         ensures still_open { is_open seat.new.me.0.vm ≡ true }
+        ensures within { slot < slots }
     {
-        if self.shut[slot as usize] {
+        if self.shut[slot.index()] {
             return Closing::Closed;
         }
-        self.see_head(words, seat, slot as u64);
-        if self.is_full(seat, slot as u64) {
+        self.see_head(words, seat, slot);
+        if self.is_full(seat, slot) {
             return Closing::LogFull;
         }
-        self.put_close(words, seat, slot as u64);
+        self.put_close(words, seat, slot);
         Closing::Closed
     }
 
     /// Puts a close into the log of a slot.
-    fn put_close<W: Words>(&mut self, words: &mut W, seat: &mut Seat<(), View>, slot: u64)
+    fn put_close<W: Words>(&mut self, words: &mut W, seat: &mut Seat<(), View>, slot: Slot)
         requires sits { W.seats words.old seat.old
             × Sits (W.id words.old).words seat.old.me self.old }
         requires can { CanClose seat.old.me.0.vm slot }
@@ -125,10 +126,10 @@ impl Mirror {
         ensures grants { AfterClose (grants_of seat.old.me.0.vm) (grants_of seat.new.me.0.vm)
             slot }
     {
-        let number = self.logged[slot as usize];
+        let number = self.logged[slot.index()];
         vm_record(words, seat, slot, number, Record::Close);
-        self.logged[slot as usize] = number + 1;
-        self.shut[slot as usize] = true;
+        self.logged[slot.index()] = number + 1;
+        self.shut[slot.index()] = true;
         self.fresh_from = self.end;
     }
 
@@ -138,12 +139,11 @@ impl Mirror {
         &mut self,
         words: &mut W,
         seat: &mut Seat<(), View>,
-        slot: u32,
+        slot: Slot,
         count: u32,
     ) -> Permit
         requires sits { W.seats words.old seat.old
             × Sits (W.id words.old).words seat.old.me self.old }
-        requires slot { slot < SLOTS }
         ensures sits { W.seats words.new seat.new
             × Sits (W.id words.new).words seat.new.me self.new }
         ensures same { W.id words.new ≡ W.id words.old }
@@ -167,14 +167,14 @@ impl Mirror {
         if !self.cycle_open || count == 0 {
             return Permit::Yes;
         }
-        if self.shut[slot as usize] {
+        if self.shut[slot.index()] {
             return Permit::LogClosed;
         }
-        if count as u64 <= self.left(seat, slot as u64) {
+        if count as u64 <= self.left(seat, slot) {
             return Permit::Yes;
         }
-        self.see_head(words, seat, slot as u64);
-        if count as u64 <= self.left(seat, slot as u64) {
+        self.see_head(words, seat, slot);
+        if count as u64 <= self.left(seat, slot) {
             Permit::Yes
         } else {
             Permit::LogFull

@@ -1,12 +1,12 @@
 //! The flip, by a seat that has both sides: the replicas become the standing objects, and roots are
 //! renamed.
 ghost use Rattle.std.specs.Prelude.{◌≡◌, ◌+◌, true, map};
-ghost use Rattle.ps_core_parts.specs.declared.events.Event.TheVariants.{CycleStore};
-ghost use Rattle.ps_core_parts.specs.Conditions.{VmMay, GcMay};
-ghost use Rattle.ps_core_parts.specs.Objects.{end_of_replicas, renamed_value, value_has_replica};
-ghost use Rattle.ps_core_parts.specs.Objects.{values_have_replicas};
-ghost use Rattle.ps_core_parts.specs.Steps.{other_base, vm_after, gc_after};
-ghost use Rattle.ps_parts_memory.specs.Stores.{numbers};
+ghost use Rattle.ps_core_machine.specs.declared.events.Event.TheVariants.{CycleStore};
+ghost use Rattle.ps_core_machine.specs.Conditions.{VmMay, GcMay};
+ghost use Rattle.ps_core_machine.specs.Objects.{end_of_replicas, renamed_value, value_has_replica};
+ghost use Rattle.ps_core_machine.specs.Objects.{values_have_replicas};
+ghost use Rattle.ps_core_machine.specs.Steps.{other_base, vm_after, gc_after};
+ghost use Rattle.ps_core_memory.specs.Stores.{numbers};
 ghost use Rattle.ps_table.specs.Events.{gc_did_all, root_look, root_looks};
 ghost use Rattle.ps_table.specs.Mirrored.{Sits};
 ghost use Rattle.ps_table.specs.Shown.{both_did};

@@ -1,11 +1,11 @@
 //! The steps of the collector's seat whose events its operands don't name.
 ghost use Rattle.std.specs.Prelude.{◌≡◌, ◌<◌, ◌+◌, true, Some};
-ghost use Rattle.ps_core_parts.specs.declared.events.Carried.{Carried};
-ghost use Rattle.ps_core_parts.specs.declared.events.Event.TheVariants.{CopyLoad};
-ghost use Rattle.ps_core_parts.specs.declared.events.Event.TheVariants.{ReplicaFieldStore};
-ghost use Rattle.ps_core_parts.specs.Conditions.{GcMay};
-ghost use Rattle.ps_core_parts.specs.Objects.{pair_of};
-ghost use Rattle.ps_core_parts.specs.Steps.{table_size, replica_of, word_stored};
+ghost use Rattle.ps_core_machine.specs.declared.events.Carried.{Carried};
+ghost use Rattle.ps_core_machine.specs.declared.events.Event.TheVariants.{CopyLoad};
+ghost use Rattle.ps_core_machine.specs.declared.events.Event.TheVariants.{ReplicaFieldStore};
+ghost use Rattle.ps_core_machine.specs.Conditions.{GcMay};
+ghost use Rattle.ps_core_machine.specs.Objects.{pair_of};
+ghost use Rattle.ps_core_machine.specs.Steps.{table_size, replica_of, word_stored};
 ghost use Rattle.ps_table.specs.Shown.{GcRuns, GcDoes, GcStores};
 
 use crate::plays::{CopiesField, Naming, StoresCopy, View};

@@ -1,9 +1,9 @@
 //! The hand-over, by a seat that has both sides: what words name is known to the collector's.
 ghost use Rattle.std.specs.Prelude.{◌≡◌, ℕ, true, false};
-ghost use Rattle.ps_core_parts.specs.declared.events.Event.TheVariants.{HandOver};
-ghost use Rattle.ps_core_parts.specs.Objects.{values_stand};
-ghost use Rattle.ps_parts_memory.specs.Memory.{heap_of, grants_of};
-ghost use Rattle.ps_parts_memory.specs.Stores.{numbers};
+ghost use Rattle.ps_core_machine.specs.declared.events.Event.TheVariants.{HandOver};
+ghost use Rattle.ps_core_machine.specs.Objects.{values_stand};
+ghost use Rattle.ps_core_memory.specs.Memory.{heap_of, grants_of};
+ghost use Rattle.ps_core_memory.specs.Stores.{numbers};
 ghost use Rattle.ps_table.specs.Mirrored.{Sits};
 ghost use Rattle.ps_table.specs.Shown.{BothDo};
 

@@ -1,10 +1,10 @@
 //! The two seats joined, and apart again.
 ghost use Rattle.std.specs.Prelude.{◌≡◌, ◌<◌, ◌+◌, true, []};
-ghost use Rattle.ps_core_parts.specs.declared.events.Event.TheVariants.{HandOver, CycleStore};
-ghost use Rattle.ps_core_parts.specs.Conditions.{VmMay, GcMay};
-ghost use Rattle.ps_core_parts.specs.Objects.{values_stand};
-ghost use Rattle.ps_core_parts.specs.Steps.{table_size};
-ghost use Rattle.ps_parts_memory.specs.Stores.{numbers};
+ghost use Rattle.ps_core_machine.specs.declared.events.Event.TheVariants.{HandOver, CycleStore};
+ghost use Rattle.ps_core_machine.specs.Conditions.{VmMay, GcMay};
+ghost use Rattle.ps_core_machine.specs.Objects.{values_stand};
+ghost use Rattle.ps_core_machine.specs.Steps.{table_size};
+ghost use Rattle.ps_core_memory.specs.Stores.{numbers};
 ghost use Rattle.ps_table.specs.Shown.{BothDo, BothLook, both_sides, vm_side, gc_side};
 
 use crate::plays::{Flips, HandsOver, Looks, Naming, Parts, Spares, View};

@@ -10,13 +10,14 @@ ghost use Rattle.ps_mem.specs.Heap.{AfterNew, AfterStore, IsKind, IsLogBounded, 
 ghost use Rattle.ps_mem.specs.Heap.{fields_at, has_room, made, made_body, object_at, records_put};
 ghost use Rattle.ps_mem.specs.Heap.{standing_words, stored};
 ghost use Rattle.ps_mem.specs.References.{NamesStanding};
-ghost use Rattle.ps_core_parts.specs.declared.events.Event.TheVariants.{VmLoad};
-ghost use Rattle.ps_parts_memory.specs.Memory.{heap_of, grants_of};
+ghost use Rattle.ps_core_machine.specs.declared.events.Event.TheVariants.{VmLoad};
+ghost use Rattle.ps_core_memory.specs.Memory.{heap_of, grants_of};
 ghost use Rattle.ps_table.specs.Shown.{vm_did};
 
 use crate::mutator::VmSeat;
 use ps_language::kinds::Kind;
-use ps_mem::{Memory, NeedFault, Permit, SLOTS};
+use ps_mem::{Memory, NeedFault, Permit};
+use ps_record::slots::Slot;
 use ps_word::headers::Header;
 use ps_word::words::Word;
 
@@ -170,7 +171,7 @@ impl Memory for VmSeat {
             .fill(&mut self.table, &mut self.seat, address, place, word);
     }
 
-    fn store(&mut self, slot: u32, address: u32, place: u32, items: &[Word])
+    fn store(&mut self, slot: Slot, address: u32, place: u32, items: &[Word])
         requires granted { 1 ≤ (grants_of self.old.seat.me.0.vm).records slot }
         requires some { 1 ≤ length items.now }
         requires known { NamesStanding (heap_of self.old.seat.me.0.vm) address items.now }
@@ -188,7 +189,7 @@ impl Memory for VmSeat {
         self.mirror.store(&mut self.table, &mut self.seat, slot, address, place, items);
     }
 
-    fn copy(&mut self, slot: u32, from: u32, from_place: u32, to: u32, to_place: u32, count: u32)
+    fn copy(&mut self, slot: Slot, from: u32, from_place: u32, to: u32, to_place: u32, count: u32)
         requires granted { 1 ≤ (grants_of self.old.seat.me.0.vm).records slot }
         requires some { 1 ≤ count }
         requires source { from_place + count
@@ -222,8 +223,7 @@ impl Memory for VmSeat {
     }
 
     /// As the memory's; `LogFull` is answered by the head that is loaded in the call.
-    fn permit(&mut self, slot: u32, count: u32) -> Permit
-        requires slot { slot < SLOTS }
+    fn permit(&mut self, slot: Slot, count: u32) -> Permit
         ensures heap { heap_of self.new.seat.me.0.vm ≡ heap_of self.old.seat.me.0.vm }
         ensures grants { grants_of self.new.seat.me.0.vm ≡ record (grants_of self.old.seat.me.0.vm)
             { records = (grants_of self.new.seat.me.0.vm).records } }

@@ -5,6 +5,7 @@
 use crate::plays::View;
 use atomic_table::Seat;
 use ps_mem::NeedFault;
+use ps_record::slots::Slot;
 use ps_record::{LOG_LIMIT, RING, SLOTS, SPACES_START};
 use ps_word::headers::BIRTH_LIMIT;
 
@@ -36,11 +37,11 @@ impl Mirror {
     ghost use Rattle.std.specs.Prelude.{IsTrue, IsOk, IsErr, OnOk};
     ghost use Rattle.ps_mem.specs.Heap.{has_room, standing_words};
     ghost use Rattle.ps_mem.specs.Stands.{IsAddressed};
-    ghost use Rattle.ps_core_parts.specs.Conditions.{HasRoom};
-    ghost use Rattle.ps_core_parts.specs.Objects.{log_of};
-    ghost use Rattle.ps_core_parts.specs.Steps.{start, is_open};
-    ghost use Rattle.ps_parts_memory.specs.Memory.{heap_of, grants_of, records_left, is_shut};
-    ghost use Rattle.ps_parts_memory.specs.Shown.{VmRuns};
+    ghost use Rattle.ps_core_machine.specs.Conditions.{HasRoom};
+    ghost use Rattle.ps_core_machine.specs.Objects.{log_of};
+    ghost use Rattle.ps_core_machine.specs.Steps.{start, is_open};
+    ghost use Rattle.ps_core_memory.specs.Memory.{heap_of, grants_of, records_left, is_shut};
+    ghost use Rattle.ps_core_memory.specs.Shown.{VmRuns};
     ghost use Rattle.ps_table.specs.Mirrored.{Mirrors};
 
     /// The numbers of the machine's start, over spaces of so many words each.
@@ -72,22 +73,20 @@ impl Mirror {
 
     /// Whether the log of a slot is closed in the open cycle.
     #[inline]
-    pub fn is_closed(&self, seat: &Seat<(), View>, slot: u32) -> bool
+    pub fn is_closed(&self, seat: &Seat<(), View>, slot: Slot) -> bool
         requires mirrors { Mirrors seat.now.me.0.vm self.now }
-        requires slot { slot < SLOTS }
         ensures { result ≡ is_shut seat.now.me.0.vm slot }
     {
-        self.shut[slot as usize]
+        self.shut[slot.index()]
     }
 
     /// How many records were ever logged in a slot.
     #[inline]
-    pub fn logged(&self, seat: &Seat<(), View>, slot: u32) -> u64
+    pub fn logged(&self, seat: &Seat<(), View>, slot: Slot) -> u64
         requires mirrors { Mirrors seat.now.me.0.vm self.now }
-        requires slot { slot < SLOTS }
         ensures { result ≡ length (log_of seat.now.me.0.vm.logs slot) }
     {
-        self.logged[slot as usize]
+        self.logged[slot.index()]
     }
 
     /// How many words are in use.
@@ -150,27 +149,25 @@ impl Mirror {
 
     /// Whether the ring of a slot has no free place, by the head last loaded.
     #[inline]
-    pub(crate) fn is_full(&self, seat: &Seat<(), View>, slot: u64) -> bool
+    pub(crate) fn is_full(&self, seat: &Seat<(), View>, slot: Slot) -> bool
         requires mirrors { Mirrors seat.now.me.0.vm self.now }
         requires runs { ∥ VmRuns seat.now.me.0.vm ∥₁ }
-        requires slot { slot < SLOTS }
         ensures { IsTrue result ↔ ¬ HasRoom seat.now.me.0.vm slot }
     {
-        self.logged[slot as usize] >= self.heads[slot as usize] + RING
+        self.logged[slot.index()] >= self.heads[slot.index()] + RING
     }
 
     /// How many records the log of a slot may get in the open cycle, where it isn't closed.
     #[inline]
-    pub(crate) fn left(&self, seat: &Seat<(), View>, slot: u64) -> u64
+    pub(crate) fn left(&self, seat: &Seat<(), View>, slot: Slot) -> u64
         requires mirrors { Mirrors seat.now.me.0.vm self.now }
         requires runs { ∥ VmRuns seat.now.me.0.vm ∥₁ }
-        requires slot { slot < SLOTS }
         requires open { is_open seat.now.me.0.vm ≡ true }
         requires shut { is_shut seat.now.me.0.vm slot ≡ false }
         ensures { result ≡ records_left seat.now.me.0.vm slot }
     {
-        let free = self.heads[slot as usize] + RING;
-        let logged = self.logged[slot as usize];
+        let free = self.heads[slot.index()] + RING;
+        let logged = self.logged[slot.index()];
         free.min(LOG_LIMIT).saturating_sub(logged)
     }
 }

@@ -6,16 +6,16 @@ ghost use Rattle.std.specs.Prelude.{[], ◌∷◌, not, nat_lt, ◌&&◌, ◌≡
 ghost use Rattle.std.specs.Prelude.{length};
 ghost use Rattle.std.specs.Arc.{arc_value};
 ghost use Rattle.ps_word.specs.Headers.{cycle_limit};
-ghost use Rattle.ps_record.specs.Format.{head_place};
-ghost use Rattle.ps_core_parts.specs.Conditions.{HasRoom};
-ghost use Rattle.ps_core_parts.specs.Objects.{log_of, values_stand};
-ghost use Rattle.ps_core_parts.specs.Steps.{start, table_size, is_open};
-ghost use Rattle.ps_core_parts.specs.declared.events.Event.TheVariants.{VmLoad, RecordStore};
-ghost use Rattle.ps_core_parts.specs.declared.events.Event.TheVariants.{EpochStore, HandOver};
+ghost use Rattle.ps_record.specs.Format.{head_place, slots};
+ghost use Rattle.ps_core_machine.specs.Conditions.{HasRoom};
+ghost use Rattle.ps_core_machine.specs.Objects.{log_of, values_stand};
+ghost use Rattle.ps_core_machine.specs.Steps.{start, table_size, is_open};
+ghost use Rattle.ps_core_machine.specs.declared.events.Event.TheVariants.{VmLoad, RecordStore};
+ghost use Rattle.ps_core_machine.specs.declared.events.Event.TheVariants.{EpochStore, HandOver};
 ghost use Rattle.ps_core_laws.specs.Runs.{IsSpace};
-ghost use Rattle.ps_parts_memory.specs.Memory.{heap_of, grants_of, is_shut};
-ghost use Rattle.ps_parts_memory.specs.Laws.{AfterOpen, AfterClose};
-ghost use Rattle.ps_parts_memory.specs.Stores.{numbers};
+ghost use Rattle.ps_core_memory.specs.Memory.{heap_of, grants_of, is_shut};
+ghost use Rattle.ps_core_memory.specs.Laws.{AfterOpen, AfterClose};
+ghost use Rattle.ps_core_memory.specs.Stores.{numbers};
 ghost use Rattle.ps_table.specs.Shown.{vm_did, AreJoined, BothRun};
 ghost use Rattle.ps_table.specs.Events.{did_all, head_loads};
 ghost use Rattle.ps_table.specs.Mirrored.{Sits};
@@ -26,9 +26,9 @@ use crate::mirror::Mirror;
 use crate::plays::View;
 use crate::words::SharedWords;
 use atomic_table::Seat;
-use ps_mem::SLOTS;
-use ps_parts_memory::Closing;
-use ps_record::Record;
+use ps_core_memory::Closing;
+use ps_record::slots::Slot;
+use ps_record::{Record, SLOTS};
 use ps_word::words::Word;
 
 /// The mutator's seat.
@@ -70,16 +70,14 @@ impl VmSeat {
     }
 
     /// Whether the log of a slot is closed in the open cycle.
-    pub fn is_closed(&self, slot: u32) -> bool
-        requires { slot < SLOTS }
+    pub fn is_closed(&self, slot: Slot) -> bool
         ensures { result ≡ is_shut self.now.seat.me.0.vm slot }
     {
         self.mirror.is_closed(&self.seat, slot)
     }
 
     /// How many records were ever logged in a slot.
-    pub fn logged(&self, slot: u32) -> u64
-        requires { slot < SLOTS }
+    pub fn logged(&self, slot: Slot) -> u64
         ensures { result ≡ length (log_of self.now.seat.me.0.vm.logs slot) }
     {
         self.mirror.logged(&self.seat, slot)
@@ -117,8 +115,7 @@ impl VmSeat {
     /// Closes the log of a slot until the open cycle ends: it gets a close, and no object may be
     /// filled then. A closed log stays as it is. `LogFull`: its ring has no free place by the head
     /// just loaded, and all that was granted is so still.
-    pub fn close(&mut self, slot: u32) -> Closing
-        requires slot { slot < SLOTS }
+    pub fn close(&mut self, slot: Slot) -> Closing
         requires open { is_open self.old.seat.me.0.vm ≡ true }
         ensures heap { heap_of self.new.seat.me.0.vm ≡ heap_of self.old.seat.me.0.vm }
         ensures already { is_shut self.old.seat.me.0.vm slot ≡ true
@@ -135,6 +132,7 @@ impl VmSeat {
         ensures kept { result ≡ Closing.LogFull → grants_of self.new.seat.me.0.vm
             ≡ grants_of self.old.seat.me.0.vm }
         ensures still_open { is_open self.new.seat.me.0.vm ≡ true }
+        ensures within { slot < slots }
         ensures table { self.new.seat.table_id ≡ self.old.seat.table_id }
     {
         self.mirror.close(&mut self.table, &mut self.seat, slot)

@@ -6,7 +6,7 @@
 ghost use Rattle.std.specs.Prelude.{◌≡◌, ◌<◌, ◌+◌, ℕ, [], length, IfOk, slice_set};
 ghost use Rattle.atomic_table.specs.Table.{Allows};
 ghost use Rattle.ps_core_laws.specs.Runs.{IsSpace};
-ghost use Rattle.ps_core_parts.specs.Steps.{table_size};
+ghost use Rattle.ps_core_machine.specs.Steps.{table_size};
 ghost use Rattle.ps_table.specs.Plain.{AreNoted, DoesPlay};
 ghost use Rattle.ps_table.specs.Shown.{first_view};
 

@@ -1,6 +1,6 @@
 //! What a seat at the table knows, the rule, and what each step tells.
 use atomic_table::{Join, Play, Split, TableRule};
-use ps_core_parts::events::{Event, Gc, Vm};
+use ps_core_machine::events::{Event, Gc, Vm};
 use std::marker::{Brand, PhantomData};
 
 /// What a seat knows: its own events, the newest first, and its part of the state. The two parts

@@ -5,12 +5,12 @@ ghost use Rattle.ps_word.specs.Headers.{kind_in, fields_in, birth_in, birth_limi
 ghost use Rattle.ps_record.specs.Format.{head_place};
 ghost use Rattle.ps_mem.specs.Heap.{fields_at, object_at};
 ghost use Rattle.ps_mem.specs.Objects.{kind_of_number};
-ghost use Rattle.ps_core_parts.specs.Objects.{log_of};
-ghost use Rattle.ps_core_parts.specs.Steps.{table_size};
-ghost use Rattle.ps_core_parts.specs.declared.events.Event.TheVariants.{VmLoad};
-ghost use Rattle.ps_parts_memory.specs.Memory.{heap_of};
-ghost use Rattle.ps_parts_memory.specs.Shown.{VmFinds};
-ghost use Rattle.ps_parts_memory.specs.Laws.{StaysAfterLoad, SeesHead};
+ghost use Rattle.ps_core_machine.specs.Objects.{log_of};
+ghost use Rattle.ps_core_machine.specs.Steps.{table_size};
+ghost use Rattle.ps_core_machine.specs.declared.events.Event.TheVariants.{VmLoad};
+ghost use Rattle.ps_core_memory.specs.Memory.{heap_of};
+ghost use Rattle.ps_core_memory.specs.Shown.{VmFinds};
+ghost use Rattle.ps_core_memory.specs.Laws.{StaysAfterLoad, SeesHead};
 ghost use Rattle.ps_table.specs.Shown.{BothRun, vm_did};
 ghost use Rattle.ps_table.specs.Events.{did_all, head_loads};
 ghost use Rattle.ps_table.specs.Mirrored.{Sits, KeepsGc};
@@ -21,6 +21,7 @@ use crate::steps::vm_load;
 use crate::words::Words;
 use atomic_table::Seat;
 use ps_language::kinds::Kind;
+use ps_record::slots::Slot;
 use ps_record::{SLOTS, head_place};
 use ps_word::headers::{self, Header};
 use ps_word::words::Word;
@@ -73,11 +74,10 @@ impl Mirror {
         &mut self,
         words: &mut W,
         seat: &mut Seat<(), View>,
-        slot: u64,
+        slot: Slot,
     ) -> u64
         requires sits { W.seats words.old seat.old
             × Sits (W.id words.old).words seat.old.me self.old }
-        requires slot { slot < SLOTS }
         ensures sits { W.seats words.new seat.new
             × Sits (W.id words.new).words seat.new.me self.new }
         ensures same { W.id words.new ≡ W.id words.old }
@@ -92,7 +92,7 @@ impl Mirror {
             → BothRun seat.old.me.0.vm seat.old.me.0.gc }
     {
         let head = vm_load(words, seat, head_place(slot));
-        self.heads[slot as usize] = head;
+        self.heads[slot.index()] = head;
         head
     }
 
@@ -116,7 +116,8 @@ impl Mirror {
         ensures taken { result.1 ≡ seat.new.me.0.vm.heads }
     {
         let flips = self.read(words, seat, 0);
-        for slot in 0..SLOTS as u64 {
+        for slot in 0..SLOTS {
+            let slot = Slot::numbered(slot);
             self.see_head(words, seat, slot);
         }
         (flips, self.heads)

@@ -3,7 +3,7 @@ ghost use Rattle.std.specs.Prelude.{◌≡◌, IfOk};
 ghost use Rattle.ps_mem.specs.Heap.{empty_heap};
 ghost use Rattle.ps_mem.specs.Bounded.{bounded_space};
 ghost use Rattle.ps_core_laws.specs.Runs.{IsSpace};
-ghost use Rattle.ps_parts_memory.specs.Memory.{heap_of};
+ghost use Rattle.ps_core_memory.specs.Memory.{heap_of};
 ghost use Rattle.ps_table.specs.Shown.{vm_side, gc_side, first_view};
 
 use crate::collector::GcSeat;

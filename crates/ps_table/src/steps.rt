@@ -1,12 +1,12 @@
 //! The steps of the mutator's seat, each an event of a run.
 ghost use Rattle.std.specs.Prelude.{◌≡◌, ◌<◌, ◌+◌, true, length};
-ghost use Rattle.ps_core_parts.specs.declared.events.Event.TheVariants.{VmLoad, ClearStore};
-ghost use Rattle.ps_core_parts.specs.declared.events.Event.TheVariants.{HeaderStore, FieldStore};
-ghost use Rattle.ps_core_parts.specs.declared.events.Event.TheVariants.{RecordStore, EpochStore};
-ghost use Rattle.ps_core_parts.specs.Conditions.{CanClear, VmMay};
-ghost use Rattle.ps_core_parts.specs.Objects.{log_of};
-ghost use Rattle.ps_core_parts.specs.Steps.{table_size};
-ghost use Rattle.ps_parts_memory.specs.Shown.{VmRuns};
+ghost use Rattle.ps_core_machine.specs.declared.events.Event.TheVariants.{VmLoad, ClearStore};
+ghost use Rattle.ps_core_machine.specs.declared.events.Event.TheVariants.{HeaderStore, FieldStore};
+ghost use Rattle.ps_core_machine.specs.declared.events.Event.TheVariants.{RecordStore, EpochStore};
+ghost use Rattle.ps_core_machine.specs.Conditions.{CanClear, VmMay};
+ghost use Rattle.ps_core_machine.specs.Objects.{log_of};
+ghost use Rattle.ps_core_machine.specs.Steps.{table_size};
+ghost use Rattle.ps_core_memory.specs.Shown.{VmRuns};
 ghost use Rattle.ps_table.specs.Shown.{VmDoes, VmStores, looked};
 
 use crate::plays::{
@@ -14,6 +14,7 @@ use crate::plays::{
 };
 use crate::words::Words;
 use atomic_table::Seat;
+use ps_record::slots::Slot;
 use ps_record::{Record, ring_place};
 use std::marker::Brand;
 
@@ -126,7 +127,7 @@ pub(crate) fn vm_field<W: Words>(
 pub(crate) fn vm_record<W: Words>(
     words: &mut W,
     seat: &mut Seat<(), View>,
-    slot: u64,
+    slot: Slot,
     number: u64,
     what: Record,
 )

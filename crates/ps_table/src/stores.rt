@@ -4,12 +4,12 @@ ghost use Rattle.std.specs.Prelude.{slice_range, IsTrue, if◌then◌else◌};
 ghost use Rattle.ps_record.specs.Format.{slots};
 ghost use Rattle.ps_mem.specs.Heap.{AfterStore, fields_at, records_put, stored};
 ghost use Rattle.ps_mem.specs.References.{NamesStanding};
-ghost use Rattle.ps_core_parts.specs.Conditions.{VmMay};
-ghost use Rattle.ps_core_parts.specs.Objects.{log_of};
-ghost use Rattle.ps_core_parts.specs.Steps.{table_size};
-ghost use Rattle.ps_core_parts.specs.declared.events.Event.TheVariants.{RecordStore};
-ghost use Rattle.ps_parts_memory.specs.Memory.{heap_of, grants_of};
-ghost use Rattle.ps_parts_memory.specs.Shown.{VmRuns};
+ghost use Rattle.ps_core_machine.specs.Conditions.{VmMay};
+ghost use Rattle.ps_core_machine.specs.Objects.{log_of};
+ghost use Rattle.ps_core_machine.specs.Steps.{table_size};
+ghost use Rattle.ps_core_machine.specs.declared.events.Event.TheVariants.{RecordStore};
+ghost use Rattle.ps_core_memory.specs.Memory.{heap_of, grants_of};
+ghost use Rattle.ps_core_memory.specs.Shown.{VmRuns};
 ghost use Rattle.ps_table.specs.Shown.{vm_did};
 ghost use Rattle.ps_table.specs.Mirrored.{Sits, KeepsGc, owes, mirror_stored};
 
@@ -21,6 +21,7 @@ use crate::words::Words;
 use crate::writes::vm_fields;
 use atomic_table::Seat;
 use ps_record::Record;
+use ps_record::slots::Slot;
 use ps_word::words::Word;
 
 /// Puts the record of a store that owes one, and counts it.
@@ -28,7 +29,7 @@ fn settle<W: Words>(
     words: &mut W,
     seat: &mut Seat<(), View>,
     mirror: &mut Mirror,
-    slot: u64,
+    slot: Slot,
     address: u32,
     first: u32,
     count: u32,
@@ -54,10 +55,10 @@ fn settle<W: Words>(
     if (address as u64) < mirror.fresh_from {
         mirror.fresh_from = mirror.end;
         if mirror.cycle_open {
-            let number = mirror.logged[slot as usize];
+            let number = mirror.logged[slot.index()];
             let what = Record::place(address, first as u16, count as u16);
             vm_record(words, seat, slot, number, what);
-            mirror.logged[slot as usize] = number + 1;
+            mirror.logged[slot.index()] = number + 1;
         }
     }
 }
@@ -95,7 +96,7 @@ impl Mirror {
         &mut self,
         words: &mut W,
         seat: &mut Seat<(), View>,
-        slot: u32,
+        slot: Slot,
         address: u32,
         place: u32,
         items: &[Word],
@@ -121,7 +122,7 @@ impl Mirror {
     {
         vm_fields(words, seat, address as u64, place as u64, items);
         let count = items.len() as u32;
-        settle(words, seat, self, slot as u64, address, place, count);
+        settle(words, seat, self, slot, address, place, count);
     }
 
     /// Copies so many words, as if all were read before any was written, with a record in this
@@ -130,7 +131,7 @@ impl Mirror {
         &mut self,
         words: &mut W,
         seat: &mut Seat<(), View>,
-        slot: u32,
+        slot: Slot,
         from: u32,
         from_place: u32,
         to: u32,
@@ -169,6 +170,6 @@ impl Mirror {
             to_place as u64,
             count as u64,
         );
-        settle(words, seat, self, slot as u64, to, to_place, count);
+        settle(words, seat, self, slot, to, to_place, count);
     }
 }

@@ -5,7 +5,7 @@
 ghost use Rattle.std.specs.Prelude.{◌≡◌, ◌<◌, ℕ, [], IfOk};
 ghost use mathlib.Core.Option.{none};
 ghost use Rattle.atomic_table.specs.Table.{Allows, step};
-ghost use Rattle.ps_core_parts.specs.Steps.{table_size};
+ghost use Rattle.ps_core_machine.specs.Steps.{table_size};
 ghost use Rattle.ps_core_laws.specs.Runs.{IsSpace};
 ghost use Rattle.ps_table.specs.Shown.{GoesOnKnown, Shows, first_view};
 

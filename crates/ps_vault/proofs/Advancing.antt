@@ -14,13 +14,13 @@ use Rattle.ps_language.specs.Worlds.{after_move, after_moves, starting_world, wo
 use Rattle.ps_language.proofs.ScheduleLaws.{moves-added, count_of-added, longest-added}
 use Rattle.ps_language.proofs.WorldLaws.{after_moves-append, all_ready-append}
 use Rattle.ps_mem.specs.Heap.{Space}
-use Rattle.ps_world.specs.declared.notes.Note.{Note}
-use Rattle.ps_world.specs.declared.notes.Note.TheVariants.{Nothing, TurnEnds, ShowsMemory, Wishes}
-use Rattle.ps_world.specs.declared.worlds.Calling.{Calling}
-use Rattle.ps_world.specs.Held.{Held, IsAt}
-use Rattle.ps_world.specs.Notes.{note_of, HasNoStatus}
-use Rattle.ps_world.specs.Steps.{AllFrom, HasMade, IsQuiet, IsUnready, KeepsOthers}
-use Rattle.ps_schedules.specs.Turns.{added_times, move_of}
+use Rattle.ps_ctx.specs.declared.notes.Note.{Note}
+use Rattle.ps_ctx.specs.declared.notes.Note.TheVariants.{Nothing, TurnEnds, ShowsMemory, Wishes}
+use Rattle.ps_ctx.specs.declared.worlds.Calling.{Calling}
+use Rattle.ps_ctx.specs.Held.{Held, IsAt}
+use Rattle.ps_ctx.specs.Notes.{note_of, HasNoStatus}
+use Rattle.ps_ctx.specs.Steps.{AllFrom, HasMade, IsQuiet, IsUnready, KeepsOthers}
+use Rattle.ps_run_schedules.specs.Turns.{added_times, move_of}
 use Rattle.ps_vault.specs.Holds.{wish_in}
 use Rattle.ps_vault.specs.Order.{IsOnlyLeft, IsAlone, Tells, IsNoEnd, IsNoWish, AllTell, IsOfOne, AllOfOne}
 use Rattle.ps_vault.specs.Reports.{are_words, fits, is_ordinary}

@@ -8,7 +8,7 @@ use Rattle.ps_language.specs.Schedules.{Move}
 use Rattle.ps_language.specs.World.{World}
 use Rattle.ps_language.specs.Worlds.{after_moves}
 use Rattle.ps_language.proofs.WorldLaws.{after_moves-append}
-use Rattle.ps_world.specs.Steps.{AllFrom}
+use Rattle.ps_ctx.specs.Steps.{AllFrom}
 use Rattle.ps_vault.specs.declared.turns.Turn.{Turn}
 use Rattle.ps_vault.specs.Order.{IsAlone, AddsSteps, KeepsTurn, NoneEnds, IsOfOne, AllOfOne, OnlyLastMayEnd, EndsTurn, IsOver, AddsWhole, no_whole, whole_more, AddsTurns, IsTurnEnd}
 use Rattle.ps_vault.proofs.Ordering.{adds_length, adds_more, adds_none, adds_all_more, all_from-split, only_last_more, only_last_of}

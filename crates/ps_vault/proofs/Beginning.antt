@@ -3,7 +3,7 @@ use Rattle.std.proofs.Common.{◌≡◌, ℕ, List, refl, sym, ap, ◌∙◌, ar
 use Rattle.ps_mem.specs.Heap.{Space, Heap, empty_heap}
 use Rattle.ps_mem.specs.Objects.{heap_in}
 use Rattle.ps_mem.specs.Plain.{plain_space, plain_grants}
-use Rattle.ps_start.specs.Starts.{IsEmptyHeap}
+use Rattle.ps_ctx_start.specs.Starts.{IsEmptyHeap}
 use Rattle.ps_vault.specs.Holds.{Grows}
 
 pub nothing_stands : (h : Heap) (space : Space) → h ≡ empty_heap space → IsEmptyHeap h

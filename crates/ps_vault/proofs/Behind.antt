@@ -10,20 +10,20 @@ use Rattle.ps_language.specs.Schedules.{plain_move, added, moves, count_of}
 use Rattle.ps_language.specs.World.{Status, World}
 use Rattle.ps_language.specs.Worlds.{starting_world, world}
 use Rattle.ps_language.proofs.ScheduleLaws.{moves-added}
-use Rattle.ps_acts.specs.Acts.{Asked}
-use Rattle.ps_acts.specs.Trials.{ordinary}
+use Rattle.ps_ops_state.specs.Acts.{Asked}
+use Rattle.ps_ops_state.specs.Trials.{ordinary}
 use Rattle.ps_language.specs.Worlds.{kept_pair}
 use Rattle.ps_mem.specs.Heap.{Heap, Grants, Space, standing_words}
 use Rattle.ps_mem.specs.Stands.{IsAddressed}
-use Rattle.ps_ops.specs.declared.failure.NotMade.{NotMade as Reason}
-use Rattle.ps_world.specs.declared.notes.Note.{Note}
-use Rattle.ps_world.specs.declared.notes.Note.TheVariants.{ShowsMemory}
-use Rattle.ps_world.specs.declared.worlds.Calling.{Calling}
-use Rattle.ps_world.specs.Held.{Held, IsAtBy, MayStep}
-use Rattle.ps_world.specs.Notes.{note_of, HasNoStatus}
-use Rattle.ps_world.specs.Steps.{AreShown, StepsBehind, shown_words}
+use Rattle.ps_ops_operands.specs.declared.failure.NotMade.{NotMade as Reason}
+use Rattle.ps_ctx.specs.declared.notes.Note.{Note}
+use Rattle.ps_ctx.specs.declared.notes.Note.TheVariants.{ShowsMemory}
+use Rattle.ps_ctx.specs.declared.worlds.Calling.{Calling}
+use Rattle.ps_ctx.specs.Held.{Held, IsAtBy, MayStep}
+use Rattle.ps_ctx.specs.Notes.{note_of, HasNoStatus}
+use Rattle.ps_ctx.specs.Steps.{AreShown, StepsBehind, shown_words}
 use Rattle.ps_language.specs.Step.{stepped}
-use Rattle.ps_schedules.specs.Turns.{added_times, move_of}
+use Rattle.ps_run_schedules.specs.Turns.{added_times, move_of}
 use Rattle.ps_vault.specs.Holds as holds
 use Rattle.ps_vault.specs.Holds.{IsHeldUp, wish_in}
 use Rattle.ps_vault.specs.Order.{IsOnlyLeft, Tells, AllTell, IsOfOne, AllOfOne, AllTellButLast, EndsWith}

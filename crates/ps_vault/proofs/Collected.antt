@@ -7,14 +7,14 @@ use native.Mathlib.Decide.{ℕ_discrete}
 use Rattle.ps_language.specs.declared.schedules.Entry.{Entry}
 use Rattle.ps_language.specs.Worlds.{world, IsProper}
 use Rattle.ps_mem.specs.Heap.{Grants}
-use Rattle.ps_parts_memory.specs.declared.Closing.{Closing}
-use Rattle.ps_parts_memory.specs.declared.Closing.TheVariants.{Closed, LogFull}
-use Rattle.ps_parts_memory.specs.Laws.{AfterClose}
-use Rattle.ps_roots.specs.Moved.{KeepsWorlds}
-use Rattle.ps_contexts.specs.Desks.{Desk}
-use Rattle.ps_world.specs.declared.worlds.Calling.{Calling}
-use Rattle.ps_world.specs.Held.{held, IsAt}
-use Rattle.ps_world.specs.Notes.{HasNoStatus}
+use Rattle.ps_core_memory.specs.declared.Closing.{Closing}
+use Rattle.ps_core_memory.specs.declared.Closing.TheVariants.{Closed, LogFull}
+use Rattle.ps_core_memory.specs.Laws.{AfterClose}
+use Rattle.ps_gc_roots.specs.Moved.{KeepsWorlds}
+use Rattle.ps_ctx_table.specs.Desks.{Desk}
+use Rattle.ps_ctx.specs.declared.worlds.Calling.{Calling}
+use Rattle.ps_ctx.specs.Held.{held, IsAt}
+use Rattle.ps_ctx.specs.Notes.{HasNoStatus}
 use Rattle.ps_vault.specs.Stories.{Keeps, logs_closed}
 
 -- contexts that are at the same worlds have made the same steps

@@ -9,7 +9,7 @@ use Rattle.ps_language.specs.Schedules.{Begins, moves}
 use Rattle.ps_language.specs.World.{Status, World}
 use Rattle.ps_language.specs.Worlds.{is_all_over, printed, world}
 use Rattle.ps_language.proofs.ScheduleLaws.{moves-append}
-use Rattle.ps_acts.specs.Acts.{Asked}
+use Rattle.ps_ops_state.specs.Acts.{Asked}
 use Rattle.ps_vault.specs.declared.reports.Outcome.{Outcome}
 use Rattle.ps_vault.specs.declared.reports.Outcome.TheVariants.{Finished, Faulted, AllWaiting, StepsOut, Memory}
 use Rattle.ps_vault.specs.declared.reports.Report.{Report}

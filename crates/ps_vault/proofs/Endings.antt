@@ -6,7 +6,7 @@ use Rattle.std.proofs.lemmas.List.{get_or_default}
 use Rattle.std.proofs.lemmas.List.Elements.{All-nil, All-cons, All-append}
 use Rattle.ps_language.specs.Effect.{Around, Scene}
 use Rattle.ps_language.specs.World.{Status}
-use Rattle.ps_acts.specs.Acts.{Asked}
+use Rattle.ps_ops_state.specs.Acts.{Asked}
 use Rattle.ps_vault.specs.declared.reports.Report.{Report}
 use Rattle.ps_vault.specs.Endings.{AreEndings, no_run, alike, another, IsAlike, IsEnding}
 use Rattle.ps_vault.specs.Reports.{Bounds}

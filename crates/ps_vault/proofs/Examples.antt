@@ -8,7 +8,7 @@ use Rattle.ps_language.specs.Worlds.{starting_world, world}
 use Rattle.ps_language.proofs.Evaluation.{evaluation}
 use Rattle.ps_language.proofs.Exists.{exists, finding}
 use Rattle.ps_language.proofs.ProgramExamples.{turns}
-use Rattle.ps_schedules.specs.Keeping.{Kept}
+use Rattle.ps_run_schedules.specs.Keeping.{Kept}
 use Rattle.ps_vault.specs.declared.reports.Outcome.TheVariants.{StepsOut, Memory}
 use Rattle.ps_vault.specs.Reports.{EndsAs, IsShort, no_words_left, no_entry_left, are_words, fits}
 use Rattle.ps_vault.specs.Screens.{HasShown}

@@ -13,16 +13,16 @@ use Rattle.ps_language.specs.Locks.{is_ready_as, is_ready}
 use Rattle.ps_language.specs.World.{Status, running, unwinding, again, waiting, retaking, finished, Context, World}
 use Rattle.ps_language.specs.Worlds.{after_move, after_moves, starting_world, world, is_over, is_all_over}
 use Rattle.std.specs.List.{list_all}
-use Rattle.ps_acts.specs.Acts.{Asked}
-use Rattle.ps_schedules.specs.Keeping.{Kept}
-use Rattle.ps_schedules.specs.Turns.{added_times, move_of}
+use Rattle.ps_ops_state.specs.Acts.{Asked}
+use Rattle.ps_run_schedules.specs.Keeping.{Kept}
+use Rattle.ps_run_schedules.specs.Turns.{added_times, move_of}
 use Rattle.ps_vault.specs.declared.reports.Outcome.{Outcome}
 use Rattle.ps_vault.specs.declared.reports.Outcome.TheVariants.{Finished, Faulted, AllWaiting, StepsOut, Memory}
 use Rattle.ps_vault.specs.Reports.{EndsAs, IsOneStarved, IsStarved, is_memory}
 use Rattle.ps_vault.specs.Stories.{Story, world_at}
 use Rattle.ps_language.proofs.ScheduleLaws.{moves-single, moves-append, moves-added, plain_entry, begins-part}
 use Rattle.ps_language.proofs.WorldLaws.{step-unready, after_moves-append, world-append}
-use Rattle.ps_schedules.proofs.Turning.{last_of, length_push, times_sum, turn_joined, turn_crossing, times_apart, times_alone}
+use Rattle.ps_run_schedules.proofs.Turning.{last_of, length_push, times_sum, turn_joined, turn_crossing, times_apart, times_alone}
 
 -- ---- many equal steps
 

@@ -16,26 +16,26 @@ use Rattle.ps_language.specs.Worlds.{after_move, after_moves, starting_world, wo
 use Rattle.ps_language.proofs.Recorded.{recorded-same}
 use Rattle.ps_language.proofs.ScheduleLaws.{moves-added, longest-added}
 use Rattle.ps_language.proofs.WorldLaws.{after_moves-append, all_ready-append}
-use Rattle.ps_ops.specs.declared.failure.NotMade.{NotMade as Reason}
-use Rattle.ps_acts.specs.declared.lent.Trial.{Trial}
-use Rattle.ps_acts.specs.Acts.{Asked}
+use Rattle.ps_ops_operands.specs.declared.failure.NotMade.{NotMade as Reason}
+use Rattle.ps_ops_state.specs.declared.lent.Trial.{Trial}
+use Rattle.ps_ops_state.specs.Acts.{Asked}
 use Rattle.ps_mem.specs.Heap.{Heap, Space}
-use Rattle.ps_contexts.specs.declared.members.Member.{Member}
-use Rattle.ps_contexts.specs.Seats.{item_at, IsNextLeft}
-use Rattle.ps_contexts.specs.Worlds.{context_of, contexts_in}
-use Rattle.ps_contexts.specs.Desks.{Desk, IsWorld}
-use Rattle.ps_contexts.proofs.Holding.{contexts_in-found, contexts_in-length}
-use Rattle.ps_contexts.proofs.Places.{identifier_within}
-use Rattle.ps_turns.specs.Turns.{calling_of}
+use Rattle.ps_ctx_table.specs.declared.members.Member.{Member}
+use Rattle.ps_ctx_table.specs.Seats.{item_at, IsNextLeft}
+use Rattle.ps_ctx_table.specs.Worlds.{context_of, contexts_in}
+use Rattle.ps_ctx_table.specs.Desks.{Desk, IsWorld}
+use Rattle.ps_ctx_table.proofs.Holding.{contexts_in-found, contexts_in-length}
+use Rattle.ps_ctx_table.proofs.Places.{identifier_within}
+use Rattle.ps_step_outcome.specs.Turns.{calling_of}
 use Rattle.ps_language.proofs.LeftTurns.{left_by}
-use Rattle.ps_world.specs.declared.notes.Note.{Note}
-use Rattle.ps_world.specs.declared.notes.Note.TheVariants.{Nothing, TurnEnds, ShowsMemory, Wishes}
-use Rattle.ps_world.specs.declared.worlds.Calling.{Calling}
-use Rattle.ps_world.specs.Held.{Held, held, IsAt, IsAtBy, AreFramedBy, IsSteadyHeld, MayStep}
-use Rattle.ps_world.specs.Notes.{note_of, HasNoStatus}
-use Rattle.ps_world.specs.Steps.{Steps}
-use Rattle.ps_schedules.specs.Keeping.{Kept, most_of}
-use Rattle.ps_schedules.specs.Turns.{move_of}
+use Rattle.ps_ctx.specs.declared.notes.Note.{Note}
+use Rattle.ps_ctx.specs.declared.notes.Note.TheVariants.{Nothing, TurnEnds, ShowsMemory, Wishes}
+use Rattle.ps_ctx.specs.declared.worlds.Calling.{Calling}
+use Rattle.ps_ctx.specs.Held.{Held, held, IsAt, IsAtBy, AreFramedBy, IsSteadyHeld, MayStep}
+use Rattle.ps_ctx.specs.Notes.{note_of, HasNoStatus}
+use Rattle.ps_ctx.specs.Steps.{Steps}
+use Rattle.ps_run_schedules.specs.Keeping.{Kept, most_of}
+use Rattle.ps_run_schedules.specs.Turns.{move_of}
 use Rattle.ps_vault.specs.declared.reports.Outcome.{Outcome}
 use Rattle.ps_vault.specs.declared.reports.Report.{Report}
 use Rattle.ps_vault.specs.Order.{IsOnlyLeft}

@@ -14,12 +14,12 @@ use Rattle.ps_language.proofs.LiveLaws.{Live-unique}
 use Rattle.ps_language.proofs.LowestSteps.{after_moves-lowest}
 use Rattle.ps_language.proofs.Taken.{taken-less}
 use Rattle.ps_mem.specs.Heap.{Heap}
-use Rattle.ps_contexts.specs.Desks.{Desk, IsWorld}
-use Rattle.ps_contexts.proofs.Owning.{goes_left, put_back}
-use Rattle.ps_turns.specs.Turns.{calling_of}
-use Rattle.ps_roots.specs.Moved.{IsLeft, UsesLive}
-use Rattle.ps_world.specs.declared.worlds.Calling.{Calling}
-use Rattle.ps_world.specs.Held.{IsAtBy, IsCalling}
+use Rattle.ps_ctx_table.specs.Desks.{Desk, IsWorld}
+use Rattle.ps_ctx_table.proofs.Owning.{goes_left, put_back}
+use Rattle.ps_step_outcome.specs.Turns.{calling_of}
+use Rattle.ps_gc_roots.specs.Moved.{IsLeft, UsesLive}
+use Rattle.ps_ctx.specs.declared.worlds.Calling.{Calling}
+use Rattle.ps_ctx.specs.Held.{IsAtBy, IsCalling}
 use Rattle.ps_vault.specs.Stories.{Story, UsesOnlyLive, world_at}
 use Rattle.ps_vault.proofs.Keeping.{caller_of, no_call}
 use Rattle.ps_vault.proofs.Reasons.{left_stays}

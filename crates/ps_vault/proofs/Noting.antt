@@ -2,8 +2,8 @@
 use Rattle.std.proofs.Common.{◌≡◌, inl, inr, ℕ, zero, suc, ◌+◌, ◌<◌, ◌≤◌, true, List, length, ◌∙◌, ap, arith}
 use Rattle.ps_language.specs.declared.schedules.Entry.{Entry}
 use Rattle.ps_language.specs.Schedules.{plain_move}
-use Rattle.ps_schedules.specs.Keeping.{Kept, MayAdd, most_of}
-use Rattle.ps_schedules.specs.Turns.{added_times, joins_last}
+use Rattle.ps_run_schedules.specs.Keeping.{Kept, MayAdd, most_of}
+use Rattle.ps_run_schedules.specs.Turns.{added_times, joins_last}
 
 -- a schedule in which so many steps of a context were noted, fewer than find room in one entry
 pub record HasNoted (context made free : ℕ) (old now : Kept) : Type 0 where

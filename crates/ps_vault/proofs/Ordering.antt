@@ -11,8 +11,8 @@ use Rattle.ps_language.specs.World.{World}
 use Rattle.ps_language.specs.Worlds.{after_move, after_moves, starting_world, world}
 use Rattle.ps_language.proofs.ScheduleLaws.{moves-added}
 use Rattle.ps_language.proofs.WorldLaws.{after_moves-append}
-use Rattle.ps_world.specs.Steps.{AllFrom}
-use Rattle.ps_schedules.specs.Turns.{added_times}
+use Rattle.ps_ctx.specs.Steps.{AllFrom}
+use Rattle.ps_run_schedules.specs.Turns.{added_times}
 use Rattle.ps_vault.specs.declared.turns.Turn.{Turn}
 use Rattle.ps_vault.specs.Order.{IsNoneAbove, IsLeastAbove, IsNext, IsAlone, AddsSteps, KeepsTurn, AddsAll, NoneEnds, OnlyLastMayEnd, AddsTurn, AreTurns, no_turn, one_more, IsDue, AddsWhole, no_whole, whole_more, AddsTurns, IsTurnEnd, HasTurn, InOrder}
 use Rattle.ps_vault.specs.Stories.{Story, world_at}

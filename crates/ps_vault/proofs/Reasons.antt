@@ -16,22 +16,22 @@ use Rattle.ps_language.specs.Worlds.{world}
 use Rattle.ps_language.proofs.LeftTurns.{left_by}
 use Rattle.ps_language.proofs.OperandsKept.{turn_as-keeps}
 use Rattle.ps_word.specs.Headers.{birth_limit}
-use Rattle.ps_mem.specs.declared.TheConstants.{SLOTS}
+use Rattle.ps_record.specs.Format.{slots}
 use Rattle.ps_mem.specs.Heap.{Heap, Grants, has_room}
-use Rattle.ps_ops.specs.declared.failure.NotMade.{NotMade as Reason}
-use Rattle.ps_ops.specs.declared.failure.NotMade.TheVariants.{LogFull, LogClosed, NeedSpace, Memory}
-use Rattle.ps_acts.specs.declared.lent.Trial.{Trial}
-use Rattle.ps_acts.specs.Acts.{Asked}
-use Rattle.ps_contexts.specs.Desks.{Desk}
-use Rattle.ps_turns.specs.Turns.{calling_of}
-use Rattle.ps_world.specs.declared.worlds.Calling.{Calling}
-use Rattle.ps_world.specs.Calls.{IsHeldUpAs}
-use Rattle.ps_world.specs.Growth.{Growth, may_fail}
-use Rattle.ps_world.specs.Held.{Held, IsAtBy, IsCalling}
-use Rattle.ps_world.specs.Needs.{step_wants}
-use Rattle.ps_world.specs.Steps.{Steps}
-use Rattle.ps_world.proofs.Asked.{asked-words, asked-births}
-use Rattle.ps_world.proofs.Starving.{not_grows}
+use Rattle.ps_ops_operands.specs.declared.failure.NotMade.{NotMade as Reason}
+use Rattle.ps_ops_operands.specs.declared.failure.NotMade.TheVariants.{LogFull, LogClosed, NeedSpace, Memory}
+use Rattle.ps_ops_state.specs.declared.lent.Trial.{Trial}
+use Rattle.ps_ops_state.specs.Acts.{Asked}
+use Rattle.ps_ctx_table.specs.Desks.{Desk}
+use Rattle.ps_step_outcome.specs.Turns.{calling_of}
+use Rattle.ps_ctx.specs.declared.worlds.Calling.{Calling}
+use Rattle.ps_ctx.specs.Calls.{IsHeldUpAs}
+use Rattle.ps_ctx.specs.Growth.{Growth, may_fail}
+use Rattle.ps_ctx.specs.Held.{Held, IsAtBy, IsCalling}
+use Rattle.ps_ctx.specs.Needs.{step_wants}
+use Rattle.ps_ctx.specs.Steps.{Steps}
+use Rattle.ps_ctx.proofs.Asked.{asked-words, asked-births}
+use Rattle.ps_ctx.proofs.Starving.{not_grows}
 use Rattle.ps_vault.specs.Holds.{slot_of, Grows, IfForRoom, IsHeldUp, OnlyGrows}
 use Rattle.ps_vault.specs.Reports.{MayWant}
 use Rattle.ps_vault.specs.Stories.{Story, IsMemoryOf, Keeps, LacksRoom, few_words, few_births, logs_closed, world_at}
@@ -205,7 +205,7 @@ for_room heap grants asks context refused story (NeedSpace words) held = λ ordi
 -- ---- a memory that only grows
 
 no_other : (heap : Heap) (grants : Grants) (wanted : Growth) (slot : ℕ) (reason : Reason)
-    → slot < SLOTS → Grows heap grants → IsHeldUpAs wanted slot heap grants reason
+    → slot < slots → Grows heap grants → IsHeldUpAs wanted slot heap grants reason
     → reason ≡ Memory
 no_other heap grants wanted slot LogFull below grows held =
     let less = held.1 in let free = grows.free slot below in absurd (omega (arith, less, free))

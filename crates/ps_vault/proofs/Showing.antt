@@ -11,11 +11,11 @@ use Rattle.ps_language.specs.Worlds.{kept_pair}
 use Rattle.ps_language.proofs.Recorded.{AreAlike, one, showed, stepped-alike}
 use Rattle.ps_language.proofs.ScheduleLaws.{moves-added}
 use Rattle.ps_mem.specs.Heap.{Heap}
-use Rattle.ps_world.specs.declared.notes.Note.{Note}
-use Rattle.ps_world.specs.declared.notes.Note.TheVariants.{Nothing, TurnEnds, ShowsMemory, Wishes}
-use Rattle.ps_world.specs.Notes.{note_of}
-use Rattle.ps_world.specs.Steps.{AreShown, words_shown}
-use Rattle.ps_schedules.specs.Turns.{added_times, move_of}
+use Rattle.ps_ctx.specs.declared.notes.Note.{Note}
+use Rattle.ps_ctx.specs.declared.notes.Note.TheVariants.{Nothing, TurnEnds, ShowsMemory, Wishes}
+use Rattle.ps_ctx.specs.Notes.{note_of}
+use Rattle.ps_ctx.specs.Steps.{AreShown, words_shown}
+use Rattle.ps_run_schedules.specs.Turns.{added_times, move_of}
 use Rattle.ps_vault.specs.Reports.{are_words, is_number_of_words}
 use Rattle.ps_vault.specs.Warrants.{AddsShown, IsPairOf, IsWarranted}
 use Rattle.ps_vault.proofs.Following.{times_moves}

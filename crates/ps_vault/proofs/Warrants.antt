@@ -17,11 +17,11 @@ use Rattle.ps_language.proofs.LowestSteps.{after_moves-lowest}
 use Rattle.ps_language.proofs.ScheduleLaws.{moves-added}
 use Rattle.ps_mem.specs.Heap.{Heap, standing_words}
 use Rattle.ps_mem.specs.Stands.{IsAddressed}
-use Rattle.ps_contexts.specs.Desks.{Desk, IsSteady, IsWorld}
-use Rattle.ps_contexts.proofs.Reached.{live-stands}
-use Rattle.ps_roots.specs.Moved.{IsLeft}
-use Rattle.ps_world.specs.Steps.{AllFrom, AreShown, IsQuiet}
-use Rattle.ps_schedules.specs.Turns.{added_times, move_of}
+use Rattle.ps_ctx_table.specs.Desks.{Desk, IsSteady, IsWorld}
+use Rattle.ps_ctx_table.proofs.Reached.{live-stands}
+use Rattle.ps_gc_roots.specs.Moved.{IsLeft}
+use Rattle.ps_ctx.specs.Steps.{AllFrom, AreShown, IsQuiet}
+use Rattle.ps_run_schedules.specs.Turns.{added_times, move_of}
 use Rattle.ps_vault.specs.Stories.{AreWarranted, Story}
 use Rattle.ps_vault.specs.Warrants.{AllWarranted, AllWarrantedFrom, IsPairOf, IsRefusal, IsStatus, IsWarranted}
 use Rattle.ps_vault.proofs.Following.{times_moves}

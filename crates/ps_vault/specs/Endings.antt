@@ -2,7 +2,7 @@
 use Rattle.std.specs.Prelude.{◌≡◌, ℕ, suc, false, List, [], ◌∷◌, ◌++◌, Any}
 use Rattle.ps_language.specs.Effect.{Around, Scene}
 use Rattle.ps_language.specs.World.{Status}
-use Rattle.ps_acts.specs.Acts.{Asked}
+use Rattle.ps_ops_state.specs.Acts.{Asked}
 use Rattle.ps_vault.specs.declared.reports.Report.{Report}
 use Rattle.ps_vault.specs.Reports.{Bounds, IsBounded, IsRunOf, is_memory}
 

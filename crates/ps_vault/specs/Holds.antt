@@ -4,23 +4,23 @@ use Rattle.ps_language.specs.Effect.{Around, Scene}
 use Rattle.ps_language.specs.Live.{asked_words}
 use Rattle.ps_language.specs.Locks.{is_ready}
 use Rattle.ps_language.specs.World.{Status}
-use Rattle.ps_mem.specs.declared.TheConstants.{SLOTS}
+use Rattle.ps_record.specs.Format.{slots}
 use Rattle.ps_mem.specs.Heap.{Heap, Grants}
-use Rattle.ps_ops.specs.declared.failure.NotMade.{NotMade}
-use Rattle.ps_ops.specs.declared.failure.NotMade.TheVariants.{NeedSpace}
-use Rattle.ps_ops.specs.Does.{most_records}
-use Rattle.ps_acts.specs.Acts.{Asked}
-use Rattle.ps_world.specs.declared.notes.Note.{Note}
-use Rattle.ps_world.specs.declared.notes.Note.TheVariants.{Wishes}
-use Rattle.ps_world.specs.Calls.{IsHeldUpAs}
-use Rattle.ps_world.specs.Needs.{step_wants}
+use Rattle.ps_ops_operands.specs.declared.failure.NotMade.{NotMade}
+use Rattle.ps_ops_operands.specs.declared.failure.NotMade.TheVariants.{NeedSpace}
+use Rattle.ps_ops_operands.specs.Changes.{most_records}
+use Rattle.ps_ops_state.specs.Acts.{Asked}
+use Rattle.ps_ctx.specs.declared.notes.Note.{Note}
+use Rattle.ps_ctx.specs.declared.notes.Note.TheVariants.{Wishes}
+use Rattle.ps_ctx.specs.Calls.{IsHeldUpAs}
+use Rattle.ps_ctx.specs.Needs.{step_wants}
 use Rattle.ps_vault.specs.Stories.{Story, IsMemoryOf, LacksRoom, world_at}
 use Rattle.ps_vault.specs.declared.vaults.Told.{Told}
 use Rattle.ps_vault.specs.declared.vaults.Told.TheVariants.{HeldUp}
 
 -- the slot of the log that a context's records go into
 abbrev pub slot_of : (context : ℕ) → ℕ
-slot_of context = context % SLOTS
+slot_of context = context % slots
 
 -- the context is ready, and its step is not made for this reason in a memory with the numbers of
 -- the story: the log is closed, or takes fewer records than a step may put, or what the step may
@@ -58,8 +58,8 @@ wish_in _ = None
 -- a memory that grows, and logs that aren't closed and take as many records as a step may put
 pub record Grows (heap : Heap) (grants : Grants) : Type 0 where
   pub grows : heap.space.grows ≡ true
-  pub opened : (slot : ℕ) → slot < SLOTS → grants.closed slot ≡ false
-  pub free : (slot : ℕ) → slot < SLOTS → most_records ≤ grants.records slot
+  pub opened : (slot : ℕ) → slot < slots → grants.closed slot ≡ false
+  pub free : (slot : ℕ) → slot < slots → most_records ≤ grants.records slot
 
 -- each memory of this kind is so
 abbrev pub OnlyGrows : {M : Type 0} → (M → Heap) → (M → Grants) → Type 0

@@ -7,7 +7,7 @@ use Rattle.ps_language.specs.Schedules.{Move}
 use Rattle.ps_language.specs.Step.{stepped}
 use Rattle.ps_language.specs.World.{World}
 use Rattle.ps_language.specs.Worlds.{after_moves}
-use Rattle.ps_world.specs.Steps.{AllFrom}
+use Rattle.ps_ctx.specs.Steps.{AllFrom}
 use Rattle.ps_vault.specs.declared.turns.Turn.{Turn}
 
 -- ---- whose turn is next

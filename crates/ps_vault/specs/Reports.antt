@@ -8,12 +8,12 @@ use Rattle.ps_language.specs.Schedules.{Begins, Move, moves, count_of, is_longes
 use Rattle.ps_language.specs.World.{Status, World}
 use Rattle.ps_language.specs.Worlds as worlds
 use Rattle.ps_language.specs.Worlds.{IsProper, is_all_over, is_some_ready, IsFinished, IsFaulted, IsAllWaiting}
-use Rattle.ps_acts.specs.Acts.{Asked}
+use Rattle.ps_ops_state.specs.Acts.{Asked}
 use Rattle.ps_mem.specs.Heap.{Space}
 use Rattle.ps_mem.specs.Plain.{plain_space}
-use Rattle.ps_world.specs.Growth.{may_fail}
-use Rattle.ps_world.specs.Needs.{step_wants}
-use Rattle.ps_schedules.specs.Keeping.{Kept, MayAdd}
+use Rattle.ps_ctx.specs.Growth.{may_fail}
+use Rattle.ps_ctx.specs.Needs.{step_wants}
+use Rattle.ps_run_schedules.specs.Keeping.{Kept, MayAdd}
 use Rattle.ps_vault.specs.declared.reports.Config.{Config}
 use Rattle.ps_vault.specs.declared.reports.Outcome.{Outcome}
 use Rattle.ps_vault.specs.declared.reports.Outcome.TheVariants.{Finished, Faulted, AllWaiting, StepsOut, Memory}

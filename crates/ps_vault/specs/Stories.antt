@@ -7,12 +7,12 @@ use Rattle.ps_language.specs.Schedules.{is_longest}
 use Rattle.ps_language.specs.World.{World}
 use Rattle.ps_language.specs.Worlds.{world, IsProper}
 use Rattle.ps_word.specs.Headers.{birth_limit}
-use Rattle.ps_mem.specs.declared.TheConstants.{SLOTS}
+use Rattle.ps_record.specs.Format.{slots}
 use Rattle.ps_mem.specs.Heap.{Heap, Grants}
-use Rattle.ps_roots.specs.Moved.{IsLeft}
-use Rattle.ps_world.specs.Held.{Held, IsAt, IsSteadyHeld}
-use Rattle.ps_world.specs.Notes.{HasNoStatus}
-use Rattle.ps_schedules.specs.Keeping.{Kept, MayAdd}
+use Rattle.ps_gc_roots.specs.Moved.{IsLeft}
+use Rattle.ps_ctx.specs.Held.{Held, IsAt, IsSteadyHeld}
+use Rattle.ps_ctx.specs.Notes.{HasNoStatus}
+use Rattle.ps_run_schedules.specs.Keeping.{Kept, MayAdd}
 use Rattle.ps_vault.specs.Reports.{Bounds}
 use Rattle.ps_vault.specs.Warrants.{AllWarranted}
 
@@ -34,11 +34,11 @@ pub record Story : Type 0 where
 
 -- by slot, whether its log is closed
 abbrev pub logs_closed : (closed : ℕ → Bool) → List Bool
-logs_closed closed = map closed (range_with_len 0 SLOTS)
+logs_closed closed = map closed (range_with_len 0 slots)
 
 -- a cycle was opened, and no log is closed
 abbrev pub with_cycle : Story → Story
-with_cycle story = record story { cycle_open = true; closed = replicate SLOTS false }
+with_cycle story = record story { cycle_open = true; closed = replicate slots false }
 
 -- no cycle is open, the flips are those that this counts, and so many words are used
 abbrev pub without_cycle : (counted : ℕ → ℕ) → (used : ℕ) → Story → Story
@@ -46,7 +46,7 @@ without_cycle counted used story = record story {
   used = used;
   flips = counted story.flips;
   cycle_open = false;
-  closed = replicate SLOTS false;
+  closed = replicate slots false;
 }
 
 -- the log of a slot is closed

@@ -9,7 +9,7 @@ use Rattle.ps_language.specs.Step.{stepped}
 use Rattle.ps_language.specs.World.{World}
 use Rattle.ps_language.specs.Worlds.{after_move, starting_world}
 use Rattle.ps_word.specs.Headers.{birth_limit}
-use Rattle.ps_world.specs.Steps.{words_shown}
+use Rattle.ps_ctx.specs.Steps.{words_shown}
 
 -- the pair of a step in the world before it: how many words are used of a space of so many, as many
 -- at least as what lives there needs

@@ -2,18 +2,18 @@
 //! over. World and schedule stay.
 
 ghost use Rattle.std.specs.Prelude.{◌≡◌, ◌<◌, true, false, slice_index_or};
-ghost use Rattle.ps_flips.specs.Collected.{may_open, one_more_if, stopped};
+ghost use Rattle.ps_core_flips.specs.Collected.{may_open, one_more_if, stopped};
 ghost use Rattle.ps_vault.specs.Cycles.{IsFull};
 ghost use Rattle.ps_vault.specs.Stories.{UsesOnlyLive, with_closed, with_cycle, without_cycle};
 
 use crate::vaults::Vault;
-use ps_flips::collected::{CollectedMemory, Counts};
-use ps_flips::sides::{Collects, LoggedMemory};
-use ps_interpreter::interprets::Interpret;
-use ps_mem::SLOTS;
-use ps_parts_memory::Closing;
-use ps_roots::{Roots, end_cycle, hand_over, open_cycle, stop_all, try_flip};
-use ps_world::deeds::Deeds;
+use ps_core_flips::collected::{CollectedMemory, Counts};
+use ps_core_flips::sides::{Collects, LoggedMemory};
+use ps_core_memory::Closing;
+use ps_ctx::deeds::Deeds;
+use ps_gc_roots::{Roots, end_cycle, hand_over, open_cycle, stop_all, try_flip};
+use ps_mem::Slot;
+use ps_step_interpreter::interprets::Interpret;
 
 impl<M: LoggedMemory + Drop, S: Interpret + Drop, D: Deeds + Drop> Vault<'_, M, S, D> {
     /// Whether a cycle of the collector is open.
@@ -43,8 +43,7 @@ impl<M: LoggedMemory + Drop, S: Interpret + Drop, D: Deeds + Drop> Vault<'_, M, 
 
     /// In an open cycle: closes the log of a slot until the cycle ends; a closed one stays as it
     /// is. `LogFull`: its ring has no free place, and nothing has changed.
-    pub fn close_log(&mut self, slot: u32) -> Closing
-        requires slot { slot < SLOTS }
+    pub fn close_log(&mut self, slot: Slot) -> Closing
         requires open { self.old.cycle_open ≡ true }
         ensures run { self.new ≡ record self.old { closed = self.new.closed } }
         ensures already { slice_index_or self.old.closed slot false ≡ true

@@ -5,9 +5,9 @@ ghost use Rattle.ps_vault.specs.Endings.{AreEndings, IsAlike};
 
 use crate::orders::{TurnOrder, run_in_order};
 use crate::reports::{Budget, Report};
-use ps_interpreter::interprets::Interpret;
-use ps_start::start::Setup;
-use ps_world::deeds::Deeds;
+use ps_ctx::deeds::Deeds;
+use ps_ctx_start::start::Setup;
+use ps_step_interpreter::interprets::Interpret;
 use std::alloc::{AllocError, Global};
 
 /// Whether two runs printed the same and had the same outcome.
@@ -46,7 +46,8 @@ fn keep(endings: &mut Vec<Report>, report: Report) -> Result<(), AllocError>
 /// Runs a program so many times, each time for at most so many steps, over memory that is never
 /// collected, in orders that are chosen turn by turn.
 ///
-/// Gives the first of those runs that ended alike, in the order in which they were made.
+/// Gives the first of those runs that ended alike, in the order in which they were made. Behind each
+/// run the order is told how many were made.
 /// `AllocError` where a run ended for want of memory, or the room of what is given can't be had.
 pub fn explore<S: Interpret + Clone + Drop, D: Deeds + Clone + Drop, O: TurnOrder>(
     alloc: Global,
@@ -79,6 +80,7 @@ pub fn explore<S: Interpret + Clone + Drop, D: Deeds + Clone + Drop, O: TurnOrde
         }
         keep(&mut endings, report)?;
         made += 1;
+        order.run_ended(made, endings.len());
     }
     Ok(endings)
 }

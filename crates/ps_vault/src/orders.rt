@@ -11,11 +11,11 @@ ghost use Rattle.ps_vault.specs.Stories.{AreWarranted, kept_of, world_at};
 use crate::reports::{Budget, Report, Room};
 use crate::turns::Turn;
 use crate::vaults::Vault;
-use ps_interpreter::interprets::Interpret;
+use ps_ctx::deeds::Deeds;
+use ps_ctx_start::start::Setup;
 use ps_mem::Memory;
 use ps_mem::marked::plain_with_marks;
-use ps_start::start::Setup;
-use ps_world::deeds::Deeds;
+use ps_step_interpreter::interprets::Interpret;
 use std::alloc::{AllocError, Global};
 
 /// Whose turn is next, and of how many steps.
@@ -34,6 +34,10 @@ pub trait TurnOrder {
     fn choose(&mut self) -> Choice
         ensures passed { result.passed < 32 }
         ensures some { 1 ≤ result.steps };
+
+    /// Is told, behind each of many runs, how many were made and how many of these had an ending of
+    /// their own.
+    fn run_ended(&mut self, made: u32, endings: usize);
 }
 
 impl<M: Memory + Drop, S: Interpret + Drop, D: Deeds + Drop> Vault<'_, M, S, D> {

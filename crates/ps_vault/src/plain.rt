@@ -14,12 +14,12 @@ use crate::reports::{Config, Outcome, Report, Room, RunFault};
 use crate::screens::{NoViewer, Screen, Viewer};
 use crate::turns::Turn;
 use crate::vaults::Vault;
-use ps_flips::collected::Counts;
-use ps_interpreter::interprets::Interpret;
+use ps_core_flips::collected::Counts;
+use ps_ctx::deeds::Deeds;
+use ps_ctx_start::start::Setup;
 use ps_mem::Memory;
 use ps_mem::marked::plain_with_marks;
-use ps_start::start::Setup;
-use ps_world::deeds::Deeds;
+use ps_step_interpreter::interprets::Interpret;
 use std::alloc::Global;
 use std::hash::RandomState;
 

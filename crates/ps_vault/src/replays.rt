@@ -6,7 +6,7 @@ ghost use Rattle.ps_language.specs.Locks as locks;
 ghost use Rattle.ps_language.specs.Schedules.{last_move, plain_move, moves_of, moves, count_of, Begins};
 ghost use Rattle.ps_language.specs.Worlds as worlds;
 ghost use Rattle.ps_language.specs.Worlds.{after_moves};
-ghost use Rattle.ps_schedules.specs.Turns.{added_times};
+ghost use Rattle.ps_run_schedules.specs.Turns.{added_times};
 ghost use Rattle.ps_vault.specs.Reports.{EndsAs, IsCutOf, IsReplayOf, MayWant, MayWantNext, UnderPart, entry_of, is_memory};
 ghost use Rattle.ps_vault.specs.Screens.{HasShown, ShowsOn};
 ghost use Rattle.ps_vault.specs.Stories.{world_at};
@@ -16,13 +16,13 @@ use crate::schedules::is_ordinary;
 use crate::screens::{NoViewer, Screen, Viewer};
 use crate::turns::Turn;
 use crate::vaults::{Told, Vault};
-use ps_interpreter::interprets::Interpret;
+use ps_ctx::deeds::Deeds;
+use ps_ctx_start::start::Setup;
 use ps_language::schedules::Entry;
 use ps_mem::marked::{Marked, plain_with_marks};
 use ps_mem::plain::PlainMemory;
-use ps_schedules::Schedule;
-use ps_start::start::Setup;
-use ps_world::deeds::Deeds;
+use ps_run_schedules::Schedule;
+use ps_step_interpreter::interprets::Interpret;
 use std::alloc::Global;
 
 /// The most steps of a context before a viewer is shown what they printed.

@@ -4,7 +4,7 @@ ghost use Rattle.std.specs.Prelude.{◌≡◌, ◌↔◌, IsTrue};
 ghost use Rattle.ps_vault.specs.Reports.{is_memory, IsWithin};
 ghost use Rattle.ps_vault.specs.declared.reports.TheConstants.{FIRST_ENTRIES};
 
-use ps_schedules::Schedule;
+use ps_run_schedules::Schedule;
 use thiserror::Error;
 
 /// How many entries find room in the schedule of a run from its start. So a run that has hardly

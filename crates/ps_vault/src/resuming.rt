@@ -12,12 +12,12 @@ use crate::guides::Guide;
 use crate::reports::{Config, Report, Room, RunFault};
 use crate::turns::Turn;
 use crate::vaults::Vault;
-use ps_interpreter::interprets::Interpret;
+use ps_ctx::deeds::Deeds;
+use ps_ctx_start::start::Setup;
 use ps_language::schedules::Entry;
 use ps_mem::Memory;
 use ps_mem::marked::plain_with_marks;
-use ps_start::start::Setup;
-use ps_world::deeds::Deeds;
+use ps_step_interpreter::interprets::Interpret;
 use std::alloc::Global;
 use std::hash::RandomState;
 

@@ -3,11 +3,11 @@
 ghost use Rattle.std.specs.Prelude.{◌≡◌, ◌↔◌, IsTrue};
 ghost use Rattle.ps_language.specs.Schedules.{last_move, plain_move};
 ghost use Rattle.ps_language.specs.Worlds.{kept_pair};
-ghost use Rattle.ps_world.specs.Notes.{note_of};
+ghost use Rattle.ps_ctx.specs.Notes.{note_of};
 ghost use Rattle.ps_vault.specs.Stories.{};
 
+use ps_ctx::notes::Note;
 use ps_language::schedules::Entry;
-use ps_world::notes::Note;
 
 /// Whether each step of an entry is an ordinary one: none is refused, and none shows a pair.
 #[inline]

@@ -8,9 +8,9 @@ ghost use Rattle.ps_vault.specs.Stories.{world_at};
 
 use crate::reports::{Report, RunFault};
 use crate::vaults::Vault;
-use ps_interpreter::interprets::Interpret;
+use ps_ctx::deeds::Deeds;
 use ps_mem::Memory;
-use ps_world::deeds::Deeds;
+use ps_step_interpreter::interprets::Interpret;
 use std::marker::Model;
 use thiserror::Error;
 

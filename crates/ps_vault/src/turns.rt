@@ -12,9 +12,9 @@ ghost use Rattle.ps_vault.specs.Stories.{AreWarranted, kept_of, world_at};
 
 use crate::screens::{Screen, Viewer};
 use crate::vaults::{Told, Vault};
-use ps_interpreter::interprets::Interpret;
+use ps_ctx::deeds::Deeds;
 use ps_mem::Memory;
-use ps_world::deeds::Deeds;
+use ps_step_interpreter::interprets::Interpret;
 
 /// The steps of a turn, or of a run, and whether the next one was held up.
 #[derive(Clone, Copy, Debug, PartialEq, Eq)]

@@ -7,33 +7,33 @@ ghost use Rattle.ps_language.specs.Locks as locks;
 ghost use Rattle.ps_language.specs.Schedules.{added, count_of, moves, plain_move};
 ghost use Rattle.ps_language.specs.Worlds as worlds;
 ghost use Rattle.ps_language.specs.Worlds.{after_move, after_moves, starting_world};
-ghost use Rattle.ps_schedules.specs.Turns.{added_times, joins_last, move_of};
+ghost use Rattle.ps_run_schedules.specs.Turns.{added_times, joins_last, move_of};
 ghost use Rattle.ps_vault.specs.Order.{IsNoneAbove, IsOnlyLeft, AddsSteps, AllOfOne, NoneEnds, OnlyLastMayEnd, EndsTurn, WishesAs};
 ghost use Rattle.ps_mem.specs.Heap.{Space};
-ghost use Rattle.ps_start.specs.Starts.{IsEmptyHeap};
+ghost use Rattle.ps_ctx_start.specs.Starts.{IsEmptyHeap};
 ghost use Rattle.ps_vault.specs.Holds as holds;
 ghost use Rattle.ps_vault.specs.Holds.{IfForRoom, IfHeldUp, IsHeldUp, is_held_up, wish_in};
 ghost use Rattle.ps_vault.specs.Reports.{all_fit, are_ordinary, are_words, is_memory, EndsAs, IsBounded, IsOneStarved, IsRunIn, IsShort};
 ghost use Rattle.ps_vault.specs.declared.reports.TheConstants.{FIRST_ENTRIES};
 ghost use Rattle.ps_vault.specs.Stories.{Story, HasRoom, MayGo, AreWarranted, kept_of, world_at};
 ghost use Rattle.ps_vault.specs.Warrants.{AddsShown, IsStatus};
-ghost use Rattle.ps_world.specs.Steps.{words_shown};
+ghost use Rattle.ps_ctx.specs.Steps.{words_shown};
 
 use crate::reports::{Outcome, Report, Room};
 use crate::schedules::kept;
-use ps_acts::lent::{Shared, Trial};
-use ps_contexts::contexts::Contexts;
-use ps_flips::collected::Counts;
-use ps_interpreter::interprets::Interpret;
-use ps_mem::{Memory, SLOTS};
-use ps_ops::failure::NotMade;
-use ps_schedules::Schedule;
-use ps_start::start::Setup;
-use ps_world::deeds::Deeds;
-use ps_world::notes::Note;
-use ps_world::runs::Advance;
-use ps_world::starts::start_world;
-use ps_world::worlds::World;
+use ps_core_flips::collected::Counts;
+use ps_ctx::deeds::Deeds;
+use ps_ctx::notes::Note;
+use ps_ctx::runs::Advance;
+use ps_ctx::starts::start_world;
+use ps_ctx::worlds::World;
+use ps_ctx_start::start::Setup;
+use ps_ctx_table::contexts::Contexts;
+use ps_mem::{Memory, Slot};
+use ps_ops_operands::failure::NotMade;
+use ps_ops_state::lent::{Shared, Trial};
+use ps_run_schedules::Schedule;
+use ps_step_interpreter::interprets::Interpret;
 use std::alloc::{AllocError, Global};
 use std::marker::Model;
 
@@ -52,9 +52,9 @@ pub struct Vault<'a, M: Memory + Drop, S: Interpret + Drop, D: Deeds + Drop> {
 
 impl<'a, M: Memory + Drop, S: Interpret + Drop, D: Deeds + Drop> Model for Vault<'a, M, S, D> {
     ghost use Rattle.std.specs.Prelude.{option_map};
-    ghost use Rattle.ps_schedules.specs.Keeping.{most_of};
-    ghost use Rattle.ps_world.specs.Calls.{over};
-    ghost use Rattle.ps_world.specs.Held.{held};
+    ghost use Rattle.ps_run_schedules.specs.Keeping.{most_of};
+    ghost use Rattle.ps_ctx.specs.Calls.{over};
+    ghost use Rattle.ps_ctx.specs.Held.{held};
     ghost use Rattle.ps_vault.specs.Stories.{Story, Keeps, logs_closed};
 
     ghost Value = { Story };
@@ -116,11 +116,10 @@ pub struct Advanced {
 /// most 32 contexts are left at a time. Each has a slot of its own wherever their identifiers lie
 /// within 32. Elsewhere two may share one, which loses nothing: only one makes steps at a time.
 #[inline(always)]
-fn slot_of(context: u32) -> u32
-    ensures is { result ≡ holds.slot_of context }
-    ensures within { result < SLOTS }
+fn slot_of(context: u32) -> Slot
+    ensures { result ≡ holds.slot_of context }
 {
-    context % SLOTS
+    Slot::of(context)
 }
 
 /// The number of the `vmreclaim` that was made, if it was one.
@@ -230,13 +229,6 @@ impl<M: Memory + Drop, S: Interpret + Drop, D: Deeds + Drop> Vault<'_, M, S, D> 
         ensures half { IsTrue result ↔ kept / 2 + self.old.space / 2 < self.old.used }
     {
         self.memory.used() > kept / 2 + self.memory.size() / 2
-    }
-
-    /// Whether it is a vault of this program.
-    pub fn is_of(&self, program: &[u8]) -> bool
-        ensures { IsTrue result ↔ self.now.program ≡ program.now }
-    {
-        self.world.contexts.shared.program == program
     }
 
     /// Room in the schedule for steps of a context. `AllocError`: it can't be had, or the schedule has

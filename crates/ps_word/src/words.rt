@@ -372,18 +372,6 @@ impl Word {
         }
     }
 
-    /// The address of the dictionary's body, where it is one.
-    #[inline]
-    pub fn as_body(self) -> Option<u32>
-        ensures { result ≡ readers.as_body (content_in self.0) }
-    {
-        if self.0 / TYPE == 11 {
-            Some(self.low_address())
-        } else {
-            None
-        }
-    }
-
     /// The part of an array or of a string, where it is one of them.
     #[inline]
     pub fn as_part(self) -> Option<Part>
@@ -471,22 +459,5 @@ impl Word {
         ensures { result.0 ≡ readers.readdressed self.0 address }
     {
         Word((self.0 / REFERENCE) * REFERENCE + address as u64 * ADDRESS + self.0 % ADDRESS)
-    }
-
-    /// The same reference with this address, which is below 2^24.
-    #[inline]
-    pub fn with_address(self, address: u32) -> Word
-        requires word { IsWord self.0 }
-        requires reference { readers.is_reference self.0 ≡ true }
-        requires address { address < 2 ^ 24 }
-        ensures number { result.0 ≡ readers.readdressed self.0 address }
-        ensures value { value_in result.0
-            ≡ record (value_in self.0) {
-              content =
-                  readers.with_address (content_in self.0) address;
-            } }
-        ensures word { IsWord result.0 }
-    {
-        self.readdressed(address)
     }
 }

@@ -1,4 +1,4 @@
-//! The exports for hosts in other languages: each makes what its function of `ps_hosting` makes, by
+//! The exports for hosts in other languages: each makes what its function of `ps_run_hosts` makes, by
 //! the steps and the operators of the language, and hands it out.
 //!
 //! Why so:
@@ -9,14 +9,14 @@
 
 ghost use Rattle.std.specs.Prelude.{◌≡◌, map, Result};
 ghost use Rattle.ps_vault.specs.declared.reports.Report.{Report};
-ghost use Rattle.ps_hosting.specs.declared.hosting.Refusal.{Refusal};
-ghost use Rattle.ps_hosting.specs.Hosts.{given_entry, IsFollowed, IsGoneOn, IsHandedOut, IsMade};
+ghost use Rattle.ps_run_hosts.specs.declared.hosting.Refusal.{Refusal};
+ghost use Rattle.ps_run_hosts.specs.Hosts.{given_entry, IsFollowed, IsGoneOn, IsHandedOut, IsMade};
 
-use ps_context::steps::Steps;
-use ps_deeds::operators::WorldOperators;
-use ps_dispatch::operators::Operators;
-use ps_hosting::{Counts, HostEntry, Makers, Settings, go_on_for, hand_out, replay_for, run_for};
-use ps_interpreter::interprets::Interpret;
+use ps_ctx_operators::operators::WorldOperators;
+use ps_ops::operators::Operators;
+use ps_run_hosts::{Counts, HostEntry, Makers, Settings, go_on_for, hand_out, replay_for, run_for};
+use ps_step::steps::Steps;
+use ps_step_interpreter::interprets::Interpret;
 use std::alloc::Global;
 
 /// The version of this interface: 10,000 for each first number, 100 for each second one, 1 for each

@@ -1,10 +1,10 @@
 use Rattle.std.proofs.Common.{arith, ◌≡◌, ◌≢◌, ◌+◌, ◌<◌, ℕ, Bool, true, false, true≢false, [], ◌∷◌, ◌++◌, length, Some}
 use Rattle.std.proofs.Common.{refl, sym, ap, ◌∙◌, subst}
 use Rattle.std.specs.Prelude.{slice_index_or}
-use Rattle.ps_core_parts.specs.declared.events.Event.TheVariants.{CopyLoad, ReplicaFieldStore}
-use Rattle.ps_core_parts.specs.declared.events.Gc.{Gc}
-use Rattle.ps_core_parts.specs.Objects.{pair_of, with_copy}
-use Rattle.ps_core_parts.specs.Steps.{other_base, replica_of, word_stored}
+use Rattle.ps_core_machine.specs.declared.events.Event.TheVariants.{CopyLoad, ReplicaFieldStore}
+use Rattle.ps_core_machine.specs.declared.events.Gc.{Gc}
+use Rattle.ps_core_machine.specs.Objects.{pair_of, with_copy}
+use Rattle.ps_core_machine.specs.Steps.{other_base, replica_of, word_stored}
 use Rattle.ps_table.specs.Events.{gc_did_all}
 use Rattle.ps_table.specs.Shown.{gc_did}
 use Rattle.ps_table.proofs.Flipping.{gc_all-append}

@@ -1,8 +1,8 @@
 use Rattle.std.proofs.Common.{arith, ◌≡◌, ◌+◌, ℕ, [], ◌∷◌, true, sym, ap, ◌∙◌, subst}
-use Rattle.ps_core_parts.specs.declared.events.Event.TheVariants.{GcLoad}
-use Rattle.ps_core_parts.specs.declared.events.Gc.{Gc}
-use Rattle.ps_core_parts.specs.Objects.{pair_of, is_done}
-use Rattle.ps_core_parts.specs.Steps.{gc_after, knows_open}
+use Rattle.ps_core_machine.specs.declared.events.Event.TheVariants.{GcLoad}
+use Rattle.ps_core_machine.specs.declared.events.Gc.{Gc}
+use Rattle.ps_core_machine.specs.Objects.{pair_of, is_done}
+use Rattle.ps_core_machine.specs.Steps.{gc_after, knows_open}
 use Rattle.ps_core_laws.proofs.HeapTests.{number_is}
 use Rattle.ps_table.specs.Events.{gc_did_all}
 use Rattle.ps_table.specs.Shown.{gc_did, GcFinds}

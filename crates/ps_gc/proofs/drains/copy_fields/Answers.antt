@@ -1,6 +1,6 @@
 use Rattle.std.proofs.Common.{◌≡◌, ◌++◌, Some, refl, sym, ap, ◌∙◌}
 use Rattle.ps_record.specs.declared.Record.TheVariants.{Place}
-use Rattle.ps_core_parts.specs.declared.events.Half.{Half}
+use Rattle.ps_core_machine.specs.declared.events.Half.{Half}
 use Rattle.ps_table.specs.Events.{gc_did_all}
 use Rattle.ps_table.proofs.Flipping.{gc_all-append}
 use Rattle.ps_gc.proofs.Draining.{loads_next, applied_on}

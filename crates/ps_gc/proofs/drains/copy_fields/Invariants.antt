@@ -1,6 +1,6 @@
 use Rattle.std.proofs.Common.{◌≡◌, List, Some}
-use Rattle.ps_core_parts.specs.declared.events.Event.{Event}
-use Rattle.ps_core_parts.specs.declared.events.Half.{Half}
+use Rattle.ps_core_machine.specs.declared.events.Event.{Event}
+use Rattle.ps_core_machine.specs.declared.events.Half.{Half}
 use Rattle.ps_table.specs.Events.{gc_did_all}
 use Rattle.ps_gc.specs.Events.{Applied}
 use Rattle.ps_gc.specs.Keeps.{Copies, IsAtField}

@@ -1,8 +1,8 @@
 use Rattle.std.proofs.Common.{◌≡◌, ◌+◌, false, true, None, length, sym, ap, subst, ◌∙◌}
-use Rattle.ps_core_parts.specs.declared.events.Gc.{Gc}
-use Rattle.ps_core_parts.specs.Objects.{log_of}
-use Rattle.ps_core_parts.specs.Steps.{is_open}
-use Rattle.ps_parts_memory.specs.Memory.{heap_of, is_shut}
+use Rattle.ps_core_machine.specs.declared.events.Gc.{Gc}
+use Rattle.ps_core_machine.specs.Objects.{log_of}
+use Rattle.ps_core_machine.specs.Steps.{is_open}
+use Rattle.ps_core_memory.specs.Memory.{heap_of, is_shut}
 use Rattle.ps_table.specs.declared.plays.View.{View}
 use Rattle.ps_table.proofs.Kept.{keeps_vm, sits_on}
 use Rattle.ps_gc.specs.Events.{is_drained}
@@ -54,14 +54,14 @@ returns-in-LogFull-clause-stays g c =
     let same = c.close.ensures.gc.part in
     let looked = c.close.ensures.looked c.in-LogFull.is in
     let left : is_drained seen.gc slot ≡ false = ap (λ (x : Gc). is_drained x slot) same
-    ∙ not_drained m.vm m.gc slot c.requires.slot
+    ∙ not_drained m.vm m.gc slot c.close.ensures.within
     (c.close.ensures.runs c.in-LogFull.is s.gc.acts) c.requires.open
     (c.close.ensures.not_shut c.in-LogFull.is) in
     let full : length (log_of seen.vm.logs slot) ≡ length (log_of seen.gc.taken slot) + 256 =
     ap (λ (x : View). length (log_of x.vm.logs slot)) looked.1
     ∙ (c.close.ensures.taken c.in-LogFull.is s.gc.acts
     ∙ ap (λ (x : Gc). length (log_of x.taken slot) + 256) (sym same)) in
-    let d = full_takes seen.vm seen.gc taken.gc slot c.requires.slot full c.drain_one.result
+    let d = full_takes seen.vm seen.gc taken.gc slot c.close.ensures.within full c.drain_one.result
     (c.drain_one.ensures.next c.close.ensures.sits.1.acts left) c.drain_one.ensures.took
     (c.drain_one.ensures.close left) in
     let again = c.close-in-LogFull.ensures in
@@ -82,18 +82,18 @@ returns-in-LogFull-clause-shut g c =
     let same = c.close.ensures.gc.part in
     let looked = c.close.ensures.looked c.in-LogFull.is in
     let left : is_drained seen.gc slot ≡ false = ap (λ (x : Gc). is_drained x slot) same
-    ∙ not_drained m.vm m.gc slot c.requires.slot
+    ∙ not_drained m.vm m.gc slot c.close.ensures.within
     (c.close.ensures.runs c.in-LogFull.is s.gc.acts) c.requires.open
     (c.close.ensures.not_shut c.in-LogFull.is) in
     let full : length (log_of seen.vm.logs slot) ≡ length (log_of seen.gc.taken slot) + 256 =
     ap (λ (x : View). length (log_of x.vm.logs slot)) looked.1
     ∙ (c.close.ensures.taken c.in-LogFull.is s.gc.acts
     ∙ ap (λ (x : Gc). length (log_of x.taken slot) + 256) (sym same)) in
-    let d = full_takes seen.vm seen.gc taken.gc slot c.requires.slot full c.drain_one.result
+    let d = full_takes seen.vm seen.gc taken.gc slot c.close.ensures.within full c.drain_one.result
     (c.drain_one.ensures.next c.close.ensures.sits.1.acts left) c.drain_one.ensures.took
     (c.drain_one.ensures.close left) in
     let wide = ap (λ (x : Gc). length x.taken) same ∙ taken_wide m.gc s.gc.runs in
     is_closed (is_shut c.close-in-LogFull.new.seat.me.0.vm slot ≡ true) c.close-in-LogFull.result
     c.close-in-LogFull.ensures.shut
-    (λ e. one_free seen.vm taken.vm seen.gc taken.gc slot d.0 c.requires.slot wide keeps.part full
+    (λ e. one_free seen.vm taken.vm seen.gc taken.gc slot d.0 c.close.ensures.within wide keeps.part full
     d.1 (c.close-in-LogFull.ensures.taken e c.drain_one.new.self.gc.acts))

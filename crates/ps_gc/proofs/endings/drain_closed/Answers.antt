@@ -1,6 +1,6 @@
 use Rattle.std.proofs.Common.{true≢false, ap, sym, subst, ◌∙◌}
-use Rattle.ps_core_parts.specs.declared.events.Vm.{Vm}
-use Rattle.ps_parts_memory.specs.Memory.{is_shut}
+use Rattle.ps_core_machine.specs.declared.events.Vm.{Vm}
+use Rattle.ps_core_memory.specs.Memory.{is_shut}
 use Rattle.ps_table.proofs.Kept.{keeps_vm}
 use Rattle.ps_gc.specs.declared.collector.Drained.{Drained}
 use Rattle.ps_gc.specs.Ending.{FindsNext}
@@ -41,7 +41,7 @@ drain-smaller g c =
     let n = c.drain_one.new.self.gc.seat.me.0 in
     let did = c.drain_one.ensures.did in
     smaller c.args.slot c.drain_one.result (λ e. absurd (cc)) (λ e. absurd (cc)) m n
-    (keeps_vm m n did.0 did.1) c.drain_one.ensures.took c.requires.slot
+    (keeps_vm m n did.0 did.1) c.drain_one.ensures.took c.drain_one.ensures.within
     (taken_wide m.gc c.drain.collector.gc.runs)
     (λ t. (c.drain_one.ensures.already t).0)
     (c.drain_one.ensures.next (c.drain.invariant.vm.acts ∙ c.requires.acts))
@@ -53,4 +53,4 @@ unreachable-requires g c =
     let found = subst (λ (d : Drained). FindsNext d m.vm m.gc c.args.slot) c.in-Nothing.is
     (c.drain_one.ensures.next (c.drain.invariant.vm.acts ∙ c.requires.acts) left) in
     let shut = ap (λ (v : Vm). is_shut v c.args.slot) c.drain.invariant.vm.part ∙ c.requires.shut in
-    true≢false (sym (shut_drained m.vm m.gc c.args.slot c.requires.slot found shut) ∙ left)
+    true≢false (sym (shut_drained m.vm m.gc c.args.slot c.drain_one.ensures.within found shut) ∙ left)

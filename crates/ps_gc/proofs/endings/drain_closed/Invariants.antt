@@ -1,6 +1,6 @@
 use Rattle.std.proofs.Common.{◌≡◌, ◌-◌, true, length}
-use Rattle.ps_core_parts.specs.Objects.{log_of}
-use Rattle.ps_core_parts.specs.Steps.{knows_open}
+use Rattle.ps_core_machine.specs.Objects.{log_of}
+use Rattle.ps_core_machine.specs.Steps.{knows_open}
 use Rattle.ps_table.specs.Mirrored.{KeepsVm}
 use Rattle.ps_gc.specs.Ending.{StaysBut}
 use Rattle.ps_gc.proofs.endings.drain_closed.Given as goal

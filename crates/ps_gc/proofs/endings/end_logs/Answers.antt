@@ -1,11 +1,11 @@
 use Rattle.std.proofs.Common.{ℕ, ap, sym, subst, ◌∙◌, arith}
 use Rattle.std.specs.Prelude.{◌==◌}
 use native.Mathlib.Decide.{ℕ_discrete}
-use Rattle.ps_core_parts.specs.declared.events.Vm.{Vm}
-use Rattle.ps_core_parts.specs.Objects.{closes, log_of}
-use Rattle.ps_core_parts.specs.Steps.{is_open}
+use Rattle.ps_core_machine.specs.declared.events.Vm.{Vm}
+use Rattle.ps_core_machine.specs.Objects.{closes, log_of}
+use Rattle.ps_core_machine.specs.Steps.{is_open}
 use Rattle.ps_core_laws.proofs.HeapTests.{and_parts}
-use Rattle.ps_parts_memory.specs.Memory.{heap_of, is_shut}
+use Rattle.ps_core_memory.specs.Memory.{heap_of, is_shut}
 use Rattle.ps_table.proofs.Kept.{sits_on}
 use Rattle.ps_gc.specs.Ending.{IsEnded}
 use Rattle.ps_gc.proofs.Ending.{ended_on}
@@ -27,9 +27,9 @@ loop-slot-preserved g c =
     let slot = c.loop-slot.slot in
     let inv = c.loop-slot.invariant in
     let part = c.drain_closed.ensures.vm.part in
-    let x = c.close_one.ensures.stays in
-    let y = c.drain_closed.ensures.stays in
-    let shut = c.close_one.ensures.shut in
+    let x = rw c.numbered-slot.ensures at c.close_one.ensures.stays in
+    let y = rw c.numbered-slot.ensures at c.drain_closed.ensures.stays in
+    let shut = rw c.numbered-slot.ensures at c.close_one.ensures.shut in
     let opened = (and_parts (is_open n.vm) (closes (log_of n.vm.logs slot) == n.vm.epoch) shut).0 in
     record {
       sits = sits_on _ _ _ _ _ (ap (λ t. t.words) c.drain_closed.ensures.same)
@@ -43,7 +43,7 @@ loop-slot-preserved g c =
       ended = λ s lt. elim (ℕ_discrete s slot) [
         | yes is ↦ subst (λ (k : ℕ). IsEnded o k) (sym is) (record {
           shut = ap (λ (v : Vm). is_shut v slot) part ∙ shut;
-          drained = c.drain_closed.ensures.drained;
+          drained = rw c.numbered-slot.ensures at c.drain_closed.ensures.drained;
         })
         | no ne ↦ ended_on slot s n o y ne (ended_on slot s m n x ne (inv.ended s (omega arith)))
       ];

@@ -1,13 +1,13 @@
 use Rattle.std.proofs.Common.{◌≡◌, ◌+◌, List, ℕ, ap, sym, subst, ◌∙◌}
-use Rattle.ps_core_parts.specs.Objects.{among, addresses_named}
-use Rattle.ps_core_parts.specs.declared.events.Vm.{Vm}
-use Rattle.ps_core_parts.specs.declared.events.Gc.{Gc}
-use Rattle.ps_core_parts.specs.Steps.{is_open}
+use Rattle.ps_core_machine.specs.Objects.{among, addresses_named}
+use Rattle.ps_core_machine.specs.declared.events.Vm.{Vm}
+use Rattle.ps_core_machine.specs.declared.events.Gc.{Gc}
+use Rattle.ps_core_machine.specs.Steps.{is_open}
 use Rattle.ps_mem.specs.Heap.{Heap}
 use Rattle.ps_mem.specs.Shows.{AreValues}
-use Rattle.ps_parts_memory.specs.Memory.{heap_of}
-use Rattle.ps_parts_memory.specs.Stores.{numbers}
-use Rattle.ps_flips.specs.Collected.{IsCollected, IsExact}
+use Rattle.ps_core_memory.specs.Memory.{heap_of}
+use Rattle.ps_core_memory.specs.Stores.{numbers}
+use Rattle.ps_core_flips.specs.Collected.{IsCollected, IsExact}
 use Rattle.ps_table.proofs.Kept.{keeps_vm, sits_on}
 use Rattle.ps_gc.specs.declared.flips.Flip.TheVariants.{Done}
 use Rattle.ps_gc.specs.Flipping.{MayFlip}

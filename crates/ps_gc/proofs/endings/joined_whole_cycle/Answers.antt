@@ -3,12 +3,12 @@ use Rattle.std.specs.Prelude.{nat_lt}
 use Rattle.ps_mem.specs.Heap.{Heap}
 use Rattle.ps_mem.specs.Shows.{AreValues}
 use Rattle.ps_word.specs.Headers.{cycle_limit}
-use Rattle.ps_core_parts.specs.declared.events.Vm.{Vm}
-use Rattle.ps_core_parts.specs.declared.events.Gc.{Gc}
-use Rattle.ps_core_parts.specs.Steps.{is_open}
-use Rattle.ps_parts_memory.specs.Memory.{heap_of}
-use Rattle.ps_parts_memory.specs.Stores.{numbers}
-use Rattle.ps_flips.specs.Collected.{IsExact}
+use Rattle.ps_core_machine.specs.declared.events.Vm.{Vm}
+use Rattle.ps_core_machine.specs.declared.events.Gc.{Gc}
+use Rattle.ps_core_machine.specs.Steps.{is_open}
+use Rattle.ps_core_memory.specs.Memory.{heap_of}
+use Rattle.ps_core_memory.specs.Stores.{numbers}
+use Rattle.ps_core_flips.specs.Collected.{IsExact}
 use Rattle.ps_table.specs.declared.plays.View.{View}
 use Rattle.ps_gc.proofs.Reaching.{names_alone, none_handed, shut_by}
 use Rattle.ps_gc.proofs.Spaces.{may_open_is}

@@ -1,5 +1,5 @@
 use Rattle.std.proofs.Common.{◌≡◌, ℕ, ◌<◌}
-use Rattle.ps_core_parts.specs.Objects.{log_of, closes}
+use Rattle.ps_core_machine.specs.Objects.{log_of, closes}
 use Rattle.ps_gc.proofs.flips.all_closed.Given as goal
 
 -- the logs of the slots before this one are closed

@@ -1,6 +1,6 @@
 use Rattle.std.proofs.Common.{◌≡◌, ℕ, ◌<◌, length}
 use Rattle.std.specs.Prelude.{slice_index}
-use Rattle.ps_core_parts.specs.Objects.{log_of}
+use Rattle.ps_core_machine.specs.Objects.{log_of}
 use Rattle.ps_gc.proofs.flips.all_taken.Given as goal
 
 -- so it is of the slots before this one

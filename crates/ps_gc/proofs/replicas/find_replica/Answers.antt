@@ -1,10 +1,10 @@
 use Rattle.std.proofs.Common.{arith, ◌≡◌, ◌+◌, ℕ, [], ◌∷◌, Some, Option, is_some, sym, ap, ◌∙◌, subst}
 use Rattle.std.specs.Prelude.{if◌then◌else◌}
-use Rattle.ps_core_parts.specs.declared.events.Event.TheVariants.{GcLoad}
-use Rattle.ps_core_parts.specs.declared.events.Gc.{Gc}
-use Rattle.ps_core_parts.specs.declared.events.Pair.{Pair}
-use Rattle.ps_core_parts.specs.Objects.{pair_of}
-use Rattle.ps_core_parts.specs.Steps.{knows_open, new_pair}
+use Rattle.ps_core_machine.specs.declared.events.Event.TheVariants.{GcLoad}
+use Rattle.ps_core_machine.specs.declared.events.Gc.{Gc}
+use Rattle.ps_core_machine.specs.declared.events.Pair.{Pair}
+use Rattle.ps_core_machine.specs.Objects.{pair_of}
+use Rattle.ps_core_machine.specs.Steps.{knows_open, new_pair}
 use Rattle.ps_core_laws.proofs.HeapTests.{number_is}
 use Rattle.ps_table.specs.Events.{gc_did_all}
 use Rattle.ps_table.proofs.GcFacts.{gc_knows}

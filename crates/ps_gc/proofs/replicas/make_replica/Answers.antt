@@ -1,9 +1,9 @@
 use Rattle.std.proofs.Common.{arith, ◌≡◌, ◌+◌, ℕ, sym, ap, ◌∙◌, subst}
 use Rattle.ps_word.specs.Headers.{fields_in}
-use Rattle.ps_core_parts.specs.declared.events.Event.TheVariants.{GcLoad, ReplicaHeaderStore, ForwardStore}
-use Rattle.ps_core_parts.specs.declared.events.Gc.{Gc}
-use Rattle.ps_core_parts.specs.Conditions.{GcMay}
-use Rattle.ps_core_parts.specs.Steps.{gc_after, forwarding}
+use Rattle.ps_core_machine.specs.declared.events.Event.TheVariants.{GcLoad, ReplicaHeaderStore, ForwardStore}
+use Rattle.ps_core_machine.specs.declared.events.Gc.{Gc}
+use Rattle.ps_core_machine.specs.Conditions.{GcMay}
+use Rattle.ps_core_machine.specs.Steps.{gc_after, forwarding}
 use Rattle.ps_core_laws.proofs.HeapTests.{number_is}
 use Rattle.ps_table.specs.Shown.{gc_did}
 use Rattle.ps_table.proofs.GcFacts.{gc_knows}

@@ -1,9 +1,9 @@
 use Rattle.std.proofs.Common.{arith, ◌≡◌, ◌+◌, ℕ, [], ◌∷◌, ◌++◌, Some, refl, sym, ap, ◌∙◌, subst}
 use Rattle.ps_word.specs.Headers.{fields_in}
-use Rattle.ps_core_parts.specs.declared.events.Event.TheVariants.{GcLoad}
-use Rattle.ps_core_parts.specs.declared.events.Gc.{Gc}
-use Rattle.ps_core_parts.specs.Objects.{pair_of}
-use Rattle.ps_core_parts.specs.Steps.{other_base, gc_after}
+use Rattle.ps_core_machine.specs.declared.events.Event.TheVariants.{GcLoad}
+use Rattle.ps_core_machine.specs.declared.events.Gc.{Gc}
+use Rattle.ps_core_machine.specs.Objects.{pair_of}
+use Rattle.ps_core_machine.specs.Steps.{other_base, gc_after}
 use Rattle.ps_table.specs.Shown.{gc_did, GcFinds}
 use Rattle.ps_table.proofs.Flipping.{gc_all-append}
 use Rattle.ps_gc.specs.declared.to_space.ToSpace.{ToSpace}

@@ -1,9 +1,9 @@
 use Rattle.std.proofs.Common.{arith, ◌≡◌, ◌+◌, ℕ, [], ◌∷◌, Some, unwrap_or, refl, sym, ap, ◌∙◌, subst}
 use Rattle.ps_word.specs.Headers.{cycle_in, forward_address_in}
-use Rattle.ps_core_parts.specs.declared.events.Event.TheVariants.{GcLoad}
-use Rattle.ps_core_parts.specs.declared.events.Gc.{Gc}
-use Rattle.ps_core_parts.specs.Objects.{pair_of}
-use Rattle.ps_core_parts.specs.Steps.{gc_after, forwarding}
+use Rattle.ps_core_machine.specs.declared.events.Event.TheVariants.{GcLoad}
+use Rattle.ps_core_machine.specs.declared.events.Gc.{Gc}
+use Rattle.ps_core_machine.specs.Objects.{pair_of}
+use Rattle.ps_core_machine.specs.Steps.{gc_after, forwarding}
 use Rattle.ps_core_laws.proofs.HeapTests.{eq_true}
 use Rattle.ps_table.specs.Shown.{gc_did, GcFinds}
 use Rattle.ps_table.proofs.GcFacts.{gc_knows}

@@ -1,6 +1,6 @@
 use Rattle.std.proofs.Common.{◌≡◌, ℕ, Option, map, inl, inr, refl, sym, ap, subst, ◌∙◌}
 use Rattle.std.specs.Prelude.{codes, ◌⊎◌}
-use Rattle.ps_options.specs.CommandLine.{IsFlag, IsOptional}
+use Rattle.ps_run_options.specs.CommandLine.{IsFlag, IsOptional}
 use Rattle.ps_vault.specs.Reports.{IsWithin}
 use Rattle.ps_run.specs.Driving.{AreAsked, AreOutOfRange, Asked, IsFileFault, IsUnread, Names, asked_of, config_in, names_in, names_of}
 use Rattle.ps_run.specs.Driving as driving

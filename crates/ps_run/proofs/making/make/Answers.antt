@@ -6,7 +6,7 @@ use Rattle.ps_language.specs.Effect.{Around, Scene}
 use Rattle.ps_language.specs.Schedules.{moves}
 use Rattle.ps_language.specs.World.{Status}
 use Rattle.ps_language.specs.Worlds.{starting_world}
-use Rattle.ps_acts.specs.Acts as acts
+use Rattle.ps_ops_state.specs.Acts as acts
 use Rattle.ps_mem.specs.Bounded.{bounded_space}
 use Rattle.ps_mem.specs.Heap.{Space}
 use Rattle.ps_mem.specs.Plain.{plain_space}

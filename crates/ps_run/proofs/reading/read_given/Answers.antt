@@ -1,7 +1,7 @@
 use Rattle.std.proofs.Common.{◌≡◌, ℕ, Option, Some, List, Err, inr, refl, sym, subst, rules, Bor, IfSome}
 use Rattle.std.specs.Option.{option_map}
-use Rattle.ps_schedules.specs.Texts.{IsBadAt}
-use Rattle.ps_schedules.specs.declared.reading.ScheduleFault.{ScheduleFault}
+use Rattle.ps_run_schedules.specs.Texts.{IsBadAt}
+use Rattle.ps_run_schedules.specs.declared.reading.ScheduleFault.{ScheduleFault}
 use Rattle.ps_run.specs.Driving as driving
 use Rattle.ps_run.specs.Telling.{Tells}
 use Rattle.ps_run.specs.Driving.{HasNoSchedule, IsUnread, names_of}

@@ -1,6 +1,6 @@
 use Rattle.std.proofs.Common.{◌≡◌, ◌++◌, Some, [], Err, length, refl, ap, sym, subst, ◌∙◌, rules, append_assoc, append-nil, IfSome}
-use Rattle.ps_schedules.specs.Texts.{IsBadAt, text_of}
-use Rattle.ps_schedules.specs.declared.reading.ScheduleFault.{ScheduleFault}
+use Rattle.ps_run_schedules.specs.Texts.{IsBadAt, text_of}
+use Rattle.ps_run_schedules.specs.declared.reading.ScheduleFault.{ScheduleFault}
 use Rattle.ps_run.specs.declared.files.ReadFault.{ReadFault}
 use Rattle.ps_run.specs.declared.files.ReadFault.TheVariants.{Memory}
 use Rattle.ps_run.proofs.ReadParts.{all_read, if_known, none_left, of_known, read_more}

@@ -1,5 +1,5 @@
 use Rattle.std.proofs.Common.{◌≡◌, ◌++◌, List, ℕ, Some}
-use Rattle.ps_schedules.specs.Texts.{AreEntries, text_of}
+use Rattle.ps_run_schedules.specs.Texts.{AreEntries, text_of}
 use Rattle.ps_run.proofs.ReadParts.{IsReadTo}
 use Rattle.ps_run.proofs.reading.read_schedule.Given as goal
 

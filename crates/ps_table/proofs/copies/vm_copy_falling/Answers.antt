@@ -1,10 +1,10 @@
 use Rattle.std.proofs.Common.{arith, refl, drop, ◌≡◌, ◌+◌, ◌-◌, ℕ, [], ◌∷◌, sym, ap, ◌∙◌, subst}
-use Rattle.ps_core_parts.specs.declared.events.Event.TheVariants.{FieldStore, VmLoad}
-use Rattle.ps_core_parts.specs.declared.events.Vm.{Vm}
-use Rattle.ps_core_parts.specs.Conditions.{VmMay}
-use Rattle.ps_core_parts.specs.Steps.{table_size, field_stored}
-use Rattle.ps_parts_memory.specs.Stores.{numbers, fields_stored_down}
-use Rattle.ps_parts_memory.specs.Laws.{words_copied}
+use Rattle.ps_core_machine.specs.declared.events.Event.TheVariants.{FieldStore, VmLoad}
+use Rattle.ps_core_machine.specs.declared.events.Vm.{Vm}
+use Rattle.ps_core_machine.specs.Conditions.{VmMay}
+use Rattle.ps_core_machine.specs.Steps.{table_size, field_stored}
+use Rattle.ps_core_memory.specs.Stores.{numbers, fields_stored_down}
+use Rattle.ps_core_memory.specs.Laws.{words_copied}
 use Rattle.ps_table.proofs.CopySteps.{falls_from, falling_all, falling_none}
 use Rattle.ps_table.proofs.Facts.{field_place, vm_facts}
 use Rattle.ps_table.proofs.Kept.{keeps_on, keeps_by, keeps_same}

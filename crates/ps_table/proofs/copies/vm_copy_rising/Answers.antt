@@ -1,8 +1,8 @@
 use Rattle.std.proofs.Common.{arith, ◌≡◌, ◌+◌, ℕ, [], ◌∷◌, sym, ap, ◌∙◌, subst}
-use Rattle.ps_core_parts.specs.declared.events.Event.TheVariants.{FieldStore, VmLoad}
-use Rattle.ps_core_parts.specs.declared.events.Vm.{Vm}
-use Rattle.ps_core_parts.specs.Conditions.{VmMay}
-use Rattle.ps_core_parts.specs.Steps.{table_size, field_stored}
+use Rattle.ps_core_machine.specs.declared.events.Event.TheVariants.{FieldStore, VmLoad}
+use Rattle.ps_core_machine.specs.declared.events.Vm.{Vm}
+use Rattle.ps_core_machine.specs.Conditions.{VmMay}
+use Rattle.ps_core_machine.specs.Steps.{table_size, field_stored}
 use Rattle.ps_table.proofs.CopySteps.{rises}
 use Rattle.ps_table.proofs.Facts.{field_place, vm_facts}
 use Rattle.ps_table.proofs.Kept.{keeps_on, keeps_by}

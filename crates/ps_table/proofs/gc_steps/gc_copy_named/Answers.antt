@@ -1,5 +1,5 @@
 use Rattle.std.proofs.Common.{rules, arith, ◌+◌, ℕ, sym, subst}
-use Rattle.ps_core_parts.specs.declared.events.Event.TheVariants.{CopyLoad}
+use Rattle.ps_core_machine.specs.declared.events.Event.TheVariants.{CopyLoad}
 use Rattle.ps_table.proofs.Allows.{gc_allows, GcStep, gc_known}
 use Rattle.ps_table.proofs.GcFacts.{gc_knows, field_place}
 use Rattle.ps_table.proofs.GcMoves.{gc_copy_step}

@@ -1,7 +1,7 @@
 use Rattle.std.proofs.Common.{rules, arith, ◌≡◌, ◌+◌, Bool, ℕ, sym, subst}
-use Rattle.ps_core_parts.specs.declared.events.Event.TheVariants.{ReplicaFieldStore}
-use Rattle.ps_core_parts.specs.Objects.{pair_of}
-use Rattle.ps_core_parts.specs.Steps.{replica_of}
+use Rattle.ps_core_machine.specs.declared.events.Event.TheVariants.{ReplicaFieldStore}
+use Rattle.ps_core_machine.specs.Objects.{pair_of}
+use Rattle.ps_core_machine.specs.Steps.{replica_of}
 use Rattle.ps_table.proofs.Allows.{gc_store_allows, GcStep, gc_known}
 use Rattle.ps_table.proofs.GcFacts.{gc_knows, copy_place}
 use Rattle.ps_table.proofs.GcMoves.{gc_fill_step}

@@ -1,5 +1,5 @@
 use Rattle.std.proofs.Common.{rules, arith}
-use Rattle.ps_core_parts.specs.declared.events.Event.TheVariants.{CycleStore}
+use Rattle.ps_core_machine.specs.declared.events.Event.TheVariants.{CycleStore}
 use Rattle.ps_table.proofs.Allows.{both_allows, both_known}
 use Rattle.ps_table.proofs.GcMoves.{both_flip_step}
 use Rattle.ps_table.proofs.joins.flip.Goals as goal

@@ -1,5 +1,5 @@
 use Rattle.std.proofs.Common.{rules, arith, sym, ap, ◌∙◌}
-use Rattle.ps_core_parts.specs.Steps.{table_size}
+use Rattle.ps_core_machine.specs.Steps.{table_size}
 use Rattle.ps_table.proofs.Seats.{splits}
 use Rattle.ps_table.proofs.joins.part.Goals as goal
 

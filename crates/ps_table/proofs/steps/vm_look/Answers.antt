@@ -1,5 +1,5 @@
 use Rattle.std.proofs.Common.{rules, arith, ◌≡◌, ◌+◌}
-use Rattle.ps_core_parts.specs.Steps.{next_word}
+use Rattle.ps_core_machine.specs.Steps.{next_word}
 use Rattle.ps_table.proofs.Allows.{vm_allows, vm_known}
 use Rattle.ps_table.proofs.Facts.{clear_place, knows}
 use Rattle.ps_table.proofs.Moves.{vm_look_step}

@@ -1,6 +1,6 @@
 use Rattle.std.proofs.Common.{◌≡◌, ◌+◌, ◌∷◌, [], sym, ap, ◌∙◌, arith}
-use Rattle.ps_core_parts.specs.declared.events.Event.TheVariants.{HeaderStore}
-use Rattle.ps_core_parts.specs.declared.events.Vm.{Vm}
+use Rattle.ps_core_machine.specs.declared.events.Event.TheVariants.{HeaderStore}
+use Rattle.ps_core_machine.specs.declared.events.Vm.{Vm}
 use Rattle.ps_table.specs.declared.plays.View.{View}
 use Rattle.ps_table.specs.Events.{word_cleared, words_cleared}
 use Rattle.ps_table.specs.Shown.{SeatState, vm_did}

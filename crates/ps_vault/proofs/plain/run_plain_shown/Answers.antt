@@ -4,7 +4,7 @@ use Rattle.ps_language.specs.Schedules.{count_of, moves}
 use Rattle.ps_language.proofs.ScheduleLaws.{count_of-nil}
 use Rattle.ps_language.specs.Worlds.{starting_world, world}
 use Rattle.ps_mem.specs.Objects.{heap_in}
-use Rattle.ps_schedules.specs.Keeping.{Kept}
+use Rattle.ps_run_schedules.specs.Keeping.{Kept}
 use Rattle.ps_vault.specs.Order.{HasTurn, InOrder}
 use Rattle.ps_vault.specs.Reports.{are_ordinary, IsRunOf, IsStarved}
 use Rattle.ps_vault.specs.Screens.{HasShown}

@@ -1,6 +1,6 @@
 use Rattle.std.proofs.Common.{◌≡◌, ◌≤◌, ◌+◌, ◌-◌, ◌*◌, false, take, length, None}
 use Rattle.ps_language.specs.Worlds.{world}
-use Rattle.ps_schedules.specs.Keeping.{most_of}
+use Rattle.ps_run_schedules.specs.Keeping.{most_of}
 use Rattle.ps_vault.specs.Screens.{HasShown}
 use Rattle.ps_vault.specs.Stories.{world_at}
 use Rattle.ps_vault.proofs.replays.replay_shown.Given as goal

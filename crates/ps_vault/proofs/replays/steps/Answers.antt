@@ -3,7 +3,7 @@ use Rattle.std.proofs.Common.{◌≡◌, ◌+◌, ◌≤◌, inr, false, length,
 use Rattle.std.specs.Prelude.{not}
 use Rattle.ps_language.specs.Keeping.{PrintsOn}
 use Rattle.ps_language.specs.Schedules.{plain_move}
-use Rattle.ps_schedules.specs.Turns.{added_times}
+use Rattle.ps_run_schedules.specs.Turns.{added_times}
 use Rattle.ps_vault.specs.Screens.{ShowsOn, Sight}
 use Rattle.ps_vault.specs.Reports.{Bounds}
 use Rattle.ps_vault.specs.Stories.{Story, HasRoom, world_at}

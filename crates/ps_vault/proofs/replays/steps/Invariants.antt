@@ -1,6 +1,6 @@
 use Rattle.std.proofs.Common.{◌≡◌, ◌≤◌, ◌-◌, false, length, None}
 use Rattle.ps_language.specs.Schedules.{plain_move}
-use Rattle.ps_schedules.specs.Turns.{added_times}
+use Rattle.ps_run_schedules.specs.Turns.{added_times}
 use Rattle.ps_vault.specs.Screens.{ShowsOn}
 use Rattle.ps_vault.specs.Stories.{world_at}
 use Rattle.ps_vault.proofs.replays.steps.Given as goal

@@ -1,8 +1,8 @@
 use Rattle.std.proofs.Common.{◌≡◌, ap, sym, ◌∙◌, subst}
-use Rattle.ps_core_parts.specs.Bounds.{Bounded, CanStep}
-use Rattle.ps_core_parts.specs.Conditions.{Permitted}
+use Rattle.ps_core_machine.specs.Bounds.{Bounded, CanStep}
+use Rattle.ps_core_machine.specs.Conditions.{Permitted}
 use Rattle.ps_core_laws.specs.Runs.{History, run}
-use Rattle.ps_core_parts.specs.Steps.{State}
+use Rattle.ps_core_machine.specs.Steps.{State}
 use Rattle.ps_core_laws.proofs.RunFacts.{bounded_run, can_run}
 use Rattle.ps_core.proofs.runs.Core.after.Goals as goal
 

@@ -1,9 +1,9 @@
 use Rattle.std.proofs.Common.{◌≡◌, ◌∷◌, List, ap, sym, ◌∙◌, subst}
 use Rattle.std.specs.Prelude.{reverse}
-use Rattle.ps_core_parts.specs.declared.events.Event.{Event}
-use Rattle.ps_core_parts.specs.Conditions.{Permitted}
+use Rattle.ps_core_machine.specs.declared.events.Event.{Event}
+use Rattle.ps_core_machine.specs.Conditions.{Permitted}
 use Rattle.ps_core_laws.specs.Runs.{History, IsRun, IsSpace, run}
-use Rattle.ps_core_parts.specs.Steps.{State, happens}
+use Rattle.ps_core_machine.specs.Steps.{State, happens}
 use Rattle.ps_core_laws.proofs.RunFacts.{reverse_snoc}
 use Rattle.ps_core.proofs.runs.Core.keep.Goals as goal
 

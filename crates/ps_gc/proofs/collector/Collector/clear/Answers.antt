@@ -1,5 +1,5 @@
 use Rattle.std.proofs.Common.{arith, ◌≡◌, ◌∙◌}
-use Rattle.ps_core_parts.specs.Steps.{other_base}
+use Rattle.ps_core_machine.specs.Steps.{other_base}
 use Rattle.ps_core_laws.proofs.Lookups.{not_in_replica}
 use Rattle.ps_gc.proofs.collector.Collector.clear.Goals as goal
 

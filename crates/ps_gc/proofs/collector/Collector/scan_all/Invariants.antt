@@ -1,6 +1,6 @@
 use Rattle.std.proofs.Common.{◌≡◌, ◌+◌, ◌-◌, ◌^◌, List, true}
-use Rattle.ps_core_parts.specs.declared.events.Event.{Event}
-use Rattle.ps_core_parts.specs.Steps.{knows_open}
+use Rattle.ps_core_machine.specs.declared.events.Event.{Event}
+use Rattle.ps_core_machine.specs.Steps.{knows_open}
 use Rattle.ps_table.specs.Events.{gc_did_all}
 use Rattle.ps_gc.specs.Ending.{Scans}
 use Rattle.ps_gc.proofs.collector.Collector.scan_all.Given as goal

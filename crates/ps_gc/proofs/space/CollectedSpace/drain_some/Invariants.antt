@@ -1,5 +1,5 @@
 use Rattle.std.proofs.Common.{◌≡◌, true}
-use Rattle.ps_core_parts.specs.Steps.{knows_open}
+use Rattle.ps_core_machine.specs.Steps.{knows_open}
 use Rattle.ps_table.specs.Mirrored.{KeepsVm}
 use Rattle.ps_gc.proofs.space.CollectedSpace.drain_some.Given as goal
 

@@ -9,7 +9,6 @@ invariant_of-self g c =
     let did = c.drain_one.ensures.did in record {
       sits = sits_on _ _ _ _ _ (ap (λ t. t.words) c.drain_one.ensures.same) was.sits
           (keeps_vm _ _ did.0 did.1) c.drain_one.new.self.gc.empty;
-      is_slot = was.is_slot;
     }
 
 pub returns-in-Took-clause-vm : goal.returns-in-Took-clause-vm
@@ -21,7 +20,6 @@ invariant_of-self-2 g c =
     let did = c.drain_one.ensures.did in record {
       sits = sits_on _ _ _ _ _ (ap (λ t. t.words) c.drain_one.ensures.same) was.sits
           (keeps_vm _ _ did.0 did.1) c.drain_one.new.self.gc.empty;
-      is_slot = omega arith;
     }
 
 pub returns : goal.returns

@@ -9,7 +9,6 @@ invariant_of-self g c =
     let did = c.scan_one.ensures.did in record {
       sits = sits_on _ _ _ _ _ (ap (λ t. t.words) c.scan_one.ensures.same) was.sits
           (keeps_vm _ _ did.0 did.1) c.scan_one.new.self.gc.empty;
-      is_slot = was.is_slot;
     }
 
 pub loop-scanned-preserved : goal.loop-scanned-preserved

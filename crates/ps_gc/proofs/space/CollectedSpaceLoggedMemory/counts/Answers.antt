@@ -3,7 +3,7 @@ use Rattle.std.specs.Prelude.{min}
 use Rattle.std.specs.List.{sum_by}
 use Rattle.std.proofs.lemmas.List.{take_all}
 use Rattle.ps_record.specs.declared.Record.{Record}
-use Rattle.ps_core_parts.specs.declared.events.Gc.{Gc}
+use Rattle.ps_core_machine.specs.declared.events.Gc.{Gc}
 use Rattle.ps_gc.specs.Keeps.{taken_in_all}
 use Rattle.ps_gc.proofs.Ending.{cycles_meet}
 use Rattle.ps_gc.proofs.Spaces.{taken_wide}

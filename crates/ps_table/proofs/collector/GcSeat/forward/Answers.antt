@@ -1,6 +1,6 @@
 use Rattle.std.proofs.Common.{arith, ◌≡◌, ◌+◌, ◌*◌, ◌-◌, ℕ, sym, ap, ◌∙◌, subst}
-use Rattle.ps_core_parts.specs.declared.events.Event.TheVariants.{ForwardStore}
-use Rattle.ps_core_parts.specs.Steps.{forwarding}
+use Rattle.ps_core_machine.specs.declared.events.Event.TheVariants.{ForwardStore}
+use Rattle.ps_core_machine.specs.Steps.{forwarding}
 use Rattle.ps_table.proofs.Allows.{gc_store_allows, GcStep, gc_known}
 use Rattle.ps_table.proofs.GcMoves.{gc_forward_step}
 use Rattle.ps_table.proofs.GcFacts.{gc_knows, forward_inside, forward_small, address_back, packed_is}

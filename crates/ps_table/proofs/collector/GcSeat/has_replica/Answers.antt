@@ -1,15 +1,15 @@
 use Rattle.std.proofs.Common.{arith, ◌≡◌, ◌+◌, ℕ, true, false, refl, sym, ◌∙◌, subst}
 use Rattle.ps_word.specs.Format.{address_in}
 use Rattle.ps_word.specs.Readers.{is_reference}
-use Rattle.ps_core_parts.specs.declared.events.Vm.{Vm}
-use Rattle.ps_core_parts.specs.declared.events.Gc.{Gc}
-use Rattle.ps_core_parts.specs.Objects.{value_stands}
-use Rattle.ps_core_parts.specs.Steps.{is_open}
+use Rattle.ps_core_machine.specs.declared.events.Vm.{Vm}
+use Rattle.ps_core_machine.specs.declared.events.Gc.{Gc}
+use Rattle.ps_core_machine.specs.Objects.{value_stands}
+use Rattle.ps_core_machine.specs.Steps.{is_open}
 use Rattle.ps_table.specs.Shown.{BothFind}
 use Rattle.ps_table.proofs.Facts.{vm_facts}
 use Rattle.ps_table.proofs.Seconds.{BothTell, both_tell, reference_stands, object_of, read_some, read_none, has_none}
 use Rattle.ps_table.proofs.Seconds.{has_as_told, has_unread}
-use Rattle.ps_parts_memory.proofs.Loads.{stays, behind_heads}
+use Rattle.ps_core_memory.proofs.Loads.{stays, behind_heads}
 use Rattle.ps_table.proofs.Looking.{no_looks, one_look, no_gc_look}
 use Rattle.ps_table.proofs.collector.GcSeat.has_replica.Goals as goal
 

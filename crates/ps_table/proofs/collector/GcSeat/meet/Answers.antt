@@ -1,5 +1,5 @@
 use Rattle.std.proofs.Common.{sym, ap, ◌∙◌}
-use Rattle.ps_core_parts.specs.declared.events.Vm.{Vm}
+use Rattle.ps_core_machine.specs.declared.events.Vm.{Vm}
 use Rattle.ps_table.proofs.Facts.{words}
 use Rattle.ps_table.proofs.collector.GcSeat.meet.Goals as goal
 

@@ -3,10 +3,10 @@ use Rattle.std.proofs.Common.{ap, ◌∙◌}
 use Rattle.std.specs.Prelude.{slice_set}
 use Rattle.std.proofs.lemmas.List.{drop_more, drop-set-lt, drop-drop, take_more, take_more_set, map_push}
 use Rattle.ps_word.specs.declared.words.Word.{Word}
-use Rattle.ps_core_parts.specs.declared.events.Gc.{Gc}
-use Rattle.ps_core_parts.specs.Objects.{renamed_value, value_has_replica, values_have_replicas}
+use Rattle.ps_core_machine.specs.declared.events.Gc.{Gc}
+use Rattle.ps_core_machine.specs.Objects.{renamed_value, value_has_replica, values_have_replicas}
 use Rattle.ps_core_laws.proofs.HeapTests.{and_parts}
-use Rattle.ps_parts_memory.specs.Stores.{number_of, numbers}
+use Rattle.ps_core_memory.specs.Stores.{number_of, numbers}
 use Rattle.ps_table.specs.Events.{gc_did_all, root_look, root_looks}
 use Rattle.ps_table.proofs.Flipping.{gc_all-append}
 use Rattle.ps_table.proofs.collector.GcSeat.rename.Goals as goal

@@ -2,11 +2,11 @@ use Rattle.std.proofs.Common.{arith, ◌≡◌, ◌+◌, ℕ, true, [], ◌∷�
 use Rattle.ps_word.specs.declared.headers.Forward.{Forward}
 use Rattle.ps_word.specs.Format.{address_in}
 use Rattle.ps_word.specs.Readers.{is_reference, readdressed}
-use Rattle.ps_core_parts.specs.declared.events.Event.TheVariants.{GcLoad}
-use Rattle.ps_core_parts.specs.declared.events.Pair.{Pair}
-use Rattle.ps_core_parts.specs.declared.events.Gc.{Gc}
-use Rattle.ps_core_parts.specs.Objects.{pair_of, value_has_replica}
-use Rattle.ps_core_parts.specs.Steps.{gc_after}
+use Rattle.ps_core_machine.specs.declared.events.Event.TheVariants.{GcLoad}
+use Rattle.ps_core_machine.specs.declared.events.Pair.{Pair}
+use Rattle.ps_core_machine.specs.declared.events.Gc.{Gc}
+use Rattle.ps_core_machine.specs.Objects.{pair_of, value_has_replica}
+use Rattle.ps_core_machine.specs.Steps.{gc_after}
 use Rattle.ps_table.specs.Events.{gc_did_all}
 use Rattle.ps_table.specs.Shown.{GcFinds}
 use Rattle.ps_table.proofs.Flipping.{Looked, looked, paired, look_one, renamed_to, forward_read, forward_none}

@@ -1,8 +1,8 @@
 use Rattle.std.proofs.Common.{arith, ◌≡◌, ℕ, sym, ap, ◌∙◌, subst}
 use Rattle.std.specs.Prelude.{slice_get}
 use Rattle.ps_record.specs.Format.{ring_place, read_record}
-use Rattle.ps_core_parts.specs.declared.events.Event.TheVariants.{TakeLoad}
-use Rattle.ps_core_parts.specs.Objects.{log_of}
+use Rattle.ps_core_machine.specs.declared.events.Event.TheVariants.{TakeLoad}
+use Rattle.ps_core_machine.specs.Objects.{log_of}
 use Rattle.ps_core_laws.proofs.Rings.{ring_in}
 use Rattle.ps_table.specs.Shown.{slot_at, gc_did, BothFind, GcFinds}
 use Rattle.ps_table.proofs.Allows.{gc_allows, GcStep, gc_known}

@@ -1,9 +1,9 @@
 use Rattle.std.proofs.Common.{◌≡◌, ◌+◌, ℕ, true, false, true≢false, ap, sym, subst, ◌∙◌, arith}
 use Rattle.std.proofs.lemmas.List.{get_or_default}
-use Rattle.ps_core_parts.specs.Conditions.{HasRoom}
-use Rattle.ps_core_parts.specs.declared.events.Vm.{Vm}
-use Rattle.ps_parts_memory.specs.Laws.{AfterClose, seen}
-use Rattle.ps_parts_memory.specs.Memory.{grants_of}
+use Rattle.ps_core_machine.specs.Conditions.{HasRoom}
+use Rattle.ps_core_machine.specs.declared.events.Vm.{Vm}
+use Rattle.ps_core_memory.specs.Laws.{AfterClose, seen}
+use Rattle.ps_core_memory.specs.Memory.{grants_of}
 use Rattle.ps_table.proofs.Facts.{knows}
 use Rattle.ps_table.proofs.Full.{full_behind, full_left}
 use Rattle.ps_table.proofs.Kept.{keeps_on}
@@ -26,9 +26,9 @@ pub returns-clause-already : goal.returns-clause-already
 returns-clause-already g c = λ shut.
     let s = c.requires.sits.1 in
     let wide = s.mirrors.wide_shut in
-    let below = c.requires.slot in
+    let below = rw c.index.ensures.is at c.index.ensures.within in
     let off = get_or_default c.args.self.now.shut c.args.slot true false (omega arith)
-    ∙ c.if-self-slot.false in
+    ∙ (rw c.index.ensures.is at c.if-self-index.false) in
     absurd (true≢false (sym shut ∙ (sym (s.mirrors.shut_is c.args.slot below) ∙ off)))
 
 pub returns-then-is_full-clause-kept : goal.returns-then-is_full-clause-kept
@@ -47,7 +47,7 @@ returns-then-is_full-clause-taken g c =
     let m = c.args.seat.now.me.0 in
     let slot = c.args.slot in
     let head = c.see_head.result in
-    λ _ gc. full_behind m.vm m.gc slot head (knows m.vm c.requires.sits.1.runs) c.requires.slot
+    λ _ gc. full_behind m.vm m.gc slot head (knows m.vm c.requires.sits.1.runs) (rw c.index.ensures.is at c.index.ensures.within)
     c.see_head.ensures.sees
     (subst (λ (x : Vm). HasRoom x slot → ⊥) (ap (λ v. v.vm) c.see_head.ensures.did)
     (c.is_full.ensures.0 c.if-is_full.true))

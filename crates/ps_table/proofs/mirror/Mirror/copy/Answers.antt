@@ -1,14 +1,14 @@
 use Rattle.std.proofs.Common.{arith, ◌≡◌, ℕ, true, length, sym, ap, ◌∙◌, subst}
 use Rattle.std.specs.Prelude.{slice_index, if◌then◌else◌}
 use Rattle.ps_record.specs.declared.Record.TheVariants.{Place}
-use Rattle.ps_core_parts.specs.declared.events.Event.TheVariants.{RecordStore}
-use Rattle.ps_core_parts.specs.declared.events.Vm.{Vm}
-use Rattle.ps_core_parts.specs.Conditions.{VmMay}
-use Rattle.ps_core_parts.specs.Objects.{log_of}
-use Rattle.ps_core_parts.specs.Steps.{table_size}
-use Rattle.ps_parts_memory.specs.Laws.{CanCopy, words_copied}
-use Rattle.ps_parts_memory.specs.Stores.{numbers}
-use Rattle.ps_parts_memory.proofs.Copied.{copies}
+use Rattle.ps_core_machine.specs.declared.events.Event.TheVariants.{RecordStore}
+use Rattle.ps_core_machine.specs.declared.events.Vm.{Vm}
+use Rattle.ps_core_machine.specs.Conditions.{VmMay}
+use Rattle.ps_core_machine.specs.Objects.{log_of}
+use Rattle.ps_core_machine.specs.Steps.{table_size}
+use Rattle.ps_core_memory.specs.Laws.{CanCopy, words_copied}
+use Rattle.ps_core_memory.specs.Stores.{numbers}
+use Rattle.ps_core_memory.proofs.Copied.{copies}
 use Rattle.ps_table.specs.Mirrored.{owes}
 use Rattle.ps_table.specs.Shown.{vm_did}
 use Rattle.ps_table.proofs.Facts.{vm_facts}

@@ -1,7 +1,7 @@
 use Rattle.std.proofs.Common.{◌+◌, ◌∷◌, length, take, sym, ap, ◌∙◌, arith}
-use Rattle.ps_core_parts.specs.declared.events.Event.TheVariants.{VmLoad}
-use Rattle.ps_parts_memory.specs.Memory.{heap_of}
-use Rattle.ps_parts_memory.proofs.Loads.{control_loads}
+use Rattle.ps_core_machine.specs.declared.events.Event.TheVariants.{VmLoad}
+use Rattle.ps_core_memory.specs.Memory.{heap_of}
+use Rattle.ps_core_memory.proofs.Loads.{control_loads}
 use Rattle.ps_table.specs.Events.{did_all, head_loads}
 use Rattle.ps_table.specs.Shown.{vm_did}
 use Rattle.ps_table.proofs.Counts.{one_more_head, all_heads, flips_found}
@@ -20,7 +20,8 @@ loop-slot-preserved g c =
     let slot = c.loop-slot.slot in
     let i = c.loop-slot.invariant in
     let head = c.see_head.result in
-    let did = c.see_head.ensures.did in
+    let did = rw c.numbered-slot.ensures at c.see_head.ensures.did in
+    let mirror = rw c.numbered-slot.ensures at c.see_head.ensures.mirror in
     let wide = (vm_facts c.loop-slot.seat.me.0.vm i.sits.runs).wide_heads in
     let long = ap length i.sits.mirrors.heads_are in
     record {
@@ -31,7 +32,7 @@ loop-slot-preserved g c =
       did = did ∙ (ap (λ m. vm_did m (VmLoad (2 + slot) head)) i.did
           ∙ (one_more_head init flips n.heads slot head (omega arith)
           ∙ ap (λ x. did_all init (VmLoad 0 flips ∷ head_loads 0 (take (slot + 1) x.heads)))
-          (sym c.see_head.ensures.mirror)));
+          (sym mirror)));
     }
 
 pub returns : goal.returns

@@ -1,11 +1,11 @@
 use Rattle.std.proofs.Common.{arith, ◌≡◌, ◌+◌, ◌<◌, ◌^◌, true, false, refl, sym, ap, ◌∙◌, subst}
 use Rattle.std.specs.Prelude.{replicate}
-use Rattle.ps_core_parts.specs.declared.events.Event.TheVariants.{EpochStore}
-use Rattle.ps_core_parts.specs.declared.events.Vm.{Vm}
-use Rattle.ps_core_parts.specs.Steps.{is_open, vm_after}
-use Rattle.ps_parts_memory.specs.Memory.{grants_of}
-use Rattle.ps_parts_memory.specs.Laws.{AfterOpen}
-use Rattle.ps_parts_memory.proofs.Cycles.{opens}
+use Rattle.ps_core_machine.specs.declared.events.Event.TheVariants.{EpochStore}
+use Rattle.ps_core_machine.specs.declared.events.Vm.{Vm}
+use Rattle.ps_core_machine.specs.Steps.{is_open, vm_after}
+use Rattle.ps_core_memory.specs.Memory.{grants_of}
+use Rattle.ps_core_memory.specs.Laws.{AfterOpen}
+use Rattle.ps_core_memory.proofs.Cycles.{opens}
 use Rattle.ps_table.proofs.Facts.{knows, vm_facts}
 use Rattle.ps_table.proofs.Kept.{keeps_by}
 use Rattle.ps_table.proofs.Mirrored.{goes_by, mirrors_opened}

@@ -1,12 +1,12 @@
 use Rattle.std.proofs.Common.{arith, ◌+◌, refl, sym, ap, subst}
 use Rattle.std.specs.Prelude.{slice_index, slice_set, true}
 use Rattle.ps_record.specs.declared.Record.TheVariants.{Close}
-use Rattle.ps_core_parts.specs.declared.events.Event.TheVariants.{RecordStore}
-use Rattle.ps_core_parts.specs.declared.events.Vm.{Vm}
-use Rattle.ps_core_parts.specs.Steps.{vm_after}
-use Rattle.ps_parts_memory.specs.Memory.{grants_of}
-use Rattle.ps_parts_memory.specs.Laws.{AfterClose}
-use Rattle.ps_parts_memory.proofs.Cycles.{closes_logs}
+use Rattle.ps_core_machine.specs.declared.events.Event.TheVariants.{RecordStore}
+use Rattle.ps_core_machine.specs.declared.events.Vm.{Vm}
+use Rattle.ps_core_machine.specs.Steps.{vm_after}
+use Rattle.ps_core_memory.specs.Memory.{grants_of}
+use Rattle.ps_core_memory.specs.Laws.{AfterClose}
+use Rattle.ps_core_memory.proofs.Cycles.{closes_logs}
 use Rattle.ps_table.proofs.Facts.{few_logged, knows, vm_facts}
 use Rattle.ps_table.proofs.Kept.{keeps_by}
 use Rattle.ps_table.proofs.Mirrored.{goes_by, mirrors_closed}
@@ -18,11 +18,11 @@ overflow_add-self g c =
     let few = few_logged c.args.seat.now.me.0.vm s.runs c.args.slot c.requires.can.in_range in
     let logged = s.mirrors.logged_is c.args.slot c.requires.can.in_range in
     let high = few.1 in
-    omega arith
+    rw c.index.ensures.is (omega arith)
 
 pub vm_record-requires-clause-is : goal.vm_record-requires-clause-is
 vm_record-requires-clause-is g c =
-    c.requires.sits.1.mirrors.logged_is c.args.slot c.requires.can.in_range
+    rw c.index.ensures.is (c.requires.sits.1.mirrors.logged_is c.args.slot c.requires.can.in_range)
 
 pub vm_record-requires-clause-may : goal.vm_record-requires-clause-may
 vm_record-requires-clause-may g c =
@@ -38,7 +38,8 @@ returns-clause-sits g c =
     let s = c.requires.sits.1 in
     let slot = c.args.slot in
     let event = RecordStore slot Close in
-    let does = c.vm_record.ensures.does in (
+    let does = c.vm_record.ensures.does in
+    rw (c.index.ensures.is, c.index-2.ensures.is, c.index-3.ensures.is) (
       c.vm_record.ensures.same.0,
       goes_by _ _ m n c.vm_record.new.seat.me (record n {
         fresh_from = n.end;

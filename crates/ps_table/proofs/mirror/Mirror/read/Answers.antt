@@ -1,5 +1,5 @@
 use Rattle.std.proofs.Common.{refl, ap, ◌∙◌}
-use Rattle.ps_core_parts.specs.declared.events.Event.TheVariants.{VmLoad}
+use Rattle.ps_core_machine.specs.declared.events.Event.TheVariants.{VmLoad}
 use Rattle.ps_table.proofs.Kept.{keeps_by}
 use Rattle.ps_table.proofs.Mirrored.{goes_by}
 use Rattle.ps_table.proofs.mirror.Mirror.read.Goals as goal

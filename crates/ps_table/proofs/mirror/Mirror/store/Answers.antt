@@ -1,10 +1,10 @@
 use Rattle.std.proofs.Common.{arith, length, sym, ap, ◌∙◌}
 use Rattle.ps_record.specs.declared.Record.TheVariants.{Place}
-use Rattle.ps_core_parts.specs.declared.events.Event.TheVariants.{RecordStore}
-use Rattle.ps_core_parts.specs.declared.events.Vm.{Vm}
-use Rattle.ps_core_parts.specs.Steps.{table_size}
-use Rattle.ps_parts_memory.specs.Laws.{CanStore}
-use Rattle.ps_parts_memory.specs.Stores.{numbers}
+use Rattle.ps_core_machine.specs.declared.events.Event.TheVariants.{RecordStore}
+use Rattle.ps_core_machine.specs.declared.events.Vm.{Vm}
+use Rattle.ps_core_machine.specs.Steps.{table_size}
+use Rattle.ps_core_memory.specs.Laws.{CanStore}
+use Rattle.ps_core_memory.specs.Stores.{numbers}
 use Rattle.ps_table.specs.Events.{field_stores}
 use Rattle.ps_table.specs.Mirrored.{owes}
 use Rattle.ps_table.proofs.Kept.{keeps_on, keeps_all, keeps_owed}

@@ -1,6 +1,6 @@
 use Rattle.std.proofs.Common.{sym, ap, ◌∙◌, subst, []}
-use Rattle.ps_core_parts.specs.declared.events.Vm.{Vm}
-use Rattle.ps_core_parts.specs.Steps.{table_size}
+use Rattle.ps_core_machine.specs.declared.events.Vm.{Vm}
+use Rattle.ps_core_machine.specs.Steps.{table_size}
 use Rattle.ps_table.specs.Mirrored.{Mirrors}
 use Rattle.ps_table.proofs.Allows.{vm_runs}
 use Rattle.ps_table.proofs.mutator.VmSeat.seated.Goals as goal

@@ -1,8 +1,8 @@
 use Rattle.std.proofs.Common.{rules, ap, arith, ◌∙◌, ◌≡◌, length}
 use Rattle.std.proofs.lemmas.List.{length-replicate}
-use Rattle.ps_core_parts.specs.Steps.{table_size}
-use Rattle.ps_parts_memory.specs.Memory.{heap_of}
-use Rattle.ps_parts_memory.proofs.Room.{heap_start}
+use Rattle.ps_core_machine.specs.Steps.{table_size}
+use Rattle.ps_core_memory.specs.Memory.{heap_of}
+use Rattle.ps_core_memory.proofs.Room.{heap_start}
 use Rattle.ps_table.specs.Shown.{vm_side}
 use Rattle.ps_table.proofs.Seats.{opens, splits}
 use Rattle.ps_table.proofs.shared.Shared.new.Goals as goal

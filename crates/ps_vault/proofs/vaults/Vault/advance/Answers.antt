@@ -8,10 +8,10 @@ use Rattle.ps_language.specs.Locks.{is_ready}
 use Rattle.ps_language.specs.Schedules.{Move, plain_move, count_of, moves}
 use Rattle.ps_language.specs.Worlds.{starting_world, world}
 use Rattle.ps_language.proofs.ScheduleLaws.{count_of-added}
-use Rattle.ps_world.specs.Notes.{note_of}
-use Rattle.ps_world.specs.Steps.{shown_words}
-use Rattle.ps_schedules.specs.Keeping.{Kept, MayAdd}
-use Rattle.ps_schedules.specs.Turns.{added_times, free_steps, move_of}
+use Rattle.ps_ctx.specs.Notes.{note_of}
+use Rattle.ps_ctx.specs.Steps.{shown_words}
+use Rattle.ps_run_schedules.specs.Keeping.{Kept, MayAdd}
+use Rattle.ps_run_schedules.specs.Turns.{added_times, free_steps, move_of}
 use Rattle.ps_vault.specs.Holds.{wish_in}
 use Rattle.ps_vault.specs.Order.{IsOnlyLeft, AddsSteps, NoneEnds, AllOfOne, OnlyLastMayEnd, IsNoEnd, IsNoWish, AllTell, WishesLast, WishesAs}
 use Rattle.ps_vault.specs.Reports.{are_words, fits, is_ordinary}
@@ -238,7 +238,7 @@ returns-in-Err-clause-held_up g c =
     c.in-Err.reason (rw (c.in-Some.is, c.in-Err.is) at c.go_on-made.ensures.makes)
     g.M.Memory.heap g.M.Memory.grants _ _ refl refl
     (record { space = refl; used = refl; flips = refl; cycle_open = refl; closed = refl })
-    refl refl c.slot_of.ensures.is)
+    refl refl c.slot_of.ensures)
 
 pub returns-in-Err-clause-room : goal.returns-in-Err-clause-room
 returns-in-Err-clause-room g c =

@@ -3,7 +3,7 @@ use Rattle.std.proofs.Common.{◌≡◌, refl, sym, ◌∙◌, ap, arith}
 use Rattle.std.specs.Prelude.{◌==◌, false}
 use Rattle.std.proofs.lemmas.Bool.Decides.{nat_tests}
 use Rattle.ps_language.specs.Contexts.{count_not_ended}
-use Rattle.ps_contexts.proofs.Holding.{contexts_in-count}
+use Rattle.ps_ctx_table.proofs.Holding.{contexts_in-count}
 use Rattle.ps_vault.specs.Stories.{Story, world_at}
 use Rattle.ps_vault.proofs.Keeping.{at_story}
 use Rattle.ps_vault.proofs.vaults.Vault.at_once.Given as givens

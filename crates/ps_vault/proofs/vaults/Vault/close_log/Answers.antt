@@ -2,7 +2,7 @@
 use Rattle.std.proofs.Common.{◌≡◌, false, true, refl, ap, subst, sym, ◌∙◌}
 use Rattle.std.specs.Prelude.{slice_index_or, slice_set}
 use Rattle.ps_mem.specs.Heap.{Grants, Heap}
-use Rattle.ps_roots.proofs.Moving.{over-granted}
+use Rattle.ps_gc_roots.proofs.Moving.{over-granted}
 use Rattle.ps_vault.specs.Stories.{Story, IsMemoryOf, logs_closed}
 use Rattle.ps_vault.proofs.Collected.{cycle_kept, keeps_collected, log_closed, logs_at, unclosed_full}
 use Rattle.ps_vault.proofs.Reasons.{memory_of}
@@ -40,7 +40,7 @@ pub returns-clause-already : goal.returns-clause-already
 returns-clause-already g c = λ is.
     let slot = c.args.slot in
     let before : Grants = g.M.Memory.grants c.self.inside.memory in
-    let was : before.closed slot ≡ true = sym (logs_at before.closed slot c.requires.slot)
+    let was : before.closed slot ≡ true = sym (logs_at before.closed slot c.close_log.ensures.within)
     ∙ (ap (λ (s : Story). slice_index_or s.closed slot false) c.self.view_is ∙ is) in
     let kept = c.close_log.ensures.already was in
     let cycle = ap (λ (g : Grants). g.cycle_open) kept.1
@@ -67,7 +67,7 @@ pub returns-clause-closed : goal.returns-clause-closed
 returns-clause-closed g c = λ yes.
     let slot = c.args.slot in
     let now = log_closed (g.M.Memory.grants c.self.inside.memory)
-    (g.M.Memory.grants c.close_log.new.self) slot c.requires.slot
+    (g.M.Memory.grants c.close_log.new.self) slot c.close_log.ensures.within
     (λ is. (c.close_log.ensures.already is).1) (λ is. c.close_log.ensures.closed is yes) in
     let cycle = now.0 ∙ ap (λ (s : Story). s.cycle_open) c.self.view_is in
     let logs = now.1 ∙ ap (λ (s : Story). slice_set s.closed slot true) c.self.view_is in

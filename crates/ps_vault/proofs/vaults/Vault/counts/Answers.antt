@@ -1,5 +1,5 @@
 -- All contexts are at the world that they were at, whatever is granted.
-use Rattle.ps_roots.proofs.Moving.{over-granted}
+use Rattle.ps_gc_roots.proofs.Moving.{over-granted}
 use Rattle.ps_vault.proofs.Collected.{keeps_collected}
 use Rattle.ps_vault.proofs.vaults.Vault.counts.Goals as goal
 

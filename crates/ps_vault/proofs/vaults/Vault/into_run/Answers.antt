@@ -2,7 +2,7 @@ use Rattle.std.proofs.Common.{◌==◌, ◌<◌, ◌≤◌, List, ℕ, true, sym
 use Rattle.std.proofs.lemmas.Bool.Decides.{nat_tests}
 use Rattle.ps_language.specs.Schedules.{count_of, moves}
 use Rattle.ps_mem.specs.Plain.{plain_space}
-use Rattle.ps_schedules.specs.Keeping.{Kept}
+use Rattle.ps_run_schedules.specs.Keeping.{Kept}
 use Rattle.ps_vault.specs.Reports.{all_fit, are_ordinary, EndsAs, IsOneStarved, IsRunIn}
 use Rattle.ps_vault.specs.Stories.{AreWarranted, Story, kept_of, world_at}
 use Rattle.ps_vault.proofs.Advancing.{ordinary_fit}

@@ -6,7 +6,7 @@ use Rattle.ps_language.specs.Locks.{is_ready}
 use Rattle.ps_language.specs.Schedules.{moves}
 use Rattle.ps_language.specs.Worlds.{after_move, world}
 use Rattle.ps_mem.specs.Heap.{Heap, Space}
-use Rattle.ps_schedules.specs.Turns.{move_of}
+use Rattle.ps_run_schedules.specs.Turns.{move_of}
 use Rattle.ps_vault.specs.Reports.{all_fit, fits}
 use Rattle.ps_vault.specs.Stories.{Story, world_at}
 use Rattle.ps_vault.specs.Warrants.{IsStatus}
@@ -66,7 +66,7 @@ returns-in-Err-clause-held_up g c =
     c.in-Err.reason (rw c.in-Err.is at c.step-told.ensures)
     g.M.Memory.heap g.M.Memory.grants _ _ refl refl
     (record { space = refl; used = refl; flips = refl; cycle_open = refl; closed = refl })
-    refl refl c.slot_of.ensures.is
+    refl refl c.slot_of.ensures
 
 pub returns-in-Err-clause-room : goal.returns-in-Err-clause-room
 returns-in-Err-clause-room g c =

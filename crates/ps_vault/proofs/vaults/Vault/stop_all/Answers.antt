@@ -1,7 +1,7 @@
 -- All contexts are at the world that they were at.
 use Rattle.std.proofs.Common.{false, ap, ◌∙◌}
-use Rattle.ps_acts.specs.declared.lent.Shared.{Shared}
-use Rattle.ps_flips.specs.Collected.{may_open, one_more_if}
+use Rattle.ps_ops_state.specs.declared.lent.Shared.{Shared}
+use Rattle.ps_core_flips.specs.Collected.{may_open, one_more_if}
 use Rattle.ps_vault.specs.Stories.{Story}
 use Rattle.ps_vault.proofs.Collected.{keeps_collected}
 use Rattle.ps_vault.proofs.Keeping.{caller_of}

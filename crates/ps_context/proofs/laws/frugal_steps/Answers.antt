@@ -1,5 +1,0 @@
-use Rattle.ps_context.proofs.Frugal.{step_wants}
-use Rattle.ps_context.proofs.laws.frugal_steps.Goals as goal
-
-pub returns : goal.returns
-returns c = step_wants

@@ -1,6 +1,0 @@
--- What is left was held.
-use Rattle.ps_operands.proofs.Sources.{from_dropped}
-use Rattle.ps_context_operators.proofs.identifiers.take_identifier.Goals as goal
-
-pub returns-clause-kept : goal.returns-clause-kept
-returns-clause-kept c = from_dropped _ _ 1 c.discard.ensures

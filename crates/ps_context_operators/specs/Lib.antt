@@ -1,6 +1,0 @@
-pub mod Singles
-pub mod Monitors
-pub mod Rows
-pub mod Deeds
-pub mod Done
-pub mod Forks

@@ -1,3 +1,0 @@
-pub mod CvsRow
-pub mod NameRow
-pub mod NumberRow

@@ -1,3 +1,0 @@
-pub mod Formed
-pub mod TextReads
-pub mod Asks

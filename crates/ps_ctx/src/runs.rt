@@ -1,0 +1,175 @@
+//! Many steps of one context (PLRM2, 3.5, 7.1).
+
+ghost use Rattle.std.specs.Prelude.{◌≡◌, ◌<◌, ◌≤◌, Some, None, IsSome, IsNone, IfOk, IfSome};
+ghost use Rattle.std.specs.Prelude.{is_some, if◌then◌else◌};
+ghost use Rattle.ps_ctx_table.specs.Seats.{item_at};
+ghost use Rattle.ps_ctx.specs.Calls.{over};
+ghost use Rattle.ps_ctx.specs.Held.{held, CourseAt, IsSteadyHeld, MayStep, course_in};
+ghost use Rattle.ps_ctx.specs.Steps as steps;
+ghost use Rattle.ps_ctx.specs.Steps.{GoesOn, IsCounted, IsUnready};
+
+use crate::deeds::Deeds;
+use crate::notes::Note;
+use crate::turns::{Ran, run_of};
+use crate::worlds::World;
+use ps_ctx_table::members::Course;
+use ps_mem::{Memory, Slot};
+use ps_ops_operands::failure::NotMade;
+use ps_ops_state::lent::Trial;
+use ps_step_interpreter::interprets::Interpret;
+use ps_step_outcome::turned::Turned;
+
+/// What the step behind others came to, and what a `vmstatus` in it was shown.
+#[derive(Clone, Copy, Debug, PartialEq, Eq)]
+pub struct Next {
+    pub told: Result<Note, NotMade>,
+    pub shown: Option<(i32, i32)>,
+}
+
+/// Steps that were made, and what the one behind them came to.
+#[derive(Clone, Copy, Debug, PartialEq, Eq)]
+pub struct Advance {
+    pub made: u32,
+    /// None where as many were made as were asked for, or the context has ended: no call is left
+    /// then.
+    pub next: Option<Next>,
+}
+
+/// A number of words as `vmstatus` shows it, and as a schedule can have it: from 1 to the greatest
+/// integer.
+fn words_shown(words: u32) -> i32
+    ensures { result ≡ steps.words_shown words }
+{
+    i32::try_from(words.max(1)).unwrap_or(i32::MAX)
+}
+
+/// The words used and the words there are, where `vmstatus` is to show them.
+fn shown_by<M: Memory>(memory: &mut M, shows: bool) -> Option<(i32, i32)>
+    ensures heap { M.heap memory.new ≡ M.heap memory.old }
+    ensures grants { M.grants memory.new ≡ M.grants memory.old }
+    ensures shown { result
+        ≡ (if shows then Some (steps.shown_words (M.heap memory.old)) else None) }
+    ensures counted { IfSome result (λ pair. IsCounted (M.heap memory.old)) }
+{
+    if !shows {
+        return None;
+    }
+    let used = words_shown(memory.used());
+    let size = words_shown(memory.size());
+    Some((used, size))
+}
+
+impl World<'_> {
+    /// Makes ordinary steps of a context one after another, at most so many, as long as it goes on
+    /// by itself, and tells what the step behind them came to, which may call an operator on other
+    /// contexts; of a context that doesn't run, or whose call waits, that step alone. Shows says
+    /// whether `vmstatus` shows the memory just before its step, or three zeros.
+    pub fn go_on<S: Interpret, D: Deeds, M: Memory>(
+        &mut self,
+        interpret: &mut S,
+        deeds: &mut D,
+        memory: &mut M,
+        identifier: u32,
+        slot: Slot,
+        most: u32,
+        shows: bool,
+    ) -> Advance
+        requires some { 1 ≤ most }
+        requires there { IsSome (item_at self.old.contexts.table identifier) }
+        requires may { MayStep self.old.calling identifier }
+        requires steady { IsSteadyHeld
+            (held (over (M.heap memory.old) (M.grants memory.old) self.old.contexts)
+            self.old.calling) }
+        ensures within { result.made ≤ most }
+        ensures fewer { IsSome result.next → result.made < most }
+        ensures shown { IfSome result.next
+            (λ next. IfOk next.told (λ note. is_some next.shown ≡ shows)) }
+        ensures ended { IsNone result.next → result.made < most → IsUnready identifier
+            (held (over (M.heap memory.new) (M.grants memory.new) self.new.contexts)
+            self.new.calling) }
+        ensures idle { IsNone result.next → self.new.calling ≡ None }
+        ensures makes { GoesOn S.asks identifier slot result.made result.next
+            (held (over (M.heap memory.old) (M.grants memory.old) self.old.contexts)
+            self.old.calling)
+            (held (over (M.heap memory.new) (M.grants memory.new) self.new.contexts)
+            self.new.calling) }
+    {
+        let course = self.course(identifier);
+        if self.calling.is_none() && course == Course::Running {
+            return self.run(interpret, deeds, memory, identifier, slot, most, shows);
+        }
+        let shown = shown_by(memory, shows);
+        let trial = Trial {
+            slot,
+            refused: false,
+        };
+        let told = self.step(interpret, deeds, memory, identifier, trial, shown);
+        Advance {
+            made: 0,
+            next: Some(Next { told, shown }),
+        }
+    }
+
+    /// The steps of a running context.
+    fn run<S: Interpret, D: Deeds, M: Memory>(
+        &mut self,
+        interpret: &mut S,
+        deeds: &mut D,
+        memory: &mut M,
+        identifier: u32,
+        slot: Slot,
+        most: u32,
+        shows: bool,
+    ) -> Advance
+        requires course { CourseAt identifier (course_in None) self.old.contexts.table }
+        requires calling { self.old.calling ≡ None }
+        requires steady { IsSteadyHeld
+            (held (over (M.heap memory.old) (M.grants memory.old) self.old.contexts) None) }
+        ensures within { result.made ≤ most }
+        ensures fewer { IsSome result.next → result.made < most }
+        ensures shown { IfSome result.next
+            (λ next. IfOk next.told (λ note. is_some next.shown ≡ shows)) }
+        ensures ended { IsNone result.next → result.made < most → IsUnready identifier
+            (held (over (M.heap memory.new) (M.grants memory.new) self.new.contexts)
+            self.new.calling) }
+        ensures idle { IsNone result.next → self.new.calling ≡ None }
+        ensures makes { GoesOn S.asks identifier slot result.made result.next
+            (held (over (M.heap memory.old) (M.grants memory.old) self.old.contexts) None)
+            (held (over (M.heap memory.new) (M.grants memory.new) self.new.contexts)
+            self.new.calling) }
+    {
+        let contexts = &mut self.contexts;
+        let Ran { run, framed } = run_of(contexts, identifier, interpret, memory, slot, most);
+        let made = run.made;
+        let Some(next) = run.next else {
+            if framed {
+                return Advance { made, next: None };
+            }
+            self.contexts.settle(identifier, Turned::Goes);
+            return Advance { made, next: None };
+        };
+        let turned = match next {
+            Ok(turned) => turned,
+            Err(reason) => {
+                let next = Next {
+                    told: Err(reason),
+                    shown: None,
+                };
+                return Advance {
+                    made,
+                    next: Some(next),
+                };
+            }
+        };
+        let shown = shown_by(memory, shows);
+        let trial = Trial {
+            slot,
+            refused: false,
+        };
+        let told = self.finish(turned, deeds, memory, identifier, trial, shown);
+        Advance {
+            made,
+            next: Some(Next { told, shown }),
+        }
+    }
+}

@@ -1,0 +1,10 @@
+-- The caller tries again.
+use Rattle.std.proofs.Common.{sym}
+use Rattle.ps_ctx.specs.Calls.{over}
+use Rattle.ps_ctx_operators.proofs.WaitEnds.{waited}
+use Rattle.ps_ctx_operators.proofs.again.wait.Goals as goal
+
+pub returns : goal.returns
+returns c = λ operator trial shown before heap grants waits.
+    waited operator c.args.caller trial shown before (over heap grants c.args.contexts.now)
+    c.get_mut-member.result.now (sym c.get_mut-member.ensures.value) waits

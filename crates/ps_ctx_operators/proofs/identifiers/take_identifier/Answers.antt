@@ -1,0 +1,6 @@
+-- What is left was held.
+use Rattle.ps_ops_operands.proofs.Sources.{from_dropped}
+use Rattle.ps_ctx_operators.proofs.identifiers.take_identifier.Goals as goal
+
+pub returns-clause-kept : goal.returns-clause-kept
+returns-clause-kept c = from_dropped _ _ 1 c.discard.ensures

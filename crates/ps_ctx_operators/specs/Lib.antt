@@ -1,0 +1,12 @@
+pub mod Singles
+pub mod Monitors
+pub mod Rows
+pub mod Deeds
+pub mod Tells
+pub mod Forks
+pub mod Done
+pub mod Named
+pub mod Detached
+pub mod Begun
+pub mod Waits
+pub mod Joined

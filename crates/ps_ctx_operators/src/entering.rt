@@ -1,0 +1,65 @@
+//! Who enters a procedure under a lock, or waits for the lock (PLRM2, 7.1, 8 'monitor').
+
+ghost use Rattle.std.specs.Prelude.{◌<◌};
+ghost use Rattle.ps_ctx_table.specs.Desks.{IsSteady};
+ghost use Rattle.ps_ctx.specs.Calls.{over, RunsAt, Calls};
+
+use crate::endings::end;
+use crate::monitors::{self, Entered};
+use ps_ctx::notes::Note;
+use ps_ctx_table::contexts::Contexts;
+use ps_ctx_table::members::Course;
+use ps_language::operators::Operator;
+use ps_mem::Memory;
+use ps_ops_operands::failure::NotMade;
+use ps_ops_state::lent::Trial;
+
+/// A running context calls `monitor`, whose element is taken: a free lock is the caller's, and the
+/// procedure is entered. Where the lock is another's nothing has changed, the call is to be tried
+/// again, and the turn ends. Or its error is noted, and it settles: `stackunderflow`, `typecheck`,
+/// `invalidaccess` where the procedure can't be executed, `invalidcontext` where the lock is the
+/// caller's own, and `execstackoverflow`.
+///
+/// Not made, with nothing changed. `LogFull`, `LogClosed`: the log of the slot doesn't take the
+/// record of the lock, or the five of an error. `Memory`: the output has no room for the error's
+/// line.
+pub fn call_monitor<M: Memory>(
+    caller: u32,
+    contexts: &mut Contexts,
+    memory: &mut M,
+    trial: Trial,
+    shown: Option<(i32, i32)>,
+) -> Result<Note, NotMade>
+    requires runs { RunsAt caller contexts.old.table }
+    requires steady { IsSteady
+        (over (M.heap memory.old) (M.grants memory.old) contexts.old) }
+    ensures { Calls Operator.Monitor caller trial shown result
+        (over (M.heap memory.old) (M.grants memory.old) contexts.old)
+        (over (M.heap memory.new) (M.grants memory.new) contexts.new) }
+{
+    // no identifier that was made is above 2^31 - 1
+    contexts.table.made();
+    let again = trial;
+    let member = contexts.table.get_mut(caller);
+    match monitors::monitor(
+        caller,
+        &mut member.context,
+        &mut contexts.shared,
+        memory,
+        trial,
+    ) {
+        Ok(Entered::Waits) => {
+            member.course = Course::Again;
+            Ok(Note::TurnEnds)
+        }
+        Ok(Entered::Enters) => end(
+            Operator::Monitor,
+            Ok(Note::Nothing),
+            caller,
+            contexts,
+            memory,
+            again,
+        ),
+        Err(why) => end(Operator::Monitor, Err(why), caller, contexts, memory, again),
+    }
+}

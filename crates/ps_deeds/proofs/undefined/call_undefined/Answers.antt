@@ -1,9 +1,0 @@
--- It raises `undefined`.
-use Rattle.ps_deeds.proofs.UndefinedDone.{undefined_does}
-use Rattle.ps_deeds.proofs.undefined.call_undefined.Goals as goal
-
-pub returns : goal.returns
-returns g c =
-    c.end.ensures c.args.shown _
-    (undefined_does c.args.operator c.args.caller c.args.trial c.args.shown _ c.requires.steady
-    c.requires.runs c.requires.other)

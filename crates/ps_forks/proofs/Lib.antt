@@ -1,8 +1,0 @@
-mod Others
-mod NamedOperand
-mod Unchanged
-mod WaitEnds
-mod DetachDone
-mod ForkDone
-mod JoinFound
-mod JoinDone

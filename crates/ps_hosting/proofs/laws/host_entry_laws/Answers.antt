@@ -1,5 +1,0 @@
-use Rattle.ps_hosting.proofs.Entries.{given_of_handed}
-use Rattle.ps_hosting.proofs.laws.host_entry_laws.Goals as goal
-
-pub returns : goal.returns
-returns c = given_of_handed

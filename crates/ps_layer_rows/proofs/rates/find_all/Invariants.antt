@@ -1,6 +1,0 @@
-use Rattle.std.proofs.Common.{◌≡◌}
-use Rattle.ps_layer_rows.proofs.rates.find_all.Given as goal
-
--- the memory is as it was
-abbrev pub invariant-loop-number : goal.invariant-loop-number
-invariant-loop-number g l = g.M.Memory.heap l.memory ≡ g.M.Memory.heap l.fn.memory

@@ -1,5 +1,0 @@
-use Rattle.ps_operands.proofs.Sources.{from_replaced}
-use Rattle.ps_operands.proofs.logic.or.Goals as goal
-
-pub returns-clause-kept : goal.returns-clause-kept
-returns-clause-kept c = from_replaced _ _ _ 2 c.replace.ensures c.in-Some-disjunction_of.ensures.plain

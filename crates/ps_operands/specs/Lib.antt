@@ -1,5 +1,0 @@
-pub mod Plain
-pub mod Kept
-pub mod Does
-pub mod Marks
-pub mod Truths

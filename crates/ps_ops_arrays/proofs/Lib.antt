@@ -1,0 +1,4 @@
+pub mod ArrayReads
+pub mod AstoreLemmas
+pub mod Made
+pub mod PutLemmas

@@ -1,0 +1,183 @@
+//! The operators that look for a key (PLRM2, 8 'Operators': Dictionary).
+
+ghost use Rattle.std.specs.Prelude.{◌≡◌, Some};
+ghost use Rattle.ps_language.specs.Rows.{looking_row, naming_row};
+ghost use Rattle.ps_language.specs.RowsDictionaries as rows;
+ghost use Rattle.ps_stacks.specs.Tops.{first_two_of};
+ghost use Rattle.ps_word.specs.Format.{content_in};
+ghost use Rattle.ps_word.specs.Readers as readers;
+ghost use Rattle.ps_ops_state.specs.Acts.{Acts, nothing_asked};
+ghost use Rattle.ps_ops_state.specs.Lent.{lent, IsGood};
+
+use ps_dict::dictionaries::access;
+use ps_language::errors::ErrorName;
+use ps_mem::Memory;
+use ps_ops_operands::access::is_readable;
+use ps_ops_operands::plain::boolean;
+use ps_ops_state::breaks::Break;
+use ps_ops_state::lent::{Context, Shared, Trial};
+use ps_step_lookup::keys::{form_key, is_null, is_readable_key, read_key};
+use ps_step_lookup::lookups::{find_in, look_up};
+use ps_word::words::Word;
+
+/// `D k known t`: whether a dictionary has a key; a string's name is formed.
+///
+/// Raises `stackunderflow`, `typecheck`, `invalidaccess`, and `limitcheck` of a name. Not made, by
+/// `Memory`, where the growth for a name is refused.
+pub fn known<M: Memory>(
+    context: &mut Context,
+    shared: &mut Shared,
+    memory: &mut M,
+) -> Result<(), Break>
+    requires good { IsGood
+        (lent (M.heap memory.old) (M.grants memory.old) context.old shared.old) }
+    ensures acts { (trial : Trial) → Acts nothing_asked (naming_row rows.known_row) trial result
+        (lent (M.heap memory.old) (M.grants memory.old) context.old shared.old)
+        (lent (M.heap memory.new) (M.grants memory.new) context.new shared.new) }
+    ensures frames { context.new.frames ≡ context.old.frames }
+{
+    let Some((key, dictionary)) = context.operands.top_two() else {
+        return Err(Break::Raises(ErrorName::StackUnderflow));
+    };
+    if is_null(key) {
+        return Err(Break::Raises(ErrorName::TypeCheck));
+    }
+    let Some(address) = dictionary.as_dictionary() else {
+        return Err(Break::Raises(ErrorName::TypeCheck));
+    };
+    if !is_readable_key(key) {
+        return Err(Break::Raises(ErrorName::InvalidAccess));
+    }
+    if !is_readable(access(memory, address)) {
+        return Err(Break::Raises(ErrorName::InvalidAccess));
+    }
+    let sought = read_key(memory, &shared.names, key);
+    let found = find_in(memory, address, sought.word()).is_some();
+    match form_key(&mut shared.names, &sought) {
+        Ok(()) => {
+            context.operands.replace(2, boolean(found));
+            Ok(())
+        }
+        Err(fault) => Err(fault),
+    }
+}
+
+/// `D k get x` of a dictionary, given by its word and its address.
+///
+/// Raises `typecheck` of a null, `invalidaccess`, and `undefined` where the key is absent.
+pub fn get_from_dictionary<M: Memory>(
+    context: &mut Context,
+    shared: &mut Shared,
+    memory: &mut M,
+    key: Word,
+    dictionary: Word,
+    address: u32,
+) -> Result<(), Break>
+    requires operands { Some (key, dictionary) ≡ first_two_of context.old.operands }
+    requires address { Some address ≡ readers.as_dictionary (content_in dictionary.0) }
+    requires good { IsGood
+        (lent (M.heap memory.old) (M.grants memory.old) context.old shared.old) }
+    ensures acts { (trial : Trial) → Acts nothing_asked (naming_row rows.get_row) trial result
+        (lent (M.heap memory.old) (M.grants memory.old) context.old shared.old)
+        (lent (M.heap memory.new) (M.grants memory.new) context.new shared.new) }
+    ensures frames { context.new.frames ≡ context.old.frames }
+{
+    if is_null(key) {
+        return Err(Break::Raises(ErrorName::TypeCheck));
+    }
+    if !is_readable_key(key) {
+        return Err(Break::Raises(ErrorName::InvalidAccess));
+    }
+    if !is_readable(access(memory, address)) {
+        return Err(Break::Raises(ErrorName::InvalidAccess));
+    }
+    let sought = read_key(memory, &shared.names, key);
+    match find_in(memory, address, sought.word()) {
+        Some(value) => {
+            context.operands.replace(2, value);
+            Ok(())
+        }
+        None => Err(Break::Raises(ErrorName::Undefined)),
+    }
+}
+
+/// `k load x`: the value of a key in the topmost dictionary that has it.
+///
+/// Raises `stackunderflow`, `typecheck`, `invalidaccess`, and `undefined` where none has it.
+pub fn load<M: Memory>(
+    context: &mut Context,
+    shared: &mut Shared,
+    memory: &mut M,
+) -> Result<(), Break>
+    requires good { IsGood
+        (lent (M.heap memory.old) (M.grants memory.old) context.old shared.old) }
+    ensures acts { (trial : Trial) → Acts nothing_asked (looking_row rows.load_row) trial result
+        (lent (M.heap memory.old) (M.grants memory.old) context.old shared.old)
+        (lent (M.heap memory.new) (M.grants memory.new) context.new shared.new) }
+    ensures frames { context.new.frames ≡ context.old.frames }
+{
+    let Some(key) = context.operands.top() else {
+        return Err(Break::Raises(ErrorName::StackUnderflow));
+    };
+    if is_null(key) {
+        return Err(Break::Raises(ErrorName::TypeCheck));
+    }
+    if !is_readable_key(key) {
+        return Err(Break::Raises(ErrorName::InvalidAccess));
+    }
+    let sought = read_key(memory, &shared.names, key);
+    match look_up(memory, &context.dictionaries, sought.word()) {
+        Ok(Some(found)) => {
+            context.operands.replace(1, found.1);
+            Ok(())
+        }
+        Ok(None) => Err(Break::Raises(ErrorName::Undefined)),
+        Err(error) => Err(Break::Raises(error)),
+    }
+}
+
+/// `k where D true`: the topmost dictionary that has a key, or `false`, for which a string's name
+/// is formed.
+///
+/// Raises `stackunderflow`, `typecheck`, `invalidaccess`, `limitcheck` of a name, and
+/// `stackoverflow`. Not made, by `Memory`, where the growth for a name is refused.
+pub fn where_key<M: Memory>(
+    context: &mut Context,
+    shared: &mut Shared,
+    memory: &mut M,
+) -> Result<(), Break>
+    requires good { IsGood
+        (lent (M.heap memory.old) (M.grants memory.old) context.old shared.old) }
+    ensures acts { (trial : Trial) → Acts nothing_asked (looking_row rows.where_row) trial result
+        (lent (M.heap memory.old) (M.grants memory.old) context.old shared.old)
+        (lent (M.heap memory.new) (M.grants memory.new) context.new shared.new) }
+{
+    let Some(key) = context.operands.top() else {
+        return Err(Break::Raises(ErrorName::StackUnderflow));
+    };
+    if is_null(key) {
+        return Err(Break::Raises(ErrorName::TypeCheck));
+    }
+    if !is_readable_key(key) {
+        return Err(Break::Raises(ErrorName::InvalidAccess));
+    }
+    let sought = read_key(memory, &shared.names, key);
+    match look_up(memory, &context.dictionaries, sought.word()) {
+        Ok(Some(found)) => {
+            if context.operands.is_full() {
+                return Err(Break::Raises(ErrorName::StackOverflow));
+            }
+            context.operands.replace(1, found.0);
+            context.operands.push_reserved(boolean(true));
+            Ok(())
+        }
+        Ok(None) => match form_key(&mut shared.names, &sought) {
+            Ok(()) => {
+                context.operands.replace(1, boolean(false));
+                Ok(())
+            }
+            Err(fault) => Err(fault),
+        },
+        Err(error) => Err(Break::Raises(error)),
+    }
+}

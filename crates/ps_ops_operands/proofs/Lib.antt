@@ -1,0 +1,16 @@
+pub mod Doing
+pub mod LogicRows
+pub mod Marks
+pub mod Meanings
+pub mod NumberRows
+pub mod Sources
+pub mod StackRows
+pub mod Held
+pub mod Operands
+pub mod Ready
+pub mod Making
+pub mod Reading
+pub mod Makers
+pub mod ReasonLaws
+pub mod Tops
+pub mod Changed

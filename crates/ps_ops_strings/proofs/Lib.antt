@@ -1,0 +1,12 @@
+pub mod Beginnings
+pub mod Changed
+pub mod Early
+pub mod Found
+pub mod Intervals
+pub mod Made
+pub mod Makers
+pub mod Places
+pub mod Reading
+pub mod Searched
+pub mod StringReads
+pub mod Windows

@@ -1,0 +1,48 @@
+//! The bytes of a string as output (PLRM2, 8 'Operators': File).
+
+ghost use Rattle.std.specs.Prelude.{◌≡◌};
+ghost use Rattle.ps_language.specs.Rows.{printing_row};
+ghost use Rattle.ps_language.specs.RowsOutput.{print_row};
+ghost use Rattle.ps_ops_state.specs.Acts.{Acts, nothing_asked};
+ghost use Rattle.ps_ops_state.specs.Lent.{lent, IsGood};
+
+use ps_language::errors::ErrorName;
+use ps_mem::Memory;
+use ps_ops_operands::access::is_readable;
+use ps_ops_operands::failure::NotMade;
+use ps_ops_state::breaks::Break;
+use ps_ops_state::lent::{Context, Shared, Trial};
+use ps_ops_strings::readers::string_of;
+use std::alloc::AllocError;
+
+/// `S print`: its bytes. Raises `stackunderflow`, `typecheck` and `invalidaccess`. Not made, by
+/// `Memory`, where that is more than may be printed, or the output lacks room and its growth is
+/// refused.
+pub fn print<M: Memory>(
+    context: &mut Context,
+    shared: &mut Shared,
+    memory: &mut M,
+) -> Result<(), Break>
+    requires good { IsGood
+        (lent (M.heap memory.old) (M.grants memory.old) context.old shared.old) }
+    ensures acts { (trial : Trial) → Acts nothing_asked (printing_row print_row) trial result
+        (lent (M.heap memory.old) (M.grants memory.old) context.old shared.old)
+        (lent (M.heap memory.new) (M.grants memory.new) context.new shared.new) }
+{
+    let Some(top) = context.operands.top() else {
+        return Err(Break::Raises(ErrorName::StackUnderflow));
+    };
+    let Some(part) = string_of(top) else {
+        return Err(Break::Raises(ErrorName::TypeCheck));
+    };
+    if !is_readable(part.access) {
+        return Err(Break::Raises(ErrorName::InvalidAccess));
+    }
+    match shared.printed.print_part(memory, part) {
+        Ok(()) => {
+            context.operands.discard(1);
+            Ok(())
+        }
+        Err(AllocError) => Err(Break::NotMade(NotMade::Memory)),
+    }
+}

@@ -1,4 +1,0 @@
-pub mod Symmetry
-pub mod Equating
-pub mod Comparing
-pub mod Related

@@ -1,0 +1,21 @@
+//! Who is shown how far many runs are, beside all that is told.
+
+/// Shows how far many runs are, while they are made. What it shows is no part of what the program
+/// tells (`Telling`), so no clause speaks of it.
+pub trait Progress {
+    /// Shows how many of the runs were made, and how many of these had an ending of their own.
+    fn show(&mut self, made: u32, runs: u32, endings: usize);
+
+    /// Takes away what it shows.
+    fn clear(&mut self);
+}
+
+/// Nobody is shown anything.
+#[derive(Clone, Copy, Drop)]
+pub struct NoProgress;
+
+impl Progress for NoProgress {
+    fn show(&mut self, _made: u32, _runs: u32, _endings: usize) {}
+
+    fn clear(&mut self) {}
+}

@@ -1,0 +1,192 @@
+-- The command line of the program, as rules of clap.
+use Rattle.std.specs.Prelude.{◌≡◌, ◌==◌, ◌<◌, ◌^◌, ℕ, Bool, ◌&&◌, ◌||◌, List, [], ◌∷◌, Option, Some, None, is_some, true, false, length, drop, nat_eq, codes, unwrap_or, option_and_then, if◌then◌else◌}
+use Rattle.std.specs.Char.{is_ascii_digit}
+use Rattle.std.specs.List.{list_all, starts_with}
+use Rattle.std.specs.Str.{bytes_eq}
+use Rattle.std.specs.Str.Parse.{IsNumeral, digits_value, without_leading_plus}
+use Rattle.clap.specs.Kinds.{Kinds, or_else}
+use Rattle.clap.specs.Words.{App, Rule, Text, new_app, new_rule, with_rule, matches_of, first_of, one_of, fault_of}
+use Rattle.ps_run_options.specs.Sizes.{is_within, size_of}
+use Rattle.clap.specs.declared.builder.action.ArgAction.TheVariants.{SetTrue}
+use Rattle.clap.specs.declared.error.kind.ErrorKind.TheVariants.{ArgumentConflict, MissingRequiredArgument, ValueValidation}
+use Rattle.clap.specs.declared.builder.value_parser.ValueParser.TheVariants.{Unsigned}
+
+-- an option with a value
+abbrev pub valued_rule : Text → Rule
+valued_rule name = record (new_rule name) { long = Some name; value_names = 1 }
+
+-- and its text where it is left out
+abbrev pub option_rule : Text → Text → Rule
+option_rule name default = record (valued_rule name) { defaults = default ∷ [] }
+
+-- a number from least to most
+abbrev pub within : Rule → ℕ → ℕ → Rule
+within rule least most = record rule { parser = Some (Unsigned least most) }
+
+abbrev pub number_rule : Text → Text → ℕ → ℕ → Rule
+number_rule name default least most = within (option_rule name default) least most
+
+-- an option without a value
+abbrev pub flag_rule : Text → Rule
+flag_rule name = record (new_rule name) { long = Some name; action = Some SetTrue }
+
+-- the program's text: -e with a value
+abbrev pub text_rule : Rule
+text_rule = record (new_rule (codes "e")) { short = Some 101; value_names = 1 }
+
+-- the program: its text, or its file
+abbrev pub with_program : App → App
+with_program app = with_rule (with_rule app text_rule) (new_rule (codes "FILE"))
+
+-- the numbers of memory and threads
+abbrev pub with_sizes : App → App
+with_sizes app = with_rule (with_rule app (option_rule (codes "space") (codes "65536")))
+    (number_rule (codes "workers") (codes "4") 1 32)
+
+-- the numbers of steps, and those of bytes and entries
+abbrev pub with_limits : App → App
+with_limits app = with_rule
+    (with_rule (with_rule (with_rule app (number_rule (codes "quantum") (codes "100") 1 65535))
+    (option_rule (codes "steps") (codes "1000000000"))) (valued_rule (codes "output")))
+    (valued_rule (codes "entries"))
+
+abbrev pub with_flags : App → App
+with_flags app = with_rule
+    (with_rule (with_rule app (flag_rule (codes "plain"))) (flag_rule (codes "stats")))
+    (flag_rule (codes "stream"))
+
+-- the schedules: the files that have them, and how many are chosen by chance
+abbrev pub with_schedules : App → App
+with_schedules app = with_rule
+    (with_rule (with_rule app (valued_rule (codes "record"))) (valued_rule (codes "replay")))
+    (within (valued_rule (codes "explore")) 1 65535)
+
+abbrev pub nameless : App → App
+nameless app = record app { top = record app.top { no_binary_name = true } }
+
+-- it answers for its version
+abbrev pub versioned : App → App
+versioned app = record app { top = record app.top { has_version = true } }
+
+-- the whole: its words come without the program's name
+abbrev pub command_line : App
+command_line = with_schedules (with_flags
+    (with_limits (with_sizes (with_program (nameless (versioned (new_app (codes "dpsrun"))))))))
+
+-- the first text of an option in such words, such as the name of a schedule's file
+abbrev pub named_in : Text → List Text → Option Text
+named_in name words = first_of name (matches_of command_line words)
+
+-- whether a flag stands in such words, by its first text
+abbrev pub is_set : Option Text → Bool
+is_set None = false
+is_set (Some text) = bytes_eq text (codes "true")
+
+-- what is given beside what it can't be used with: a schedule beside anything else that says how
+-- the run is made or records it, or a stream beside many runs
+abbrev pub excludes : (replay plain recorded explored entries streamed : Option Text) → Bool
+excludes replay plain recorded explored entries streamed =
+    is_some replay && (is_set plain || is_some recorded || is_some explored || is_some entries)
+    || is_set streamed && is_some explored
+
+abbrev pub is_excluded : List Text → Bool
+is_excluded words = excludes (named_in (codes "replay") words) (named_in (codes "plain") words)
+    (named_in (codes "record") words) (named_in (codes "explore") words)
+    (named_in (codes "entries") words) (named_in (codes "stream") words)
+
+-- a number in decimal, of any size
+abbrev pub is_number : Text → Bool
+is_number [] = false
+is_number (first ∷ rest) = list_all is_ascii_digit (first ∷ rest)
+
+-- a full stop and a number
+abbrev pub is_extension : Text → Bool
+is_extension [] = false
+is_extension (byte ∷ number) = (byte == 46) && is_number number
+
+-- a name that is another with a full stop and a number behind it: that of an ending's record
+abbrev pub is_numbered : (prefix name : Text) → Bool
+is_numbered prefix name = starts_with nat_eq name prefix && is_extension (drop (length prefix) name)
+
+-- a record is written to the program's own file, as far as the names tell
+abbrev pub overwrites : (recorded explored file : Option Text) → Bool
+overwrites (Some name) None (Some file) = bytes_eq file name
+overwrites (Some prefix) (Some count) (Some file) = is_numbered prefix file
+overwrites _ _ _ = false
+
+abbrev pub is_overwritten : List Text → Bool
+is_overwritten words = overwrites (named_in (codes "record") words)
+    (named_in (codes "explore") words) (named_in (codes "FILE") words)
+
+-- one program is given, by the name of its file or by its text
+abbrev pub source_fault : (file text : Option Text) → Kinds
+source_fault None None = MissingRequiredArgument ∷ []
+source_fault (Some name) (Some text) = ArgumentConflict ∷ []
+source_fault file text = []
+
+-- where an option stands there, it has a size from least to most
+abbrev pub is_sized : (least most : ℕ) → Option Text → Bool
+is_sized least most None = true
+is_sized least most (Some text) = is_within least most (size_of text)
+
+abbrev pub are_sized : (space steps output entries : Option Text) → Bool
+are_sized space steps output entries = is_sized 4096 1048576 space && is_sized 1 4294967295 steps
+    && is_sized 0 4294967295 output && is_sized 1 4294967295 entries
+
+abbrev pub are_sizes : List Text → Bool
+are_sizes words = are_sized (named_in (codes "space") words) (named_in (codes "steps") words)
+    (named_in (codes "output") words) (named_in (codes "entries") words)
+
+-- the faults beside those of the rules
+abbrev pub own_faults : (source : Kinds) → (sized conflicts : Bool) → Kinds
+own_faults source sized conflicts =
+    or_else source (if sized then (if conflicts then ArgumentConflict ∷ [] else [])
+    else ValueValidation ∷ [])
+
+-- the faults of such words: those by the rules, or that they don't name one program, or that a size
+-- is none, or that one excludes another, or that the program would be written over
+abbrev pub faults_in : List Text → Kinds
+faults_in words = or_else (fault_of command_line words)
+    (own_faults (source_fault (named_in (codes "FILE") words) (named_in (codes "e") words))
+    (are_sizes words) (is_excluded words || is_overwritten words))
+
+-- the text of a flag in such words
+abbrev pub flag_in : Text → List Text → Option Text
+flag_in name words = one_of name (matches_of command_line words)
+
+-- the number of an option in such words: that of its text, where it is one of 32 bits
+abbrev pub IsNumber : (name : Text) → List Text → ℕ → Type 0
+IsNumber name words number =
+    (text : Text) → one_of name (matches_of command_line words) ≡ Some text
+    → IsNumeral 10 (without_leading_plus text)
+    → digits_value 10 (without_leading_plus text) < 2 ^ 32
+    → number ≡ digits_value 10 (without_leading_plus text)
+
+-- the size of an option in such words, if it stands there
+abbrev pub size_in : (name : Text) → List Text → Option ℕ
+size_in name words = option_and_then size_of (named_in name words)
+
+-- the numbers of a run
+pub record Numbers : Type 0 where
+  pub space : ℕ
+  pub workers : ℕ
+  pub quantum : ℕ
+  pub steps : ℕ
+
+-- each is that of its option
+pub record AreNumbers (words : List Text) (numbers : Numbers) : Type 0 where
+  pub space : numbers.space ≡ unwrap_or (size_in (codes "space") words) 65536
+  pub workers : IsNumber (codes "workers") words numbers.workers
+  pub quantum : IsNumber (codes "quantum") words numbers.quantum
+  pub steps : numbers.steps ≡ unwrap_or (size_in (codes "steps") words) 1000000000
+
+-- the number of an option that may be left out, such as how many schedules are chosen by chance
+abbrev pub IsOptional : (name : Text) → List Text → Option ℕ → Type 0
+IsOptional name words None = named_in name words ≡ None
+IsOptional name words (Some number) =
+    (is_some (named_in name words) ≡ true) × IsNumber name words number
+
+-- whether a flag stands in such words, by its text
+pub record IsFlag (name : Text) (words : List Text) (truth : Bool) : Type 0 where
+  pub set : flag_in name words ≡ Some (codes "true") → truth ≡ true
+  pub unset : flag_in name words ≡ Some (codes "false") → truth ≡ false

@@ -1,7 +1,0 @@
-use Rattle.ps_seat_rows.proofs.play.Given as goal
-
-abbrev pub ghosts-play_copier : goal.ghosts-play_copier
-ghosts-play_copier a = record { table = a.seats.vm.seat.table_id }
-
-abbrev pub ghosts-play_steps : goal.ghosts-play_steps
-ghosts-play_steps a = record { table = a.seats.vm.seat.table_id }

@@ -1,6 +1,0 @@
-use Rattle.std.proofs.Common.{◌≡◌, None}
-use Rattle.ps_seat_rows.proofs.programs.stress.Given as goal
-
--- no call waits
-abbrev pub invariant-step : goal.invariant-step
-invariant-step g l = l.vault.caller ≡ None

@@ -1,9 +1,0 @@
--- Nothing stands at new seats.
-use Rattle.std.proofs.Common.{ap, ◌∙◌}
-use Rattle.ps_parts_memory.specs.Memory.{heap_of}
-use Rattle.ps_vault.proofs.Beginning.{nothing_stands}
-use Rattle.ps_seat_rows.proofs.sides.Sides.new.Goals as goal
-
-pub new-requires-2 : goal.new-requires-2
-new-requires-2 g c =
-    nothing_stands _ _ (ap (λ v. heap_of v.seat.me.0.vm) c.new.ensures ∙ c.args.seats.empty)

@@ -1,4 +1,0 @@
-use Rattle.ps_seat_rows.proofs.stressed.Given as goal
-
-abbrev pub ghosts-stress : goal.ghosts-stress
-ghosts-stress a = record { table = a.seats.vm.seat.table_id }

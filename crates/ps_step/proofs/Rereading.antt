@@ -1,0 +1,126 @@
+-- Bytes of a string that were read, and the tokens in them.
+use Rattle.std.proofs.Common.{◌≡◌, ℕ, ◌+◌, ◌-◌, ◌<◌, ◌≤◌, arith, List, [], length, take, drop, sym, ap, subst, ◌∙◌}
+use Rattle.std.proofs.Common.{Option, Some, None, Result, Ok, Err}
+use Rattle.std.specs.Prelude.{slice_range, IfSome, OnOk, OnErr}
+use Rattle.std.specs.declared.alloc.AllocError.{AllocError}
+use Rattle.ps_language.specs.Scan.{scan}
+use Rattle.ps_language.specs.Token as language
+use Rattle.ps_language.specs.Token.{found}
+use Rattle.ps_language.specs.Access.{bytes, part_bytes}
+use Rattle.ps_language.specs.Value.{Store}
+use Rattle.ps_mem.specs.Heap.{Heap, birth_at}
+use Rattle.ps_mem.specs.Meaning.{part_of}
+use Rattle.ps_mem.specs.Shows.{Shows}
+use Rattle.ps_word.specs.declared.values.Part.{Part}
+use Rattle.ps_scan.specs.declared.tokens.Token.{Token}
+use Rattle.ps_ops_control.specs.declared.frames.Source.{Source}
+use Rattle.ps_ops_control.specs.declared.frames.Source.TheVariants.{Program, Text}
+use Rattle.ps_step.specs.declared.texts.Taken.{Taken}
+use Rattle.ps_step.specs.declared.texts.Taken.TheVariants.{Done, Turned}
+use Rattle.ps_step.specs.Texts.{Scans}
+use Rattle.ps_step.specs.Windows.{AreRead, IsWindow, StandsBehind, OnDone}
+use Rattle.ps_step.proofs.Scanning.{window_scanned, fronted, rest_scanned, token_further}
+
+nothing_at : (all : List ℕ) (start : ℕ) → [] ≡ slice_range all start (start + 0)
+nothing_at all start =
+    let none : (start + 0) - start ≡ 0 = omega arith in
+    sym (ap (λ (n : ℕ). take n (drop start all)) none)
+
+-- no bytes are those from any place on
+pub none_read : (h : Heap) (address start : ℕ) (list : List ℕ) → list ≡ []
+    → AreRead h address start list
+none_read h address start list none = λ names s shows within.
+    let all : List ℕ = bytes s (birth_at h address) in
+    subst (λ (l : List ℕ). l ≡ slice_range all start (start + length l)) (sym none)
+    (nothing_at all start)
+
+-- they are of every source, from its first place on
+pub no_window : (h : Heap) (source : Source) (list : List ℕ) → list ≡ []
+    → IsWindow h source 0 list
+no_window h Program list none = tt
+no_window h (Text part) list none =
+    let size = ap length none in
+    (none_read h part.address 0 list none, omega (arith, size))
+
+-- a token that ends before the bytes do that were read is that of the string
+module _ (all : List ℕ) (offset count at start : ℕ) (low : at ≤ count)
+    (within : offset + count ≤ length all) (list : List ℕ)
+    (read : list ≡ slice_range all start (start + length list)) (near : start ≤ offset + at)
+    (fits : start + length list ≤ offset + count) where
+  read_again : (token : language.Token) (end : ℕ)
+      → scan list ((offset + at) - start) ≡ found token end → end < length list
+      → scan (slice_range all offset (offset + count)) at
+      ≡ found token (at + (end - ((offset + at) - start)))
+  read_again token end is below =
+      let from : (offset + at) - ((offset + at) - start) ≡ start = omega (arith, near) in
+      let size : (count - at) + ((offset + at) - start) ≡ (offset + count) - start =
+      omega (arith, low, near) in
+      let sized : start + ((offset + count) - start) ≡ offset + count = omega (arith, near, low) in
+      let window : scan (slice_range all start (start + length list)) ((offset + at) - start)
+      ≡ found token end =
+      subst (λ (l : List ℕ). scan l ((offset + at) - start) ≡ found token end) read is in
+      let whole = window_scanned all start ((offset + count) - start) (length list)
+      (omega (arith, fits)) (omega (arith, sized, within)) ((offset + at) - start) token end window
+      below in
+      rest_scanned all offset count at low within
+      ∙ token_further ((offset + at) - start) at
+      (scan (slice_range all (offset + at) ((offset + at) + (count - at))) 0) token end
+      (sym (fronted all offset count at ((offset + at) - start) low (omega arith) within)
+      ∙ ((λ i. scan (slice_range all (from i) (from i + size i)) ((offset + at) - start)) ∙ whole))
+
+-- the same by where the place stands in the list
+pub scanned_again : (all : List ℕ) (offset count at start front : ℕ) → at ≤ count
+    → offset + count ≤ length all → (list : List ℕ)
+    → list ≡ slice_range all start (start + length list) → start + front ≡ offset + at
+    → start + length list ≤ offset + count → (token : language.Token) (end : ℕ)
+    → scan list front ≡ found token end → end < length list
+    → scan (slice_range all offset (offset + count)) at ≡ found token (at + (end - front))
+scanned_again all offset count at start front low within list read place fits token end =
+    let is : (offset + at) - start ≡ front = omega (arith, place) in
+    subst (λ (f : ℕ). scan list f ≡ found token end → end < length list
+    → scan (slice_range all offset (offset + count)) at ≡ found token (at + (end - f))) is
+    (read_again all offset count at start low within list read (omega (arith, place)) fits token
+    end)
+
+-- what follows where it was read
+pub on_ok : {P Q : Type 0} (result : Result Unit AllocError) → OnOk result P → (P → Q)
+    → OnOk result Q
+on_ok (Ok _) holds follows = follows holds
+on_ok (Err _) holds follows = tt
+
+-- what was read of a part, or nothing
+module _ (h : Heap) (part : Part) (list : List ℕ) where
+  pub part_read : (result : Result Unit AllocError)
+      → ((names : List (List ℕ)) (s : Store) → Shows h names s
+      → part.offset + part.length ≤ length (bytes s (birth_at h part.address))
+      → OnOk result (list ≡ part_bytes s (part_of (birth_at h) part)))
+      → OnOk result (length list ≡ part.length) → OnErr result (list ≡ [])
+      → AreRead h part.address part.offset list
+  part_read (Ok _) value size none = λ names s shows within.
+      let all : List ℕ = bytes s (birth_at h part.address) in
+      value names s shows (omega (arith, within, size))
+      ∙ ap (λ (n : ℕ). slice_range all part.offset (part.offset + n)) (sym size)
+  part_read (Err _) value size none = none_read h part.address part.offset list none
+
+-- a token that stands behind a place of a part of the bytes that were read
+pub in_window : (h : Heap) (part : Part) (at : ℕ) (program : List ℕ) (start : ℕ) (list : List ℕ)
+    → IsWindow h (Text part) start list → (token : Token)
+    → StandsBehind part at start list token
+    → Scans h (Text part) at program list (Ok (Some token))
+in_window h part at program start list window token stands = λ names s shows within.
+    let fits = window.1 in
+    stands (bytes s (birth_at h part.address)) within
+    (window.0 names s shows (omega (arith, fits, within)))
+
+pub words_in_window : (h : Heap) (part : Part) (at : ℕ) (program : List ℕ) (start : ℕ)
+    (list : List ℕ) → IsWindow h (Text part) start list → (result : Option Token)
+    → IfSome result (StandsBehind part at start list)
+    → IfSome result (λ token. Scans h (Text part) at program list (Ok (Some token)))
+words_in_window h part at program start list window (Some token) stands =
+    in_window h part at program start list window token stands
+words_in_window h part at program start list window None stands = tt
+
+-- what follows of what was done by operands alone
+pub done_then : {P Q : Type 0} (taken : Taken) → OnDone taken P → (P → Q) → OnDone taken Q
+done_then (Done end) holds follows = follows holds
+done_then (Turned turn) holds follows = tt

@@ -1,0 +1,21 @@
+use Rattle.std.proofs.Common.{◌-◌, ◌≤◌, length}
+use Rattle.ps_ops_state.specs.Lent.{lent}
+use Rattle.ps_step_interpreter.specs.OwnSteps.{HasRun}
+use Rattle.ps_step.specs.Reading.{read_to}
+use Rattle.ps_step.specs.Windows.{IsWindow}
+use Rattle.ps_step.proofs.runs.run_text.Given as goal
+
+-- so many were made, and the text was read up to a place
+abbrev pub invariant-loop-made : goal.invariant-loop-made
+invariant-loop-made g l = record {
+  within : l.made ≤ l.most;
+  framed : 1 ≤ length l.context.frames;
+  window : IsWindow (g.M.Memory.heap l.memory) l.source l.start l.text.items;
+  makes : HasRun l.made
+      (lent (g.M.Memory.heap l.fn.memory) (g.M.Memory.grants l.fn.memory) l.fn.context l.fn.shared)
+      (read_to l.source l.place (lent (g.M.Memory.heap l.memory) (g.M.Memory.grants l.memory)
+      l.context l.shared));
+}
+
+abbrev pub decreases-loop-made : goal.decreases-loop-made
+decreases-loop-made g l = l.most - l.made

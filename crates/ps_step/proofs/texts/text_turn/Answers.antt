@@ -1,0 +1,33 @@
+-- What was scanned is that of the topmost frame.
+use Rattle.std.proofs.Common.{◌≡◌, ◌∷◌, drop, sym, subst}
+use Rattle.ps_ops_operands.proofs.Operands.{first_split}
+use Rattle.ps_ops_control.specs.declared.frames.Frame.TheVariants.{Text}
+use Rattle.ps_ops_control.specs.Frames.{AreFramesWithin}
+use Rattle.ps_ops_state.specs.Lent.{Lent, lent}
+use Rattle.ps_step.proofs.Rereading.{no_window}
+use Rattle.ps_step.proofs.texts.text_turn.Goals as goal
+
+pub scanned_turn-requires-clause-scanned : goal.scanned_turn-requires-clause-scanned
+scanned_turn-requires-clause-scanned g c =
+    let l : Lent = lent (g.M.Memory.heap c.args.memory.now) (g.M.Memory.grants c.args.memory.now)
+    c.args.context.now c.args.shared.now in
+    let top : l.frames ≡ Text c.args.source c.args.at ∷ drop 1 l.frames =
+    first_split _ _ (sym c.requires.top) in
+    rw (
+      c.scan_source-scanned.ensures.heap,
+      c.scan_source-scanned.ensures.grants,
+      c.scanned_bytes-text.ensures,
+    )
+    (λ s shown.
+    c.scan_source-scanned.ensures.scanned l.names s shown.shows
+    (subst (AreFramesWithin l.heap l.names s) top shown.frames).0)
+
+pub scanned_turn-requires-clause-token : goal.scanned_turn-requires-clause-token
+scanned_turn-requires-clause-token g c =
+    rw (c.scan_source-scanned.ensures.heap, c.scanned_bytes-text.ensures)
+    c.scan_source-scanned.ensures.token
+
+pub scan_source-scanned-requires-clause-window : goal.scan_source-scanned-requires-clause-window
+scan_source-scanned-requires-clause-window g c =
+    no_window (g.M.Memory.heap c.args.memory.now) c.args.source c.clear.new.self.items
+    c.clear.ensures.items

@@ -1,0 +1,399 @@
+//! A step by a text: its next token is taken and done (PLRM2, 3.2, 3.5).
+
+ghost use Rattle.std.specs.Prelude.{◌≡◌, ℕ, ◌<◌, ◌≤◌, ◌+◌, ◌-◌, ◌^◌, ⊤, drop, length, Some};
+ghost use Rattle.ps_language.specs.Token.{found};
+ghost use Rattle.ps_ops_state.specs.Lent.{lent, IsGood, IsShown};
+ghost use Rattle.ps_ops_control.specs.Frames.{IsSourceAt, source_of};
+ghost use Rattle.ps_mem.specs.Heap.{birth_at};
+ghost use Rattle.ps_language.specs.Value.{Store};
+ghost use Rattle.ps_scan.specs.Shown.{token_of};
+ghost use Rattle.ps_stacks.specs.Tops.{first_of};
+ghost use Rattle.ps_step_tokens.specs.Short.{IsShort};
+ghost use Rattle.ps_step_outcome.specs.Turns.{Turns};
+ghost use Rattle.ps_step_frames.specs.Steps.{running_turn};
+ghost use Rattle.ps_step.specs.Reading.{read_to, IsRead, Takes};
+ghost use Rattle.ps_step.specs.Texts.{IsFaulty, IsScanned, Starves, IsTaken, scan_at};
+ghost use Rattle.ps_step.specs.Texts.{scanned_asks, text_asks};
+ghost use Rattle.ps_step.specs.Windows.{IsWindow, OnDone};
+
+use crate::sources::{scan_source, scanned_bytes};
+use crate::tokens::{Read, literal_ahead, word_ahead};
+use ps_language::errors::ErrorName;
+use ps_mem::Memory;
+use ps_ops_control::frames::{Frame, Source, replace_top};
+use ps_ops_operands::failure::NotMade;
+use ps_ops_operands::plain;
+use ps_ops_state::lent::{Context, Shared, Trial};
+use ps_scan::{ScanFault, Token, TokenKind};
+use ps_step_execute::operates::Operate;
+use ps_step_execute::values::treat;
+use ps_step_frames::frames::drop_top;
+use ps_step_outcome::raises::raise;
+use ps_step_outcome::turned::Turned;
+use ps_step_tokens::tokens::do_token;
+use ps_word::words::Word;
+
+/// A token that was scanned is taken, and done.
+///
+/// Not made, with nothing changed: as the token.
+#[inline(always)]
+fn take_token<O: Operate, M: Memory>(
+    source: Source,
+    at: usize,
+    end: usize,
+    kind: &TokenKind,
+    text: &[u8],
+    operators: &O,
+    context: &mut Context,
+    shared: &mut Shared,
+    memory: &mut M,
+    trial: Trial,
+) -> Result<Turned, NotMade>
+    requires good { IsGood
+        (lent (M.heap memory.old) (M.grants memory.old) context.old shared.old) }
+    requires top { first_of context.old.frames ≡ Some (Frame.Text source at) }
+    requires short { IsShort (token_of text.now kind.now) }
+    requires further { IsSourceAt (M.heap memory.old) (length shared.old.program.now) source end }
+    requires scanned { (s : Store) → IsShown
+        (lent (M.heap memory.old) (M.grants memory.old) context.old shared.old) s
+        → scan_at source at
+        (lent (M.heap memory.old) (M.grants memory.old) context.old shared.old) s
+        ≡ found (token_of text.now kind.now) end }
+    ensures { Turns (λ l s.
+        scanned_asks O.asks source (drop 1 context.old.frames) (scan_at source at l s) l s)
+        running_turn trial result
+        (lent (M.heap memory.old) (M.grants memory.old) context.old shared.old)
+        (lent (M.heap memory.new) (M.grants memory.new) context.new shared.new) }
+{
+    replace_top(&mut context.frames, Frame::Text { source, at: end });
+    match do_token(kind, text, operators, context, shared, memory, trial) {
+        Ok(turned) => Ok(turned),
+        Err(reason) => {
+            replace_top(&mut context.frames, Frame::Text { source, at });
+            Err(reason)
+        }
+    }
+}
+
+/// A fault is raised, with the command null: `syntaxerror` or `limitcheck`.
+///
+/// `Memory`: there was none to scan. Not made, with nothing changed: also as the note of an error.
+#[inline(never)]
+fn fault_turn<O: Operate, M: Memory>(
+    source: Source,
+    at: usize,
+    fault: ScanFault,
+    context: &mut Context,
+    shared: &mut Shared,
+    memory: &mut M,
+    trial: Trial,
+) -> Result<Turned, NotMade>
+    requires good { IsGood
+        (lent (M.heap memory.old) (M.grants memory.old) context.old shared.old) }
+    requires top { first_of context.old.frames ≡ Some (Frame.Text source at) }
+    requires fault { (s : Store) → IsShown
+        (lent (M.heap memory.old) (M.grants memory.old) context.old shared.old) s
+        → let outcome = scan_at source at
+        (lent (M.heap memory.old) (M.grants memory.old) context.old shared.old) s in
+        IsFaulty (Starves (source_of (birth_at (M.heap memory.old)) source) outcome) fault
+        outcome }
+    ensures { Turns (text_asks O.asks source at (drop 1 context.old.frames)) running_turn trial
+        result
+        (lent (M.heap memory.old) (M.grants memory.old) context.old shared.old)
+        (lent (M.heap memory.new) (M.grants memory.new) context.new shared.new) }
+{
+    match fault {
+        ScanFault::Syntax => raise(
+            ErrorName::SyntaxError,
+            plain::null(),
+            context,
+            shared,
+            memory,
+            trial,
+        ),
+        ScanFault::Limit => raise(
+            ErrorName::LimitCheck,
+            plain::null(),
+            context,
+            shared,
+            memory,
+            trial,
+        ),
+        ScanFault::Memory => Err(NotMade::Memory),
+    }
+}
+
+/// What was scanned of a text is taken: a token is done; with none left the frame goes. Raises
+/// `syntaxerror` and `limitcheck` with the command null where there is a fault, and what the token
+/// raises.
+///
+/// `Memory`: there was none to scan. Not made, with nothing changed: also as the token, or the note
+/// of an error.
+#[inline(never)]
+fn scanned_turn<O: Operate, M: Memory>(
+    source: &Source,
+    at: usize,
+    scanned: Result<Option<Token>, ScanFault>,
+    text: &[u8],
+    operators: &O,
+    context: &mut Context,
+    shared: &mut Shared,
+    memory: &mut M,
+    trial: Trial,
+) -> Result<Turned, NotMade>
+    requires good { IsGood
+        (lent (M.heap memory.old) (M.grants memory.old) context.old shared.old) }
+    requires top { first_of context.old.frames ≡ Some (Frame.Text source.now at) }
+    requires scanned { (s : Store) → IsShown
+        (lent (M.heap memory.old) (M.grants memory.old) context.old shared.old) s
+        → let outcome = scan_at source.now at
+        (lent (M.heap memory.old) (M.grants memory.old) context.old shared.old) s in
+        IsScanned (Starves (source_of (birth_at (M.heap memory.old)) source.now) outcome) text.now
+        scanned outcome }
+    requires token { IsTaken
+        (IsSourceAt (M.heap memory.old) (length shared.old.program.now) source.now) text.now
+        scanned }
+    ensures { Turns (text_asks O.asks source.now at (drop 1 context.old.frames)) running_turn trial
+        result
+        (lent (M.heap memory.old) (M.grants memory.old) context.old shared.old)
+        (lent (M.heap memory.new) (M.grants memory.new) context.new shared.new) }
+{
+    match scanned {
+        Ok(None) => {
+            drop_top(&mut context.frames);
+            Ok(Turned::Goes)
+        }
+        Ok(Some(token)) => take_token(
+            *source,
+            at,
+            token.end,
+            &token.kind,
+            text,
+            operators,
+            context,
+            shared,
+            memory,
+            trial,
+        ),
+        Err(fault) => fault_turn::<O, M>(*source, at, fault, context, shared, memory, trial),
+    }
+}
+
+/// What the next token of a text came to.
+#[derive(Clone, Copy, Debug)]
+pub enum Taken {
+    /// It was done by operands alone, and ends at this place.
+    Done(usize),
+    /// The turn came to this.
+    Turned(Result<Turned, NotMade>),
+}
+
+/// A token is done as its value is treated, and the frame of the text goes on behind it. Raises
+/// what the value raises, with the token's word as the command.
+///
+/// Not made, with nothing changed but for the frame, which is read up to the token: as the value.
+#[inline(never)]
+fn treat_token<O: Operate, M: Memory>(
+    source: &Source,
+    at: usize,
+    end: usize,
+    word: Word,
+    value: Word,
+    operators: &O,
+    context: &mut Context,
+    shared: &mut Shared,
+    memory: &mut M,
+    trial: Trial,
+) -> Result<Turned, NotMade>
+    requires framed { 1 ≤ length context.old.frames }
+    requires good { IsGood (read_to source.now at
+        (lent (M.heap memory.old) (M.grants memory.old) context.old shared.old)) }
+    requires read { IsRead O.asks source.now at word value end (read_to source.now at
+        (lent (M.heap memory.old) (M.grants memory.old) context.old shared.old)) }
+    ensures { Turns (text_asks O.asks source.now at (drop 1 context.old.frames)) running_turn trial
+        result (read_to source.now at
+        (lent (M.heap memory.old) (M.grants memory.old) context.old shared.old))
+        (lent (M.heap memory.new) (M.grants memory.new) context.new shared.new) }
+{
+    let behind = Frame::Text {
+        source: *source,
+        at: end,
+    };
+    replace_top(&mut context.frames, behind);
+    match treat(value, word, operators, context, shared, memory, trial) {
+        Ok(turned) => Ok(turned),
+        Err(reason) => {
+            let before = Frame::Text {
+                source: *source,
+                at,
+            };
+            replace_top(&mut context.frames, before);
+            Err(reason)
+        }
+    }
+}
+
+/// What was scanned of a text behind a place is taken: a literal is pushed, and the memory stays as
+/// it is; or the frame goes on from that place and the turn is made.
+#[inline(always)]
+fn take_scanned<O: Operate, M: Memory>(
+    source: &Source,
+    at: usize,
+    scanned: Result<Option<Token>, ScanFault>,
+    text: &[u8],
+    operators: &O,
+    context: &mut Context,
+    shared: &mut Shared,
+    memory: &mut M,
+    trial: Trial,
+) -> Taken
+    requires framed { 1 ≤ length context.old.frames }
+    requires good { IsGood (read_to source.now at
+        (lent (M.heap memory.old) (M.grants memory.old) context.old shared.old)) }
+    requires scanned { (s : Store) → IsShown (read_to source.now at
+        (lent (M.heap memory.old) (M.grants memory.old) context.old shared.old)) s
+        → let outcome = scan_at source.now at
+        (lent (M.heap memory.old) (M.grants memory.old) context.old shared.old) s in
+        IsScanned (Starves (source_of (birth_at (M.heap memory.old)) source.now) outcome) text.now
+        scanned outcome }
+    requires token { IsTaken
+        (IsSourceAt (M.heap memory.old) (length shared.old.program.now) source.now) text.now
+        scanned }
+    ensures takes { Takes O.asks source.now at trial result
+        (lent (M.heap memory.old) (M.grants memory.old) context.old shared.old)
+        (lent (M.heap memory.new) (M.grants memory.new) context.new shared.new) }
+    ensures heap { OnDone result (M.heap memory.new ≡ M.heap memory.old) }
+{
+    match literal_ahead(&scanned, text, &shared.names, &mut context.operands) {
+        Some(end) => Taken::Done(end),
+        None => {
+            let top = Frame::Text {
+                source: *source,
+                at,
+            };
+            replace_top(&mut context.frames, top);
+            Taken::Turned(scanned_turn(
+                source, at, scanned, text, operators, context, shared, memory, trial,
+            ))
+        }
+    }
+}
+
+/// The next token of a text behind a place is taken. Where the list doesn't have it, a string is
+/// read into it as it stands now, as far as the token takes, from a place of the string on.
+#[inline(always)]
+fn take_next<O: Operate, M: Memory>(
+    source: &Source,
+    at: usize,
+    start: &mut usize,
+    list: &mut Vec<u8>,
+    operators: &O,
+    context: &mut Context,
+    shared: &mut Shared,
+    memory: &mut M,
+    trial: Trial,
+) -> Taken
+    requires framed { 1 ≤ length context.old.frames }
+    requires good { IsGood (read_to source.now at
+        (lent (M.heap memory.old) (M.grants memory.old) context.old shared.old)) }
+    requires window { IsWindow (M.heap memory.old) source.now start.old list.old.items }
+    ensures takes { Takes O.asks source.now at trial result
+        (lent (M.heap memory.old) (M.grants memory.old) context.old shared.old)
+        (lent (M.heap memory.new) (M.grants memory.new) context.new shared.new) }
+    ensures window { OnDone result
+        (IsWindow (M.heap memory.new) source.now start.new list.new.items) }
+{
+    let alloc = *shared.scratch.text.allocator();
+    let program = shared.program;
+    let scanned = scan_source(*source, at, program, start, list, memory, alloc);
+    let text = scanned_bytes(*source, program, list);
+    take_scanned(
+        source, at, scanned, text, operators, context, shared, memory, trial,
+    )
+}
+
+/// The next token of a text behind a place is taken, as `take_next` does, but a number or an
+/// executable name is scanned in line.
+#[inline(always)]
+pub fn read_token<O: Operate, M: Memory>(
+    source: &Source,
+    at: usize,
+    start: &mut usize,
+    list: &mut Vec<u8>,
+    operators: &O,
+    context: &mut Context,
+    shared: &mut Shared,
+    memory: &mut M,
+    trial: Trial,
+) -> Taken
+    requires framed { 1 ≤ length context.old.frames }
+    requires good { IsGood (read_to source.now at
+        (lent (M.heap memory.old) (M.grants memory.old) context.old shared.old)) }
+    requires window { IsWindow (M.heap memory.old) source.now start.old list.old.items }
+    ensures takes { Takes O.asks source.now at trial result
+        (lent (M.heap memory.old) (M.grants memory.old) context.old shared.old)
+        (lent (M.heap memory.new) (M.grants memory.new) context.new shared.new) }
+    ensures window { OnDone result
+        (IsWindow (M.heap memory.new) source.now start.new list.new.items) }
+{
+    let program = shared.program;
+    let dictionaries = &context.dictionaries;
+    let operands = &mut context.operands;
+    let names = &shared.names;
+    match word_ahead(
+        *source,
+        at,
+        program,
+        *start,
+        list,
+        operators,
+        dictionaries,
+        names,
+        operands,
+        memory,
+    ) {
+        Read::Done(end) => Taken::Done(end),
+        Read::Treats { word, value, end } => Taken::Turned(treat_token(
+            source, at, end, word, value, operators, context, shared, memory, trial,
+        )),
+        Read::Left => take_next(
+            source, at, start, list, operators, context, shared, memory, trial,
+        ),
+    }
+}
+
+/// A step by the topmost frame, a text: its next token is taken and done; with none left the frame
+/// goes. A string is read into the list as it stands now, as far as the token takes. Raises
+/// `syntaxerror` and `limitcheck` with the command null where the text breaks the grammar or a
+/// limit, and what the token raises.
+///
+/// `Memory`: a growth was refused, for the string, or for a string or a procedure that is read. Not
+/// made, with nothing changed: also as the token, or the note of an error.
+pub fn text_turn<O: Operate, M: Memory>(
+    source: Source,
+    at: usize,
+    list: &mut Vec<u8>,
+    operators: &O,
+    context: &mut Context,
+    shared: &mut Shared,
+    memory: &mut M,
+    trial: Trial,
+) -> Result<Turned, NotMade>
+    requires good { IsGood
+        (lent (M.heap memory.old) (M.grants memory.old) context.old shared.old) }
+    requires top { first_of context.old.frames ≡ Some (Frame.Text source at) }
+    ensures { Turns (text_asks O.asks source at (drop 1 context.old.frames)) running_turn trial
+        result
+        (lent (M.heap memory.old) (M.grants memory.old) context.old shared.old)
+        (lent (M.heap memory.new) (M.grants memory.new) context.new shared.new) }
+{
+    let alloc = *shared.scratch.text.allocator();
+    let program = shared.program;
+    let mut start = 0;
+    list.clear();
+    let scanned = scan_source(source, at, program, &mut start, list, memory, alloc);
+    let text = scanned_bytes(source, program, list);
+    scanned_turn(
+        &source, at, scanned, text, operators, context, shared, memory, trial,
+    )
+}

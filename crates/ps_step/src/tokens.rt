@@ -1,0 +1,140 @@
+//! Tokens that are done by operands alone (PLRM2, 3.2, 3.5).
+
+ghost use Rattle.std.specs.Prelude.{◌≡◌, Some, Ok, ⊤, IsNone, List, length};
+ghost use Rattle.ps_mem.specs.Heap.{Heap};
+ghost use Rattle.ps_step_execute.specs.Values.{Asks};
+ghost use Rattle.ps_mem.specs.Shows.{AreValues, IsSound};
+ghost use Rattle.ps_ops_control.specs.Frames.{IsSourceAt};
+ghost use Rattle.ps_scan.specs.Shown.{token_of};
+ghost use Rattle.ps_step_tokens.specs.Short.{IsShort};
+ghost use Rattle.ps_step.specs.Reading.{Reads, ReadsWord, read_to_end};
+ghost use Rattle.ps_step.specs.Texts.{IsTaken};
+ghost use Rattle.ps_step.specs.Windows.{IsWindow};
+
+use crate::sources::{scan_word, scanned_bytes};
+use ps_mem::Memory;
+use ps_names::Names;
+use ps_ops_control::frames::Source;
+use ps_ops_operands::Operands;
+use ps_ops_state::lent::Dictionaries;
+use ps_scan::{ScanFault, Token};
+use ps_step_execute::operates::Operate;
+use ps_step_execute::pushes::push_quickly;
+use ps_step_execute::quick::{Quick, do_quickly};
+use ps_step_tokens::words::word_of;
+use ps_word::words::Word;
+
+/// What a token that was scanned came to by operands alone.
+#[derive(Clone, Copy, Debug, PartialEq, Eq)]
+pub enum Read {
+    /// It is done, and ends at this place.
+    Done(usize),
+    /// Nothing has changed. It is done as its word, which is treated as this value, and ends at
+    /// this place.
+    Treats { word: Word, value: Word, end: usize },
+    /// Nothing has changed, and no more is known.
+    Left,
+}
+
+/// Does a token by operands alone, where that raises no error and forms no name. Else it tells as
+/// which value the token is treated, where its name was met and looked up. The memory stays as it
+/// is.
+#[inline(always)]
+fn do_ahead<O: Operate, M: Memory>(
+    token: &Token,
+    text: &[u8],
+    operators: &O,
+    dictionaries: &Dictionaries,
+    names: &Names,
+    operands: &mut Operands,
+    memory: &mut M,
+) -> Read
+    requires sound { IsSound (M.heap memory.old) }
+    requires dictionaries { AreValues (M.heap memory.old) dictionaries.now }
+    requires short { IsShort (token_of text.now token.now.kind) }
+    ensures heap { M.heap memory.new ≡ M.heap memory.old }
+    ensures grants { M.grants memory.new ≡ M.grants memory.old }
+    ensures reads { Reads O.asks (M.heap memory.old) dictionaries.now names.now text.now result
+        (Ok (Some token.now)) operands.old operands.new }
+{
+    let Some(word) = word_of(&token.kind, text, names) else {
+        return Read::Left;
+    };
+    let end = token.end;
+    match do_quickly(word, operators, dictionaries, operands, memory, false) {
+        Quick::Done => Read::Done(end),
+        Quick::Enters(_) => unreachable!(),
+        Quick::Treats(value) => Read::Treats { word, value, end },
+        Quick::Left => Read::Left,
+    }
+}
+
+/// A token that was scanned becomes an operand, where it is a literal number or a literal name that
+/// was met, and there is room; then it ends at the place that is told. Else nothing has changed.
+#[inline(always)]
+pub fn literal_ahead(
+    scanned: &Result<Option<Token>, ScanFault>,
+    text: &[u8],
+    names: &Names,
+    operands: &mut Operands,
+) -> Option<usize>
+    requires short { IsTaken (λ end. ⊤) text.now scanned.now }
+    ensures reads { (asks : Asks) (heap : Heap) (dictionaries : List Word) → Reads asks heap
+        dictionaries names.now text.now (read_to_end result) scanned.now operands.old operands.new }
+    ensures kept { IsNone result → operands.new ≡ operands.old }
+{
+    match scanned {
+        Ok(Some(token)) => {
+            let word = word_of(&token.kind, text, names)?;
+            if word.is_executable() {
+                return None;
+            }
+            if push_quickly(word, operands) {
+                Some(token.end)
+            } else {
+                None
+            }
+        }
+        _ => None,
+    }
+}
+
+/// Does the next token of the program, or of what was read of a string, where it is a number or an
+/// executable name, by operands alone, where that raises no error and forms no name. Else it tells
+/// as which value it is treated, where its name was met and looked up. The memory stays as it is.
+#[inline(always)]
+pub fn word_ahead<O: Operate, M: Memory>(
+    source: Source,
+    at: usize,
+    program: &[u8],
+    start: usize,
+    list: &Vec<u8>,
+    operators: &O,
+    dictionaries: &Dictionaries,
+    names: &Names,
+    operands: &mut Operands,
+    memory: &mut M,
+) -> Read
+    requires sound { IsSound (M.heap memory.old) }
+    requires dictionaries { AreValues (M.heap memory.old) dictionaries.now }
+    requires place { IsSourceAt (M.heap memory.old) (length program.now) source at }
+    requires window { IsWindow (M.heap memory.old) source start list.now.items }
+    ensures heap { M.heap memory.new ≡ M.heap memory.old }
+    ensures grants { M.grants memory.new ≡ M.grants memory.old }
+    ensures reads { ReadsWord O.asks (M.heap memory.old) dictionaries.now names.now program.now
+        list.now.items source at result operands.old operands.new }
+{
+    let Some(token) = scan_word(source, at, program, start, list, memory) else {
+        return Read::Left;
+    };
+    let text = scanned_bytes(source, program, list);
+    do_ahead(
+        &token,
+        text,
+        operators,
+        dictionaries,
+        names,
+        operands,
+        memory,
+    )
+}

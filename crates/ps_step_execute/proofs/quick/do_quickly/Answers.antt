@@ -1,0 +1,83 @@
+-- A procedure is pushed, a name is treated as what is found, and all else as it is.
+use Rattle.std.proofs.Common.{Ok, refl, sym, ap, ◌∙◌}
+use Rattle.ps_mem.specs.Shows.{IsValue}
+use Rattle.ps_step_execute.proofs.Alone.{literal_treated, name_treats, operator_treated, own_treats, procedure_comes}
+use Rattle.ps_step_execute.proofs.Alone.{treated_comes}
+use Rattle.ps_step_execute.proofs.Executing.{found_as, literal_unmade, literal_unnamed, name_unmade, named, made}
+use Rattle.ps_step_execute.proofs.Executing.{operator_unmade, operator_unnamed, unmade, unnamed}
+use Rattle.ps_step_execute.proofs.quick.do_quickly.Goals as goal
+
+pub returns-then-not-is_executable-clause-comes : goal.returns-then-not-is_executable-clause-comes
+returns-then-not-is_executable-clause-comes g c =
+    let literal = sym c.is_executable.ensures ∙ c.if-not-is_executable.true in
+    treated_comes g.O.Operate.asks (g.M.Memory.heap c.args.memory.now) c.args.dictionaries.now
+    c.args.word c.args.operands.now c.push_quickly.new.operands c.of-came.result c.args.word _
+    c.or.ensures c.requires.word
+    (own_treats g.O.Operate.asks (g.M.Memory.heap c.args.memory.now) c.args.dictionaries.now
+    c.args.word
+    (λ births names. literal_unmade c.args.word births names literal)
+    (λ births names. literal_unnamed c.args.word births names literal))
+    (literal_treated g.O.Operate.asks c.args.word c.args.word _ _ _ literal c.push_quickly.result
+    c.of-came.ensures (c.push_quickly.ensures c.args.word))
+
+pub returns-in-Array-clause-comes : goal.returns-in-Array-clause-comes
+returns-in-Array-clause-comes g c =
+    procedure_comes g.O.Operate.asks (g.M.Memory.heap c.args.memory.now) c.args.dictionaries.now
+    c.args.word c.args.operands.now c.push_quickly-in-Array.new.operands
+    c.push_quickly-in-Array.result c.of-came-in-Array.result _ c.of-came-in-Array.ensures
+    c.or-in-Array.ensures
+    (λ births names. made c.args.word births names _
+    (sym c.is_executable.ensures ∙ c.if-not-is_executable.false)
+    (sym c.content.ensures ∙ c.in-Array.is))
+    (c.push_quickly-in-Array.ensures c.args.word)
+
+pub returns-in-Ok-Some-clause-comes : goal.returns-in-Ok-Some-clause-comes
+returns-in-Ok-Some-clause-comes g c =
+    let may = sym c.is_executable.ensures ∙ c.if-not-is_executable.false in
+    let content = sym c.content-2.ensures ∙ c.in-Name.is in
+    let is = c.in-Ok-Some.is ∙ ap Ok c.in-Ok-Some.field-0-is in
+    treated_comes g.O.Operate.asks (g.M.Memory.heap c.args.memory.now) c.args.dictionaries.now
+    c.args.word c.args.operands.now c.treat_ahead-came.new.operands c.treat_ahead-came.result
+    c.in-Ok-Some.found.1 _ c.or-in-Name.ensures
+    (found_as (IsValue (g.M.Memory.heap c.args.memory.now)) c.look_up.result c.in-Ok-Some.found is
+    c.look_up.ensures.held)
+    (name_treats g.O.Operate.asks (g.M.Memory.heap c.args.memory.now) c.args.dictionaries.now
+    c.args.word
+    (λ births names. name_unmade c.args.word births names _ content may)
+    (λ births names. named c.args.word births names _ may content)
+    c.look_up.result c.in-Ok-Some.found is c.look_up.ensures.value c.look_up.ensures.within)
+    (c.treat_ahead-came.ensures.comes c.args.word)
+
+pub returns-in_default-content-2 : goal.returns-in_default-content-2
+returns-in_default-content-2 g c =
+    let may = sym c.is_executable.ensures ∙ c.if-not-is_executable.false in
+    record {
+      heap = refl;
+      grants = refl;
+      comes = (
+        refl,
+        (
+          c.requires.word,
+          own_treats g.O.Operate.asks (g.M.Memory.heap c.args.memory.now) c.args.dictionaries.now
+              c.args.word
+              (λ births names. unmade births names c.args.word c.content.result
+              c.content.ensures may c.in_default-content.not-Array)
+              (λ births names. unnamed births names c.args.word c.content-2.result
+              c.content-2.ensures may c.in_default-content-2.not-Name),
+        ),
+      );
+      enters = λ body is. absurd (cc is);
+    }
+
+pub returns-in-Some-clause-comes : goal.returns-in-Some-clause-comes
+returns-in-Some-clause-comes g c =
+    let is = c.in-Some.ensures.operator in
+    treated_comes g.O.Operate.asks (g.M.Memory.heap c.args.memory.now) c.args.dictionaries.now
+    c.args.word c.args.operands.now c.operate_ahead-came.new.operands c.operate_ahead-came.result
+    c.args.word _ c.or-in-Some.ensures c.requires.word
+    (own_treats g.O.Operate.asks (g.M.Memory.heap c.args.memory.now) c.args.dictionaries.now
+    c.args.word
+    (λ births names. operator_unmade c.args.word births names _ is.1 is.0)
+    (λ births names. operator_unnamed c.args.word births names _ is.1 is.0))
+    (operator_treated g.O.Operate.asks c.args.word c.args.word _ _ _ c.in-Some.operator is.0 is.1
+    c.operate_ahead-came.ensures.comes)

@@ -1,0 +1,72 @@
+//! Who does the operators of a step.
+
+ghost use Rattle.std.specs.Prelude.{◌≡◌, ◌<◌, [], IsTrue};
+ghost use Rattle.ps_language.specs.Effect.{Around, Scene};
+ghost use Rattle.ps_language.specs.declared.operators.Operator as names;
+ghost use Rattle.ps_word.specs.declared.values.Part.{Part as ThePart};
+ghost use Rattle.ps_ops_state.specs.Acts.{Asked, AreFew};
+ghost use Rattle.ps_ops_state.specs.Lent.{lent, IsGood};
+ghost use Rattle.ps_step_outcome.specs.Turns.{Turns};
+ghost use Rattle.ps_step_execute.specs.Values.{EntersAlone, GoesUnder, operated_asks, operated_turn};
+
+use crate::under::Under;
+use ps_language::operators::Operator;
+use ps_mem::{Memory, Slot};
+use ps_ops_control::ahead::Ahead;
+use ps_ops_operands::Operands;
+use ps_ops_operands::failure::NotMade;
+use ps_ops_state::lent::{Context, Shared, Trial};
+use ps_step_outcome::turned::Turned;
+
+/// Does the operators of a step.
+pub trait Operate {
+    /// What an operator asks for that the language doesn't say, in a scene and what surrounds it.
+    ghost asks: { names.Operator → Around → Scene → Asked };
+
+    /// An operator on operands alone acts, where it raises no error, and so does one that enters a
+    /// procedure, up to the frame of that, where one may be entered. Else nothing has changed, as
+    /// by every other operator.
+    fn operate_ahead(&self, operator: Operator, operands: &mut Operands, may_enter: bool) -> Ahead
+        ensures comes { EntersAlone [] (operated_asks asks operator) (operated_turn operator) result
+            operands.old operands.new }
+        ensures enters { (body : ThePart) → result ≡ Ahead.Enters body → IsTrue may_enter };
+
+    /// An operator that neither sees nor changes frames acts, where it raises no error and is made,
+    /// as it would under any more frames. Else nothing was done. Every other operator may be left,
+    /// and nothing has changed. The records go into the log of a slot.
+    fn operate_under<M: Memory>(
+        &self,
+        operator: Operator,
+        context: &mut Context,
+        shared: &mut Shared,
+        memory: &mut M,
+        slot: Slot,
+    ) -> Under
+        requires good { IsGood
+            (lent (M.heap memory.old) (M.grants memory.old) context.old shared.old) }
+        ensures frames { context.new.frames ≡ context.old.frames }
+        ensures goes { GoesUnder [] (operated_asks asks operator) (operated_turn operator) slot
+            result (lent (M.heap memory.old) (M.grants memory.old) context.old shared.old)
+            (lent (M.heap memory.new) (M.grants memory.new) context.new shared.new) };
+
+    /// An operator acts: its effect comes about, or its error is raised with the operator as the
+    /// command.
+    ///
+    /// Not made, with nothing changed: as the operator, or the note of its error.
+    fn operate<M: Memory>(
+        &self,
+        operator: Operator,
+        context: &mut Context,
+        shared: &mut Shared,
+        memory: &mut M,
+        trial: Trial,
+    ) -> Result<Turned, NotMade>
+        requires good { IsGood
+            (lent (M.heap memory.old) (M.grants memory.old) context.old shared.old) }
+        ensures { Turns (operated_asks asks operator) (operated_turn operator) trial result
+            (lent (M.heap memory.old) (M.grants memory.old) context.old shared.old)
+            (lent (M.heap memory.new) (M.grants memory.new) context.new shared.new) };
+
+    /// Every operator leaves a record to its step.
+    ghost few: { AreFew asks };
+}

@@ -1,0 +1,92 @@
+//! An element of a procedure is done by operands and frames alone, or it is known as which value it
+//! is treated (PLRM2, 3.5).
+
+ghost use Rattle.std.specs.Prelude.{◌≡◌, IsTrue};
+ghost use Rattle.ps_word.specs.declared.values.Part.{Part as ThePart};
+ghost use Rattle.ps_mem.specs.Shows.{AreValues, IsSound, IsValue};
+ghost use Rattle.ps_step_execute.specs.Quick.{ComesTo, came_or};
+
+use crate::ahead::treat_ahead;
+use crate::operates::Operate;
+use crate::pushes::push_quickly;
+use ps_mem::Memory;
+use ps_ops_control::ahead::Ahead;
+use ps_ops_operands::Operands;
+use ps_ops_state::lent::Dictionaries;
+use ps_step_lookup::lookups::look_up;
+use ps_word::values::{Content, Part};
+use ps_word::words::Word;
+
+/// What an element came to by operands and frames alone.
+#[derive(Clone, Copy, Debug, PartialEq, Eq)]
+pub enum Quick {
+    /// It is done.
+    Done,
+    /// It is done, and this procedure is entered, which isn't empty. Its frame isn't pushed.
+    Enters(Part),
+    /// Nothing has changed, and it is done as this value is treated.
+    Treats(Word),
+    /// Nothing has changed, and no more is known.
+    Left,
+}
+
+impl Quick {
+    /// What it came to ahead, or this.
+    #[inline]
+    fn or(came: Ahead, left: Quick) -> Quick
+        ensures { result ≡ came_or came left }
+    {
+        match came {
+            Ahead::Goes => Quick::Done,
+            Ahead::Enters(body) => Quick::Enters(body),
+            Ahead::Left => left,
+        }
+    }
+}
+
+/// Does an element by operands and frames alone, where that raises no error: a literal value or a
+/// procedure becomes an operand, an operator acts ahead, and a name is looked up and its value
+/// treated ahead. A procedure is entered only where one may be. Else it tells as which value the
+/// element is treated. The memory stays as it is.
+#[inline(always)]
+pub fn do_quickly<O: Operate, M: Memory>(
+    word: Word,
+    operators: &O,
+    dictionaries: &Dictionaries,
+    operands: &mut Operands,
+    memory: &mut M,
+    may_enter: bool,
+) -> Quick
+    requires sound { IsSound (M.heap memory.old) }
+    requires dictionaries { AreValues (M.heap memory.old) dictionaries.now }
+    requires word { IsValue (M.heap memory.old) word }
+    ensures heap { M.heap memory.new ≡ M.heap memory.old }
+    ensures grants { M.grants memory.new ≡ M.grants memory.old }
+    ensures comes { ComesTo O.asks (M.heap memory.old) dictionaries.now word result operands.old
+        operands.new }
+    ensures enters { (body : ThePart) → result ≡ Quick.Enters body → IsTrue may_enter }
+{
+    if !word.is_executable() {
+        let came = Ahead::of(push_quickly(word, operands));
+        return Quick::or(came, Quick::Treats(word));
+    }
+    if let Some(operator) = word.executable_operator() {
+        let came = operators.operate_ahead(operator, operands, may_enter);
+        return Quick::or(came, Quick::Treats(word));
+    }
+    // Asked for before a name: what a look-up keeps would else be kept beside a procedure.
+    if let Content::Array(_) = word.content() {
+        let came = Ahead::of(push_quickly(word, operands));
+        return Quick::or(came, Quick::Left);
+    }
+    match word.content() {
+        Content::Name(_) => {
+            let Ok(Some(found)) = look_up(memory, dictionaries, Some(word)) else {
+                return Quick::Left;
+            };
+            let came = treat_ahead(found.1, operators, operands, may_enter);
+            Quick::or(came, Quick::Treats(found.1))
+        }
+        _ => Quick::Treats(word),
+    }
+}

@@ -1,0 +1,208 @@
+//! Steps by the elements of a procedure, and by a value that waits (PLRM2, 3.5).
+
+ghost use Rattle.std.specs.Prelude.{◌≡◌, ◌<◌, ◌∷◌, [], Some, IfSome, length};
+ghost use Rattle.ps_ops_state.specs.Lent.{lent, IsGood};
+ghost use Rattle.ps_stacks.specs.Tops.{first_of};
+ghost use Rattle.ps_mem.specs.Shows.{IsValue};
+ghost use Rattle.ps_step_outcome.specs.Turns.{Turns, TurnsWith};
+ghost use Rattle.ps_step_execute.specs.Values.{treated_asks, treated_turn};
+ghost use Rattle.ps_step_frames.specs.Steps.{above, frame_asks, running_turn, DoesUnder, IsElement};
+
+use crate::frames::{advance, drop_top, push_rest, put_back};
+use ps_mem::{Memory, Slot};
+use ps_ops_control::frames::{Frame, push_frame};
+use ps_ops_operands::failure::NotMade;
+use ps_ops_state::lent::{Context, Shared, Trial};
+use ps_seq::arrays::element;
+use ps_step_execute::operates::Operate;
+use ps_step_execute::under::{Under, treat_under};
+use ps_step_execute::values::{do_element, execute, treat};
+use ps_step_outcome::turned::Turned;
+use ps_word::values::Part;
+use ps_word::words::Word;
+
+/// An element of a procedure, and the value as which it is treated.
+#[derive(Clone, Copy, Debug, PartialEq, Eq)]
+pub struct Element {
+    pub word: Word,
+    pub value: Word,
+}
+
+/// The first element that is left of a procedure is done, as it stands now; the frame goes with the
+/// last. Raises what the element raises, with the element as the command.
+///
+/// Not made, with nothing changed: as the element.
+#[inline(never)]
+pub fn procedure_turn<O: Operate, M: Memory>(
+    rest: Part,
+    operators: &O,
+    context: &mut Context,
+    shared: &mut Shared,
+    memory: &mut M,
+    trial: Trial,
+) -> Result<Turned, NotMade>
+    requires good { IsGood
+        (lent (M.heap memory.old) (M.grants memory.old) context.old shared.old) }
+    requires top { first_of context.old.frames ≡ Some (Frame.Procedure rest) }
+    ensures { Turns (frame_asks O.asks) running_turn trial result
+        (lent (M.heap memory.old) (M.grants memory.old) context.old shared.old)
+        (lent (M.heap memory.new) (M.grants memory.new) context.new shared.new) }
+{
+    let word = element(memory, rest, 0);
+    advance(&mut context.frames, rest, 1);
+    match do_element(word, word, operators, context, shared, memory, trial) {
+        Ok(turned) => Ok(turned),
+        Err(reason) => {
+            put_back(&mut context.frames, rest);
+            Err(reason)
+        }
+    }
+}
+
+/// A value is treated, by a call of its own: what is left of the procedure stays in registers.
+#[inline(never)]
+fn treat_apart<O: Operate, M: Memory>(
+    value: Word,
+    command: Word,
+    operators: &O,
+    context: &mut Context,
+    shared: &mut Shared,
+    memory: &mut M,
+    trial: Trial,
+) -> Result<Turned, NotMade>
+    requires good { IsGood
+        (lent (M.heap memory.old) (M.grants memory.old) context.old shared.old) }
+    requires value { IsValue (M.heap memory.old) value }
+    requires command { IsValue (M.heap memory.old) command }
+    ensures { TurnsWith (value ∷ command ∷ []) [] (treated_asks O.asks value)
+        (treated_turn command value) trial result
+        (lent (M.heap memory.old) (M.grants memory.old) context.old shared.old)
+        (lent (M.heap memory.new) (M.grants memory.new) context.new shared.new) }
+{
+    treat(value, command, operators, context, shared, memory, trial)
+}
+
+/// The first element of a procedure above the frames is done, as its value is treated; what is left
+/// of the procedure is pushed before. Raises what the value raises, with the element as the command.
+/// It is a call: in line it would take registers of the loop of elements that are done ahead.
+///
+/// Not made, with nothing changed but for the frame, which is pushed whole: as the value.
+#[inline(never)]
+fn element_turn<O: Operate, M: Memory>(
+    rest: Part,
+    element: Element,
+    operators: &O,
+    context: &mut Context,
+    shared: &mut Shared,
+    memory: &mut M,
+    trial: Trial,
+) -> Result<Turned, NotMade>
+    requires good { IsGood (above rest
+        (lent (M.heap memory.old) (M.grants memory.old) context.old shared.old)) }
+    requires room { length context.old.frames < 250 }
+    requires element { IsElement O.asks (M.heap memory.old) context.old.dictionaries rest 0
+        element }
+    ensures { Turns (frame_asks O.asks) running_turn trial result
+        (above rest (lent (M.heap memory.old) (M.grants memory.old) context.old shared.old))
+        (lent (M.heap memory.new) (M.grants memory.new) context.new shared.new) }
+{
+    let Element { word, value } = element;
+    push_rest(&mut context.frames, rest);
+    match treat_apart(value, word, operators, context, shared, memory, trial) {
+        Ok(turned) => Ok(turned),
+        Err(reason) => {
+            put_back(&mut context.frames, rest);
+            Err(reason)
+        }
+    }
+}
+
+/// The first element that is left of a procedure above the frames is done, where its value is known,
+/// neither sees nor changes frames, raises no error and is made. No frame is pushed. The records go
+/// into the log of a slot.
+#[inline(never)]
+pub fn element_under<O: Operate, M: Memory>(
+    rest: Part,
+    first: Option<Element>,
+    operators: &O,
+    context: &mut Context,
+    shared: &mut Shared,
+    memory: &mut M,
+    slot: Slot,
+) -> Under
+    requires good { IsGood (above rest
+        (lent (M.heap memory.old) (M.grants memory.old) context.old shared.old)) }
+    requires first { IfSome first
+        (IsElement O.asks (M.heap memory.old) context.old.dictionaries rest 0) }
+    ensures frames { context.new.frames ≡ context.old.frames }
+    ensures does { DoesUnder O.asks rest slot result
+        (lent (M.heap memory.old) (M.grants memory.old) context.old shared.old)
+        (lent (M.heap memory.new) (M.grants memory.new) context.new shared.new) }
+{
+    match first {
+        Some(element) => treat_under(element.value, operators, context, shared, memory, slot),
+        None => Under::Left,
+    }
+}
+
+/// The first element of a procedure above the frames is done over its frame: by its value, where that
+/// is known. Raises what the element raises, with the element as the command.
+///
+/// Not made, with nothing changed but for the frame: as the element.
+#[inline(always)]
+pub fn pushed_turn<O: Operate, M: Memory>(
+    rest: Part,
+    first: Option<Element>,
+    operators: &O,
+    context: &mut Context,
+    shared: &mut Shared,
+    memory: &mut M,
+    trial: Trial,
+) -> Result<Turned, NotMade>
+    requires good { IsGood (above rest
+        (lent (M.heap memory.old) (M.grants memory.old) context.old shared.old)) }
+    requires room { length context.old.frames < 250 }
+    requires first { IfSome first
+        (IsElement O.asks (M.heap memory.old) context.old.dictionaries rest 0) }
+    ensures { Turns (frame_asks O.asks) running_turn trial result
+        (above rest (lent (M.heap memory.old) (M.grants memory.old) context.old shared.old))
+        (lent (M.heap memory.new) (M.grants memory.new) context.new shared.new) }
+{
+    match first {
+        Some(element) => element_turn(rest, element, operators, context, shared, memory, trial),
+        None => {
+            push_frame(&mut context.frames, Frame::Procedure { rest });
+            procedure_turn(rest, operators, context, shared, memory, trial)
+        }
+    }
+}
+
+/// A value that waits in the topmost frame is executed, and the frame goes. Raises what the value
+/// raises, with the value as the command; the frame goes then too.
+///
+/// Not made, with nothing changed: as the value.
+#[inline(never)]
+pub fn pending_turn<O: Operate, M: Memory>(
+    word: Word,
+    operators: &O,
+    context: &mut Context,
+    shared: &mut Shared,
+    memory: &mut M,
+    trial: Trial,
+) -> Result<Turned, NotMade>
+    requires good { IsGood
+        (lent (M.heap memory.old) (M.grants memory.old) context.old shared.old) }
+    requires top { first_of context.old.frames ≡ Some (Frame.Pending word) }
+    ensures { Turns (frame_asks O.asks) running_turn trial result
+        (lent (M.heap memory.old) (M.grants memory.old) context.old shared.old)
+        (lent (M.heap memory.new) (M.grants memory.new) context.new shared.new) }
+{
+    drop_top(&mut context.frames);
+    match execute(word, word, operators, context, shared, memory, trial) {
+        Ok(turned) => Ok(turned),
+        Err(reason) => {
+            push_frame(&mut context.frames, Frame::Pending { word });
+            Err(reason)
+        }
+    }
+}

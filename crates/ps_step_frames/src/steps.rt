@@ -1,0 +1,69 @@
+//! A step of a running context by its topmost frame (PLRM2, 3.4, 3.5).
+
+ghost use Rattle.std.specs.Prelude.{◌≡◌, ◌<◌, IsTrue, Some};
+ghost use Rattle.ps_ops_state.specs.Lent.{lent, IsGood};
+ghost use Rattle.ps_stacks.specs.Tops.{first_of};
+ghost use Rattle.ps_step_outcome.specs.Turns.{Turns};
+ghost use Rattle.ps_step_frames.specs.Steps.{frame_asks, is_stepped, running_turn};
+
+use crate::bindings::bind_turn;
+use crate::elements::{pending_turn, procedure_turn};
+use crate::loops::{for_step, forall_step, loop_step, repeat_step, stopped_step};
+use crate::monitors::monitor_turn;
+use ps_mem::Memory;
+use ps_ops_control::frames::Frame;
+use ps_ops_operands::failure::NotMade;
+use ps_ops_state::lent::{Context, Shared, Trial};
+use ps_step_execute::operates::Operate;
+use ps_step_outcome::turned::Turned;
+
+/// A step by the topmost frame: an element of a procedure is done, a value that waits is executed,
+/// a loop turns or ends, elements are bound, or the frame of `stopped` or of a monitor goes, whose
+/// lock is free then. Raises what the element or the value raises, `stackoverflow` and
+/// `execstackoverflow` of a loop, and what `bind` raises.
+///
+/// Not made, with nothing changed: as the element or the value, as `bind_turn` and `monitor_turn`,
+/// or the note of an error.
+#[inline(always)]
+pub fn frame_turn<O: Operate, M: Memory>(
+    top: Frame,
+    operators: &O,
+    context: &mut Context,
+    shared: &mut Shared,
+    memory: &mut M,
+    trial: Trial,
+) -> Result<Turned, NotMade>
+    requires good { IsGood
+        (lent (M.heap memory.old) (M.grants memory.old) context.old shared.old) }
+    requires top { first_of context.old.frames ≡ Some top }
+    requires here { IsTrue (is_stepped top) }
+    ensures { Turns (frame_asks O.asks) running_turn trial result
+        (lent (M.heap memory.old) (M.grants memory.old) context.old shared.old)
+        (lent (M.heap memory.new) (M.grants memory.new) context.new shared.new) }
+{
+    match top {
+        Frame::Procedure { rest } => {
+            procedure_turn(rest, operators, context, shared, memory, trial)
+        }
+        Frame::Pending { word } => pending_turn(word, operators, context, shared, memory, trial),
+        Frame::Repeat { count, body } => repeat_step(count, body, context, shared, memory, trial),
+        Frame::Loop { body } => loop_step(body, context, shared, memory, trial),
+        Frame::For {
+            control,
+            increment,
+            limit,
+            body,
+        } => for_step(
+            control, increment, limit, body, context, shared, memory, trial,
+        ),
+        Frame::Forall { over, at, body } => {
+            forall_step(over, at, body, context, shared, memory, trial)
+        }
+        Frame::Stopped => stopped_step(context, shared, memory, trial),
+        Frame::Bind { over, at, depth } => {
+            bind_turn(over, at, depth, context, shared, memory, trial)
+        }
+        Frame::Monitor { lock } => monitor_turn(lock, context, shared, memory, trial),
+        Frame::Text { .. } => unreachable!(),
+    }
+}

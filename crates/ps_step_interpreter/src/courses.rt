@@ -1,0 +1,16 @@
+//! How far a context is.
+
+use ps_language::operators::Operator;
+use ps_ops_control::frames::Cause;
+
+/// How far a context is.
+#[derive(Clone, Copy, Debug, PartialEq, Eq)]
+pub enum Course {
+    Running,
+    /// Frames are taken off, for a cause.
+    Unwinding(Cause),
+    /// The element of an operator that is left to the world is taken, and its error waits to be
+    /// noted.
+    Calling(Operator),
+    Finished,
+}

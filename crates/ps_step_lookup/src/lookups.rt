@@ -1,0 +1,146 @@
+//! Look-up of keys in a dictionary and through the dictionary stack (PLRM2, 3.3.9, 3.7.1).
+
+ghost use Rattle.std.specs.Prelude.{◌≡◌, ◌≢◌, ℕ, ◌-◌, ◌<◌, List, Some, IsSome, IfSome, IfOk, option_map, map, AllPairs, slice_get, length};
+ghost use Rattle.ps_language.specs.Access.{dictionary_at};
+ghost use Rattle.ps_language.specs.Dictionaries as language;
+ghost use Rattle.ps_language.specs.Dictionaries.{find};
+ghost use Rattle.ps_language.specs.Access as access;
+ghost use Rattle.ps_language.specs.Value.{Store, Value};
+ghost use Rattle.ps_mem.specs.Heap.{birth_at};
+ghost use Rattle.ps_mem.specs.Meaning.{value_of};
+ghost use Rattle.ps_mem.specs.References.{StandsAs};
+ghost use Rattle.ps_mem.specs.Shows.{AreValues, AreWithin, IsSound, IsValue, IsWithin, Shows};
+ghost use Rattle.ps_ops_operands.specs.Changes.{values_in};
+ghost use Rattle.ps_step_lookup.specs.Lookups.{IsSought, LooksIn, found_of};
+
+use ps_dict::dictionaries::{access, value_of_key};
+use ps_language::errors::ErrorName;
+use ps_language::kinds::Kind;
+use ps_mem::Memory;
+use ps_ops_operands::access::is_readable;
+use ps_ops_state::lent::Dictionaries;
+use ps_ops_types::access::access_of;
+use ps_word::words::Word;
+
+/// The value of a key in a dictionary, where it has it. A name that was not met has no word, and no
+/// dictionary has it.
+#[inline(always)]
+pub fn find_in<M: Memory>(memory: &mut M, address: u32, key: Option<Word>) -> Option<Word>
+    requires sound { IsSound (M.heap memory.old) }
+    requires known { StandsAs (M.heap memory.old) Kind.Dictionary address 4 }
+    requires held { IfSome key (IsValue (M.heap memory.old)) }
+    ensures heap { M.heap memory.new ≡ M.heap memory.old }
+    ensures grants { M.grants memory.new ≡ M.grants memory.old }
+    ensures held { IfSome result (IsValue (M.heap memory.old)) }
+    ensures word { IsSome result → IsSome key }
+    ensures within { (names : List (List ℕ)) (s : Store) → Shows (M.heap memory.old) names s
+        → IfSome result (IsWithin (birth_at (M.heap memory.old)) names s) }
+    ensures value { (names : List (List ℕ)) (s : Store) (k : Value)
+        → Shows (M.heap memory.old) names s → AllPairs (λ first later. first ≢ later) names
+        → IsSought (birth_at (M.heap memory.old)) names s key k
+        → option_map (value_of (birth_at (M.heap memory.old)) names) result ≡ find
+        (dictionary_at s (birth_at (M.heap memory.old) address)).pairs k }
+{
+    match key {
+        Some(word) => value_of_key(memory, address, word),
+        None => None,
+    }
+}
+
+/// Whether what stands on the dictionary stack may be read.
+#[inline(always)]
+fn may_read<M: Memory>(memory: &mut M, dictionary: Word) -> bool
+    requires sound { IsSound (M.heap memory.old) }
+    requires held { IsValue (M.heap memory.old) dictionary }
+    ensures heap { M.heap memory.new ≡ M.heap memory.old }
+    ensures grants { M.grants memory.new ≡ M.grants memory.old }
+    ensures value { (names : List (List ℕ)) (s : Store) → Shows (M.heap memory.old) names s
+        → result ≡ access.may_read s (value_of (birth_at (M.heap memory.old)) names dictionary) }
+{
+    match access_of(memory, dictionary) {
+        Some(access) => is_readable(access),
+        None => true,
+    }
+}
+
+/// The value of a key in what stands on the dictionary stack. Raises `invalidaccess`.
+#[inline(always)]
+fn look_in<M: Memory>(
+    memory: &mut M,
+    dictionary: Word,
+    key: Option<Word>,
+) -> Result<Option<Word>, ErrorName>
+    requires sound { IsSound (M.heap memory.old) }
+    requires dictionary { IsValue (M.heap memory.old) dictionary }
+    requires key { IfSome key (IsValue (M.heap memory.old)) }
+    ensures heap { M.heap memory.new ≡ M.heap memory.old }
+    ensures grants { M.grants memory.new ≡ M.grants memory.old }
+    ensures held { IfOk result (λ found. IfSome found (IsValue (M.heap memory.old))) }
+    ensures word { IfOk result (λ found. IsSome found → IsSome key) }
+    ensures within { (names : List (List ℕ)) (s : Store) → Shows (M.heap memory.old) names s
+        → IfOk result (λ found. IfSome found (IsWithin (birth_at (M.heap memory.old)) names s)) }
+    ensures value { (names : List (List ℕ)) (s : Store) (k : Value)
+        → Shows (M.heap memory.old) names s → AllPairs (λ first later. first ≢ later) names
+        → IsSought (birth_at (M.heap memory.old)) names s key k
+        → LooksIn (birth_at (M.heap memory.old)) names s dictionary k result }
+{
+    let Some(address) = dictionary.as_dictionary() else {
+        if may_read(memory, dictionary) {
+            return Ok(None);
+        }
+        return Err(ErrorName::InvalidAccess);
+    };
+    if !is_readable(access(memory, address)) {
+        return Err(ErrorName::InvalidAccess);
+    }
+    Ok(find_in(memory, address, key))
+}
+
+/// What stands on the dictionary stack above so many others.
+#[inline(always)]
+fn dictionary_above(dictionaries: &Dictionaries, below: usize) -> Word
+    requires { below < length dictionaries.now }
+    ensures { slice_get dictionaries.now (length dictionaries.now - 1 - below) ≡ Some result }
+{
+    dictionaries.topmost(dictionaries.len())[below]
+}
+
+/// The topmost dictionary that has a key, and its value there. Raises `invalidaccess` where one
+/// that can't be read is come to first.
+#[inline(always)]
+pub fn look_up<M: Memory>(
+    memory: &mut M,
+    dictionaries: &Dictionaries,
+    key: Option<Word>,
+) -> Result<Option<(Word, Word)>, ErrorName>
+    requires sound { IsSound (M.heap memory.old) }
+    requires dictionaries { AreValues (M.heap memory.old) dictionaries.now }
+    requires key { IfSome key (IsValue (M.heap memory.old)) }
+    ensures heap { M.heap memory.new ≡ M.heap memory.old }
+    ensures grants { M.grants memory.new ≡ M.grants memory.old }
+    ensures held { IfOk result (λ found. IfSome found (λ pair. IsValue (M.heap memory.old) pair.0
+        × IsValue (M.heap memory.old) pair.1)) }
+    ensures word { IfOk result (λ found. IsSome found → IsSome key) }
+    ensures within { (names : List (List ℕ)) (s : Store) → Shows (M.heap memory.old) names s
+        → AreWithin (M.heap memory.old) names s dictionaries.now
+        → IfOk result (λ found. IfSome found (λ pair.
+        IsWithin (birth_at (M.heap memory.old)) names s pair.0
+        × IsWithin (birth_at (M.heap memory.old)) names s pair.1)) }
+    ensures value { (names : List (List ℕ)) (s : Store) (k : Value)
+        → Shows (M.heap memory.old) names s → AllPairs (λ first later. first ≢ later) names
+        → IsSought (birth_at (M.heap memory.old)) names s key k
+        → language.look_up s (values_in (M.heap memory.old) names dictionaries.now) k
+        ≡ found_of (birth_at (M.heap memory.old)) names result }
+{
+    let mut below = dictionaries.len();
+    while below > 0 {
+        below -= 1;
+        let dictionary = dictionary_above(dictionaries, below);
+        match look_in(memory, dictionary, key) {
+            Ok(Some(value)) => return Ok(Some((dictionary, value))),
+            Ok(None) => {}
+            Err(error) => return Err(error),
+        }
+    }
+    Ok(None)
+}

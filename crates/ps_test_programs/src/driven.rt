@@ -1,0 +1,72 @@
+//! The program over files and outputs in memory.
+
+use crate::fakes::{Files, Output, deeds_in, steps_in};
+use ps_run::{ErrorOutput, Flushed, NoProgress, drive};
+use std::alloc::{AllocError, Global};
+use std::hash::RandomState;
+use std::sync::Wait;
+use std::thread::Threads;
+
+/// More writes than a run makes.
+pub const AMPLE: u32 = 1000;
+
+/// The exit status for want of memory.
+pub const MEMORY: u8 = 5;
+
+/// The status of a run whose steps are used up.
+pub const STEPS_OUT: u8 = 4;
+
+/// How many writes and flushes each output takes.
+#[derive(Clone, Copy)]
+pub struct Writes {
+    pub out: u32,
+    pub err: u32,
+}
+
+/// So many that none is refused.
+pub const ALL_WRITES: Writes = Writes {
+    out: AMPLE,
+    err: AMPLE,
+};
+
+/// What a run gave: the status, and what stands on both outputs.
+#[derive(Drop)]
+pub struct Given {
+    pub status: u8,
+    pub out: Vec<u8>,
+    pub err: Vec<u8>,
+}
+
+/// What a run over these files gives, by threads of `rt`; the output has room for so many bytes from
+/// its start. The keys are for the tables of names alone. Fails where that room can't be had.
+pub fn driven<R: Threads + Wait + Sync>(
+    rt: &R,
+    alloc: Global,
+    keys: RandomState,
+    words: &[&str],
+    files: &mut Files<'_>,
+    writes: Writes,
+    room: usize,
+) -> Result<Given, AllocError> {
+    let mut output = Output::new(alloc, writes.out);
+    output.bytes.reserve(room)?;
+    let mut err = ErrorOutput::new(Output::new(alloc, writes.err), NoProgress);
+    let (status, out) = drive(
+        rt,
+        alloc,
+        steps_in(alloc),
+        deeds_in(alloc),
+        keys,
+        words,
+        files,
+        Flushed::new(output),
+        &mut err,
+    );
+    let Output { bytes: printed, .. } = out.into_inner();
+    let Output { bytes: told, .. } = err.into_inner();
+    Ok(Given {
+        status,
+        out: printed,
+        err: told,
+    })
+}

@@ -1,0 +1,11 @@
+-- Nothing stands at new seats.
+use Rattle.std.proofs.Common.{ap, ◌∙◌}
+use Rattle.ps_core_memory.specs.Memory.{heap_of}
+use Rattle.ps_vault.proofs.Beginning.{nothing_stands}
+use Rattle.ps_test_seats.proofs.programs.stress.Goals as goal
+
+pub new-requires-2 : goal.new-requires-2
+new-requires-2 g c = record {
+  empty = nothing_stands _ _ (ap (λ v. heap_of v.seat.me.0.vm) c.in_ok-memory.ensures.vm
+      ∙ c.args.seats.empty);
+}

@@ -1,5 +1,0 @@
-use Rattle.ps_tokens.proofs.ShortLaw.{scanned_is_short}
-use Rattle.ps_tokens.proofs.laws.scanned_is_short.Goals as goal
-
-pub returns : goal.returns
-returns c = scanned_is_short

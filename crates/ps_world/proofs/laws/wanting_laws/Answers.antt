@@ -1,8 +1,0 @@
-use Rattle.ps_world.proofs.Asked.{asked-words, asked-births}
-use Rattle.ps_world.proofs.laws.wanting_laws.Goals as goal
-
-pub returns-clause-words : goal.returns-clause-words
-returns-clause-words c = asked-words
-
-pub returns-clause-births : goal.returns-clause-births
-returns-clause-births c = asked-births
