@@ -1,6 +1,6 @@
 //! Bytes of any reader, read part by part.
 
-ghost use Rattle.std.specs.Prelude.{◌≡◌, ◌≢◌, ◌≤◌, IfErr, IfOk, IfSome, OnOk};
+ghost use Rattle.std.specs.Prelude.{◌≡◌, ◌≢◌, ◌≤◌, ◌+◌, IfErr, IfOk, IfSome, OnErr, OnOk, length, take};
 ghost use Rattle.std.specs.Io.{ReadsAtMost};
 ghost use Rattle.std.specs.Io.KnownBytes.{ReadConsumes};
 ghost use Rattle.std.specs.IoError.{error_kind};
@@ -28,11 +28,14 @@ fn read_some<R: Read>(reader: &mut R, part: &mut [u8]) -> io::Result<usize>
 }
 
 /// Appends the next bytes of a reader, up to `most` of them: some where some are left. Fails where the
-/// read does, or where they find no room.
+/// read does, or where they find no room; nothing is appended then.
 pub fn read_part<R: Read>(reader: &mut R, most: usize, bytes: &mut Vec<u8>) -> io::Result<()>
     requires some { 1 ≤ most }
     ensures next { OnOk result (IfSome (R.remaining reader.old)
         (λ known. ReadsNext known (R.remaining reader.new) bytes.old.items bytes.new.items)) }
+    ensures begins { take (length bytes.old.items) bytes.new.items ≡ bytes.old.items }
+    ensures most { length bytes.new.items ≤ length bytes.old.items + most }
+    ensures kept { OnErr result (bytes.new.items ≡ bytes.old.items) }
 {
     let mut buffer = [0; PART_BYTES];
     let part = &mut buffer[..most.min(PART_BYTES)];
